@@ -10,38 +10,28 @@ import tempfile
 
 import minisign_differences as differences
 from minisign_cases import letter_damages, line_damages, lines, randomly_changed, record_damages, whole_damages, with_line
-from running import read
-from command_cases import CLOSED, OPEN, PASSWORD
-from command_running import HOME, Step, checksum_of, put_files, run_step
+from command_running import CLOSED, HOME, OPEN, PASSWORD, Step, checksum_of, files_in, put_files, run_step
 
 KEYS = 900
-LONGEST_LINE = 1022
-RECORD_BYTES = 158
-LETTERS = 212
+LONGEST_LINE, RECORD_BYTES, LETTERS = 1022, 158, 212
+MADE = ("a.pub", "data.minisig")
 
 
 def damaged_keys(keys):
     """Texts of an open and of a sealed secret key, damaged in each of the ways: a name and a text."""
-    found = []
+    whole, found = [], []
     for kind in (OPEN, CLOSED):
-        text = keys[kind]
+        text, source = keys[kind], random.Random(kind)
         encoded = lines(text)[1]
-        found += [(kind, name, changed) for name, changed in [("whole", text), *whole_damages(text), *line_damages(text)]]
-        found += [(kind, f"key: {name}", with_line(text, 1, line)) for name, line in [*letter_damages(encoded), *record_damages(encoded)]]
-        source = random.Random(kind)
-        for number in range(200):
-            changed = text
-            for _ in range(source.randint(1, 3)):
-                changed = randomly_changed(changed, source)
-            found.append((kind, f"random change {number}", changed))
-    quick = [row for row in found if not is_weighty(key_record(row[2]))]
-    whole = [row for row in quick if row[1] == "whole"]
-    return whole + random.Random(35).sample([row for row in quick if row[1] != "whole"], KEYS - len(whole))
+        whole.append((kind, "whole", text))
+        found += [(kind, name, changed) for name, changed in (*whole_damages(text), *line_damages(text))]
+        found += [(kind, f"key: {name}", with_line(text, 1, line)) for name, line in (*letter_damages(encoded), *record_damages(encoded))]
+        found += [(kind, f"random change {number}", randomly_changed(text, source)) for number in range(200)]
+    return whole + random.Random(35).sample([row for row in found if not is_weighty(key_record(row[2]))], KEYS - len(whole))
 
 
 def key_line(text, number):
-    line = differences.line_of(text, number)
-    return b"" if line is None else line
+    return differences.line_of(text, number) or b""
 
 
 def key_record(text):
@@ -70,51 +60,37 @@ ROWS = {
 
 
 def run_keys(whole, rows):
-    """Writes the public key of each of these texts, and signs with it, with both programs: the failures, how many ran,
-    and how often each row explained a difference."""
+    """Writes the public key of each of these texts, and signs with it, with both programs: the failures, and how often each row
+    explained a difference."""
     failures, seen = [], collections.Counter()
+    for kind, name, text in rows:
+        wrong, row = wrong_of_key(text, *(answer(program, whole.preload, text) for program in (whole.theirs, whole.ours)))
+        failures += [f"{kind}, {name}: {wrong}"] if wrong else []
+        seen[row] += 1
+    return failures, seen
+
+
+def answer(program, preload, text):
+    """How a program answers to a key: the two runs, and what they made."""
     with tempfile.TemporaryDirectory(prefix="whole-keys-") as directory:
-        os.mkdir(os.path.join(directory, HOME))
-        for kind, name, text in rows:
-            put_files(directory, {"some.key": text, "data": b"some data\n"})
-            answers = [answer(program, whole.preload, directory) for program in (whole.theirs, whole.ours)]
-            wrong, entry = wrong_of_key(answers, text)
-            if wrong:
-                failures.append(f"{kind}, {name}: {wrong}")
-            elif entry:
-                seen[entry] += 1
-    return failures, len(rows), seen
+        put_files(directory, {HOME: None, "some.key": text, "data": b"some data\n"})
+        ran = [run_step(program, preload, directory, Step(arguments, PASSWORD + b"\n"))
+               for arguments in (("-R", "-f", "-s", "some.key", "-p", "a.pub"), ("-S", "-s", "some.key", "-m", "data"))]
+        return ran, {name: held for name, held in files_in(directory).items() if name in MADE}
 
 
-def answer(program, preload, directory):
-    """How a program answers to a key: the two runs, and what they left."""
-    left = {}
-    ran = []
-    for arguments, made in ((("-R", "-f", "-s", "some.key", "-p", "a.pub"), "a.pub"), (("-S", "-s", "some.key", "-m", "data"), "data.minisig")):
-        path = os.path.join(directory, made)
-        if os.path.exists(path):
-            os.remove(path)
-        ran.append(run_step(program, preload, directory, Step(arguments, PASSWORD + b"\n")))
-        if os.path.exists(path):
-            left[made] = read(path)
-    return ran, left
-
-
-def wrong_of_key(answers, text):
+def wrong_of_key(text, theirs, ours):
     """What is wrong with how both answered, and the row that explains how they differ."""
-    (theirs, their_files), (ours, our_files) = answers
-    for ran in ours:
-        if ran.status not in (0, 2):
-            return f"ours ended with {ran}", ""
-    if any(ran.status != 0 for ran in ours) and set(our_files) == {"a.pub", "data.minisig"}:
-        return "ours rejects and writes", ""
-    if [ran.status for ran in theirs] == [ran.status for ran in ours] and (any(ran.status for ran in ours) or their_files == our_files):
+    (their_runs, their_files), (our_runs, our_files) = theirs, ours
+    statuses = [ran.status for ran in our_runs]
+    if not {*statuses} <= {0, 2} or any(statuses) and len(our_files) == len(MADE):
+        return f"ours rejects and writes, or ended otherwise: {ours}", ""
+    if [ran.status for ran in their_runs] == statuses and (any(statuses) or their_files == our_files):
         return "", ""
-    entries = [name for name, speaks in ROWS.items() if speaks(text)]
-    for entry in entries:
-        if entry != "a public half that is another's" or ours[1].said.startswith(b"Verification would fail"):
-            return "", entry
-    return f"Minisign {theirs[0]}, {theirs[1]}; ours {ours[0]}, {ours[1]}", ""
+    for row, speaks in ROWS.items():
+        if speaks(text) and (row != "a public half that is another's" or our_runs[1].said.startswith(b"Verification would fail")):
+            return "", row
+    return f"Minisign {theirs}, ours {ours}", ""
 
 
 def run_damaged(whole, keys):
@@ -122,4 +98,6 @@ def run_damaged(whole, keys):
     texts, workers = damaged_keys(keys), os.cpu_count() or 1
     with concurrent.futures.ProcessPoolExecutor(workers) as pool:
         results = list(pool.map(run_keys, [whole] * workers, [texts[start::workers] for start in range(workers)]))
-    return [failure for some, _, _ in results for failure in some], len(texts), sum((seen for _, _, seen in results), collections.Counter())
+    seen = sum((seen for _, seen in results), collections.Counter())
+    del seen[""]
+    return [failure for some, _ in results for failure in some], len(texts), seen

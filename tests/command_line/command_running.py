@@ -6,16 +6,23 @@ import base64
 import hashlib
 import os
 import re
+import shutil
 import stat
 import sys
 import tempfile
+import time
 from dataclasses import dataclass, field
 
 from at_terminal import SECONDS, AtTerminal, type_at_terminal
+from disturbed import Disturbing
 from process import Ran, run_program
-from running import read
+from running import Link, expect, read, run_cases, write
 
 HOME = "home"
+# The keys that both make of the fixed random bytes, once Minisign has made them, and data.
+OPEN, PUBLIC, CLOSED, OTHER = "first.key", "first.pub", "closed.key", "other.pub"
+PASSWORD = b"correct horse"
+DATA = {"data": b"some data\n", "more": b"more data\n", "empty": b""}
 # The program was built with -DPOSIX_ONLY: directories have to be readable then.
 POSIX_ONLY = "--posix-only" in sys.argv
 PASSED_THROUGH = 0o755 if POSIX_ONLY else 0o711
@@ -49,48 +56,135 @@ def run_step(program, preload, directory, step):
     environment = {name: value for name, value in environment.items() if value is not None}
     command = ["minisign", *step.arguments]
     if step.at_terminal:
-        return run_at_terminal(command, program, directory, environment, step.typed.splitlines(True))
+        status, shown = type_at_terminal(command, program, directory, environment, step.typed.splitlines(True))
+        return Ran(status, PROGRESS.sub(b"", DOTS.sub(rb"\1", shown)), b"")
     return run_program(command, directory, step.typed, executable=program, env=environment)
 
 
-def run_at_terminal(command, program, directory, environment, lines):
-    """Runs a program at a terminal at which a person types a line at each question."""
-    status, shown = type_at_terminal(command, program, directory, environment, lines)
-    return Ran(status, PROGRESS.sub(b"", DOTS.sub(rb"\1", shown)), b"")
-
-
 def put_files(directory, files):
-    """Makes files of their names and bytes; a directory is None."""
+    """Makes files of their names and bytes, or `Link`s; a directory is None."""
     for name, data in files.items():
         path = os.path.join(directory, name)
-        if data is None:
-            os.makedirs(path, exist_ok=True)
-            continue
-        os.makedirs(os.path.dirname(path) or directory, exist_ok=True)
-        with open(path, "wb") as file:
-            file.write(data)
-        if name.endswith(".key"):
-            os.chmod(path, 0o600)
+        os.makedirs(path if data is None else os.path.dirname(path), exist_ok=True)
+        if isinstance(data, Link):
+            os.symlink(data.target, path)
+        elif data is not None:
+            write("", path, data)
+            os.chmod(path, 0o600 if name.endswith(".key") else 0o644)
 
 
 def files_in(directory):
-    """The bytes and permissions of all files in a directory, by their names; of a directory its permissions alone."""
+    """The permissions of all files in a directory, by their names, and their bytes; None of a directory, and of others where a link
+    leads."""
     found = {}
     for at, directories, names in os.walk(directory):
-        for name in directories + names:
-            path = os.path.join(at, name)
-            mode = stat.S_IMODE(os.stat(path).st_mode)
-            found[os.path.relpath(path, directory)] = (mode, read(path) if name in names else None)
+        for path in (os.path.join(at, name) for name in directories + names):
+            mode = os.lstat(path).st_mode
+            data = Link(os.readlink(path)) if stat.S_ISLNK(mode) else read(path) if stat.S_ISREG(mode) else None
+            found[os.path.relpath(path, directory)] = (stat.S_IMODE(mode), data)
     return found
 
 
 def run_steps(program, preload, files, steps):
     """Runs steps in a fresh directory: how each ended, and the files afterwards."""
     with tempfile.TemporaryDirectory(prefix="whole-") as directory:
-        os.mkdir(os.path.join(directory, HOME))
-        put_files(directory, files)
+        put_files(directory, {HOME: None, **files})
         ran = [run_step(program, preload, directory, step) for step in steps]
         return ran, files_in(directory)
+
+
+def case(name, *rows):
+    """Marks a method as a case of this name, or as one for each row: what it is given, which the name shows."""
+
+    def mark(method):
+        method.named = [(name.format(*row).strip(), *row) for row in (row if isinstance(row, tuple) else (row,) for row in rows or [()])]
+        return method
+
+    return mark
+
+
+class Programs(Disturbing):
+    """The programs in fresh directories, which all users may pass through, and the cases over them."""
+
+    def __init__(self, whole, room, keys):
+        super().__init__(shutil.copy(whole.ours, room), room)
+        self.whole, self.keys = whole, keys
+        self.kept = tempfile.TemporaryDirectory(dir=self.place)
+        for path in (room, self.kept.name):
+            os.chmod(path, PASSED_THROUGH)
+
+    def cases(self):
+        """The names of all cases, and what runs each."""
+        for method in vars(type(self)).values():
+            for name, *row in getattr(method, "named", ()):
+                yield name, method, self, *row
+
+    def run_all(self):
+        """Runs all cases: the failures, and how many there were."""
+        with self.kept:
+            return run_cases(self.cases())
+
+    def fresh(self, files):
+        """A directory with these files."""
+        made = tempfile.mkdtemp(dir=self.kept.name)
+        put_files(made, files)
+        return made
+
+    def directory(self, **files):
+        """A directory with the keys, the data and these files."""
+        return self.fresh({HOME: None, **self.keys, **DATA, **files})
+
+    def signed(self, *flags, **files):
+        """Such a directory with a signature of the data."""
+        directory = self.directory(**files)
+        self.sign(directory, *flags)
+        return directory
+
+    def ours(self, directory, *arguments, **how):
+        return self.run(directory, arguments, {"HOME": HOME}, **how)
+
+    def theirs(self, directory, *arguments, **how):
+        return self.run(directory, arguments, {"HOME": HOME}, self.whole.theirs, **how)
+
+    def sign(self, directory, *flags, **how):
+        """Signs the data there."""
+        return self.ours(directory, "-Sm", "data", "-s", OPEN, *flags, **how)
+
+    def expect_rejected(self, said, *arguments, files=None, status=2, **how):
+        """A run in a directory with these files ends so, says this at its end, and leaves all as it was."""
+        directory = self.directory(**(files or {}))
+        before = files_in(directory)
+        ran = self.ours(directory, *arguments, **how)
+        expect(ran.status == status and ran.said.endswith(said) and files_in(directory) == before, ran)
+
+    def at_terminal(self, directory, *arguments, **environment):
+        """A run at a terminal."""
+        return AtTerminal(["minisign", *arguments], self.program, directory, {"HOME": HOME, **environment})
+
+    def asked(self, directory, *arguments, **environment):
+        """A run at a terminal that has asked for a password."""
+        at = self.at_terminal(directory, *arguments, **environment)
+        expect_question(at)
+        return at
+
+
+def expect_question(at, number=1):
+    """The question of this number for a password is shown last, and what is typed is hidden."""
+    expect(at.read_until(rb"(?s)(?:Password.*){%d}: $" % number), f"it never asked: {at.shown!r}")
+    wait_until(lambda: not at.shows_typed(), "it shows what is typed")
+
+
+def expect_end(at, status, shown, typed=b""):
+    """With this typed it ends so, and has shown this."""
+    ended = at.finish(typed)
+    expect(ended == status and re.search(shown, at.shown), f"it ended with {ended}, and showed {at.shown!r}")
+
+
+def wait_until(holds, otherwise):
+    end = time.monotonic() + SECONDS / 10
+    while not holds():
+        expect(time.monotonic() <= end, otherwise)
+        time.sleep(0.01)
 
 
 # ---- Texts of keys ----
@@ -106,6 +200,11 @@ def text_of(record, comment=b"minisign encrypted secret key"):
     return b"untrusted comment: " + comment + b"\n" + base64.b64encode(record) + b"\n"
 
 
+def turned(record, at):
+    """A record with a bit of this byte turned."""
+    return record[:at] + bytes([record[at] ^ 1]) + record[at + 1:]
+
+
 def checksum_of(record):
     return hashlib.blake2b(record[:2] + record[54:126], digest_size=32).digest()
 
@@ -114,27 +213,17 @@ def with_checksum(record):
     return record[:126] + checksum_of(record)
 
 
-def sealed(text, password, memory=16777216):
-    """The key of an open text, sealed with the least limits that Minisign takes, so that opening takes no time; as few operations decide
-    N, whatever the memory."""
-    record, salt = with_checksum(record_of(text)), bytes(range(32))
-    stream = hashlib.scrypt(password, salt=salt, n=1024, r=8, p=1, dklen=104)
-    limits = (32768).to_bytes(8, "little") + memory.to_bytes(8, "little")
-    closed = bytes(a ^ b for a, b in zip(record[54:158], stream))
-    return text_of(b"EdScB2" + salt + limits + closed)
-
-
-# So few rows take so little work that they may be made often.
+# So few rows take so little work that they may be made often. They are the least that Minisign takes.
 FEW_ROWS = 1024
 # More work than a test does: such a key has zeros in place of its stream, and opens under no password.
 MUCH_WORK = 1 << 22
 
 
-def sealed_for(text, password, times, rows=FEW_ROWS):
-    """The key of an open text, sealed with limits that lead to this N and this p of scrypt."""
-    record, salt = with_checksum(record_of(text)), bytes(range(32))
-    stream = bytes(104)
+def sealed(text, password, memory=1 << 24, rows=FEW_ROWS, times=1):
+    """The key of an open text, sealed with limits that lead to this N and this p of scrypt: so few operations decide N, whatever the
+    memory, but where the memory is that of N rows it decides N, and the operations p."""
+    record, salt, stream = with_checksum(record_of(text)), bytes(range(32)), bytes(104)
     if times * rows < MUCH_WORK:
         stream = hashlib.scrypt(password, salt=salt, n=rows, r=8, p=times, maxmem=(1 << 31) - 1, dklen=104)
-    limits = (times * 8 * 4 * rows).to_bytes(8, "little") + (rows * 1024).to_bytes(8, "little")
+    limits = (times * 8 * 4 * rows).to_bytes(8, "little") + memory.to_bytes(8, "little")
     return text_of(b"EdScB2" + salt + limits + bytes(a ^ b for a, b in zip(record[54:158], stream)))

@@ -18,7 +18,6 @@ It installs what is missing if it may.
 import concurrent.futures
 import os
 import random
-import stat
 import subprocess
 import sys
 import tempfile
@@ -29,13 +28,12 @@ sys.path += [os.path.join(HERE, "..", name) for name in ("shared", "verdicts", "
 
 import ending
 import needs
-import static_library
 from process import run_program
-from running import Failure, build_preload, expect, read
+from running import Failure, Link, build_preload, expect
 from command_breaking import STAGE, is_secret
-from command_cases import CLOSED, OPEN, OTHER, PASSWORD, PUBLIC, keys_of
-from command_line import heed_signals
-from command_running import Whole, put_files
+from command_cases import keys_of
+from command_line import build_program, heed_signals
+from command_running import CLOSED, DATA, HOME, OPEN, OTHER, PASSWORD, PUBLIC, Step, Whole, files_in, put_files, run_steps
 
 LINES = 2000
 # After so many seconds no further line is begun; fewer lines than this are too few.
@@ -43,7 +41,7 @@ SECONDS, FEWEST = 110, 400
 SECONDS_OF_LINE = 60
 SANITIZED = "-O1 -g -fno-omit-frame-pointer -fsanitize=address,undefined -fno-sanitize-recover=all"
 # (what was taken is given back by the end of the program)
-ENVIRONMENT = {"HOME": "home", "ASAN_OPTIONS": "detect_leaks=0:exitcode=99", "UBSAN_OPTIONS": "exitcode=99"}
+ENVIRONMENT = {"HOME": HOME, "ASAN_OPTIONS": "detect_leaks=0:exitcode=99", "UBSAN_OPTIONS": "exitcode=99"}
 REPORTS = (b"Sanitizer", b"runtime error")
 
 NAMES = ["data", "more", "empty", "directory", "none", "none/none", "", "link", "dangling", "/dev/null", "x" * 300,
@@ -55,6 +53,7 @@ PUBLICS = [PUBLIC, OTHER, "cut.pub", "link.pub"]
 SIGNATURES = ["data.minisig", "legacy.minisig", "more.minisig", "cut.minisig"]
 COMMENTS = ["a comment", "", " ", "a\nb", "a\rb", b"\xff", "\u00e9\u20ac", "t" * 1003, "t" * 1004, "t" * 8173, "t" * 8174, "tab\there", "end "]
 TYPED = [PASSWORD + b"\n", b"wrong\n", b"\n", b"", b"\0\n", b"\xff\n", b"x" * 1023 + b"\n", b"x" * 3000 + b"\n", PASSWORD]
+LINKS = {"link": Link("data"), "dangling": Link("made"), "link.key": Link(OPEN), "link.pub": Link(PUBLIC)}
 # Of each command the flags that name files, how often, the usual names, and what becomes of those; and what it writes by
 # default.
 READ, SIGNED, WRITTEN = "it is read", "a signature is written beside it", "it is written"
@@ -76,32 +75,18 @@ SEALING = 0.002
 class Directory:
     """What stands in the directory of a line before it."""
 
-    def __init__(self, whole, room):
-        self.whole = whole
-        keys = keys_of(whole)
+    def __init__(self, whole):
+        self.whole, keys = whole, keys_of(whole)
         self.inline = keys[PUBLIC].split()[-1].decode()
-        signed = os.path.join(room, "signed")
-        os.mkdir(signed)
-        put_files(signed, {**keys, "data": b"some data\n", "more": b"more data\n"})
-        for arguments in (("-Sm", "data", "more", "-s", OPEN), ("-Slm", "data", "-s", OPEN, "-x", "legacy.minisig")):
-            subprocess.run([whole.theirs, *arguments], cwd=signed, stdin=subprocess.DEVNULL, stdout=subprocess.DEVNULL, check=True)
-        made = {}
-        for name in SIGNATURES[:3]:
-            made[name] = read(signed, name)
-        turned = bytearray(keys[OPEN])
-        turned[-30] ^= 2
-        self.files = {**keys, **made, "data": b"some data\n", "more": b"more data\n", "empty": b"", "directory/kept": b"kept",
-                      "cut.key": keys[OPEN][:100], "turned.key": bytes(turned), "cut.pub": keys[PUBLIC][:60], "cut.minisig": made["data.minisig"][:150],
+        signing = (("-Sm", "data", "more", "-s", OPEN), ("-Slm", "data", "-s", OPEN, "-x", "legacy.minisig"))
+        _, signed = run_steps(whole.theirs, "", {**keys, **DATA}, map(Step, signing))
+        made = {name: signed[name][1] for name in ("data.minisig", "more.minisig", "legacy.minisig")}
+        self.files = {**keys, **DATA, **made, "directory/kept": b"kept", "cut.minisig": made["data.minisig"][:150], "cut.pub": keys[PUBLIC][:60],
+                      "cut.key": keys[OPEN][:100], "turned.key": keys[OPEN][:-30] + bytes([keys[OPEN][-30] ^ 2]) + keys[OPEN][-29:],
                       "text": b"a text\nof\nfour\nlines\n", "page": b"<!DOCTYPE html>\n<html>\n", "archive": bytes.fromhex("1f8b0800") + bytes(40),
                       "wide": keys[PUBLIC].decode().encode("utf-16"), "end ": b"end", "odd\x1b\u202ename": b"odd", os.fsdecode(b"caf\xe9"): b"latin",
                       "home/.minisign/minisign.key": keys[OPEN], "minisign.pub": keys[PUBLIC]}
         self.secrets = [keys[OPEN], keys[CLOSED]]
-        self.links = {"link": "data", "dangling": "made", "link.key": OPEN, "link.pub": PUBLIC}
-
-    def make(self, directory):
-        put_files(directory, self.files)
-        for name, target in self.links.items():
-            os.symlink(target, os.path.join(directory, name))
 
 
 class Line:
@@ -110,9 +95,8 @@ class Line:
     def __init__(self, directory, source):
         self.directory, self.source = directory, source
         self.command = source.choice("GGRCSSSVVVV")
-        self.arguments, self.outputs = [f"-{self.command}"], set()
+        self.arguments, self.outputs = [f"-{self.command}"], {*BY_DEFAULT.get(self.command, ())}
         self.typed = b"".join(source.choice(TYPED) for _ in range(source.randint(0, 3)))
-        self.outputs |= BY_DEFAULT.get(self.command, set())
         self.add_names()
         if self.command in "GC":
             self.add_sealing()
@@ -124,9 +108,6 @@ class Line:
         """Mostly a name of this kind, and else any name."""
         return self.source.choice(usual if self.source.random() < 0.8 else [*NAMES, *SECRETS, *PUBLICS, *SIGNATURES])
 
-    def add(self, flag, value):
-        self.arguments += [flag, value]
-
     def add_names(self):
         """Mostly the files that the command needs."""
         for flag, often, usual, use in FILES[self.command]:
@@ -135,14 +116,14 @@ class Line:
             name = self.name_of(usual)
             if use == WRITTEN and self.command in "GS" and self.source.random() < 0.05:
                 name = self.source.choice(STREAMS)
-            self.add(flag, name)
+            self.arguments += [flag, name]
             self.outputs |= {name} if use == WRITTEN else {beside(name)} if use == SIGNED else set()
         for _ in range(self.source.choice([0, 0, 0, 1, 3, 40]) if self.command == "S" else 0):
             self.arguments.append(self.name_of(["data", "more", "empty", "text"]))
             self.outputs.add(beside(self.arguments[-1]))
         if self.command in "SV" and self.source.random() < 0.12:
             inline = self.directory.inline
-            self.add("-P", self.source.choice([inline, "", "x", "-" * 56, inline[:-1]]))
+            self.arguments += ["-P", self.source.choice([inline, "", "x", "-" * 56, inline[:-1]])]
 
     def add_sealing(self):
         """Whether the key gets a password, which takes long."""
@@ -155,27 +136,27 @@ class Line:
             self.typed = PASSWORD + b"\n" + b"one\ntwo\n"
 
     def add_flags(self):
-        for flags, often, values in (("f", 0.5 * (self.command in "GR"), None), ("lHoqQ", 0.1, None),
-                                     ("ct", 0.2, COMMENTS),
+        for flags, often, values in (("f", 0.5 * (self.command in "GR"), None), ("lHoqQ", 0.1, None), ("ct", 0.2, COMMENTS),
                                      ("kK", 0.05, ["1", "16", "0", "-1", "x", "1048577"])):
             for flag in flags:
                 if self.source.random() < often:
                     self.arguments += [f"-{flag}"] if values is None else [f"-{flag}", self.source.choice(values)]
 
+    def has(self, *flags):
+        return any(flag in self.arguments for flag in flags)
+
+    def value_of(self, flag):
+        """What follows a flag, or None."""
+        return self.arguments[self.arguments.index(flag) + 1] if flag in self.arguments else None
+
     def may_be_tested_in_another_order(self, directory):
         """Whether more than one thing may be wrong of which each program names another first: a directory is among its names, or a
         signature of the older kind is rejected (the row on the order of the tests in docs/DIFFERENCES.md)."""
         names = (os.path.join(os.fsencode(directory), os.fsencode(name)) for name in self.arguments[1:])
-        return "-H" in self.arguments or any(map(os.path.isdir, names))
+        return self.has("-H") or any(map(os.path.isdir, names))
 
-    @property
-    def secret(self):
-        """The name of the secret key, where it is named."""
-        return self.arguments[self.arguments.index("-s") + 1] if "-s" in self.arguments else None
-
-    def is_plain(self):
-        """Whether Minisign has the same flags, and takes no name more than ours."""
-        return not any(flag in self.arguments for flag in ("-k", "-K", "-G", "-S", "-Z", "-v", "-h", "--", "-")) and self.arguments.count("-V") == 1
+    def run(self, program, directory):
+        return run_program([program, *self.arguments], directory, self.typed, SECONDS_OF_LINE, env=ENVIRONMENT)
 
 
 def beside(name):
@@ -183,57 +164,39 @@ def beside(name):
     return name + (b".minisig" if isinstance(name, bytes) else ".minisig")
 
 
-def run(program, directory, line):
-    return run_program([program, *line.arguments], directory, line.typed, SECONDS_OF_LINE, env=ENVIRONMENT)
-
-
 def check_files(before, directory, line):
     """What the line may not do to the files."""
     outputs = {os.path.realpath(os.path.join(directory, os.fsdecode(name))) for name in line.outputs}
-    found = {}
-    for at, _, names in os.walk(directory):
-        for name in names:
-            path = os.path.join(at, name)
-            expect(not name.startswith(STAGE), f"it left {name}")
-            if not os.path.islink(path):
-                found[os.path.relpath(path, directory)] = read(path)
+    found = {name: held for name, held in files_in(directory).items() if isinstance(held[1], bytes)}
     for name, data in before.files.items():
-        path = os.path.join(directory, name)
         expect(name in found, f"{name!r} is gone")
-        expect(found[name] == data or os.path.realpath(path) in outputs, f"{name!r} was changed")
-        if data in before.secrets and (name == line.secret and line.command != "G" or line.command == "C"):
-            is_secret(found[name])
-    for name, data in found.items():
-        mode = stat.S_IMODE(os.stat(os.path.join(directory, name)).st_mode)
-        expect(not data.startswith(b"untrusted comment: minisign encrypted secret key") or data == before.files.get(name) or mode == 0o600,
+        expect(found[name][1] == data or os.path.realpath(os.path.join(directory, name)) in outputs, f"{name!r} was changed")
+        if data in before.secrets and (name == line.value_of("-s") and line.command != "G" or line.command == "C"):
+            is_secret(found[name][1])
+    for name, (mode, data) in found.items():
+        older = before.files.get(name)
+        expect(not os.path.basename(name).startswith(STAGE), f"it left {name}")
+        expect(not data.startswith(b"untrusted comment: minisign encrypted secret key") or data == older or mode == 0o600,
                f"{name!r} has the mode {mode:o}")
-        expect(data != b"" or before.files.get(name) == b"", f"{name!r} is empty")
-
-
-def check_signatures(before, directory, line):
-    """What was signed well Minisign verifies."""
-    if "-x" in line.arguments or "-m" not in line.arguments:
-        return
-    data = line.arguments[line.arguments.index("-m") + 1]
-    if data in line.outputs:
-        # (a signature that was signed, and then replaced by another)
-        return
-    ran = run_program([before.whole.theirs, "-Vm", data, "-P", before.inline], directory, seconds=SECONDS_OF_LINE)
-    expect(ran.status == 0, "Minisign does not verify what was signed", ran)
+        expect(data != b"" or older == b"", f"{name!r} is empty")
 
 
 def check_line(before, line):
     """Raises a `Failure` where a line does something that it may not."""
     with tempfile.TemporaryDirectory(prefix="random-line-") as directory:
-        before.make(directory)
-        ran = run(before.whole.ours, directory, line)
+        put_files(directory, {**before.files, **LINKS})
+        ran = line.run(before.whole.ours, directory)
         expect(ran.status in (0, 1, 2) and not any(word in ran.said for word in REPORTS),
                f"it ended with {ran.status}, and said {ran.said[-1500:].decode(errors='replace')}")
         check_files(before, directory, line)
-        if line.command == "S" and ran.status == 0 and not any(flag in line.arguments for flag in ("-v", "-p", "-P")):
-            check_signatures(before, directory, line)
-        if line.command == "V" and line.is_plain():
-            theirs = run(before.whole.theirs, directory, line)
+        data = line.value_of("-m")
+        # (a signature may be signed, and then replaced by another)
+        if line.command == "S" and ran.status == 0 and not line.has("-v", "-p", "-P", "-x") and data not in (None, *line.outputs):
+            theirs = run_program([before.whole.theirs, "-Vm", data, "-P", before.inline], directory, seconds=SECONDS_OF_LINE)
+            expect(theirs.status == 0, "Minisign does not verify what was signed", theirs)
+        # (Minisign has the same flags, and takes no name more than ours)
+        if line.command == "V" and line.arguments.count("-V") == 1 and not line.has("-k", "-K", "-G", "-S", "-Z", "-v", "-h", "--", "-"):
+            theirs = line.run(before.whole.theirs, directory)
             is_same_verdict = (theirs.status == 0) == (ran.status == 0)
             expect(theirs.status == ran.status or is_same_verdict and line.may_be_tested_in_another_order(directory),
                    ran, f"Minisign {theirs}")
@@ -254,18 +217,11 @@ def check_lines(before, seed, numbers, end):
     return failures, count
 
 
-def build(room):
-    """The program, built so that it finds what is wrong."""
-    made = f"{room}/c/minisign"
-    static_library.run_make(f"OUT={room}/c", f"CC={needs.libsodium()}", f"CFLAGS={SANITIZED}", "C_CALLS=", made)
-    return made
-
-
 def run_all(seed, numbers, room):
     """Tries the lines, several at a time: the failures, and how many were tried."""
-    before = Directory(Whole(needs.minisign(), build(room), build_preload(room, "fixed_sources")), room)
-    workers = os.cpu_count() or 1
-    end = time.time() + SECONDS
+    ours = build_program(room, f"CFLAGS={SANITIZED}", "C_CALLS=")
+    before = Directory(Whole(needs.minisign(), ours, build_preload(room, "fixed_sources")))
+    workers, end = os.cpu_count() or 1, time.time() + SECONDS
     with concurrent.futures.ProcessPoolExecutor(workers) as pool:
         jobs = [pool.submit(check_lines, before, seed, numbers[start::workers], end) for start in range(workers)]
         results = [job.result() for job in jobs]
@@ -277,7 +233,7 @@ def run_all(seed, numbers, room):
 
 def main(words):
     seed = int(words[0]) if words else random.SystemRandom().randrange(2**32)
-    numbers = [int(words[1])] if len(words) > 1 else list(range(LINES))
+    numbers = [int(words[1])] if len(words) > 1 else range(LINES)
     print(f"seed {seed}", flush=True)
     return ending.main("random-lines", lambda room: run_all(seed, numbers, room), RuntimeError)
 

@@ -19,92 +19,66 @@ import subprocess
 import sys
 
 HERE = os.path.dirname(os.path.realpath(__file__))
-TOP = os.path.join(HERE, "..", "..")
 sys.path += [os.path.join(HERE, "..", "shared"), os.path.join(HERE, "..", "c")]
 
 import edges
 import ending
 import installed_verify
 import needs
-import static_library
 from process import run
+from real_minisign import build_programs
 from running import write
 
-REJECTED = "Signature verification failed"
-ACCEPTED = "Comment signature verification failed"
+REJECTED = "Signature verification failed\n"
+ACCEPTED = "Comment signature verification failed\n"
 
 
-def sodium_failures(room, compiler):
-    """What is wrong with the answers of the libsodium that the programs are built over."""
+def put(room, key, signature, data):
+    """The paths of files of these texts, by their names."""
+    return {name: write(room, name, text) for name, text in (("key", key), ("signature", signature), ("data", data))}
+
+
+def vector_failures(room, verifying):
+    """What is wrong with the answers to the vectors: of the libsodium that the programs are built over, and of two programs."""
     source = write(room, "all.c", b"#include <sodium.h>\nint main(void) { return 0; }\n")
-    subprocess.run([compiler, "-shared", "-fPIC", "-o", f"{room}/all.so", source, "-Wl,--no-as-needed", "-lsodium"],
-                   check=True)
-    sodium, failures = ctypes.CDLL(f"{room}/all.so"), []
+    made = f"{room}/all.so"
+    subprocess.run([needs.libsodium(), "-shared", "-fPIC", "-o", made, source, "-Wl,--no-as-needed", "-lsodium"], check=True)
+    sodium, by_python, failures = ctypes.CDLL(made), installed_verify.opened_sodium(), []
     for vector in edges.vectors():
         key, signature, message = (bytes.fromhex(vector[part]) for part in ("A", "sig", "msg"))
-        answer = sodium.crypto_sign_verify_detached(signature, message, ctypes.c_ulonglong(len(message)), key) == 0
-        if answer != vector["sodium"]:
-            failures.append(f"libsodium answers {answer} to the vector {vector['name']}")
-    return failures
-
-
-def program_failures(room, program):
-    """What is wrong with the answers of a program of c/."""
-    failures = []
-    for vector in edges.vectors():
-        key, signature = edges.legacy_texts(vector)
-        paths = [write(room, "key", key), write(room, "data", bytes.fromhex(vector["msg"])), write(room, "signature", signature)]
-        status, said = run([program, "-V", "-p", paths[0], "-m", paths[1], "-x", paths[2]])
-        wanted = ACCEPTED if vector["sodium"] else REJECTED
-        if status != 1 or said.strip() != wanted:
-            name = os.path.basename(program)
-            failures.append(f"{name}: the vector {vector['name']} ends with {status}: {said!r:.200}, and not {wanted!r}")
-    return failures
-
-
-def python_failures():
-    """What is wrong with the answers of the program in Python."""
-    sodium, failures = installed_verify.opened_sodium(), []
-    for vector in edges.vectors():
-        key, signature, message = (bytes.fromhex(vector[part]) for part in ("A", "sig", "msg"))
-        answer = installed_verify.answer(sodium, signature, message, len(message), key)
-        if answer != (installed_verify.YES if vector["sodium"] else installed_verify.NO):
-            failures.append(f"the program in Python answers {answer:#x} to the vector {vector['name']}")
+        paths, accepts = put(room, *edges.legacy_texts(vector), message), vector["sodium"]
+        answered = sodium.crypto_sign_verify_detached(signature, message, ctypes.c_ulonglong(len(message)), key)
+        for who, answer, wanted in (
+            ("libsodium", answered == 0, accepts),
+            ("c/minisign", run([part.format(**paths) for part in verifying]), (1, ACCEPTED if accepts else REJECTED)),
+            ("the program in Python", installed_verify.answer(by_python, signature, message, len(message), key),
+             installed_verify.YES if accepts else installed_verify.NO),
+        ):
+            if answer != wanted:
+                failures.append(f"{who} answers {answer!r:.200} to the vector {vector['name']}, and not {wanted!r}")
     return failures
 
 
 def every_file_failures(room, commands):
     """What is wrong where a signature of small order would fit every file: each program has to reject it."""
-    key, signature = edges.texts_for_every_file()
-    paths = {"key": write(room, "key", key), "signature": write(room, "signature", signature)}
     failures = []
     for data in (b"", b"data", bytes(100_000)):
-        paths["data"] = write(room, "data", data)
+        paths = put(room, *edges.texts_for_every_file(), data)
         for what, command in commands.items():
             status, said = run([part.format(**paths) for part in command])
-            if status != 1 or said.strip() != REJECTED:
+            if (status, said.strip()) != (1, REJECTED.strip()):
                 failures.append(f"{what}: a signature for every file ends with {status}: {said!r:.200}")
     return failures
 
 
 def run_all(room):
     """Runs everything: the failures, and how much ran."""
-    compiler = needs.libsodium()
-    static_library.run_make(f"OUT={room}/c", f"CC={compiler}")
-    status, said = run([needs.program("make", "make"), "-s", "-C", os.path.join(TOP, "examples", "rust"),
-                        f"OUT={room}/rust", f"CARGO={needs.program('cargo', 'cargo')}",
-                        f"RUSTC={needs.rust_compiler()}"])
-    if status != 0:
-        return [f"examples/rust was not built: {said[-1000:]}"], 1
-    verifying = ["-V", "-p", "{key}", "-m", "{data}", "-x", "{signature}"]
-    commands = {"c/minisign": [f"{room}/c/minisign", *verifying],
-                "examples/rust": [f"{room}/rust/minisign-verify", "{key}", "{data}", "{signature}"],
+    programs = build_programs(room)
+    verifying = [programs.ours, "-V", "-p", "{key}", "-m", "{data}", "-x", "{signature}"]
+    commands = {"c/minisign": verifying, "examples/rust": [programs.verify_rust, "{key}", "{data}", "{signature}"],
                 "Python": [sys.executable, installed_verify.__file__, f"{room}/c/libminisign.so", "{key}", "{data}",
                            "{signature}"]}
-    failures = sodium_failures(room, compiler)
-    failures += program_failures(room, f"{room}/c/minisign")
-    failures += python_failures()
-    failures += every_file_failures(room, commands)
+    failures = vector_failures(room, verifying) + every_file_failures(room, commands)
     return failures, 3 * len(edges.vectors()) + 3 * len(commands)
 
 

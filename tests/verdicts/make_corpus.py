@@ -12,7 +12,6 @@ import base64
 import json
 import os
 import shutil
-import subprocess
 import sys
 
 HERE = os.path.dirname(os.path.realpath(__file__))
@@ -20,27 +19,19 @@ sys.path.append(os.path.join(HERE, "..", "shared"))
 
 import needs
 from minisign_cases import PASSWORD, Minisign, lines, pattern, with_line, with_record
+from process import run_program
+from running import read
 
-PUBLISHED = {
-    "published.pub": b"untrusted comment: minisign public key E7620F1842B4E81F\n"
-                     b"RWQf6LRCGA9i53mlYecO4IzT51TGPpvWucNSCh1CBM0QTaLn73Y7GFO3\n",
-    "published.minisig": b"untrusted comment: signature from minisign secret key\n"
-                         b"RUQf6LRCGA9i559r3g7V1qNyJDApGip8MfqcadIgT9CuhV3EMhHoN1mGTkUidF/z7SrlQgXdy8ofjb7bNJJylDOocrCo8KLzZwo=\n"
-                         b"trusted comment: timestamp:1556193335\tfile:test\n"
-                         b"y/rUw2y8/hOUYjZU71eHp/Wo1KZ40fGy2VJEDl34XMJM+TX48Ss/17u3IvIfbVR1FkZZSNCisQbuQY+bHwhEBg==",
-    "published-legacy.minisig": b"untrusted comment: signature from minisign secret key\n"
-                                b"RWQf6LRCGA9i59SLOFxz6NxvASXDJeRtuZykwQepbDEGt87ig1BNpWaVWuNrm73YiIiJbq71Wi+dP9eKL8OC351vwIasSSbXxwA=\n"
-                                b"trusted comment: timestamp:1555779966\tfile:test\n"
-                                b"QtKMXWyYcwdpZAlPF7tE2ENJkRd1ujvKjlj1m9RtHTBnZPa5WKU5uWRs5GoP5M/VqE81QFuMKI5k/SfNQUaOAA==",
-    "test": b"test",
-}
+CORPUS = os.path.join(HERE, "..", "corpus")
+# These stay as they are.
+PUBLISHED = ("published.pub", "published.minisig", "published-legacy.minisig", "test")
 
 
 def make_files(minisign):
     """Makes the files, and answers the rows: a key, data and a signature each."""
-    for name, data in PUBLISHED.items():
-        minisign.write(name, data)
-    rows = [("published.pub", "test", "published.minisig"), ("published.pub", "test", "published-legacy.minisig")]
+    for name in PUBLISHED:
+        minisign.write(name, read(CORPUS, name))
+    rows = [("published.pub", "test", name) for name in ("published.minisig", "published-legacy.minisig")]
     for name, password in (("first", None), ("second", None), ("sealed", PASSWORD)):
         minisign.make_pair(name, password)
     contents = {"empty": b"", "hello": b"hello, world\n", "block": pattern(128), "binary": pattern(300)}
@@ -85,16 +76,13 @@ def make_files(minisign):
 
 def answer_of(program, directory, row):
     """What `minisign -V` answers to a row, whose files get the names of the script that runs the corpus."""
-    with_names = dict(zip(("minisign.pub", "data", "data.minisig"), row))
     made = os.path.join(directory, "run")
     os.makedirs(made, exist_ok=True)
-    for name, kept in with_names.items():
-        with open(os.path.join(directory, kept), "rb") as source, open(os.path.join(made, name), "wb") as file:
-            file.write(source.read())
-    ran = subprocess.run([program, "-V", "-p", "minisign.pub", "-x", "data.minisig", "-m", "data"], cwd=made,
-                         stdout=subprocess.PIPE, stderr=subprocess.PIPE)
-    return {"key": row[0], "data": row[1], "signature": row[2], "status": ran.returncode,
-            "output": ran.stdout.decode("latin-1"), "said": ran.stderr.decode("latin-1")}
+    for name, kept in zip(("minisign.pub", "data", "data.minisig"), row):
+        shutil.copyfile(os.path.join(directory, kept), os.path.join(made, name))
+    ran = run_program([program, "-V", "-p", "minisign.pub", "-x", "data.minisig", "-m", "data"], made)
+    return {"key": row[0], "data": row[1], "signature": row[2], "status": ran.status,
+            "output": ran.output.decode("latin-1"), "said": ran.said.decode("latin-1")}
 
 
 def main(directory):
@@ -103,9 +91,7 @@ def main(directory):
     shutil.rmtree(os.path.join(directory, "run"))
     for name in ("signed", "made", "first.key", "second.key", "sealed.key"):
         os.remove(os.path.join(directory, name))
-    with open(os.path.join(directory, "cases.json"), "w", encoding="utf-8") as file:
-        json.dump(rows, file, indent=1)
-        file.write("\n")
+    minisign.write("cases.json", json.dumps(rows, indent=1).encode() + b"\n")
 
 
 if __name__ == "__main__":
