@@ -1,18 +1,20 @@
-"""Debian's Chromium without a window, with its own driver. (firefox.py has Firefox.)"""
+"""Debian's Chromium without a window, and its driver. (firefox.py has Firefox.)"""
 
+import http.client
 import json
 import os
-
-from selenium import webdriver
-from selenium.webdriver.chrome.options import Options
-from selenium.webdriver.chrome.service import Service
-from selenium.webdriver.common.action_chains import ActionChains
+import re
+import subprocess
 
 from person import ELSEWHERE, SECONDS, Person
 
 FLAGS = ("--headless=new", "--no-sandbox", "--disable-gpu", "--disable-dev-shm-usage", "--disable-background-networking",
          "--disable-component-update", "--no-first-run", "--force-prefers-reduced-motion", "--window-size=800,1000",
          f"--host-resolver-rules=MAP {ELSEWHERE} 127.0.0.1")
+# Where the driver takes each command.
+PATHS = {"ExecuteScript": "execute/sync", "ExecuteAsyncScript": "execute/async", "Navigate": "url", "FindElement": "element",
+         "ElementSendKeys": "element/{id}/value", "PerformActions": "actions", "SetTimeouts": "timeouts", "Log": "se/log",
+         "Protocol": "goog/cdp/execute"}
 
 
 class Chromium(Person):
@@ -20,38 +22,41 @@ class Chromium(Person):
 
     name = "Chromium"
     is_chromium = True
-    # What the command of a process has that shows a page.
     SHOWS_PAGE = b"--type=renderer"
 
     def __init__(self, chromium, chromedriver, directory):
-        options = Options()
-        options.binary_location = chromium
-        for flag in (*FLAGS, f"--user-data-dir={os.path.join(directory, 'profile')}"):
-            options.add_argument(flag)
-        options.set_capability("goog:loggingPrefs", {"browser": "ALL", "performance": "ALL"})
-        self.driver = webdriver.Chrome(service=Service(chromedriver), options=options)
-        self.driver.set_script_timeout(SECONDS)
-        self.process = self.driver.service.process.pid
+        flags = [*FLAGS, f"--user-data-dir={os.path.join(directory, 'profile')}"]
+        self.wanted = {"goog:chromeOptions": {"binary": chromium, "args": flags}, "goog:loggingPrefs": {"browser": "ALL", "performance": "ALL"}}
+        super().__init__([chromedriver, "--port=0"], subprocess.PIPE)
 
-    def quit(self):
-        self.driver.quit()
+    def begin_session(self):
+        port = next(found[1] for found in (re.search(rb"on port (\d+)\.", line) for line in self.process.stdout) if found)
+        self.connection = http.client.HTTPConnection("127.0.0.1", int(port), timeout=10 * SECONDS)
+        session = self.ask("POST", "/session", capabilities={"alwaysMatch": self.wanted})
+        self.path = f"/session/{session['sessionId']}"
+        return session
 
-    def version(self):
-        return self.driver.capabilities["browserVersion"]
+    def end_session(self):
+        self.ask("DELETE", self.path)
+        self.process.terminate()
 
-    def run(self, script, *arguments):
-        return self.driver.execute_script(script, *arguments)
+    def ask(self, method, path, **arguments):
+        """Sends a request to the driver, and answers what that gives."""
+        self.connection.request(method, path, json.dumps(arguments).encode(), {"Content-Type": "application/json"})
+        answer = self.connection.getresponse()
+        value = json.loads(answer.read())["value"]
+        if answer.status != 200:
+            raise RuntimeError(f"{path}: {value['error']}: {value['message']:.500}")
+        return value
 
-    def run_later(self, script, *arguments):
-        """Runs a script that calls its last argument with what it answers."""
-        return self.driver.execute_async_script(script, *arguments)
+    def order(self, name, **arguments):
+        return self.ask("POST", f"{self.path}/{PATHS[name].format(**arguments)}", **arguments)
 
     def command(self, name, **arguments):
         """A command of the browser's own protocol."""
-        return self.driver.execute_cdp_cmd(name, arguments)
+        return self.order("Protocol", cmd=name, params=arguments)
 
     def resize(self, width=None, height=None):
-        """Gives the page so much room, or all of the window."""
         if width is None:
             self.command("Emulation.clearDeviceMetricsOverride")
         else:
@@ -63,48 +68,25 @@ class Chromium(Person):
         self.command("Emulation.setEmulatedMedia", features=named)
 
     def force_colours(self, is_forced):
-        """Has the system force its colours on the page, or not."""
         self.set_media(**{"forced_colors": "active"} if is_forced else {})
 
-    def go(self, address):
-        self.driver.get(address)
-
-    def send(self, name, text):
-        """Types into the element of this name, or chooses files there."""
-        self.driver.find_element("id", name).send_keys(text)
-
     def drop(self, place, *paths):
-        """Drops files together on the element of this name."""
         self.drop_data(place, items=[], files=[os.path.realpath(path) for path in paths])
 
     def drop_text(self, place, text):
-        """Drops a text on the element of this name."""
         self.drop_data(place, items=[{"mimeType": "text/plain", "data": text}])
 
     def drop_data(self, place, **data):
-        x, y = self.run("""const part = document.getElementById(arguments[0]);
-          part.scrollIntoView();
-          const {left, top, width, height} = part.getBoundingClientRect();
-          return [left + width / 2, top + Math.min(height, innerHeight) / 2]""", place)
+        x, y = self.see("middleOf", place)
         for kind in ("dragEnter", "dragOver", "drop"):
             self.command("Input.dispatchDragEvent", type=kind, x=x, y=y, data={**data, "dragOperationsMask": 1})
         self.taken()
 
-    def press(self, *keys):
-        """Presses keys, one after another, wherever the focus is."""
-        ActionChains(self.driver).send_keys(*keys).perform()
-        self.taken()
-
-    def tab_back(self):
-        """Moves the focus back by the keyboard: what has it then."""
-        ActionChains(self.driver).key_down(self.SHIFT).send_keys(self.TAB).key_up(self.SHIFT).perform()
-        return self.focus()
-
     def said(self):
         """What the browser's console has: errors, and what the policy rejected."""
-        return [entry["message"] for entry in self.driver.get_log("browser")]
+        return [entry["message"] for entry in self.order("Log", type="browser")]
 
     def requests(self):
         """The addresses that were asked for since this was last called."""
-        messages = [json.loads(entry["message"])["message"] for entry in self.driver.get_log("performance")]
+        messages = [json.loads(entry["message"])["message"] for entry in self.order("Log", type="performance")]
         return [message["params"]["request"]["url"] for message in messages if message["method"] == "Network.requestWillBeSent"]

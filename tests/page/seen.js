@@ -150,3 +150,11 @@ function contrasts() {
     return [(Math.max(one, other) + 0.05) / (Math.min(one, other) + 0.05), data.trim().slice(0, 40)];
   });
 }
+
+// The middle of a part of the page, as far as it is in the window once it is scrolled there.
+function middleOf(name) {
+  const part = document.getElementById(name);
+  part.scrollIntoView();
+  const {left, top, width, height} = boxOf(part);
+  return [left + width / 2, top + Math.min(height, innerHeight) / 2];
+}

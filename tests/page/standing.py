@@ -34,6 +34,9 @@ inTurn(() => takeFiles(files));"""
 HOW_FAR = """const {verdict} = document.querySelector("#verdicts > li")?.dataset ?? {};
 return ["good", "bad"].includes(verdict) || document.querySelector("progress")?.value"""
 
+# Clicks on the first button of the rows.
+CLICK = "document.querySelector('#verdicts button').click()"
+
 # Has the next call of this name hang.
 HANG_ONCE = "const real = window.{0}; window.{0} = () => {{ window.{0} = real; window.isBroken = true; return new Promise(() => {{}}); }};"
 # How a file comes to a stop: what is done once it is chosen, before there is a key.
@@ -70,10 +73,10 @@ def check_stops(person):
         person.run(script)
         person.type_key(person.first.line)
         person.wait(lambda: person.row("a").verdict == "reading" and person.run("return window.isBroken === true"))
-        person.click_in_row()
+        person.run(CLICK)
         person.wait(lambda: person.row("b").verdict != "waiting")
         person.expect_each("verdict", {"a": "stopped", "b": "good"}, what)
-        person.click_in_row()
+        person.run(CLICK)
         person.expect_each("verdict", {"a": "good", "b": "good"}, f"{what}, and once more")
 
 
@@ -83,7 +86,7 @@ def check_late(person):
     person.run(LATE)
     person.type_key(person.first.line)
     person.wait(lambda: person.row("a").verdict == "reading")
-    person.click_in_row()
+    person.run(CLICK)
     person.wait(lambda: person.run("return window.hasCome === true"))
     person.expect_each("verdict", {"a": "stopped", "long": "good"}, "a text that comes late, of a file that was stopped")
 
@@ -132,7 +135,7 @@ def check_many(person):
     said = f"each of {FEW} and of {MANY} files takes so many milliseconds of the processor: {[f'{1000 * seconds:.1f}' for seconds in took]}"
     person.check(took[1] < MOST_TIMES * took[0], said)
     print(f"page: {person.name}, {said}", flush=True)
-    person.same(person.band()[1], f"{STANDS['good']}: {MANY} of {MANY} files", "the band of many files")
+    person.same(person.see("band")[1], f"{STANDS['good']}: {MANY} of {MANY} files", "the band of many files")
 
 
 def sparse(person, name, length):

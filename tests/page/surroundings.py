@@ -1,42 +1,11 @@
-"""What surrounds the page: the network, a browser that lacks something, the keyboard and a screen reader."""
+"""What Chromium's own protocol shows of the page: the network, a browser that lacks something, the keyboard and a screen reader,
+and directories that are dropped.
+"""
 
-import http.server
-import threading
+import os
 
 import looks
-from person import ELSEWHERE
-
-
-class Served:
-    """A server with the page and nothing else, under these headers, which notes what it is asked for."""
-
-    def __init__(self, page, **headers):
-        with open(page, "rb") as file:
-            body = file.read()
-        asked = self.asked = []
-
-        class Handler(http.server.BaseHTTPRequestHandler):
-            def do_GET(self):
-                asked.append(self.path)
-                self.send_response(200 if self.path == "/minisign.html" else 404)
-                for name, value in {"Content-Type": "text/html; charset=utf-8", **headers}.items():
-                    self.send_header(name.replace("_", "-"), value)
-                self.end_headers()
-                self.wfile.write(body)
-
-            def log_message(self, *words):
-                pass
-
-        self.server = http.server.ThreadingHTTPServer(("127.0.0.1", 0), Handler)
-        self.address, self.elsewhere = (f"http://{name}:{self.server.server_port}/minisign.html" for name in ("127.0.0.1", ELSEWHERE))
-
-    def __enter__(self):
-        threading.Thread(target=self.server.serve_forever, daemon=True).start()
-        return self
-
-    def __exit__(self, *_):
-        self.server.shutdown()
-        self.server.server_close()
+from helps import Served
 
 
 # What is fetched, and which of that comes.
@@ -65,15 +34,6 @@ def check_alone(person):
         person.same(served.asked, ["/minisign.html"], "what the page asks for, served")
     rejections = [line for line in person.said() if "Content Security Policy" in line or "Refused" in line]
     person.check(len(rejections) >= 2, f"the browser tells of {rejections} that the policy rejected")
-
-
-def check_insecure(person):
-    """Where the page is served by `http:` it says that this is the reason why it verifies nothing, and what to do."""
-    with Served(person.page) as served:
-        person.open(served.elsewhere)
-    what = "a page served by http:"
-    person.same((person.run("return isSecureContext"), person.is_shown("lacking"), person.is_shown("controls")), (False, True, False), what)
-    person.says("lacking", what, "was not opened from disk or by https", "Save the page and open it from disk", lacks=["newer browser"])
 
 
 # What a browser may lack, how it is taken away, what the page has to say, and what it may not.
@@ -157,3 +117,16 @@ def check_use(person):
     person.same(heads, ["H3", "H3"], "what the rows begin with")
     person.press(person.ENTER)
     person.same((person.rows(), person.focus()), ([], "files"), "a list that was cleared by the keyboard, and the focus after that")
+
+
+def check_directories(person):
+    """A directory that is dropped is told once, until the next files come."""
+    path = person.put("data", b"data")
+    person.open()
+    for place in ("downloads", "downloads", "key"):
+        person.drop(place, os.path.dirname(path))
+        said = person.text_of("files-said")
+        person.check("A directory cannot be verified" in said and said.count("directory") == 1 and not person.rows(),
+                     f"a directory that is dropped on {place}: {said!r}")
+    person.drop("downloads", path)
+    person.same((person.text_of("files-said"), len(person.rows())), ("", 1), "what is said for the next files")

@@ -77,15 +77,15 @@ def check_band(person):
     """The worst verdict stands at the top of the window, wherever that is scrolled to, with what to do next."""
     fits, fails = fit_and_fail(person)
     person.open()
-    person.same(person.band(), None, "the band before there is a file")
+    person.same(person.see("band"), None, "the band before there is a file")
     person.choose(*fits)
-    person.same(person.band(), ["waiting", STANDS["waiting"], NEXT["waiting"]], "the band without a key")
+    person.same(person.see("band"), ["waiting", STANDS["waiting"], NEXT["waiting"]], "the band without a key")
     person.clear()
-    person.same(person.band(), None, "the band of a list that was cleared")
+    person.same(person.see("band"), None, "the band of a list that was cleared")
     for is_linked, paths, verdict, of in ((True, fits, "unchecked", ""), (False, fits, "good", ""),
                                           (False, (*fits, *fails), "bad", ": 1 of 2 files")):
         give(person, is_linked, *paths)
-        person.same(person.band(), [verdict, STANDS[verdict] + of, NEXT[verdict]], f"the band that is {verdict}")
+        person.same(person.see("band"), [verdict, STANDS[verdict] + of, NEXT[verdict]], f"the band that is {verdict}")
         for size in WINDOWS:
             person.resize(*size)
             for share in (0, 0.5, 1):
@@ -101,7 +101,7 @@ def check_focus(person):
         person.run("document.getElementById('clear').focus()")
         found = []
         while len(found) < MOST_BACK and "key-text" not in found:
-            found.append(person.tab_back())
+            found.append(person.tab(held=person.SHIFT))
             person.check(not person.see("isFocusBehind"), f"the focus at {size}, after {found}: it is behind the band")
         person.same([name for name in found if name != "comment"], ["signature-text", "files", "key-remove", "key-file", "key-text"],
                     f"the keyboard backwards at {size}")
