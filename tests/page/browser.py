@@ -62,13 +62,12 @@ class Chromium(Person):
         else:
             self.command("Emulation.setDeviceMetricsOverride", width=width, height=height, deviceScaleFactor=1, mobile=False)
 
-    def set_media(self, **features):
-        """Has the page think so of the system, by names of media features."""
-        named = [{"name": name.replace("_", "-"), "value": value} for name, value in features.items()]
-        self.command("Emulation.setEmulatedMedia", features=named)
+    def set_media(self, feature=None, value=None):
+        """Has the page think so of the system, by the name of a media feature, or nothing of it."""
+        self.command("Emulation.setEmulatedMedia", features=[{"name": feature, "value": value}] if feature else [])
 
     def force_colours(self, is_forced):
-        self.set_media(**{"forced_colors": "active"} if is_forced else {})
+        self.set_media(*(("forced-colors", "active") if is_forced else ()))
 
     def drop(self, place, *paths):
         self.drop_data(place, items=[], files=[os.path.realpath(path) for path in paths])

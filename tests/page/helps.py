@@ -2,6 +2,7 @@
 text, and a sentence for each thing that was given in place of another.
 """
 
+import contextlib
 import http.server
 import os
 import threading
@@ -18,36 +19,32 @@ IS_FIRST = """const [first, field] = ["introduction", "key-text"].map(id => docu
 return (first.compareDocumentPosition(field) & Node.DOCUMENT_POSITION_FOLLOWING) !== 0"""
 
 
-class Served:
-    """A server with the page and nothing else, under these headers, which notes what it is asked for."""
+@contextlib.contextmanager
+def served(page, **headers):
+    """A server with the page and nothing else, under these headers: its address, that by a name which browsers do not know, and what it
+    is asked for."""
+    asked = []
+    with open(page, "rb") as file:
+        body = file.read()
 
-    def __init__(self, page, **headers):
-        with open(page, "rb") as file:
-            body = file.read()
-        asked = self.asked = []
+    class Handler(http.server.BaseHTTPRequestHandler):
+        def do_GET(self):
+            asked.append(self.path)
+            self.send_response(200 if self.path == "/minisign.html" else 404)
+            for name, value in {"Content-Type": "text/html; charset=utf-8", **headers}.items():
+                self.send_header(name.replace("_", "-"), value)
+            self.end_headers()
+            self.wfile.write(body)
 
-        class Handler(http.server.BaseHTTPRequestHandler):
-            def do_GET(self):
-                asked.append(self.path)
-                self.send_response(200 if self.path == "/minisign.html" else 404)
-                for name, value in {"Content-Type": "text/html; charset=utf-8", **headers}.items():
-                    self.send_header(name.replace("_", "-"), value)
-                self.end_headers()
-                self.wfile.write(body)
+        def log_message(self, *words):
+            pass
 
-            def log_message(self, *words):
-                pass
-
-        self.server = http.server.ThreadingHTTPServer(("127.0.0.1", 0), Handler)
-        self.address, self.elsewhere = (f"http://{name}:{self.server.server_port}/minisign.html" for name in ("127.0.0.1", ELSEWHERE))
-
-    def __enter__(self):
-        threading.Thread(target=self.server.serve_forever, daemon=True).start()
-        return self
-
-    def __exit__(self, *_):
-        self.server.shutdown()
-        self.server.server_close()
+    with http.server.ThreadingHTTPServer(("127.0.0.1", 0), Handler) as server:
+        threading.Thread(target=server.serve_forever, daemon=True).start()
+        try:
+            yield (*(f"http://{name}:{server.server_port}/minisign.html" for name in ("127.0.0.1", ELSEWHERE)), asked)
+        finally:
+            server.shutdown()
 
 
 def check_helps(person):
@@ -156,21 +153,21 @@ def check_pasted(person):
 def check_not_started(person):
     """Where the script cannot run the page says so."""
     seen = "return [performance.now(), getComputedStyle(document.getElementById('lacking')).visibility === 'visible']"
-    with Served(person.page, Content_Security_Policy="script-src 'none'") as served:
-        person.go(served.address)
+    with served(person.page, Content_Security_Policy="script-src 'none'") as (address, *_):
+        person.go(address)
         milliseconds, is_early = person.run(seen)
         person.check(not is_early or milliseconds > 1400, f"after {milliseconds} ms the page says that it has not started")
         person.wait(lambda: person.run(seen)[1])
         person.says("lacking", "a script that cannot run", "has not started")
         person.check(person.is_shown("lacking") and not person.is_shown("controls"), "a script that cannot run: what is shown")
     # A policy that allows the script and no WebAssembly is told as the reason.
-    with Served(person.page, Content_Security_Policy="script-src 'unsafe-inline'") as served:
-        person.open(served.address)
+    with served(person.page, Content_Security_Policy="script-src 'unsafe-inline'") as (address, *_):
+        person.open(address)
         person.says("lacking", "a policy against WebAssembly", "Whoever serves this page lets it run no WebAssembly", lacks=["newer browser"])
         person.check(person.run(seen)[1], "a policy against WebAssembly: it is not told")
     # No thread of its own: it verifies all the same.
-    with Served(person.page, Content_Security_Policy="worker-src 'none'") as served:
-        person.open(served.address)
+    with served(person.page, Content_Security_Policy="worker-src 'none'") as (address, *_):
+        person.open(address)
         engine = person.run_later("const done = arguments[0]; beginEngine('').then(engine => done(engine.constructor.name));")
         person.same(engine, "NearEngine", "the engine where no thread is allowed")
         person.choose_key(os.path.join(cases.CORPUS, "published.pub"))
@@ -180,8 +177,8 @@ def check_not_started(person):
 
 def check_insecure(person):
     """Where the page is served by `http:` it says that this is the reason why it verifies nothing, and what to do."""
-    with Served(person.page) as served:
-        person.open(served.elsewhere)
+    with served(person.page) as (_, address, _):
+        person.open(address)
     what = "a page served by http:"
     person.same((person.run("return isSecureContext"), person.is_shown("lacking"), person.is_shown("controls")), (False, True, False), what)
     person.says("lacking", what, "was not opened from disk or by https", "Save the page and open it from disk", lacks=["newer browser"])

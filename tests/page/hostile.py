@@ -39,7 +39,7 @@ def check_hostile(person):
     person.same([(row.name, row.number) for row in person.settled("hostile names")], wanted, "hostile names")
     check_plain(person, "hostile names")
     if person.is_chromium:
-        person.same(looks.contrasts_wrong(person), [], "texts that are hard to read")
+        person.same(looks.wrong_looks(person), [], "what is hard to see")
     person.clear()
     person.drop("downloads", *person.pair("exe.\u202egpj.zip", b"data", made.sig))
     person.settled("a name that turns")

@@ -24,14 +24,6 @@ CALLS = f"{build.PACKAGE}/calls.js"
 FLAGS = (0, 1, 2, 3, 2**31, 2**32 - 1)
 # The errors of the header: none, a state that was never begun, and a number that is no flag.
 OK, NOT_BEGUN, BAD_LEGACY_FLAG = 0, 1, 6
-# Has the module ask with any number as `allow_legacy`, where the page passes 0 or 1: what it says, and if the state stays.
-ASK = """const [key, signature, flag, isBegun] = arguments;
-  const state = isBegun ? library.begin() : new Uint8Array(STATE_BYTES), before = state.slice();
-  const read = library.readKey(Uint8Array.from(key), false).key, {text, value} = library.readSignature(Uint8Array.from(signature));
-  const number = library.onState(state, place => library.calls.page_ask(
-    place, library.put(library.key, KEY_BYTES, read)[0], library.put(library.signature, SIGNATURE_BYTES, value)[0],
-    ...library.put(library.text, TEXT_BYTES, text), flag, BigInt(library.questions), BigInt(library.message), BigInt(TEXT_BYTES)));
-  return [number, state.every((byte, at) => byte === before[at])];"""
 
 
 def check_flags(person):
@@ -42,7 +34,7 @@ def check_flags(person):
     for flag in FLAGS:
         for is_begun in (True, False):
             wanted = BAD_LEGACY_FLAG if flag > 1 else OK if is_begun else NOT_BEGUN
-            person.same(person.run(ASK, key, sig, flag, is_begun), [wanted, wanted != OK], f"`allow_legacy` {flag}, and begun: {is_begun}")
+            person.same(person.see("askWithFlag", key, sig, flag, is_begun), [wanted, wanted != OK], f"`allow_legacy` {flag}, and begun: {is_begun}")
 
 
 def wide_module():

@@ -3,6 +3,7 @@ one file and give its verdict; a project's page with its key alone; and what `bu
 """
 
 import base64
+import hashlib
 import os
 import re
 import tempfile
@@ -40,10 +41,17 @@ class Release:
         return self.person.sign(data, key, trusted=f"timestamp:1700000000\tfile:{name}\thashed")
 
     def build(self, *words, **environment):
-        """Runs build.py, in a directory of its own: its exit status and what it says of an error."""
+        """Runs build.py, in a directory of its own: its exit status, and what it says of an error."""
         self.out = os.path.join(tempfile.mkdtemp(dir=self.person.room), "example.html")
-        status, _, said = run_builder(self.out, *words, **environment)
-        return status, said
+        status, said, why = run_builder(self.out, *words, **environment)
+        if status == 0:
+            self.person.same(said.split()[-1], hashlib.sha256(self.page()).hexdigest(), "the sum that build.py says of what it wrote")
+        return status, why
+
+    def page(self):
+        """The page that was built last."""
+        with open(self.out, "rb") as file:
+            return file.read()
 
     def build_own(self, *signatures):
         """Builds the project's page; its address."""
@@ -109,8 +117,7 @@ def check_names(person, release):
             person.expect(row, what, has=["none of those that the signatures here are of. Do not use the file."])
     # What stands in the way of any verdict is told, and not that no signature fits.
     person.open(release.own)
-    person.run("""const real = window.bytesOfFile;
-      window.bytesOfFile = async (file, ...of) => file.name === "download" ? null : await real(file, ...of);""")
+    person.see("breakFiles", "download")
     release.drop("download", zipped, "a file of no name here that cannot be read", has=["The file cannot be read"])
     tampered = with_line(release.signatures[ZIP], 2, b"trusted comment: file:other")
     person.open(release.build_own(person.put(f"{ZIP}.minisig", tampered), release.paths[1]))
@@ -205,8 +212,8 @@ def check_links_of_own(person, release):
 def check_key_alone(person, release):
     """A page with a key and no signature tells what a signature is, and nothing of keys; and it takes no other key."""
     what, address = "a page with a key alone", release.build_own()
-    with open(release.out, encoding="utf-8") as file:
-        person.check(file.read() == build.page(*build.taken_from(person.page), release.line, TITLE), f"{what} has other bytes than at the first time")
+    again = build.page(*build.taken_from(person.page), release.line, TITLE)
+    person.check(release.page().decode() == again, f"{what} has other bytes than at the first time")
     for link in ("", f"#{person.second.line}"):
         person.open(address + link)
         person.same((person.run(TITLES), *map(person.is_shown, ASKED)), ([TITLE, TITLE], True, False, False, False), f"{what}: what is asked")
@@ -270,6 +277,9 @@ def check_builder(person, release):
         # (without the kit in PATH)
         status, said = release.build(*words, PATH="")
         person.check(status == 1 and why in said and said.count("\n") == 1 and not os.path.exists(release.out), f"build.py {words}: {status}, {said!r}")
-    with open(release.build_own(*release.paths).partition("//")[2], encoding="utf-8") as file:
-        found = re.search(r"^const BUILT_IN_SIGNATURES = (.*);$", file.read(), re.M)[1]
-    person.same(found.count(".minisig"), 3, "the signatures that are built in")
+    release.build_own(*release.paths)
+    found = re.search(rb"^const BUILT_IN_SIGNATURES = (.*);$", release.page(), re.M)[1]
+    person.same(found.count(b".minisig"), 3, "the signatures that are built in")
+    person.same(release.build(*page), (0, ""), "a page that is made of a page")
+    with open(person.page, "rb") as file:
+        person.check(release.page() == file.read(), "a page that is made of a page has other bytes")

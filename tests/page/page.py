@@ -102,7 +102,9 @@ def run_in(begin):
 def run_all(checks, room):
     """Runs everything."""
     page = os.path.realpath(sys.argv[1]) if len(sys.argv) > 1 else os.path.join(static_library.DIST, "minisign.html")
-    page_sources.check_all(checks, page, room)
+    page_sources.check_contracts(checks)
+    page_sources.check_file(checks, page)
+    page_sources.check_sums(checks, page)
     minisign = Minisign(needs.minisign(), tempfile.mkdtemp(dir=room))
     for name in ("first", "second"):
         minisign.make_pair(name)

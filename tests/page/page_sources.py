@@ -79,21 +79,3 @@ def check_sums(checks, path):
 def run_builder(*words, **environment):
     """Runs build.py: its exit status, what it says, and what it says of an error."""
     return run_apart([sys.executable, os.path.join(build.HERE, "build.py"), *words], **environment)
-
-
-def check_building(checks, page, room):
-    """`build.py` writes the same page of a page, and says its sum. (only_download.py has why it writes nothing.)"""
-    out = os.path.join(room, "made.html")
-    status, said, why = run_builder("--from", page, out)
-    with open(out, "rb") as made, open(page, "rb") as named:
-        data = made.read()
-        checks.check(data == named.read(), "a page that is made of a page has other bytes")
-    checks.check(status == 0 and said.split()[-1] == hashlib.sha256(data).hexdigest(), f"build.py --from: {said!r} {why!r}")
-
-
-def check_all(checks, page, room):
-    """All of it."""
-    check_contracts(checks)
-    check_file(checks, page)
-    check_sums(checks, page)
-    check_building(checks, page, room)

@@ -15,8 +15,8 @@ from types import SimpleNamespace
 SECONDS = 120
 # A name of this machine that browsers do not know as one: what it serves without TLS is not secure for them.
 ELSEWHERE = "page.test"
-with open(os.path.join(os.path.dirname(os.path.realpath(__file__)), "seen.js"), encoding="utf-8") as seen_file:
-    SEEN = seen_file.read()
+with open(os.path.join(os.path.dirname(os.path.realpath(__file__)), "in_page.js"), encoding="utf-8") as file_of_functions:
+    IN_PAGE = file_of_functions.read()
 # The head of each row.
 VERIFIED, UNCHECKED, NOT_VERIFIED = "\u2713 Verified", "? Signed, by a key that you have not checked", "\u2717 NOT verified"
 STANDS = {"good": VERIFIED, "unchecked": UNCHECKED, "bad": NOT_VERIFIED, "waiting": "\u2026 Not verified yet",
@@ -164,8 +164,8 @@ class Person:
         self.wait_seen("isTaken")
 
     def wait_seen(self, what):
-        """Waits until a function of seen.js answers true, as long as that answers something else than before."""
-        self.wait(lambda: self.run_later(f"{SEEN}until({what}, arguments[0]);"), pause=0)
+        """Waits until a function of in_page.js answers true, as long as that answers something else than before."""
+        self.wait(lambda: self.run_later(f"{IN_PAGE}until({what}, arguments[0]);"), pause=0)
 
     def begin(self, key, *paths, address=None):
         """Opens the page anew, pastes this text as the key, if it is one, and chooses files together."""
@@ -209,8 +209,12 @@ class Person:
     # What a person sees.
 
     def see(self, what, *arguments):
-        """What a function of seen.js answers."""
-        return self.run(f"{SEEN}return {what}(...arguments);", *arguments)
+        """What a function of in_page.js answers."""
+        return self.run(f"{IN_PAGE}return {what}(...arguments);", *arguments)
+
+    def see_later(self, what, *arguments):
+        """What a function of in_page.js hands to its last argument."""
+        return self.run_later(f"{IN_PAGE}{what}(...arguments);", *arguments)
 
     def text_of(self, name, part="innerText"):
         """The text of a part of the page, or what stands in a field."""

@@ -31,7 +31,7 @@ def give(person, *names):
 
 def take_picture(person, name, width, scheme):
     """Writes a picture of the whole page into docs/, of this width, in the light or in the dark."""
-    person.set_media(prefers_color_scheme=scheme)
+    person.set_media("prefers-color-scheme", scheme)
     person.resize(width, 640)
     person.run("scrollTo(0, 0); document.activeElement.blur()")
     person.resize(width, person.run("return document.documentElement.scrollHeight"))

@@ -5,13 +5,7 @@ and directories that are dropped.
 import os
 
 import looks
-from helps import Served
-
-
-# What is fetched, and which of that comes.
-FETCH = """const [address, done] = arguments, tried = [], picture = new Image();
-picture.onload = picture.onerror = () => done(tried);
-fetch(`${address}?fetched`).then(() => tried.push("fetch"), () => {}).then(() => { picture.src = `${address}?picture`; });"""
+from helps import served
 
 
 def check_alone(person):
@@ -27,11 +21,11 @@ def check_alone(person):
     set_offline(False)
     asked = [address for address in person.requests() if not address.startswith(("about:", "blob:", "data:"))]
     person.same(asked, [person.address], "what the page asks for, from disk")
-    with Served(person.page) as served:
-        person.begin(person.first.line, *paths, address=served.address)
+    with served(person.page) as (address, _, asked):
+        person.begin(person.first.line, *paths, address=address)
         person.only("served", number=0, comment="t")
-        person.same(person.run_later(FETCH, served.address), [], "what the policy lets through")
-        person.same(served.asked, ["/minisign.html"], "what the page asks for, served")
+        person.same(person.see_later("fetchFrom", address), [], "what the policy lets through")
+        person.same(asked, ["/minisign.html"], "what the page asks for, served")
     rejections = [line for line in person.said() if "Content Security Policy" in line or "Refused" in line]
     person.check(len(rejections) >= 2, f"the browser tells of {rejections} that the policy rejected")
 
@@ -52,9 +46,7 @@ LACKING = (
 def check_lacking(person):
     """Where the browser lacks something the page says what, and takes nothing."""
     for script, wanted, unwanted in LACKING:
-        # (not in the empty page before it, which has no such parts)
-        source = f"if (location.protocol !== 'about:') {{ {script} }}"
-        number = person.command("Page.addScriptToEvaluateOnNewDocument", source=source)["identifier"]
+        number = person.command("Page.addScriptToEvaluateOnNewDocument", source=script)["identifier"]
         person.open()
         person.says("lacking", f"after {script}", wanted, lacks=[unwanted])
         person.check(not person.is_shown("controls") and person.is_shown("lacking") and not person.rows(),
@@ -77,8 +69,7 @@ def check_looks(person):
             person.same(person.see("cut"), [], f"letters of {letters or '100%'} at {size}: what is cut")
     person.resize()
     person.run("document.documentElement.style.fontSize = ''")
-    person.same(looks.contrasts_wrong(person), [], "texts that are hard to read")
-    person.same(looks.forced_contrasts_wrong(person), [], "what is hard to see in forced colours")
+    person.same(looks.wrong_looks(person), [], "what is hard to see")
 
 
 def check_use(person):
@@ -108,7 +99,8 @@ def check_use(person):
                      f"a screen reader is told of no place for {part}")
     live = {properties.get("live") for role, _, properties in found if role in ("log", "status")}
     person.same(live, {"polite"}, "what a screen reader is told as it changes")
-    person.same(looks.nameless(found), [], "what has no name for a screen reader")
+    nameless = [role for role, name, properties in found if properties.get("focusable") and not name.strip()]
+    person.same(set(nameless) - {"RootWebArea", "StaticText", "InlineTextBox"}, set(), "what has no name for a screen reader")
     log = person.log()
     person.check(len(log) == 2 and log[0].startswith("Verified. The key is ") and log[0].endswith(" The file's name: data")
                  and log[1].startswith("NOT verified. This file is not the one") and log[1].endswith(" The file's name: bad"),

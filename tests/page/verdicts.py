@@ -159,19 +159,11 @@ def check_matched(person):
         person.expect_each("number", wanted, what)
 
 
-# What the page answers to each vector, and the browser itself, without the page's own rules.
-ASK = """const [vectors, done] = arguments, bytes = digits => digits === "" ? new Uint8Array(0) : bytesOf(digits);
-const askBrowser = async (key, ...of) => crypto.subtle.verify(
-  {name: "Ed25519"}, await crypto.subtle.importKey("raw", key, {name: "Ed25519"}, false, ["verify"]), ...of);
-const ask = ([key, signature, message]) => Promise.all([accepts(key, signature, message), askBrowser(key, signature, message).catch(() => false)]);
-Promise.all(vectors.map(({A, sig, msg}) => ask([A, sig, msg].map(bytes)))).then(done, why => done(String(why)));"""
-
-
 def check_vectors(person):
     """In each browser the page answers to all vectors as libsodium does, and to a key and a signature that would fit every file."""
     vectors = edges.vectors()
     person.open()
-    answers = person.run_later(ASK, vectors)
+    answers = person.see_later("askVectors", vectors)
     person.same(len(answers), len(vectors), "the number of answers")
     for vector, (answer, _) in zip(vectors, answers):
         person.same(answer, vector["sodium"], f"the vector {vector['name']}: what the page answers, beside libsodium")
