@@ -15,6 +15,13 @@ FLAGS = ("--headless=new", "--no-sandbox", "--disable-gpu", "--disable-dev-shm-u
 PATHS = {"ExecuteScript": "execute/sync", "ExecuteAsyncScript": "execute/async", "Navigate": "url", "FindElement": "element",
          "ElementSendKeys": "element/{id}/value", "PerformActions": "actions", "SetTimeouts": "timeouts", "Log": "se/log",
          "Protocol": "goog/cdp/execute"}
+# Texts that differ from their ground by less than this are hard to read (WCAG 2, level AA).
+MIN_CONTRAST = 4.5
+# What the system may ask of the page.
+MEDIA = {"light": ("prefers-color-scheme", "light"), "dark": ("prefers-color-scheme", "dark"), "forced": ("forced-colors", "active")}
+IS_ASKED = "return matchMedia(`(${arguments[0]}: ${arguments[1]})`).matches"
+GROUND = "return getComputedStyle(document.body).backgroundColor"
+BORDERS = "return Array.from(document.querySelectorAll('#verdicts > li, .caution'), part => getComputedStyle(part).borderLeftWidth)"
 
 
 class Chromium(Person):
@@ -89,3 +96,22 @@ class Chromium(Person):
         """The addresses that were asked for since this was last called."""
         messages = [json.loads(entry["message"])["message"] for entry in self.order("Log", type="performance")]
         return [message["params"]["request"]["url"] for message in messages if message["method"] == "Network.requestWillBeSent"]
+
+    def nodes(self):
+        """What a screen reader is told: the role and the name of each node, and its properties."""
+        return [(node["role"]["value"], node.get("name", {}).get("value", ""),
+                 {one["name"]: one["value"].get("value") for one in node.get("properties", [])})
+                for node in self.command("Accessibility.getFullAXTree")["nodes"] if not node.get("ignored")]
+
+    def wrong_looks(self):
+        """The texts that are hard to read, in light, in dark and in colours that the system forces on the page, and what has no border."""
+        wrong = []
+        for what, asked in MEDIA.items():
+            self.set_media(*asked)
+            found, is_asked, is_white = self.see("contrasts"), self.run(IS_ASKED, *asked), self.run(GROUND) == "rgb(255, 255, 255)"
+            wrong += [f"{what}: {text!r} has contrast {contrast:.1f}" for contrast, text in found if contrast < MIN_CONTRAST]
+            wrong += [f"{what}: a border is {width} wide" for width in self.run(BORDERS) if width == "0px"]
+            if not found or not is_asked or is_white != (what == "light") and what != "forced":
+                wrong.append(f"{what}: it is asked for: {is_asked}, the ground is white: {is_white}, and there are {len(found)} texts")
+        self.set_media()
+        return wrong

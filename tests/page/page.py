@@ -1,24 +1,14 @@
 #!/usr/bin/env python3
-"""Tries the page that verifies a download in real browsers.
+"""Tries the page that verifies a download in Debian's Firefox and Chromium, without a window.
 
     tests/page/page.py [PAGE [MODULE]]
 
-The module's calls have the contracts of those from C, word for word but for what a number means. PAGE is by default
-the one of `dist/`; `tools/dist.py --check` compares that with what `page/build.py` builds. MODULE is the proved
-module, for a memory of 64 bits; without a PAGE it is proved and built, if the kit is there. The page's module, which
-wasm-opt made of it, has to answer the same on all texts, in Node and in Chromium, which takes both. Firefox and
-Chromium, without a window, get the kept corpus of Minisign's own program, keys and signatures that are made now, the
-download alone on a project's page and by links, each error, the vectors of Ed25519 that browsers answer differently,
-keys of other people, things in another's place, hostile comments and names, files that are dropped and stopped, a
-page that is served by `http:`, what hangs, a small screen, the focus there and forced colours, 10,000 files, 2 GB,
-and 500 changed texts (150 in Firefox), of which the verdicts and their reasons are compared with those of
-`c/minisign`. In Chromium the module itself gets numbers that are no flag. There the tests also look at requests to
-the outside, the names for a screen reader, the order of the keyboard, the contrast of colours, large letters and a
-narrow screen, and at what the page says where the browser lacks something. It prints a line for each failure; the
-last line is `N passed, M failed`.
+PAGE is by default the one of `dist/`; `tools/dist.py --check` compares that with what `page/build.py` builds. MODULE is the proved
+module, for a memory of 64 bits; without a PAGE it is proved and built, if the kit is there. What is tried stands at the head of
+each module that this imports. It prints a line for each failure; the last line is `N passed, M failed`.
 
-Needs Python 3.9 or later, chromium, chromium-driver, firefox-esr, nodejs, binaryen, a C compiler, make, libsodium
-with its header and minisign 0.11. It installs what is missing if it may.
+Needs Python 3.9 or later, chromium, chromium-driver, firefox-esr, nodejs, binaryen, a C compiler, make, libsodium with its header and
+minisign 0.11. It installs what is missing if it may.
 """
 
 import os

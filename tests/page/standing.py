@@ -6,7 +6,6 @@ import contextlib
 import os
 import re
 
-import looks
 from person import STANDS
 
 FEW, MANY = 500, 10_000
@@ -122,7 +121,7 @@ def check_long(person):
     share = person.row("big").text
     person.check(re.search(r"[\d.]+ [MG]B of 2\.0 GB read", share), f"the progress is {share!r}")
     if person.is_chromium:
-        person.check(any(role == "progressbar" and "big" in name for role, name, _ in looks.nodes(person)), "the progress has no name")
+        person.check(any(role == "progressbar" and "big" in name for role, name, _ in person.nodes()), "the progress has no name")
     person.run("document.querySelector('#verdicts button').focus()")
     person.press(person.ENTER)
     person.expect_each("verdict", {"big": "stopped", "small": "good"}, "one that was stopped, and the next")

@@ -4,8 +4,8 @@ and directories that are dropped.
 
 import os
 
-import looks
 from helps import served
+from views import NARROW
 
 
 def check_alone(person):
@@ -63,13 +63,13 @@ def check_looks(person):
     person.same(len(person.settled("looks")), 3, "looks: the rows")
     for letters in ("", "200%"):
         person.run("document.documentElement.style.fontSize = arguments[0]", letters)
-        for size in ((), looks.NARROW):
+        for size in ((), NARROW):
             person.resize(*size)
             person.check(person.see("fits"), f"letters of {letters or '100%'} at {size}: something stands outside of its place")
             person.same(person.see("cut"), [], f"letters of {letters or '100%'} at {size}: what is cut")
     person.resize()
     person.run("document.documentElement.style.fontSize = ''")
-    person.same(looks.wrong_looks(person), [], "what is hard to see")
+    person.same(person.wrong_looks(), [], "what is hard to see")
 
 
 def check_use(person):
@@ -89,7 +89,7 @@ def check_use(person):
     person.settled("the keyboard")
     person.run("document.getElementById('files').focus()")
     person.same([person.tab(), person.tab(), person.tab()], ["signature-text", "comment", "clear"], "the last three for the keyboard")
-    found = looks.nodes(person)
+    found = person.nodes()
     named = {(role, name) for role, name, _ in found}
     for told in (("textbox", "Paste its text, or its line of 56 letters and digits"), ("button", "Clear the list"),
                  ("heading", "3. The verdicts"), ("heading", "Verified data"), ("heading", "NOT verified bad"), ("main", "")):
