@@ -231,13 +231,10 @@ function fetchFrom(address, done) {
   });
 }
 
-// What the page answers to vectors of Ed25519, and what the browser itself does, without the page's own rules.
+// What the page answers to vectors of Ed25519.
 function askVectors(vectors, done) {
-  const bytes = digits => digits === "" ? new Uint8Array(0) : bytesOf(digits), algorithm = {name: "Ed25519"};
-  const askBrowser = async (key, ...of) =>
-    crypto.subtle.verify(algorithm, await crypto.subtle.importKey("raw", key, algorithm, false, ["verify"]), ...of);
-  const ask = parts => Promise.all([accepts(...parts), askBrowser(...parts).catch(() => false)]);
-  Promise.all(vectors.map(({A, sig, msg}) => ask([A, sig, msg].map(bytes)))).then(done, why => done(String(why)));
+  const bytes = digits => digits === "" ? new Uint8Array(0) : bytesOf(digits);
+  Promise.all(vectors.map(({A, sig, msg}) => accepts(...[A, sig, msg].map(bytes)))).then(done, why => done(String(why)));
 }
 
 // Has the module ask with any number as `allow_legacy`, where the page passes 0 or 1: what it says, and if the state stays.

@@ -67,6 +67,9 @@ def run_step(person, step, begin):
         person.quit()
         person = begin()
         step(person)
+    if person.is_chromium:
+        errors = [line for line in person.said() if "Uncaught" in line]
+        person.check(not errors, f"the page's console has {errors}")
     return person
 
 
@@ -81,9 +84,6 @@ def run_in(begin):
             except Exception as why:
                 traceback.print_exc()
                 person.check(False, f"{person.name}, {what}: ended early: {why!r:.300}")
-            if person.is_chromium:
-                errors = [line for line in person.said() if "Uncaught" in line]
-                person.check(not errors, f"the page's console has {errors}")
             print(f"page: {person.name}, {what}, {time.monotonic() - begun:.1f} s", flush=True)
     finally:
         person.quit()

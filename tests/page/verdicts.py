@@ -106,7 +106,7 @@ def check_errors(person):
 
 
 def check_several(person):
-    """Files that come together, with a key; and several keys."""
+    """Files that come together, with a key; the last one; and several keys."""
     key, names = person.put("key.pub", person.first.text), ("a", "b", "c", "d.pub")
     for name in names:
         person.put(name, name.encode(), key)
@@ -120,13 +120,6 @@ def check_several(person):
     person.expect(rows["c"], "a file alone", has=["c.minisig", "signature is missing"])
     person.drop("downloads", *at("c.minisig"))
     person.named("c", "the last one", number=0, comment="c")
-    person.clear()
-    person.same(person.rows(), [], "a list that was cleared")
-    person.choose(*at("a.minisig"))
-    person.only("a signature alone", has=["file itself is missing"])
-    person.clear()
-    person.choose(*at("a b.minisig"))
-    person.only("two of other names", number=31, has=["with the signature b.minisig"])
     person.click("key-remove")
     person.drop("downloads", key, person.put("other.pub", person.second.text))
     person.says("key-said", "two keys at once are not rejected", "several keys")
@@ -137,7 +130,12 @@ def check_matched(person):
     its text, and a file by having a signature."""
     a, b, x, old_key = *map(person.sign, (b"a", b"b", b"x")), person.minisign.read("second.key")
     two, text = {"b": b"b", "b.minisig": b}, "{0}, which is itself a signature or a key"
-    person.begin(person.first.line)
+    person.begin(person.first.line, person.put("a.minisig", a))
+    person.only("a signature alone", has=["file itself is missing"])
+    person.clear()
+    person.same(person.rows(), [], "a list that was cleared")
+    person.choose(person.put("a", b"a"), person.put("b.minisig", b))
+    person.only("two of other names", number=31, has=["with the signature b.minisig"])
     for what, given, wanted in (
             ("a renamed file", [{"renamed": b"a", "a.minisig": a}], {"renamed": 0}),
             ("a renamed file, and then its signature", [two, {"renamed": b"a"}, {"a.minisig": a}], {"b": 0, "renamed": 0}),
@@ -165,10 +163,8 @@ def check_vectors(person):
     person.open()
     answers = person.see_later("askVectors", vectors)
     person.same(len(answers), len(vectors), "the number of answers")
-    for vector, (answer, _) in zip(vectors, answers):
+    for vector, answer in zip(vectors, answers):
         person.same(answer, vector["sodium"], f"the vector {vector['name']}: what the page answers, beside libsodium")
-    others = sum(answer != vector["sodium"] for vector, (_, answer) in zip(vectors, answers))
-    print(f"page: {person.name} {person.version()} itself answers {others} of {len(vectors)} vectors otherwise than libsodium", flush=True)
     key, signature = edges.texts_for_every_file()
     for data in (b"", b"data", pattern(3_000_001)):
         person.begin(key.decode(), *person.pair("data", data, signature))
