@@ -1,10 +1,10 @@
 """Debian's Chromium without a window, and its driver. (firefox.py has Firefox.)"""
 
+import contextlib
 import http.client
 import json
 import os
-import re
-import subprocess
+import socket
 
 from person import ELSEWHERE, SECONDS, Person
 
@@ -34,12 +34,15 @@ class Chromium(Person):
     def __init__(self, chromium, chromedriver, directory):
         flags = [*FLAGS, f"--user-data-dir={os.path.join(directory, 'profile')}"]
         self.wanted = {"goog:chromeOptions": {"binary": chromium, "args": flags}, "goog:loggingPrefs": {"browser": "ALL", "performance": "ALL"}}
-        super().__init__([chromedriver, "--port=0"], subprocess.PIPE)
+        with socket.create_server(("127.0.0.1", 0)) as free:
+            self.port = free.getsockname()[1]
+        super().__init__([chromedriver, f"--port={self.port}"])
 
     def begin_session(self):
-        port = next(found[1] for found in (re.search(rb"on port (\d+)\.", line) for line in self.process.stdout) if found)
-        self.connection = http.client.HTTPConnection("127.0.0.1", int(port), timeout=10 * SECONDS)
-        session = self.ask("POST", "/session", capabilities={"alwaysMatch": self.wanted})
+        try:
+            session = self.ask("POST", "/session", capabilities={"alwaysMatch": self.wanted})
+        except ConnectionRefusedError:
+            return None
         self.path = f"/session/{session['sessionId']}"
         return session
 
@@ -49,9 +52,10 @@ class Chromium(Person):
 
     def ask(self, method, path, **arguments):
         """Sends a request to the driver, and answers what that gives."""
-        self.connection.request(method, path, json.dumps(arguments).encode(), {"Content-Type": "application/json"})
-        answer = self.connection.getresponse()
-        value = json.loads(answer.read())["value"]
+        with contextlib.closing(http.client.HTTPConnection("127.0.0.1", self.port, timeout=10 * SECONDS)) as connection:
+            connection.request(method, path, json.dumps(arguments).encode(), {"Content-Type": "application/json"})
+            answer = connection.getresponse()
+            value = json.loads(answer.read())["value"]
         if answer.status != 200:
             raise RuntimeError(f"{path}: {value['error']}: {value['message']:.500}")
         return value

@@ -2,11 +2,9 @@
 JSON, each after its length and a colon.
 """
 
-import contextlib
 import json
 import os
 import socket
-import time
 
 from person import ELSEWHERE, SECONDS, Person
 
@@ -41,16 +39,12 @@ class Firefox(Person):
                          HOME=profile, MOZ_HEADLESS_WIDTH=WIDTH, MOZ_HEADLESS_HEIGHT=HEIGHT)
 
     def begin_session(self):
-        """Begins a session, once the browser has written at which port it listens."""
-        end = time.monotonic() + SECONDS
-        while True:
-            with contextlib.suppress(OSError, ValueError), open(self.port_file, encoding="ascii") as file:
-                self.socket = socket.create_connection(("127.0.0.1", int(file.read())), 10)
-                break
-            if self.process.poll() is not None or time.monotonic() > end:
-                raise TimeoutError("firefox did not begin")
-            time.sleep(0.1)
-        self.socket.settimeout(10 * SECONDS)
+        # (it writes at which port it listens)
+        try:
+            with open(self.port_file, encoding="ascii") as file:
+                self.socket = socket.create_connection(("127.0.0.1", int(file.read())), 10 * SECONDS)
+        except (OSError, ValueError):
+            return None
         self.answers, self.count = self.socket.makefile("rb"), 0
         self.read()
         return self.order("NewSession")

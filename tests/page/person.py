@@ -50,21 +50,27 @@ def is_right(row):
 
 
 class Person:
-    """What is the same in each browser. A subclass has `begin_session` and `end_session`; `order`, which sends a command of the standard
-    for drivers; `drop` and `drop_text`, of files together or a text on a part of the page; `resize`, which gives the page so much room,
-    or all of the window; `force_colours`, of the system on the page; and what the command of a process has that shows a page."""
+    """What is the same in each browser. A subclass has `begin_session`, which answers None while nothing listens, and `end_session`;
+    `order`, which sends a command of the standard for drivers; `drop` and `drop_text`, of files together or a text on a part of the
+    page; `resize`, which gives the page so much room, or all of the window; `force_colours`, of the system on the page; and what the
+    command of a process has that shows a page."""
 
     # Whether the browser is Chromium, whose own protocol shows and changes what a page cannot.
     is_chromium = False
     # Keys without a letter, by the standard for drivers of browsers.
     TAB, ENTER, SHIFT = "\ue004", "\ue007", "\ue008"
 
-    def __init__(self, command, stdout=subprocess.DEVNULL, **environment):
-        """Begins a browser or its driver, in a group of processes of its own."""
-        self.process = subprocess.Popen(command, stdin=subprocess.DEVNULL, stdout=stdout, stderr=subprocess.DEVNULL,
+    def __init__(self, command, **environment):
+        """Begins a browser or its driver, in a group of processes of its own, and a session once it listens."""
+        self.process = subprocess.Popen(command, stdin=subprocess.DEVNULL, stdout=subprocess.DEVNULL, stderr=subprocess.DEVNULL,
                                         start_new_session=True, env=dict(os.environ, **environment))
+        end = time.monotonic() + SECONDS
         try:
-            self.capabilities = self.begin_session()["capabilities"]
+            while (session := self.begin_session()) is None:
+                if self.process.poll() is not None or time.monotonic() > end:
+                    raise TimeoutError(f"{self.name} did not begin")
+                time.sleep(0.1)
+            self.capabilities = session["capabilities"]
             self.order("SetTimeouts", script=1000 * SECONDS, pageLoad=1000 * SECONDS, implicit=0)
         except BaseException:
             self.quit()
