@@ -6,14 +6,15 @@ import base64
 import hashlib
 import os
 import re
+import sys
 import tempfile
 import urllib.parse
 
 import build
 from keys import BY_LINK, OTHER_NAME, check_unchecked
 from minisign_cases import lines, pattern, with_line, with_record
-from page_sources import run_builder
 from person import STANDS
+from process import run_apart
 from views import NEXT, WARNED, WINDOWS
 
 TITLE = "Verify a download of <b>Example & \"others\"</b>"
@@ -43,7 +44,7 @@ class Release:
     def build(self, *words, **environment):
         """Runs build.py, in a directory of its own: its exit status, and what it says of an error."""
         self.out = os.path.join(tempfile.mkdtemp(dir=self.person.room), "example.html")
-        status, said, why = run_builder(self.out, *words, **environment)
+        status, said, why = run_apart([sys.executable, os.path.join(build.HERE, "build.py"), self.out, *words], **environment)
         if status == 0:
             self.person.same(said.split()[-1], hashlib.sha256(self.page()).hexdigest(), "the sum that build.py says of what it wrote")
         return status, why
@@ -172,10 +173,11 @@ def check_links(person, release):
     for typed, verdict, number in ((person.second.line, "bad", 29), (key, "good", 0)):
         person.type_key(typed)
         person.only("a key that is pasted where a link has one", verdict=verdict, number=number, cautions=[])
-    for name, data_, verdict, number in (("app-0.9.zip", data, "unchecked", 0), (ZIP, b"x", "bad", 31)):
-        person.open(f"{person.address}#key={key}&sig={text}")
-        told = [OTHER_NAME + ZIP, f"with the signature {ZIP}.minisig"]
-        release.drop(name, data_, f"a link, and {name}, {number}", verdict=verdict, number=number, **{"lacks" if number else "has": told})
+    told = [OTHER_NAME + ZIP, f"with the signature {ZIP}.minisig"]
+    person.open(f"{person.address}#key={key}&sig={text}")
+    release.drop("app-0.9.zip", data, "a link, and another name", verdict="unchecked", number=0, has=told)
+    person.open(f"{person.address}#key={key}&sig={text}")
+    release.drop(ZIP, b"x", "a link, and other data", verdict="bad", number=31, lacks=told)
     # Without a key.
     what = "a link with a signature alone"
     person.open(f"{person.address}#sig={text}")

@@ -3,7 +3,6 @@
 import hashlib
 import os
 import re
-import sys
 
 import build
 from process import run_apart
@@ -74,8 +73,3 @@ def check_sums(checks, path):
     named = hashlib.sha256(build.taken_from(kept)[0]).hexdigest(), said["sources of the page"]
     checks.same(build.named_sums(), named, "what dist/PROVED names")
     checks.same(sums_on(build.read("dist/minisign.html")), [named[1]], "the sums that the page of dist/ names")
-
-
-def run_builder(*words, **environment):
-    """Runs build.py: its exit status, what it says, and what it says of an error."""
-    return run_apart([sys.executable, os.path.join(build.HERE, "build.py"), *words], **environment)

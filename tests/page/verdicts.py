@@ -129,7 +129,7 @@ def check_matched(person):
     """Files are matched with their signatures by name, or as the only two that come together or stand alone; a signature is known by
     its text, and a file by having a signature."""
     a, b, x, old_key = *map(person.sign, (b"a", b"b", b"x")), person.minisign.read("second.key")
-    two, text = {"b": b"b", "b.minisig": b}, "{0}, which is itself a signature or a key"
+    two = {"b": b"b", "b.minisig": b}
     person.begin(person.first.line, person.put("a.minisig", a))
     person.only("a signature alone", has=["file itself is missing"])
     person.clear()
@@ -148,7 +148,8 @@ def check_matched(person):
              [{"a (1).zip": b"a"}, {"B.ZIP": b"b"}, {"c": b"c"}, {"b.zip.minisig": b}, {"a.zip.minisig": a}], {"a (1).zip": 0, "B.ZIP": 0, "c": None}),
             ("several signatures that are known by their texts",
              [{"a.zip": b"a", "a.zip.sig": a, "b.zip": b"b", "b.zip.minisig.txt": b}], {"a.zip": 0, "b.zip": 0}),
-            *((text.format(name), [{name: data, f"{name}.minisig": person.sign(data)}], {name: 0}) for name, data in (
+            # (what is itself a signature or a key, and has been signed, is a file like another)
+            *((f"{name}, which was signed", [{name: data, f"{name}.minisig": person.sign(data)}], {name: 0}) for name, data in (
                 ("list.txt", x), ("new.pub", person.second.text), ("old.key", old_key)))):
         person.clear()
         for files in given:
