@@ -57,7 +57,8 @@ def check_acts(person):
 
 def act(person, model, chance, keys, signatures):
     """Does something, in the page and in the model; what it was."""
-    kind, key = chance.choice(("type", "choose", "remove", "clear", "files", "files", "files", "files")), chance.choice(tuple(keys))
+    kind = chance.choice(("type", "choose", "remove", "clear", "files", "files", "files", "files"))
+    key = chance.choice(tuple(keys))
     if kind == "type":
         person.type_key(chance.choice((keys[key].text.decode(), keys[key].line)))
         model.key, model.source = key, "typed"

@@ -34,7 +34,8 @@ def check_flags(person):
     for flag in FLAGS:
         for is_begun in (True, False):
             wanted = BAD_LEGACY_FLAG if flag > 1 else OK if is_begun else NOT_BEGUN
-            person.same(person.see("askWithFlag", key, sig, flag, is_begun), [wanted, wanted != OK], f"`allow_legacy` {flag}, and begun: {is_begun}")
+            what = f"`allow_legacy` {flag}, and begun: {is_begun}"
+            person.same(person.see("askWithFlag", key, sig, flag, is_begun), [wanted, wanted != OK], what)
 
 
 def wide_module():
@@ -67,12 +68,12 @@ def check_modules(person):
     paths = [os.path.join(build.TOP, CALLS), person.put("module.wasm", narrow), person.put("texts.json", json.dumps(texts).encode())]
     status, said, why = run_apart([needs.node(), ANSWERS, *paths])
     person.check(status == 0, f"node: {why[-500:]}")
-    in_node, script = json.loads(said), build.script_of(CALLS) + build.script_of(os.path.relpath(ANSWERS, build.TOP)).partition("\nif (typeof process")[0]
+    in_node, functions = json.loads(said), build.script_of(os.path.relpath(ANSWERS, build.TOP)).partition("\nif (typeof process")[0]
     person.go("about:blank")
     for bits, module in ((32, narrow), (64, wide_module())):
         if module is None:
             continue
-        answers = person.run_later(f"""{script}
+        answers = person.run_later(f"""{build.script_of(CALLS)}{functions}
           const [module, texts, done] = arguments;
           answersOf(Library, module, texts).then(done, why => done([String(why)]));""", base64.b64encode(module).decode(), texts)
         what = f"the module for {bits} bits in Chromium"

@@ -128,7 +128,8 @@ def check_several(person):
 def check_matched(person):
     """Files are matched with their signatures by name, or as the only two that come together or stand alone; a signature is known by
     its text, and a file by having a signature."""
-    a, b, x, old_key = *map(person.sign, (b"a", b"b", b"x")), person.minisign.read("second.key")
+    sign = lambda data: person.sign(data, trusted="t")
+    a, b = sign(b"a"), sign(b"b")
     two = {"b": b"b", "b.minisig": b}
     person.begin(person.first.line, person.put("a.minisig", a))
     person.only("a signature alone", has=["file itself is missing"])
@@ -149,13 +150,14 @@ def check_matched(person):
             ("several signatures that are known by their texts",
              [{"a.zip": b"a", "a.zip.sig": a, "b.zip": b"b", "b.zip.minisig.txt": b}], {"a.zip": 0, "b.zip": 0}),
             # (what is itself a signature or a key, and has been signed, is a file like another)
-            *((f"{name}, which was signed", [{name: data, f"{name}.minisig": person.sign(data)}], {name: 0}) for name, data in (
-                ("list.txt", x), ("new.pub", person.second.text), ("old.key", old_key)))):
+            *((f"{name}, which was signed", [{name: data, f"{name}.minisig": sign(data)}], {name: 0}) for name, data in (
+                ("list.txt", a), ("new.pub", person.second.text), ("old.key", person.minisign.read("second.key"))))):
         person.clear()
         for files in given:
             first = person.put("unused", b"")
             person.choose(*(person.put(name, data, first) for name, data in files.items()))
-        person.expect_each("number", wanted, what)
+        rows = {row.name: (row.number, row.comment) for row in person.settled(what)}
+        person.same(rows, {name: (number, "t" if number == 0 else None) for name, number in wanted.items()}, what)
 
 
 def check_vectors(person):
