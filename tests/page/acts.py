@@ -5,8 +5,8 @@ key.
 import random
 
 ACTS = 150
-NAMES = ("a.zip", "b.zip")
-DATA = (b"one", b"two")
+# Names of files, and data of them. A key is named by its pair of Minisign's own program.
+NAMES, DATA = ("a.zip", "b.zip"), (b"one", b"two")
 # The verdict on a signature that fits, by how the key came.
 FITS = {"typed": "good", "chosen": "good", "files": "unchecked"}
 
@@ -19,21 +19,16 @@ class Model:
 
     def take_files(self, files):
         """Files of one drop: (name, kind, what), where a key is of kind "key", and a signature is (signer, data)."""
-        data, signatures = ([file for file in files if file[1] == kind] for kind in ("data", "signature"))
-        is_pair = len(data) == 1 and len(signatures) == 1
+        of = lambda kind: [(name, what) for name, each, what in files if each == kind]
+        is_pair = len(of("data")) == 1 and len(of("signature")) == 1
         for name, kind, what in files:
             if kind != "key":
-                self.downloads.setdefault(data[0][0] if is_pair else name, {})[kind] = what
+                self.downloads.setdefault(of("data")[0][0] if is_pair else name, {})[kind] = what
         alone = [[name for name, parts in self.downloads.items() if part not in parts] for part in ("signature", "data")]
         if all(len(names) == 1 for names in alone):
             self.downloads[alone[0][0]]["signature"] = self.downloads.pop(alone[1][0])["signature"]
-        keys = [what for _, kind, what in files if kind == "key"]
-        if keys and self.key is None:
-            self.key, self.source = keys[0], "files"
-
-    def rows(self):
-        """The name, the verdict and the number of each row."""
-        return [(name, *self.verdict(**parts)) for name, parts in self.downloads.items()]
+        if of("key") and self.key is None:
+            self.key, self.source = of("key")[0][1], "files"
 
     def verdict(self, data=None, signature=None):
         if data is None or signature is None or self.key is None:
@@ -54,8 +49,8 @@ def check_acts(person):
         if chance.random() < 0.4:
             continue
         what = f"act {count}, after {said[-4:]}"
-        rows = person.settled(what)
-        person.same([(row.name, row.verdict, row.number) for row in rows], model.rows(), what)
+        rows = [(row.name, row.verdict, row.number) for row in person.settled(what)]
+        person.same(rows, [(name, *model.verdict(**parts)) for name, parts in model.downloads.items()], what)
         whole = f"In full: {keys[model.key].line}" if model.key else ""
         person.same(person.text_of("key-whole") if person.is_shown("key-whole") else "", whole, f"{what}: the key")
 
@@ -77,29 +72,26 @@ def act(person, model, chance, keys, signatures):
         person.clear()
         model.downloads.clear()
     else:
-        return drop(person, model, chance, keys, signatures)
+        files, paths = [], [person.put("unused", b"")]
+        for name, kind, what, path, data in some_files(chance, keys, signatures):
+            files.append((name, kind, what))
+            paths.append(person.put(path, data, paths[0]))
+        if files:
+            person.drop("downloads", *paths[1:])
+            model.take_files(files)
+        return files
     return kind, key
 
 
-def drop(person, model, chance, keys, signatures):
-    """Drops some files together."""
-    files, paths = [], [person.put("unused", b"")]
-
-    def add(name, kind, what, path, data):
-        files.append((name, kind, what))
-        paths.append(person.put(path, data, paths[0]))
-
+def some_files(chance, keys, signatures):
+    """Some files of one drop, each as the model takes it, and with its own name and data."""
     for name in NAMES:
         if chance.random() < 0.6:
             data = chance.choice(DATA)
-            add(name, "data", data, name, data)
+            yield name, "data", data, name, data
         if chance.random() < 0.6:
             signed = chance.choice(tuple(signatures))
-            add(name, "signature", signed, f"{name}.minisig", signatures[signed])
+            yield name, "signature", signed, f"{name}.minisig", signatures[signed]
     if chance.random() < 0.3:
         key = chance.choice(tuple(keys))
-        add("some.pub", "key", key, "some.pub", keys[key].text)
-    if files:
-        person.drop("downloads", *paths[1:])
-        model.take_files(files)
-    return files
+        yield "some.pub", "key", key, "some.pub", keys[key].text

@@ -1,18 +1,27 @@
-"""Debian's Chromium without a window, with its own driver. (firefox.py has Firefox.)"""
+"""Debian's Chromium without a window, and its driver. (firefox.py has Firefox.)"""
 
+import contextlib
+import http.client
 import json
 import os
-
-from selenium import webdriver
-from selenium.webdriver.chrome.options import Options
-from selenium.webdriver.chrome.service import Service
-from selenium.webdriver.common.action_chains import ActionChains
+import socket
 
 from person import ELSEWHERE, SECONDS, Person
 
 FLAGS = ("--headless=new", "--no-sandbox", "--disable-gpu", "--disable-dev-shm-usage", "--disable-background-networking",
          "--disable-component-update", "--no-first-run", "--force-prefers-reduced-motion", "--window-size=800,1000",
          f"--host-resolver-rules=MAP {ELSEWHERE} 127.0.0.1")
+# Where the driver takes each command.
+PATHS = {"ExecuteScript": "execute/sync", "ExecuteAsyncScript": "execute/async", "Navigate": "url", "FindElement": "element",
+         "ElementSendKeys": "element/{id}/value", "PerformActions": "actions", "SetTimeouts": "timeouts", "Log": "se/log",
+         "Protocol": "goog/cdp/execute"}
+# Texts that differ from their ground by less than this are hard to read (WCAG 2, level AA).
+MIN_CONTRAST = 4.5
+# What the system may ask of the page.
+MEDIA = {"light": ("prefers-color-scheme", "light"), "dark": ("prefers-color-scheme", "dark"), "forced": ("forced-colors", "active")}
+IS_ASKED = "return matchMedia(`(${arguments[0]}: ${arguments[1]})`).matches"
+GROUND = "return getComputedStyle(document.body).backgroundColor"
+BORDERS = "return Array.from(document.querySelectorAll('#verdicts > li, .caution'), part => getComputedStyle(part).borderLeftWidth)"
 
 
 class Chromium(Person):
@@ -20,91 +29,93 @@ class Chromium(Person):
 
     name = "Chromium"
     is_chromium = True
-    # What the command of a process has that shows a page.
     SHOWS_PAGE = b"--type=renderer"
 
     def __init__(self, chromium, chromedriver, directory):
-        options = Options()
-        options.binary_location = chromium
-        for flag in (*FLAGS, f"--user-data-dir={os.path.join(directory, 'profile')}"):
-            options.add_argument(flag)
-        options.set_capability("goog:loggingPrefs", {"browser": "ALL", "performance": "ALL"})
-        self.driver = webdriver.Chrome(service=Service(chromedriver), options=options)
-        self.driver.set_script_timeout(SECONDS)
-        self.process = self.driver.service.process.pid
+        flags = [*FLAGS, f"--user-data-dir={os.path.join(directory, 'profile')}"]
+        self.wanted = {"goog:chromeOptions": {"binary": chromium, "args": flags}, "goog:loggingPrefs": {"browser": "ALL", "performance": "ALL"}}
+        with socket.create_server(("127.0.0.1", 0)) as free:
+            self.port = free.getsockname()[1]
+        super().__init__([chromedriver, f"--port={self.port}"])
 
-    def quit(self):
-        self.driver.quit()
+    def begin_session(self):
+        try:
+            session = self.ask("POST", "/session", capabilities={"alwaysMatch": self.wanted})
+        except ConnectionRefusedError:
+            return None
+        self.path = f"/session/{session['sessionId']}"
+        return session
 
-    def version(self):
-        return self.driver.capabilities["browserVersion"]
+    def end_session(self):
+        self.ask("DELETE", self.path)
+        self.process.terminate()
 
-    def run(self, script, *arguments):
-        return self.driver.execute_script(script, *arguments)
+    def ask(self, method, path, **arguments):
+        """Sends a request to the driver, and answers what that gives."""
+        with contextlib.closing(http.client.HTTPConnection("127.0.0.1", self.port, timeout=10 * SECONDS)) as connection:
+            connection.request(method, path, json.dumps(arguments).encode(), {"Content-Type": "application/json"})
+            answer = connection.getresponse()
+            value = json.loads(answer.read())["value"]
+        if answer.status != 200:
+            raise RuntimeError(f"{path}: {value['error']}: {value['message']:.500}")
+        return value
 
-    def run_later(self, script, *arguments):
-        """Runs a script that calls its last argument with what it answers."""
-        return self.driver.execute_async_script(script, *arguments)
+    def order(self, name, **arguments):
+        return self.ask("POST", f"{self.path}/{PATHS[name].format(**arguments)}", **arguments)
 
     def command(self, name, **arguments):
         """A command of the browser's own protocol."""
-        return self.driver.execute_cdp_cmd(name, arguments)
+        return self.order("Protocol", cmd=name, params=arguments)
 
     def resize(self, width=None, height=None):
-        """Gives the page so much room, or all of the window."""
         if width is None:
             self.command("Emulation.clearDeviceMetricsOverride")
         else:
             self.command("Emulation.setDeviceMetricsOverride", width=width, height=height, deviceScaleFactor=1, mobile=False)
 
-    def set_media(self, **features):
-        """Has the page think so of the system, by names of media features."""
-        named = [{"name": name.replace("_", "-"), "value": value} for name, value in features.items()]
-        self.command("Emulation.setEmulatedMedia", features=named)
+    def set_media(self, feature=None, value=None):
+        """Has the page think so of the system, by the name of a media feature, or nothing of it."""
+        self.command("Emulation.setEmulatedMedia", features=[{"name": feature, "value": value}] if feature else [])
 
     def force_colours(self, is_forced):
-        """Has the system force its colours on the page, or not."""
-        self.set_media(**{"forced_colors": "active"} if is_forced else {})
-
-    def go(self, address):
-        self.driver.get(address)
-
-    def send(self, name, text):
-        """Types into the element of this name, or chooses files there."""
-        self.driver.find_element("id", name).send_keys(text)
+        self.set_media(*(("forced-colors", "active") if is_forced else ()))
 
     def drop(self, place, *paths):
-        """Drops files together on the element of this name."""
         self.drop_data(place, items=[], files=[os.path.realpath(path) for path in paths])
 
     def drop_text(self, place, text):
-        """Drops a text on the element of this name."""
         self.drop_data(place, items=[{"mimeType": "text/plain", "data": text}])
 
     def drop_data(self, place, **data):
-        x, y = self.run("""const part = document.getElementById(arguments[0]);
-          part.scrollIntoView();
-          const {left, top, width, height} = part.getBoundingClientRect();
-          return [left + width / 2, top + Math.min(height, innerHeight) / 2]""", place)
+        x, y = self.see("middleOf", place)
         for kind in ("dragEnter", "dragOver", "drop"):
             self.command("Input.dispatchDragEvent", type=kind, x=x, y=y, data={**data, "dragOperationsMask": 1})
         self.taken()
 
-    def press(self, *keys):
-        """Presses keys, one after another, wherever the focus is."""
-        ActionChains(self.driver).send_keys(*keys).perform()
-        self.taken()
-
-    def tab_back(self):
-        """Moves the focus back by the keyboard: what has it then."""
-        ActionChains(self.driver).key_down(self.SHIFT).send_keys(self.TAB).key_up(self.SHIFT).perform()
-        return self.focus()
-
     def said(self):
         """What the browser's console has: errors, and what the policy rejected."""
-        return [entry["message"] for entry in self.driver.get_log("browser")]
+        return [entry["message"] for entry in self.order("Log", type="browser")]
 
     def requests(self):
         """The addresses that were asked for since this was last called."""
-        messages = [json.loads(entry["message"])["message"] for entry in self.driver.get_log("performance")]
+        messages = [json.loads(entry["message"])["message"] for entry in self.order("Log", type="performance")]
         return [message["params"]["request"]["url"] for message in messages if message["method"] == "Network.requestWillBeSent"]
+
+    def nodes(self):
+        """What a screen reader is told: the role and the name of each node, and its properties."""
+        return [(node["role"]["value"], node.get("name", {}).get("value", ""),
+                 {one["name"]: one["value"].get("value") for one in node.get("properties", [])})
+                for node in self.command("Accessibility.getFullAXTree")["nodes"] if not node.get("ignored")]
+
+    def wrong_looks(self):
+        """The texts that are hard to read, in light, in dark and in colours that the system forces on the page, and what has no border."""
+        wrong = []
+        for what, asked in MEDIA.items():
+            self.set_media(*asked)
+            found, is_asked, is_white = self.see("contrasts"), self.run(IS_ASKED, *asked), self.run(GROUND) == "rgb(255, 255, 255)"
+            wrong += [f"{what}: {text!r} has contrast {contrast:.1f}" for contrast, text in found if contrast < MIN_CONTRAST]
+            wrong += [f"{what}: a border is {width} wide" for width in self.run(BORDERS) if width == "0px"]
+            if not found or not is_asked or is_white != (what == "light") and what != "forced":
+                wrong.append(f"{what}: it is asked for: {is_asked}, the ground is white: {is_white}, and there are {len(found)} texts")
+        self.set_media()
+        return wrong

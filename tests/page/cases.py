@@ -33,9 +33,6 @@ def kept_cases():
             for row in kept_rows()]
 
 
-# ---- Errors ----
-
-
 def key_errors(pk):
     """Each error of a public key's file."""
     comment, line = lines(pk)
@@ -79,8 +76,6 @@ def signature_errors(sig, other_sig):
         Error(32, "trusted comment is not the one that was signed", with_line(sig, 2, third + b"x")),
     ]
 
-
-# ---- A hostile signer ----
 
 # Trusted comments, and what the page has to show of those that it does not show as they are.
 HOSTILE_COMMENTS = {

@@ -2,10 +2,13 @@
 text, and a sentence for each thing that was given in place of another.
 """
 
+import contextlib
+import http.server
 import os
+import threading
 
 import cases
-from surroundings import Served
+from person import ELSEWHERE
 
 PGP_KEY = ("-----BEGIN PGP PUBLIC KEY BLOCK-----\n\nmDMEXEcE6RYJKwYBBAHaRw8BAQdArjWwk3FAqyiFbFBKT4TzXcVBqPTB3gmzlC/U\n=abcd\n"
            "-----END PGP PUBLIC KEY BLOCK-----\n")
@@ -14,6 +17,34 @@ PGP_BYTES = b"\x88\x75\x04\x00\x16"
 # Whether the first words stand before the first field.
 IS_FIRST = """const [first, field] = ["introduction", "key-text"].map(id => document.getElementById(id));
 return (first.compareDocumentPosition(field) & Node.DOCUMENT_POSITION_FOLLOWING) !== 0"""
+
+
+@contextlib.contextmanager
+def served(page, **headers):
+    """A server with the page and nothing else, under these headers: its address, that by a name which browsers do not know, and what it
+    is asked for."""
+    asked = []
+    with open(page, "rb") as file:
+        body = file.read()
+
+    class Handler(http.server.BaseHTTPRequestHandler):
+        def do_GET(self):
+            asked.append(self.path)
+            self.send_response(200 if self.path == "/minisign.html" else 404)
+            for name, value in {"Content-Type": "text/html; charset=utf-8", **headers}.items():
+                self.send_header(name.replace("_", "-"), value)
+            self.end_headers()
+            self.wfile.write(body)
+
+        def log_message(self, *words):
+            pass
+
+    with http.server.ThreadingHTTPServer(("127.0.0.1", 0), Handler) as server:
+        threading.Thread(target=server.serve_forever, daemon=True).start()
+        try:
+            yield (*(f"http://{name}:{server.server_port}/minisign.html" for name in ("127.0.0.1", ELSEWHERE)), asked)
+        finally:
+            server.shutdown()
 
 
 def check_helps(person):
@@ -35,8 +66,6 @@ def check_helps(person):
         person.drop("downloads", person.put(name, f"{line}\n".encode()))
         person.says("key-said", "the line of a key among the files", "stands alone here", name, lacks=[line])
         person.same(person.rows(), [], "the line of a key among the files: the rows")
-    check_dragged(person, sig.decode())
-    check_pasted(person)
     # What is of PGP, and a secret key, is not taken among the files, and told.
     person.open()
     for name, data, words in (
@@ -46,9 +75,6 @@ def check_helps(person):
         person.drop("downloads", person.put(name, data))
         person.says("files-said", f"{name} among the files", f"{name} {words}")
         person.same(person.rows(), [], f"{name} among the files: the rows")
-    check_known(person)
-    if person.is_chromium:
-        check_directories(person)
 
 
 def check_typed(person, secret, sig):
@@ -83,15 +109,15 @@ def check_typed(person, secret, sig):
         person.check(person.run("return document.getElementById('key-said').dataset.number !== undefined"), f"{what}: no number")
 
 
-def check_dragged(person, sig):
+def check_dragged(person):
     """A text that is dragged to a field stands there alone, and is taken as if it were pasted."""
-    line, what = person.first.line, "a signature that is dragged"
+    line = person.first.line
     person.begin("no key")
     person.drop_text("key-text", line)
     person.same(person.text_of("key-text", "value"), line, "a key that is dragged to its field")
     person.uses(person.first, "a key that is dragged to its field")
-    person.drop_text("signature-text", sig)
-    person.only(what, has=["file itself is missing"])
+    person.drop_text("signature-text", person.sign(b"data").decode())
+    person.only("a signature that is dragged", has=["file itself is missing"])
     person.drop_text("introduction", line)
     person.same(len(person.rows()), 1, "a text that is dragged to no field: the rows")
 
@@ -124,64 +150,35 @@ def check_pasted(person):
         person.same(person.text_of("files-said"), "", f"{words}: once it is gone")
 
 
-def check_known(person):
-    """A signature is known by its text, and a file by having a signature."""
-    sign = lambda data: person.sign(data, trusted="t")
-    person.begin(person.first.line)
-    for name in ("update.zip.sig", "update.zip.minisig.txt", "signature", "update.zip.minisig (1)"):
-        data = person.put("update.zip", b"data")
-        person.choose(data, person.put(name, sign(b"data"), data))
-        person.only(f"the signature {name}", number=0, comment="t")
-        person.clear()
-    # One after the other, by names that are alike, also where others stand alone.
-    for name, data in (("a (1).zip", b"a"), ("B.ZIP", b"b"), ("c", b"c"), ("b.zip.minisig", sign(b"b")), ("a.zip.minisig", sign(b"a"))):
-        person.choose(person.put(name, data))
-    person.expect_each("number", {"a (1).zip": 0, "B.ZIP": 0, "c": None}, "names that are alike")
-    person.clear()
-    first = person.put("a.zip", b"a")
-    others = {"a.zip.sig": sign(b"a"), "b.zip": b"b", "b.zip.minisig.txt": sign(b"b")}
-    person.choose(first, *(person.put(name, data, first) for name, data in others.items()))
-    person.expect_each("number", {"a.zip": 0, "b.zip": 0}, "several signatures that are known by their texts")
-    # What is itself a signature, a public key or a secret key, and has been signed, is a file like another.
-    for name, data in (("list.txt", sign(b"x")), ("new.pub", person.second.text), ("old.key", person.minisign.read("second.key"))):
-        person.clear()
-        person.choose(*person.signed(name, data, trusted="t"))
-        person.only(f"{name}, which was signed", number=0, comment="t")
-
-
-def check_directories(person):
-    """A directory that is dropped is told once, until the next files come."""
-    path = person.put("data", b"data")
-    person.open()
-    for place in ("downloads", "downloads", "key"):
-        person.drop(place, os.path.dirname(path))
-        said = person.text_of("files-said")
-        person.check("A directory cannot be verified" in said and said.count("directory") == 1 and not person.rows(),
-                     f"a directory that is dropped on {place}: {said!r}")
-    person.drop("downloads", path)
-    person.same((person.text_of("files-said"), len(person.rows())), ("", 1), "what is said for the next files")
-
-
 def check_not_started(person):
     """Where the script cannot run the page says so."""
     seen = "return [performance.now(), getComputedStyle(document.getElementById('lacking')).visibility === 'visible']"
-    with Served(person.page, Content_Security_Policy="script-src 'none'") as served:
-        person.go(served.address)
+    with served(person.page, Content_Security_Policy="script-src 'none'") as (address, *_):
+        person.go(address)
         milliseconds, is_early = person.run(seen)
         person.check(not is_early or milliseconds > 1400, f"after {milliseconds} ms the page says that it has not started")
         person.wait(lambda: person.run(seen)[1])
         person.says("lacking", "a script that cannot run", "has not started")
         person.check(person.is_shown("lacking") and not person.is_shown("controls"), "a script that cannot run: what is shown")
     # A policy that allows the script and no WebAssembly is told as the reason.
-    with Served(person.page, Content_Security_Policy="script-src 'unsafe-inline'") as served:
-        person.open(served.address)
+    with served(person.page, Content_Security_Policy="script-src 'unsafe-inline'") as (address, *_):
+        person.open(address)
         person.says("lacking", "a policy against WebAssembly", "Whoever serves this page lets it run no WebAssembly", lacks=["newer browser"])
         person.check(person.run(seen)[1], "a policy against WebAssembly: it is not told")
     # No thread of its own: it verifies all the same.
-    with Served(person.page, Content_Security_Policy="worker-src 'none'") as served:
-        person.open(served.address)
+    with served(person.page, Content_Security_Policy="worker-src 'none'") as (address, *_):
+        person.open(address)
         engine = person.run_later("const done = arguments[0]; beginEngine('').then(engine => done(engine.constructor.name));")
         person.same(engine, "NearEngine", "the engine where no thread is allowed")
         person.choose_key(os.path.join(cases.CORPUS, "published.pub"))
         person.choose(*person.pair("test", *map(cases.read_kept, ("test", "published.minisig"))))
         person.only("no thread of its own", number=0)
+
+
+def check_insecure(person):
+    """Where the page is served by `http:` it says that this is the reason why it verifies nothing, and what to do."""
+    with served(person.page) as (_, address, _):
+        person.open(address)
+    what = "a page served by http:"
+    person.same((person.run("return isSecureContext"), person.is_shown("lacking"), person.is_shown("controls")), (False, True, False), what)
+    person.says("lacking", what, "was not opened from disk or by https", "Save the page and open it from disk", lacks=["newer browser"])

@@ -1,8 +1,8 @@
 """A hostile signer's comments and names."""
 
 import cases
-import looks
 from minisign_cases import Case, sign_by_libsodium, with_comment, with_line
+from views import NARROW
 
 # What became markup of the rows, and the classes of what stands in a stranger's text.
 MARKUP = """return [document.title, document.querySelectorAll("#verdicts :is(img, script, a, iframe, style, b)").length,
@@ -39,7 +39,7 @@ def check_hostile(person):
     person.same([(row.name, row.number) for row in person.settled("hostile names")], wanted, "hostile names")
     check_plain(person, "hostile names")
     if person.is_chromium:
-        person.same(looks.contrasts_wrong(person), [], "texts that are hard to read")
+        person.same(person.wrong_looks(), [], "what is hard to see")
     person.clear()
     person.drop("downloads", *person.pair("exe.\u202egpj.zip", b"data", made.sig))
     person.settled("a name that turns")
@@ -50,7 +50,7 @@ def check_hostile(person):
 def check_plain(person, what):
     """Nothing became markup, and the page fits into a wide and a narrow screen."""
     person.same(person.run(MARKUP), ["Verify a download", 0, []], f"{what}: the title, markup, and elements in a stranger's text")
-    for size in ((), looks.NARROW) if person.is_chromium else ((),):
+    for size in ((), NARROW) if person.is_chromium else ((),):
         person.resize(*size)
         person.check(person.see("fits"), f"{what}: something stands outside of its place at {size}")
     person.resize()

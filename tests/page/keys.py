@@ -88,8 +88,8 @@ def check_field(person):
             said = person.text_of("key-said")
             person.drop("downloads", *paths, *given)
             person.only(what, verdict="waiting", number=None)
-            person.same((person.text_of("key-text", "value"), person.text_of("key-said"), person.is_shown("key-whole")), (text, said, False),
-                        f"{what}: the field")
+            seen = person.text_of("key-text", "value"), person.text_of("key-said"), person.is_shown("key-whole")
+            person.same(seen, (text, said, False), f"{what}: the field")
             told = person.text_of("files-said")
             person.check(told.count("was not taken: what stands in the field above stays, and is no key.") == len(given)
                          and told.startswith("minisign.pub came with the files"), f"{what}: {told!r}")

@@ -3,16 +3,18 @@ one file and give its verdict; a project's page with its key alone; and what `bu
 """
 
 import base64
+import hashlib
 import os
 import re
+import sys
 import tempfile
 import urllib.parse
 
 import build
 from keys import BY_LINK, OTHER_NAME, check_unchecked
 from minisign_cases import lines, pattern, with_line, with_record
-from page_sources import run_builder
 from person import STANDS
+from process import run_apart
 from views import NEXT, WARNED, WINDOWS
 
 TITLE = "Verify a download of <b>Example & \"others\"</b>"
@@ -39,16 +41,24 @@ class Release:
     def sign(self, name, data, key="first"):
         return self.person.sign(data, key, trusted=f"timestamp:1700000000\tfile:{name}\thashed")
 
-    def build(self, *words):
-        """Runs build.py over the page's module, in a directory of its own: its exit status and what it says of an error."""
+    def build(self, *words, **environment):
+        """Runs build.py, in a directory of its own: its exit status, and what it says of an error."""
         self.out = os.path.join(tempfile.mkdtemp(dir=self.person.room), "example.html")
-        status, _, said = run_builder(self.out, "--from", self.person.page, *words)
-        return status, said
+        status, said, why = run_apart([sys.executable, os.path.join(build.HERE, "build.py"), self.out, *words], **environment)
+        if status == 0:
+            self.person.same(said.split()[-1], hashlib.sha256(self.page()).hexdigest(), "the sum that build.py says of what it wrote")
+        return status, why
+
+    def page(self):
+        """The page that was built last."""
+        with open(self.out, "rb") as file:
+            return file.read()
 
     def build_own(self, *signatures):
         """Builds the project's page; its address."""
         of = ("--signature", *signatures) if signatures else ()
-        self.person.same(self.build("--key", self.line, "--title", TITLE, *of), (0, ""), "build.py --key --signature")
+        ran = self.build("--from", self.person.page, "--key", self.line, "--title", TITLE, *of)
+        self.person.same(ran, (0, ""), "build.py --key --signature")
         return f"file://{self.out}"
 
     def drop(self, name, data, what, **wanted):
@@ -65,7 +75,7 @@ def linked(text):
 def check_only_download(person):
     """All of it."""
     release = Release(person)
-    for check in (check_asked, check_names, check_given, check_keyboard, check_links, check_links_of_own, check_key_alone, check_hostile,
+    for check in (check_asked, check_names, check_given, check_links, check_links_of_own, check_key_alone, check_hostile,
                   *((check_slow, check_builder) if person.is_chromium else ())):
         check(person, release)
         person.resize()
@@ -79,13 +89,14 @@ def check_asked(person, release):
             what = f"{size}: a download alone"
             person.open(release.own)
             person.check(person.see("isPlaceSeen"), f"{what}: its place is out of view")
+            person.same(person.tab(), "files", f"{what}: the first for the keyboard")
             person.same([part for part in ASKED if person.is_shown(part)], [], f"{what}: what is asked")
             shown = person.run("return document.body.innerText").partition("What this page does not show")[0]
             person.same([part for part in TOLD if part in shown], [], f"{what}: what is told")
-            person.same((person.run(TITLES), person.band()), ([TITLE, TITLE], None), f"{what}: the project's page")
+            person.same((person.run(TITLES), person.see("band")), ([TITLE, TITLE], None), f"{what}: the project's page")
             person.uses(person.first, what)
             release.drop(ZIP, data, what, number=number, cautions=[], lacks=["with the signature"])
-            person.same(person.band(), [verdict, STANDS[verdict], OWN_NEXT[verdict]], f"{what}: the band")
+            person.same(person.see("band"), [verdict, STANDS[verdict], OWN_NEXT[verdict]], f"{what}: the band")
             person.check(person.see("isInView", ZIP), f"{what}: the verdict is out of view")
             person.check(person.see("fits"), f"{what}: something stands outside of its place")
 
@@ -102,13 +113,12 @@ def check_names(person, release):
         row = release.drop(name, data, what, verdict=verdict, number=number)
         person.check("The signer's name of this file is " in row.text if is_mild or other else OTHER_NAME not in row.text, f"{what}: {row.text!r}")
         person.same([caution.partition(". It may")[0] for caution in row.cautions], [OTHER_NAME + other] if other else [], f"{what}: the warnings")
-        person.same(person.band()[2], WARNED if other else OWN_NEXT[verdict], f"{what}: what to do next")
+        person.same(person.see("band")[2], WARNED if other else OWN_NEXT[verdict], f"{what}: what to do next")
         if number is None:
             person.expect(row, what, has=["none of those that the signatures here are of. Do not use the file."])
     # What stands in the way of any verdict is told, and not that no signature fits.
     person.open(release.own)
-    person.run("""const real = window.bytesOfFile;
-      window.bytesOfFile = async (file, ...of) => file.name === "download" ? null : await real(file, ...of);""")
+    person.see("breakFiles", "download")
     release.drop("download", zipped, "a file of no name here that cannot be read", has=["The file cannot be read"])
     tampered = with_line(release.signatures[ZIP], 2, b"trusted comment: file:other")
     person.open(release.build_own(person.put(f"{ZIP}.minisig", tampered), release.paths[1]))
@@ -144,19 +154,6 @@ def check_given(person, release):
                     "a directory with the download: no signature is asked for")
 
 
-def check_keyboard(person, release):
-    """By the keyboard alone: the place for the download is the first and the only one, and the verdict's comment follows."""
-    person.open(release.own)
-    person.run("document.body.focus()")
-    person.same(person.tab(), "files", "the first for the keyboard")
-    person.same(person.run("return getComputedStyle(document.querySelector('#files + label')).outlineStyle"), "solid", "the focus is seen")
-    person.choose(person.put(ZIP, release.files[ZIP]))
-    person.settled("the keyboard")
-    person.same([person.tab(), person.tab()], ["comment", "clear"], "what follows for the keyboard")
-    person.press(person.ENTER)
-    person.same((person.rows(), person.band(), person.focus()), ([], None, "files"), "a list that was cleared by the keyboard")
-
-
 def check_links(person, release):
     """A link has a key and signatures: no verdict is the good one, whatever stands in it, until the key is pasted."""
     key, sig, data = release.line, release.signatures[ZIP], release.files[ZIP]
@@ -170,16 +167,17 @@ def check_links(person, release):
         person.same([person.is_shown(part) for part in ASKED], [False, True, True, True], f"{what}: what is asked")
         person.check(person.see("isPlaceSeen"), f"{what}: the place for the download is out of view")
         check_unchecked(person, release.drop(ZIP, data, what, lacks=["with the signature"]), BY_LINK, what)
-        person.same(person.band(), ["unchecked", STANDS["unchecked"], NEXT["unchecked"]], f"{what}: the band")
+        person.same(person.see("band"), ["unchecked", STANDS["unchecked"], NEXT["unchecked"]], f"{what}: the band")
         person.check(person.see("isInView", ZIP), f"{what}: the verdict is out of view")
     person.resize()
     for typed, verdict, number in ((person.second.line, "bad", 29), (key, "good", 0)):
         person.type_key(typed)
         person.only("a key that is pasted where a link has one", verdict=verdict, number=number, cautions=[])
-    for name, data_, verdict, number in (("app-0.9.zip", data, "unchecked", 0), (ZIP, b"x", "bad", 31)):
-        person.open(f"{person.address}#key={key}&sig={text}")
-        told = [OTHER_NAME + ZIP, f"with the signature {ZIP}.minisig"]
-        release.drop(name, data_, f"a link, and {name}, {number}", verdict=verdict, number=number, **{"lacks" if number else "has": told})
+    told = [OTHER_NAME + ZIP, f"with the signature {ZIP}.minisig"]
+    person.open(f"{person.address}#key={key}&sig={text}")
+    release.drop("app-0.9.zip", data, "a link, and another name", verdict="unchecked", number=0, has=told)
+    person.open(f"{person.address}#key={key}&sig={text}")
+    release.drop(ZIP, b"x", "a link, and other data", verdict="bad", number=31, lacks=told)
     # Without a key.
     what = "a link with a signature alone"
     person.open(f"{person.address}#sig={text}")
@@ -216,8 +214,8 @@ def check_links_of_own(person, release):
 def check_key_alone(person, release):
     """A page with a key and no signature tells what a signature is, and nothing of keys; and it takes no other key."""
     what, address = "a page with a key alone", release.build_own()
-    with open(release.out, encoding="utf-8") as file:
-        person.check(file.read() == build.page(*build.taken_from(person.page), release.line, TITLE), f"{what} has other bytes than at the first time")
+    again = build.page(*build.taken_from(person.page), release.line, TITLE)
+    person.check(release.page().decode() == again, f"{what} has other bytes than at the first time")
     for link in ("", f"#{person.second.line}"):
         person.open(address + link)
         person.same((person.run(TITLES), *map(person.is_shown, ASKED)), ([TITLE, TITLE], True, False, False, False), f"{what}: what is asked")
@@ -263,19 +261,27 @@ def check_slow(person, release):
 
 def check_builder(person, release):
     """What build.py does not build in, and why."""
-    path, sig, key = release.paths[0], release.signatures[ZIP], ("--key", release.line)
+    path, sig, page = release.paths[0], release.signatures[ZIP], ["--from", person.page]
     put = lambda text, name="a.minisig": person.put(name, text)
+    with_key = lambda *words: [*page, "--key", release.line, "--signature", *words]
     unknown_kind = with_record(sig, 1, b"XX" + base64.b64decode(lines(sig)[1])[2:])
     for words, why in (
-            (["--signature", path], "has a key, too"), (["--key", person.second.line, "--signature", path], "was made with another key"),
-            ([*key, "--signature", path, put(sig, f"{ZIP}.minisig")], "two signatures are named"),
-            *(([*key, "--signature", *paths], "is not named as a signature") for paths in ((path, "later.html"), (put(sig, ".minisig"),))),
-            *(([*key, "--signature", wrong], "cannot be read") for wrong in (f"{path}.absent.minisig", put(b"\xff" + sig))),
-            *(([*key, "--signature", put(text)], "is no signature") for text in (
+            ([], "the kit of Rattle"), ([*page, "--key", "RWQ"], "one line of 56 letters and digits"),
+            (["--from", os.path.join(build.HERE, "page.js")], "no page that page/build.py has built"),
+            (["--from", f"{path}.absent.html"], "cannot be read"), ([*page, "--signature", path], "has a key, too"),
+            ([*page, "--key", person.second.line, "--signature", path], "was made with another key"),
+            (with_key(path, put(sig, f"{ZIP}.minisig")), "two signatures are named"),
+            (with_key(path, "later.html"), "is not named as a signature"), (with_key(put(sig, ".minisig")), "is not named as a signature"),
+            (with_key(f"{path}.absent.minisig"), "cannot be read"), (with_key(put(b"\xff" + sig)), "cannot be read"),
+            *((with_key(put(text)), "is no signature") for text in (
                 b"", b"untrusted comment: x\n", with_line(sig, 0, b"comment"), with_line(sig, 1, b"RWQ"), with_line(sig, 2, b"comment"),
                 b"\n".join(lines(sig)[:3]), with_line(sig, 3, b"RWQ="), with_line(sig, 3, b"-"), person.first.text, unknown_kind))):
-        status, said = release.build(*words)
+        # (without the kit in PATH)
+        status, said = release.build(*words, PATH="")
         person.check(status == 1 and why in said and said.count("\n") == 1 and not os.path.exists(release.out), f"build.py {words}: {status}, {said!r}")
-    with open(release.build_own(*release.paths).partition("//")[2], encoding="utf-8") as file:
-        found = re.search(r"^const BUILT_IN_SIGNATURES = (.*);$", file.read(), re.M)[1]
-    person.same(found.count(".minisig"), 3, "the signatures that are built in")
+    release.build_own(*release.paths)
+    found = re.search(rb"^const BUILT_IN_SIGNATURES = (.*);$", release.page(), re.M)[1]
+    person.same(found.count(b".minisig"), 3, "the signatures that are built in")
+    person.same(release.build(*page), (0, ""), "a page that is made of a page")
+    with open(person.page, "rb") as file:
+        person.check(release.page() == file.read(), "a page that is made of a page has other bytes")

@@ -3,10 +3,8 @@
 import hashlib
 import os
 import re
-import sys
 
 import build
-import cases
 from process import run_apart
 
 # How many bytes the built page may have with no signature in it, and how many lines its sources that are not this program's.
@@ -28,17 +26,6 @@ def check_contracts(checks):
     for name, text in texts["minisign_page"].items():
         for_c = text.replace("IsMeaning", "IsHostMeaning")
         checks.check(for_c == texts["minisign_c"].get(name), f"page_{name} has another contract than minisign_{name}")
-
-
-def check_words_of_numbers(checks):
-    """words.js has words for each number that a call can answer."""
-    words = build.read("page/words.js")
-    pk, sig = cases.read_kept("first.pub"), cases.read_kept("hello.minisig")
-    for name, errors, more in (("WHY_NO_KEY", [*cases.key_errors(pk), *cases.typed_key_errors(pk)], set()),
-                               ("WHY_NOT", cases.signature_errors(sig, sig), {30})):
-        told = re.search(rf"{name} = new Map\(\[(.*?)\]\);", words, re.S)[1]
-        numbers = {int(number) for number in re.findall(r"^  \[(\d+), ", told, re.M)}
-        checks.same(numbers, {error.number for error in errors} | more, f"words.js: {name}")
 
 
 def check_file(checks, page):
@@ -86,25 +73,3 @@ def check_sums(checks, path):
     named = hashlib.sha256(build.taken_from(kept)[0]).hexdigest(), said["sources of the page"]
     checks.same(build.named_sums(), named, "what dist/PROVED names")
     checks.same(sums_on(build.read("dist/minisign.html")), [named[1]], "the sums that the page of dist/ names")
-
-
-def run_builder(*words, **environment):
-    """Runs build.py: its exit status, what it says, and what it says of an error."""
-    return run_apart([sys.executable, os.path.join(build.HERE, "build.py"), *words], **environment)
-
-
-def check_building(checks, page, room):
-    """`build.py` says the sum of what it wrote, and why it writes nothing."""
-    out = os.path.join(room, "made.html")
-    status, said, why = run_builder("--from", page, out)
-    with open(out, "rb") as made, open(page, "rb") as named:
-        data = made.read()
-        checks.check(data == named.read(), "a page that is made of a page has other bytes")
-    checks.check(status == 0 and said.split()[-1] == hashlib.sha256(data).hexdigest(), f"build.py --from: {said!r} {why!r}")
-    os.remove(out)
-    for words, path, part in (
-            ([out], "", "the kit of Rattle"), (["--from", page, "--key", "RWQ", out], "", "one line of 56 letters and digits"),
-            (["--from", os.path.join(build.HERE, "page.js"), out], "", "no page that page/build.py has built"),
-            (["--from", os.path.join(room, "absent.html"), out], "", "cannot be read")):
-        status, _, said = run_builder(*words, PATH=path)
-        checks.check(status == 1 and part in said and said.count("\n") == 1 and not os.path.exists(out), f"build.py {words}: {status}, {said!r}")

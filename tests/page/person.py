@@ -5,6 +5,8 @@ A subclass drives a browser without a window: `Chromium` of browser.py, or `Fire
 import contextlib
 import os
 import re
+import signal
+import subprocess
 import tempfile
 import time
 from collections import namedtuple
@@ -13,8 +15,8 @@ from types import SimpleNamespace
 SECONDS = 120
 # A name of this machine that browsers do not know as one: what it serves without TLS is not secure for them.
 ELSEWHERE = "page.test"
-with open(os.path.join(os.path.dirname(os.path.realpath(__file__)), "seen.js"), encoding="utf-8") as seen_file:
-    SEEN = seen_file.read()
+with open(os.path.join(os.path.dirname(os.path.realpath(__file__)), "in_page.js"), encoding="utf-8") as file_of_functions:
+    IN_PAGE = file_of_functions.read()
 # The head of each row.
 VERIFIED, UNCHECKED, NOT_VERIFIED = "\u2713 Verified", "? Signed, by a key that you have not checked", "\u2717 NOT verified"
 STANDS = {"good": VERIFIED, "unchecked": UNCHECKED, "bad": NOT_VERIFIED, "waiting": "\u2026 Not verified yet",
@@ -48,13 +50,42 @@ def is_right(row):
 
 
 class Person:
-    """What is the same in each browser. A subclass has `run`, `run_later`, `go`, `send`, `press`, `tab_back`, `drop`, `drop_text`,
-    `resize`, `force_colours`, `process` and `quit`."""
+    """What is the same in each browser. A subclass has `begin_session`, which answers None while nothing listens, and `end_session`;
+    `order`, which sends a command of the standard for drivers; `drop` and `drop_text`, of files together or a text on a part of the
+    page; `resize`, which gives the page so much room, or all of the window; `force_colours`, of the system on the page; and what the
+    command of a process has that shows a page."""
 
     # Whether the browser is Chromium, whose own protocol shows and changes what a page cannot.
     is_chromium = False
     # Keys without a letter, by the standard for drivers of browsers.
     TAB, ENTER, SHIFT = "\ue004", "\ue007", "\ue008"
+
+    def __init__(self, command, **environment):
+        """Begins a browser or its driver, in a group of processes of its own, and a session once it listens."""
+        self.process = subprocess.Popen(command, stdin=subprocess.DEVNULL, stdout=subprocess.DEVNULL, stderr=subprocess.DEVNULL,
+                                        start_new_session=True, env=dict(os.environ, **environment))
+        end = time.monotonic() + SECONDS
+        try:
+            while (session := self.begin_session()) is None:
+                if self.process.poll() is not None or time.monotonic() > end:
+                    raise TimeoutError(f"{self.name} did not begin")
+                time.sleep(0.1)
+            self.capabilities = session["capabilities"]
+            self.order("SetTimeouts", script=1000 * SECONDS, pageLoad=1000 * SECONDS, implicit=0)
+        except BaseException:
+            self.quit()
+            raise
+
+    def quit(self):
+        with contextlib.suppress(Exception):
+            self.end_session()
+            self.process.wait(20)
+        with contextlib.suppress(ProcessLookupError):
+            os.killpg(self.process.pid, signal.SIGKILL)
+        self.process.wait()
+
+    def version(self):
+        return self.capabilities["browserVersion"]
 
     def use(self, page, room, checks, minisign, programs):
         """Tries this page, with keys and signatures of Minisign's own program, and files in this directory."""
@@ -83,6 +114,31 @@ class Person:
     def signed(self, name, data, **how):
         """Writes a file and a signature of it that is made now; their paths."""
         return self.pair(name, data, self.sign(data, **how))
+
+    # How it is driven.
+
+    def run(self, script, *arguments):
+        return self.order("ExecuteScript", script=script, args=arguments)
+
+    def run_later(self, script, *arguments):
+        """Runs a script that calls its last argument with what it answers."""
+        return self.order("ExecuteAsyncScript", script=script, args=arguments)
+
+    def go(self, address):
+        self.order("Navigate", url=address)
+
+    def send(self, name, text):
+        """Types into the element of this name, or chooses files there."""
+        found = self.order("FindElement", using="css selector", value=f"#{name}")
+        self.order("ElementSendKeys", id=next(iter(found.values())), text=text)
+
+    def press(self, keys, held=""):
+        """Presses keys, one after another, wherever the focus is, while others are held."""
+        acts = [*(("keyDown", key) for key in held), *((kind, key) for key in keys for kind in ("keyDown", "keyUp")),
+                *(("keyUp", key) for key in held)]
+        steps = [{"type": kind, "value": key} for kind, key in acts]
+        self.order("PerformActions", actions=[{"type": "key", "id": "keyboard", "actions": steps}])
+        self.taken()
 
     # What a person does.
 
@@ -114,8 +170,8 @@ class Person:
         self.wait_seen("isTaken")
 
     def wait_seen(self, what):
-        """Waits until a function of seen.js answers true, as long as that answers something else than before."""
-        self.wait(lambda: self.run_later(f"{SEEN}until({what}, arguments[0]);"), pause=0)
+        """Waits until a function of in_page.js answers true, as long as that answers something else than before."""
+        self.wait(lambda: self.run_later(f"{IN_PAGE}until({what}, arguments[0]);"), pause=0)
 
     def begin(self, key, *paths, address=None):
         """Opens the page anew, pastes this text as the key, if it is one, and chooses files together."""
@@ -151,20 +207,20 @@ class Person:
     def clear(self):
         self.click("clear")
 
-    def click_in_row(self):
-        """Clicks on the first button of the rows."""
-        self.run("document.querySelector('#verdicts button').click()")
-
-    def tab(self):
+    def tab(self, held=""):
         """Moves the focus on by the keyboard: what has it then."""
-        self.press(self.TAB)
+        self.press(self.TAB, held)
         return self.focus()
 
     # What a person sees.
 
     def see(self, what, *arguments):
-        """What a function of seen.js answers."""
-        return self.run(f"{SEEN}return {what}(...arguments);", *arguments)
+        """What a function of in_page.js answers."""
+        return self.run(f"{IN_PAGE}return {what}(...arguments);", *arguments)
+
+    def see_later(self, what, *arguments):
+        """What a function of in_page.js hands to its last argument."""
+        return self.run_later(f"{IN_PAGE}{what}(...arguments);", *arguments)
 
     def text_of(self, name, part="innerText"):
         """The text of a part of the page, or what stands in a field."""
@@ -172,10 +228,6 @@ class Person:
 
     def is_shown(self, name):
         return self.run("return document.getElementById(arguments[0]).checkVisibility()", name)
-
-    def band(self):
-        """The verdict at the top of the window, and what it says; nothing where there is none."""
-        return self.see("band")
 
     def rows(self):
         return [SimpleNamespace(**row) for row in self.see("rows")]
@@ -250,7 +302,7 @@ class Person:
         for number in filter(str.isdigit, os.listdir("/proc")):
             with contextlib.suppress(OSError), open(f"/proc/{number}/stat", encoding="ascii", errors="replace") as file:
                 children.setdefault(file.read().rpartition(")")[2].split()[1], []).append(number)
-        found = [str(self.process)]
+        found = [str(self.process.pid)]
         for number in found:
             found += children.get(number, [])
         return found[1:]

@@ -12,18 +12,12 @@ import os
 import sys
 import tempfile
 
-HERE = os.path.dirname(os.path.realpath(__file__))
-TOP = os.path.join(HERE, "..", "..")
+TOP = os.path.join(os.path.dirname(os.path.realpath(__file__)), "..", "..")
 sys.path += [os.path.join(TOP, *directory) for directory in (("tests", "shared"), ("tests", "verdicts"), ("page",))]
-
-import needs
-
-PYTHON = needs.python_with_selenium()
-if PYTHON != sys.executable:
-    os.execv(PYTHON, [PYTHON, os.path.realpath(__file__), *sys.argv[1:]])
 
 import build
 import cases
+import needs
 from browser import Chromium
 
 PUBLISHED = "RWQf6LRCGA9i53mlYecO4IzT51TGPpvWucNSCh1CBM0QTaLn73Y7GFO3"
@@ -37,7 +31,7 @@ def give(person, *names):
 
 def take_picture(person, name, width, scheme):
     """Writes a picture of the whole page into docs/, of this width, in the light or in the dark."""
-    person.set_media(prefers_color_scheme=scheme)
+    person.set_media("prefers-color-scheme", scheme)
     person.resize(width, 640)
     person.run("scrollTo(0, 0); document.activeElement.blur()")
     person.resize(width, person.run("return document.documentElement.scrollHeight"))

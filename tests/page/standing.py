@@ -6,7 +6,6 @@ import contextlib
 import os
 import re
 
-import looks
 from person import STANDS
 
 FEW, MANY = 500, 10_000
@@ -19,72 +18,42 @@ LONG_BYTES, BIG_BYTES = 300_000_000, 2_000_000_000
 # What the memory of the page may grow by, in MiB, while a file of BIG_BYTES is read.
 GROWTH = 32
 
-# Verifies so many files of the page's own making, and counts how many it has verified.
-VERIFY = """const [count, text, data] = arguments, real = window.showVerdict;
-const files = Array.from({length: count}, (_, at) => [new File([data], `f${at}`), new File([text], `f${at}.minisig`)]).flat();
-window.verified = 0;
-window.showVerdict = (download, verdict, source) => {
-  real(download, verdict, source);
-  window.verified += verdict.isGood ? 1 : 0;
-};
-inTurn(() => takeFiles(files));"""
-
 # Whether the verdict is there, or how far the first file is. (What is asked often has to leave nothing behind in the memory that
 # is measured.)
 HOW_FAR = """const {verdict} = document.querySelector("#verdicts > li")?.dataset ?? {};
 return ["good", "bad"].includes(verdict) || document.querySelector("progress")?.value"""
 
-# Has the next call of this name hang.
-HANG_ONCE = "const real = window.{0}; window.{0} = () => {{ window.{0} = real; window.isBroken = true; return new Promise(() => {{}}); }};"
-# How a file comes to a stop: what is done once it is chosen, before there is a key.
-STOPS = {"threads that end": """const {prototype} = Worker, real = prototype.postMessage;
-           let count = 0;
-           prototype.postMessage = function () {
-             this.terminate();
-             if (++count === 4) { prototype.postMessage = real; window.isBroken = true; }
-           };""",
-         "a read that hangs": HANG_ONCE.format("answerOf"), "a signature whose read hangs": HANG_ONCE.format("textOfFile")}
-
-# Has the first text that is read wait until a part of the next file has been read.
-LATE = """const real = window.textOfFile;
-window.textOfFile = async file => {
-  window.textOfFile = real;
-  await new Promise(resolve => {
-    new MutationObserver((_, observer) => {
-      if ((document.querySelector("progress")?.value ?? 0) > 0) {
-        observer.disconnect();
-        resolve();
-      }
-    }).observe(document.getElementById("verdicts"), {attributes: true, childList: true, subtree: true});
-  });
-  window.hasCome = true;
-  return real(file);
-};"""
+# Clicks on the first button of the rows.
+CLICK = "document.querySelector('#verdicts button').click()"
+# How a file comes to a stop: what of the page is broken once it is chosen, before there is a key.
+STOPS = {"threads that end": ["endThreads"], "a read that hangs": ["hangOnce", "answerOf"],
+         "a signature whose read hangs": ["hangOnce", "textOfFile"]}
+IS_BROKEN = "return window.isBroken === true"
 
 
 def check_stops(person):
     """What comes to a stop is stopped by hand, and the next file is verified, and the same one if it is asked for again."""
     paths = [path for name, data in (("a", bytes(4_000_000)), ("b", b"b")) for path in person.signed(name, data)]
-    for what, script in STOPS.items():
+    for what, broken in STOPS.items():
         person.begin("", *paths)
-        person.run(script)
+        person.see(*broken)
         person.type_key(person.first.line)
-        person.wait(lambda: person.row("a").verdict == "reading" and person.run("return window.isBroken === true"))
-        person.click_in_row()
+        person.wait(lambda: person.row("a").verdict == "reading" and person.run(IS_BROKEN))
+        person.run(CLICK)
         person.wait(lambda: person.row("b").verdict != "waiting")
         person.expect_each("verdict", {"a": "stopped", "b": "good"}, what)
-        person.click_in_row()
+        person.run(CLICK)
         person.expect_each("verdict", {"a": "good", "b": "good"}, f"{what}, and once more")
 
 
 def check_late(person):
     """What a file that was stopped still waited for disturbs no other one when it comes."""
     person.begin("", *person.signed("a", b"a"), *sparse(person, "long", LONG_BYTES))
-    person.run(LATE)
+    person.see("waitOnce")
     person.type_key(person.first.line)
     person.wait(lambda: person.row("a").verdict == "reading")
-    person.click_in_row()
-    person.wait(lambda: person.run("return window.hasCome === true"))
+    person.run(CLICK)
+    person.wait(lambda: person.run(IS_BROKEN))
     person.expect_each("verdict", {"a": "stopped", "long": "good"}, "a text that comes late, of a file that was stopped")
 
 
@@ -126,13 +95,13 @@ def check_many(person):
     for count in (FEW, MANY):
         person.begin(person.first.line)
         before = processor_seconds(person)
-        person.run(VERIFY, count, text, "x")
+        person.see("verifyMany", count, text, "x")
         person.wait(lambda: person.run("return window.verified >= arguments[0] || window.verified", count), pause=ASKED_EACH_SECONDS)
         took.append((processor_seconds(person) - before) / count)
     said = f"each of {FEW} and of {MANY} files takes so many milliseconds of the processor: {[f'{1000 * seconds:.1f}' for seconds in took]}"
     person.check(took[1] < MOST_TIMES * took[0], said)
     print(f"page: {person.name}, {said}", flush=True)
-    person.same(person.band()[1], f"{STANDS['good']}: {MANY} of {MANY} files", "the band of many files")
+    person.same(person.see("band")[1], f"{STANDS['good']}: {MANY} of {MANY} files", "the band of many files")
 
 
 def sparse(person, name, length):
@@ -152,7 +121,7 @@ def check_long(person):
     share = person.row("big").text
     person.check(re.search(r"[\d.]+ [MG]B of 2\.0 GB read", share), f"the progress is {share!r}")
     if person.is_chromium:
-        person.check(any(role == "progressbar" and "big" in name for role, name, _ in looks.nodes(person)), "the progress has no name")
+        person.check(any(role == "progressbar" and "big" in name for role, name, _ in person.nodes()), "the progress has no name")
     person.run("document.querySelector('#verdicts button').focus()")
     person.press(person.ENTER)
     person.expect_each("verdict", {"big": "stopped", "small": "good"}, "one that was stopped, and the next")

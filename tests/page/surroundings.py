@@ -1,48 +1,11 @@
-"""What surrounds the page: the network, a browser that lacks something, the keyboard and a screen reader."""
+"""What Chromium's own protocol shows of the page: the network, a browser that lacks something, the keyboard and a screen reader,
+and directories that are dropped.
+"""
 
-import http.server
-import threading
+import os
 
-import looks
-from person import ELSEWHERE
-
-
-class Served:
-    """A server with the page and nothing else, under these headers, which notes what it is asked for."""
-
-    def __init__(self, page, **headers):
-        with open(page, "rb") as file:
-            body = file.read()
-        asked = self.asked = []
-
-        class Handler(http.server.BaseHTTPRequestHandler):
-            def do_GET(self):
-                asked.append(self.path)
-                self.send_response(200 if self.path == "/minisign.html" else 404)
-                for name, value in {"Content-Type": "text/html; charset=utf-8", **headers}.items():
-                    self.send_header(name.replace("_", "-"), value)
-                self.end_headers()
-                self.wfile.write(body)
-
-            def log_message(self, *words):
-                pass
-
-        self.server = http.server.ThreadingHTTPServer(("127.0.0.1", 0), Handler)
-        self.address, self.elsewhere = (f"http://{name}:{self.server.server_port}/minisign.html" for name in ("127.0.0.1", ELSEWHERE))
-
-    def __enter__(self):
-        threading.Thread(target=self.server.serve_forever, daemon=True).start()
-        return self
-
-    def __exit__(self, *_):
-        self.server.shutdown()
-        self.server.server_close()
-
-
-# What is fetched, and which of that comes.
-FETCH = """const [address, done] = arguments, tried = [], picture = new Image();
-picture.onload = picture.onerror = () => done(tried);
-fetch(`${address}?fetched`).then(() => tried.push("fetch"), () => {}).then(() => { picture.src = `${address}?picture`; });"""
+from helps import served
+from views import NARROW
 
 
 def check_alone(person):
@@ -58,22 +21,13 @@ def check_alone(person):
     set_offline(False)
     asked = [address for address in person.requests() if not address.startswith(("about:", "blob:", "data:"))]
     person.same(asked, [person.address], "what the page asks for, from disk")
-    with Served(person.page) as served:
-        person.begin(person.first.line, *paths, address=served.address)
+    with served(person.page) as (address, _, asked):
+        person.begin(person.first.line, *paths, address=address)
         person.only("served", number=0, comment="t")
-        person.same(person.run_later(FETCH, served.address), [], "what the policy lets through")
-        person.same(served.asked, ["/minisign.html"], "what the page asks for, served")
+        person.same(person.see_later("fetchFrom", address), [], "what the policy lets through")
+        person.same(asked, ["/minisign.html"], "what the page asks for, served")
     rejections = [line for line in person.said() if "Content Security Policy" in line or "Refused" in line]
     person.check(len(rejections) >= 2, f"the browser tells of {rejections} that the policy rejected")
-
-
-def check_insecure(person):
-    """Where the page is served by `http:` it says that this is the reason why it verifies nothing, and what to do."""
-    with Served(person.page) as served:
-        person.open(served.elsewhere)
-    what = "a page served by http:"
-    person.same((person.run("return isSecureContext"), person.is_shown("lacking"), person.is_shown("controls")), (False, True, False), what)
-    person.says("lacking", what, "was not opened from disk or by https", "Save the page and open it from disk", lacks=["newer browser"])
 
 
 # What a browser may lack, how it is taken away, what the page has to say, and what it may not.
@@ -92,9 +46,7 @@ LACKING = (
 def check_lacking(person):
     """Where the browser lacks something the page says what, and takes nothing."""
     for script, wanted, unwanted in LACKING:
-        # (not in the empty page before it, which has no such parts)
-        source = f"if (location.protocol !== 'about:') {{ {script} }}"
-        number = person.command("Page.addScriptToEvaluateOnNewDocument", source=source)["identifier"]
+        number = person.command("Page.addScriptToEvaluateOnNewDocument", source=script)["identifier"]
         person.open()
         person.says("lacking", f"after {script}", wanted, lacks=[unwanted])
         person.check(not person.is_shown("controls") and person.is_shown("lacking") and not person.rows(),
@@ -111,14 +63,13 @@ def check_looks(person):
     person.same(len(person.settled("looks")), 3, "looks: the rows")
     for letters in ("", "200%"):
         person.run("document.documentElement.style.fontSize = arguments[0]", letters)
-        for size in ((), looks.NARROW):
+        for size in ((), NARROW):
             person.resize(*size)
             person.check(person.see("fits"), f"letters of {letters or '100%'} at {size}: something stands outside of its place")
             person.same(person.see("cut"), [], f"letters of {letters or '100%'} at {size}: what is cut")
     person.resize()
     person.run("document.documentElement.style.fontSize = ''")
-    person.same(looks.contrasts_wrong(person), [], "texts that are hard to read")
-    person.same(looks.forced_contrasts_wrong(person), [], "what is hard to see in forced colours")
+    person.same(person.wrong_looks(), [], "what is hard to see")
 
 
 def check_use(person):
@@ -138,7 +89,7 @@ def check_use(person):
     person.settled("the keyboard")
     person.run("document.getElementById('files').focus()")
     person.same([person.tab(), person.tab(), person.tab()], ["signature-text", "comment", "clear"], "the last three for the keyboard")
-    found = looks.nodes(person)
+    found = person.nodes()
     named = {(role, name) for role, name, _ in found}
     for told in (("textbox", "Paste its text, or its line of 56 letters and digits"), ("button", "Clear the list"),
                  ("heading", "3. The verdicts"), ("heading", "Verified data"), ("heading", "NOT verified bad"), ("main", "")):
@@ -148,7 +99,8 @@ def check_use(person):
                      f"a screen reader is told of no place for {part}")
     live = {properties.get("live") for role, _, properties in found if role in ("log", "status")}
     person.same(live, {"polite"}, "what a screen reader is told as it changes")
-    person.same(looks.nameless(found), [], "what has no name for a screen reader")
+    nameless = [role for role, name, properties in found if properties.get("focusable") and not name.strip()]
+    person.same(set(nameless) - {"RootWebArea", "StaticText", "InlineTextBox"}, set(), "what has no name for a screen reader")
     log = person.log()
     person.check(len(log) == 2 and log[0].startswith("Verified. The key is ") and log[0].endswith(" The file's name: data")
                  and log[1].startswith("NOT verified. This file is not the one") and log[1].endswith(" The file's name: bad"),
@@ -157,3 +109,16 @@ def check_use(person):
     person.same(heads, ["H3", "H3"], "what the rows begin with")
     person.press(person.ENTER)
     person.same((person.rows(), person.focus()), ([], "files"), "a list that was cleared by the keyboard, and the focus after that")
+
+
+def check_directories(person):
+    """A directory that is dropped is told once, until the next files come."""
+    path = person.put("data", b"data")
+    person.open()
+    for place in ("downloads", "downloads", "key"):
+        person.drop(place, os.path.dirname(path))
+        said = person.text_of("files-said")
+        person.check("A directory cannot be verified" in said and said.count("directory") == 1 and not person.rows(),
+                     f"a directory that is dropped on {place}: {said!r}")
+    person.drop("downloads", path)
+    person.same((person.text_of("files-said"), len(person.rows())), ("", 1), "what is said for the next files")

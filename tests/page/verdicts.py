@@ -106,22 +106,12 @@ def check_errors(person):
 
 
 def check_several(person):
-    """Files are matched with their signatures by name, or as the only two that come together."""
-    texts = {name: person.sign(name.encode(), trusted=name) for name in ("a", "b", "c", "d.pub")}
-    key = person.put("key.pub", person.first.text)
-    for name, sig in texts.items():
+    """Files that come together, with a key; the last one; and several keys."""
+    key, names = person.put("key.pub", person.first.text), ("a", "b", "c", "d.pub")
+    for name in names:
         person.put(name, name.encode(), key)
-        person.put(f"{name}.minisig", sig, key)
-    person.put("renamed", b"a", key)
-    person.put("other.minisig", texts["a"], key)
+        person.put(f"{name}.minisig", person.sign(name.encode(), trusted=name), key)
     at = lambda names: [os.path.join(os.path.dirname(key), name) for name in names.split()]
-
-    def choose(*names):
-        """A list that was cleared, and files one after the other, or some of them together."""
-        person.clear()
-        for some in names:
-            person.choose(*at(some))
-
     person.open()
     person.drop("downloads", *at("b.minisig a c a.minisig b d.pub.minisig d.pub key.pub"))
     rows = {row.name: row for row in person.settled("several files")}
@@ -130,57 +120,54 @@ def check_several(person):
     person.expect(rows["c"], "a file alone", has=["c.minisig", "signature is missing"])
     person.drop("downloads", *at("c.minisig"))
     person.named("c", "the last one", number=0, comment="c")
-    person.clear()
-    person.same(person.rows(), [], "a list that was cleared")
-    choose("a.minisig")
-    person.only("a signature alone", has=["file itself is missing"])
-    choose("a b.minisig")
-    person.only("two of other names", number=31, has=["with the signature b.minisig"])
-    choose("renamed a.minisig")
-    person.only("a renamed file", number=0, comment="a")
-    # One after the other, whose names differ: the only two that stand alone.
-    for names in (("renamed", "a.minisig"), ("a.minisig", "renamed")):
-        choose("b b.minisig", *names)
-        person.expect_each("number", {"b": 0, "renamed": 0}, "one after the other")
-    choose("a", "b", "other.minisig")
-    person.expect_each("verdict", {"a": "waiting", "b": "waiting", "other": "waiting"}, "two files and a signature of another name")
-    # A file that is chosen anew takes the place of the older one.
-    choose("a a.minisig")
-    person.only("before a file changes", number=0, comment="a")
-    person.choose(person.put("a", b"A"))
-    person.only("a changed file", number=31)
     person.click("key-remove")
     person.drop("downloads", key, person.put("other.pub", person.second.text))
     person.says("key-said", "two keys at once are not rejected", "several keys")
 
 
-# Asks the browser itself, without the page's own rules.
-ASK_BROWSER = """const [vectors, done] = arguments;
-const ask = async vector => {
-  try {
-    const key = await crypto.subtle.importKey("raw", bytesOf(vector.A), {name: "Ed25519"}, false, ["verify"]);
-    return await crypto.subtle.verify({name: "Ed25519"}, key, bytesOf(vector.sig), bytesOf(vector.msg));
-  } catch { return false; }
-};
-Promise.all(vectors.map(ask)).then(done, why => done(String(why)));"""
-ASK_PAGE = """const [vectors, done] = arguments;
-const bytes = digits => digits === "" ? new Uint8Array(0) : bytesOf(digits);
-const answers = vectors.map(vector => accepts(bytes(vector.A), bytes(vector.sig), bytes(vector.msg)));
-Promise.all(answers).then(done, why => done(String(why)));"""
+def check_matched(person):
+    """Files are matched with their signatures by name, or as the only two that come together or stand alone; a signature is known by
+    its text, and a file by having a signature."""
+    sign = lambda data: person.sign(data, trusted="t")
+    a, b = sign(b"a"), sign(b"b")
+    two = {"b": b"b", "b.minisig": b}
+    person.begin(person.first.line, person.put("a.minisig", a))
+    person.only("a signature alone", has=["file itself is missing"])
+    person.clear()
+    person.same(person.rows(), [], "a list that was cleared")
+    person.choose(person.put("a", b"a"), person.put("b.minisig", b))
+    person.only("two of other names", number=31, has=["with the signature b.minisig"])
+    for what, given, wanted in (
+            ("a renamed file", [{"renamed": b"a", "a.minisig": a}], {"renamed": 0}),
+            ("a renamed file, and then its signature", [two, {"renamed": b"a"}, {"a.minisig": a}], {"b": 0, "renamed": 0}),
+            ("a signature, and then its renamed file", [two, {"a.minisig": a}, {"renamed": b"a"}], {"b": 0, "renamed": 0}),
+            ("two files and a signature of another name", [{"a": b"a"}, {"b": b"b"}, {"c.minisig": a}], {"a": None, "b": None, "c": None}),
+            ("a file that is chosen anew in the place of the older one", [two, {"b": b"B"}], {"b": 31}),
+            *((f"the signature {name}", [{"a.zip": b"a", name: a}], {"a.zip": 0}) for name in (
+                "a.zip.sig", "a.zip.minisig.txt", "signature", "a.zip.minisig (1)")),
+            ("names that are alike, beside one that stands alone",
+             [{"a (1).zip": b"a"}, {"B.ZIP": b"b"}, {"c": b"c"}, {"b.zip.minisig": b}, {"a.zip.minisig": a}], {"a (1).zip": 0, "B.ZIP": 0, "c": None}),
+            ("several signatures that are known by their texts",
+             [{"a.zip": b"a", "a.zip.sig": a, "b.zip": b"b", "b.zip.minisig.txt": b}], {"a.zip": 0, "b.zip": 0}),
+            # (what is itself a signature or a key, and has been signed, is a file like another)
+            *((f"{name}, which was signed", [{name: data, f"{name}.minisig": sign(data)}], {name: 0}) for name, data in (
+                ("list.txt", a), ("new.pub", person.second.text), ("old.key", person.minisign.read("second.key"))))):
+        person.clear()
+        for files in given:
+            first = person.put("unused", b"")
+            person.choose(*(person.put(name, data, first) for name, data in files.items()))
+        rows = {row.name: (row.number, row.comment) for row in person.settled(what)}
+        person.same(rows, {name: (number, "t" if number == 0 else None) for name, number in wanted.items()}, what)
 
 
 def check_vectors(person):
     """In each browser the page answers to all vectors as libsodium does, and to a key and a signature that would fit every file."""
     vectors = edges.vectors()
     person.open()
-    answers = person.run_later(ASK_PAGE, vectors)
+    answers = person.see_later("askVectors", vectors)
     person.same(len(answers), len(vectors), "the number of answers")
     for vector, answer in zip(vectors, answers):
         person.same(answer, vector["sodium"], f"the vector {vector['name']}: what the page answers, beside libsodium")
-    with_message = [vector for vector in vectors if vector["msg"]]
-    others = sum(answer != vector["sodium"] for answer, vector in zip(person.run_later(ASK_BROWSER, with_message), with_message))
-    print(f"page: {person.name} {person.version()} itself answers {others} of {len(with_message)} vectors otherwise than libsodium",
-          flush=True)
     key, signature = edges.texts_for_every_file()
     for data in (b"", b"data", pattern(3_000_001)):
         person.begin(key.decode(), *person.pair("data", data, signature))

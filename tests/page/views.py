@@ -7,6 +7,8 @@ from person import STANDS
 
 # The windows of two telephones, of which the first is small, and of a computer.
 WINDOWS = ((360, 640), (390, 844), (1366, 657))
+# A narrow screen.
+NARROW = (320, 640)
 MANY = 12
 # What to do next where a file is verified under another name than the signer's, and else by the verdict.
 WARNED = "Before you use the file, read the warning below."
@@ -43,29 +45,33 @@ def check_view(person):
     person.check(person.see("isInView", "later"), "a later file: its verdict is out of view")
 
 
-def fit_and_fail(person):
-    """The paths of a file with its signature, and of one with that of another."""
-    return person.signed("fits", b"x", trusted="t"), person.pair("fails", b"y", person.sign(b"x", trusted="t"))
-
-
-def give(person, is_linked, *paths):
-    """Opens the page anew with the key, by a link or typed, and with these files."""
-    key = person.first.line
-    person.begin("" if is_linked else key, *paths, address=f"{person.address}#{key}" if is_linked else None)
-    person.settled("files that are given")
-
-
-def check_marks(person):
-    """The three verdicts have other colours, and other words, signs and lines where colours are forced on the page."""
-    fits, fails = fit_and_fail(person)
-    found = {(place, is_forced): {} for place in PLACES for is_forced in (False, True)}
-    for is_linked, paths in ((True, fits), (False, fits), (False, fails)):
-        give(person, is_linked, *paths)
-        for (place, is_forced), looks in found.items():
+def check_band(person):
+    """The worst verdict stands at the top of the window, wherever that is scrolled to, with what to do next. The three verdicts have
+    other colours, and other words, signs and lines where colours are forced on the page."""
+    key, fits = person.first.line, person.signed("fits", b"x", trusted="t")
+    fails = person.pair("fails", b"y", person.sign(b"x", trusted="t"))
+    seen = {(place, is_forced): {} for place in PLACES for is_forced in (False, True)}
+    person.open()
+    person.same(person.see("band"), None, "the band before there is a file")
+    person.choose(*fits)
+    person.same(person.see("band"), ["waiting", STANDS["waiting"], NEXT["waiting"]], "the band without a key")
+    person.clear()
+    person.same(person.see("band"), None, "the band of a list that was cleared")
+    for link, typed, paths, verdict, of in ((f"#{key}", "", fits, "unchecked", ""), ("", key, fits, "good", ""),
+                                            ("", key, (*fits, *fails), "bad", ": 1 of 2 files")):
+        person.resize()
+        person.begin(typed, *paths, address=person.address + link)
+        person.settled(verdict)
+        person.same(person.see("band"), [verdict, STANDS[verdict] + of, NEXT[verdict]], f"the band that is {verdict}")
+        for (place, is_forced), looks in seen.items():
             person.force_colours(is_forced)
             looks.update(person.see("looks", *place))
         person.force_colours(False)
-    for ((part, _), is_forced), looks in found.items():
+        for size in WINDOWS:
+            person.resize(*size)
+            for share in (0, 0.5, 1):
+                person.same(person.see("bandAt", share), [0, 0, True, True, True], f"the band that is {verdict} at {size}, {share}")
+    for ((part, _), is_forced), looks in seen.items():
         what = f"{part}, {'forced colours' if is_forced else 'its own colours'}"
         person.same(set(looks), {"good", "unchecked", "bad"}, f"{what}: the verdicts")
         for sort in ("line", "words") if is_forced else ("line", "words", "colours"):
@@ -73,35 +79,17 @@ def check_marks(person):
         person.same(len({look["words"][0][0] for look in looks.values()}), 3, f"{what}: the signs")
 
 
-def check_band(person):
-    """The worst verdict stands at the top of the window, wherever that is scrolled to, with what to do next."""
-    fits, fails = fit_and_fail(person)
-    person.open()
-    person.same(person.band(), None, "the band before there is a file")
-    person.choose(*fits)
-    person.same(person.band(), ["waiting", STANDS["waiting"], NEXT["waiting"]], "the band without a key")
-    person.clear()
-    person.same(person.band(), None, "the band of a list that was cleared")
-    for is_linked, paths, verdict, of in ((True, fits, "unchecked", ""), (False, fits, "good", ""),
-                                          (False, (*fits, *fails), "bad", ": 1 of 2 files")):
-        give(person, is_linked, *paths)
-        person.same(person.band(), [verdict, STANDS[verdict] + of, NEXT[verdict]], f"the band that is {verdict}")
-        for size in WINDOWS:
-            person.resize(*size)
-            for share in (0, 0.5, 1):
-                person.same(person.see("bandAt", share), [0, 0, True, True, True], f"the band that is {verdict} at {size}, {share}")
-
-
 def check_focus(person):
     """What has the focus stands below the band, also where the keyboard goes backwards."""
     paths = [path for name in "abcd" for path in person.signed(name, b"x")]
     for size in WINDOWS:
         person.resize(*size)
-        give(person, False, *paths)
+        person.begin(person.first.line, *paths)
+        person.settled("the focus")
         person.run("document.getElementById('clear').focus()")
         found = []
         while len(found) < MOST_BACK and "key-text" not in found:
-            found.append(person.tab_back())
+            found.append(person.tab(held=person.SHIFT))
             person.check(not person.see("isFocusBehind"), f"the focus at {size}, after {found}: it is behind the band")
         person.same([name for name in found if name != "comment"], ["signature-text", "files", "key-remove", "key-file", "key-text"],
                     f"the keyboard backwards at {size}")

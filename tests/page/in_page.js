@@ -1,4 +1,4 @@
-// What the tests see of the page: `Person.see` of person.py runs one of these functions in it.
+// What the tests see of the page, break in it, and ask of its script: `Person.see` of person.py runs one of these functions in it.
 
 const all = (parts, of = document) => Array.from(of.querySelectorAll(parts));
 const allRows = () => all("#verdicts > li");
@@ -149,4 +149,100 @@ function contrasts() {
     const [one, other] = [getComputedStyle(part).color, ground(part)].map(light);
     return [(Math.max(one, other) + 0.05) / (Math.min(one, other) + 0.05), data.trim().slice(0, 40)];
   });
+}
+
+// The middle of a part of the page, as far as it is in the window once it is scrolled there.
+function middleOf(name) {
+  const part = document.getElementById(name);
+  part.scrollIntoView();
+  const {left, top, width, height} = boxOf(part);
+  return [left + width / 2, top + Math.min(height, innerHeight) / 2];
+}
+
+// ---- What a test breaks ----
+
+// Has the next call of a function of the page hang.
+function hangOnce(name) {
+  const real = window[name];
+  window[name] = () => {
+    window[name] = real;
+    window.isBroken = true;
+    return new Promise(() => {});
+  };
+}
+
+// Has threads end once they are told something, four times.
+function endThreads() {
+  const {prototype} = Worker, real = prototype.postMessage;
+  let count = 0;
+  prototype.postMessage = function () {
+    this.terminate();
+    if (++count === 4) {
+      prototype.postMessage = real;
+      window.isBroken = true;
+    }
+  };
+}
+
+// Has the first text that is read wait until a part of the next file has been read.
+function waitOnce() {
+  const real = window.textOfFile;
+  window.textOfFile = async file => {
+    window.textOfFile = real;
+    await new Promise(resolve => {
+      new MutationObserver((_, observer) => {
+        if ((document.querySelector("progress")?.value ?? 0) > 0) {
+          observer.disconnect();
+          resolve();
+        }
+      }).observe(document.getElementById("verdicts"), {attributes: true, childList: true, subtree: true});
+    });
+    window.isBroken = true;
+    return real(file);
+  };
+}
+
+// Has files of this name not be read.
+function breakFiles(name) {
+  const real = window.bytesOfFile;
+  window.bytesOfFile = async (file, ...of) => file.name === name ? null : await real(file, ...of);
+}
+
+// ---- What a test asks of the script ----
+
+// Verifies so many files of the page's own making, and counts how many it has verified.
+function verifyMany(count, text, data) {
+  const real = window.showVerdict;
+  const files = Array.from({length: count}, (_, at) => [new File([data], `f${at}`), new File([text], `f${at}.minisig`)]).flat();
+  window.verified = 0;
+  window.showVerdict = (download, verdict, source) => {
+    real(download, verdict, source);
+    window.verified += verdict.isGood ? 1 : 0;
+  };
+  inTurn(() => takeFiles(files));
+}
+
+// Which of two things comes that are fetched from an address.
+function fetchFrom(address, done) {
+  const came = [], picture = new Image();
+  picture.onload = picture.onerror = ({type}) => done(type === "load" ? [...came, "picture"] : came);
+  fetch(`${address}?fetched`).then(() => came.push("fetch"), () => {}).then(() => {
+    picture.src = `${address}?picture`;
+  });
+}
+
+// What the page answers to vectors of Ed25519.
+function askVectors(vectors, done) {
+  const bytes = digits => digits === "" ? new Uint8Array(0) : bytesOf(digits);
+  Promise.all(vectors.map(({A, sig, msg}) => accepts(...[A, sig, msg].map(bytes)))).then(done, why => done(String(why)));
+}
+
+// Has the module ask with any number as `allow_legacy`, where the page passes 0 or 1: what it says, and if the state stays.
+function askWithFlag(key, signature, flag, isBegun) {
+  const state = isBegun ? library.begin() : new Uint8Array(STATE_BYTES), before = state.slice();
+  const read = library.readKey(Uint8Array.from(key), false).key, {text, value} = library.readSignature(Uint8Array.from(signature));
+  const number = library.onState(state, place => library.calls.page_ask(
+    place, library.put(library.key, KEY_BYTES, read)[0], library.put(library.signature, SIGNATURE_BYTES, value)[0],
+    ...library.put(library.text, TEXT_BYTES, text), flag, BigInt(library.questions), BigInt(library.message), BigInt(TEXT_BYTES)));
+  return [number, state.every((byte, at) => byte === before[at])];
 }
