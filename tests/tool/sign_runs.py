@@ -213,24 +213,19 @@ MEMORY_CASES = refusing(
     ("a sealed key", sealed("", OUT_OF_MEMORY, **{**OVER_OLDER, "output": PrefixOf(OPENED)})),
     ("an empty key", sign("", OUT_OF_MEMORY, files={SK: b"", SIG: b"older"}, left=kept(b"older"))))
 
+# A pair is made, a file is signed with its secret key, and whoever has the public one verifies it and copies it out; where the file, the
+# signature or the key is another one, it is rejected.
+SIGNING, SIGNED = ["sign", SK, FILE, SIG], (PK, FILE, SIG)
+GOOD = [WARNING, f"{VERIFIED}Trusted comment: timestamp:{Sources.moment}\n"]
+WHOLE_WAY = Case("a pair is made, and a file is signed, verified and copied", ["keygen", PK, SK], 0, [WARNING], stdin=b"p\np\n", output=MADE,
+                 sources=Sources(), then=(
+    Case("", SIGNING, 0, [WARNING], files={FILE: b"abc"}, stdin=b"p\n", output=OPENED),
+    Case("", ["verify", *SIGNED], 0, GOOD),
+    Case("", ["cat", *SIGNED], 0, GOOD, output=b"abc"),
+    Case("", ["verify", *SIGNED], 1, [WARNING, REJECTED], files={FILE: b"abd"}),
+    Case("", ["cat", *SIGNED], 1, [WARNING, REJECTED]),
+    Case("", SIGNING, 1, [WARNING, WRONG_PASSWORD], stdin=b"q\n", output=OPENED),
+    Case("", SIGNING, 0, [WARNING], stdin=b"p\n", output=OPENED),
+    Case("", ["cat", *SIGNED], 0, GOOD, output=b"abd")))
 
-def whole_way():
-    """A pair is made, a file is signed with its secret key, and whoever has the public one verifies it and copies
-    it out; where the file, the signature or the key is another one, it is rejected."""
-    now = int(time.time())
-    # The signature is made some time after this table.
-    good = OneOf(tuple([WARNING, f"{VERIFIED}Trusted comment: timestamp:{now + passed}\n"] for passed in range(600)))
-    signing, files = ["sign", SK, FILE, SIG], (PK, FILE, SIG)
-    made = Case("a pair is made, and a file is signed, verified and copied", ["keygen", PK, SK], 0, [WARNING], stdin=b"p\np\n", output=MADE)
-    return replace(made, then=(
-        Case("", signing, 0, [WARNING], files={FILE: b"abc"}, stdin=b"p\n", output=OPENED),
-        Case("", ["verify", *files], 0, good),
-        Case("", ["cat", *files], 0, good, output=b"abc"),
-        Case("", ["verify", *files], 1, [WARNING, REJECTED], files={FILE: b"abd"}),
-        Case("", ["cat", *files], 1, [WARNING, REJECTED]),
-        Case("", signing, 1, [WARNING, WRONG_PASSWORD], stdin=b"q\n", output=OPENED),
-        Case("", signing, 0, [WARNING], stdin=b"p\n", output=OPENED),
-        Case("", ["cat", *files], 0, good, output=b"abd")))
-
-
-CASES = [*DATA_CASES, *PASSWORD_CASES, *KEY_CASES, *SOURCE_CASES, *FILE_CASES, *STREAM_CASES, *MEMORY_CASES, whole_way()]
+CASES = [*DATA_CASES, *PASSWORD_CASES, *KEY_CASES, *SOURCE_CASES, *FILE_CASES, *STREAM_CASES, *MEMORY_CASES, WHOLE_WAY]
