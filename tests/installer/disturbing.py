@@ -161,15 +161,17 @@ def says_to_nobody(directory):
     os.close(writes)
 
 
-@disturbing_cases.case("closed standard streams")
-def closes_streams(directory):
+@disturbing_cases.table(
+    ("closed standard streams", "<&-", ">&-", "<&- >&-"),
+    ("a closed error stream", "2>&-"),
+)
+def closes_streams(directory, *closings):
     """No file gets the number of one."""
-    for closed in ("<&-", ">&-", "<&- >&-"):
-        directory.begin()
-        words = ["sh", "-c", f'exec "$@" {closed}', "sh", directory.installing.program, *directory.arguments("new")]
-        ran = run_program(words, directory.path, env={})
-        directory.leaves(ran, 0)
-        expect(not ran.said, f"with {closed}", ran)
+    for closed in closings:
+        for signed, status in ((LATER, REJECTED), (NEW, 0)):
+            directory.begin(signed=signed)
+            words = ["sh", "-c", f'exec "$@" {closed}', "sh", directory.installing.program, *directory.arguments("new")]
+            directory.leaves(run_program(words, directory.path, env={}), status, b"" if status == 0 else None)
 
 
 # == Signals ==
@@ -247,8 +249,7 @@ def replaces(directory, is_there):
             fresh.check("new", 0)
         fresh.put("same", fresh.holds())
         ran = fresh.while_stopped("fstat fstatat openat", number, lambda at: os.replace(at.at("same"), at.at(PLACE)))
-        fresh.leaves(ran, THERE if is_there else 0)
-        expect(not ran.said, ran)
+        fresh.leaves(ran, THERE if is_there else 0, b"")
         return ran.came
 
     in_turn(directory.installing.place, attempt)

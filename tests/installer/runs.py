@@ -240,9 +240,9 @@ class Directory:
     # == What has to come of them ==
 
     def ends(self, ran, status, said=None):
-        """Raises a `Failure` where a run ended otherwise, or does not say this at its end."""
-        expect(ran.status == status and (said is None or ran.said.endswith(said)), ran, f"in place of {status}")
-        expect(b"Success" not in ran.said, ran)
+        """Raises a `Failure` where a run ended otherwise, or does not say this at its end, or says something where this is nothing."""
+        is_said = said is None or ran.said.endswith(said) and bool(ran.said) == bool(said)
+        expect(ran.status == status and is_said and b"Success" not in ran.said, ran, f"in place of {status}")
 
     def leaves(self, ran, status, said=None):
         """The same; and where it ended well the newer update stands there, and else the older one."""

@@ -3,9 +3,8 @@
 import os
 import pty
 
-from installers import (CHECK, FAILED, FIRST, LATER, LOCK, MISUSED, NAME, NEW, NO_DIRECTORY, OLD, PK, PLACE, RECORD, REJECTED,
+from installers import (CHECK, FAILED, FIRST, LOCK, MISUSED, NAME, NEW, NO_DIRECTORY, OLD, PK, PLACE, RECORD, REJECTED,
                         UNRECORDED, USAGE, VERSION, error)
-from process import run_program
 from running import SECONDS, expect
 from runs import Cases
 
@@ -19,6 +18,7 @@ NO_FILE = "No such file or directory (os error 2)"
 
 def says(directory, words, status, said, shown=b""):
     """Words that ask for no installation, or for one that fails: a line says why, and no file is made."""
+    directory.put("bytes", b"\xff\n")
     before, ran = os.listdir(directory.path), directory.run(words)
     expect(ran.status == status and said in ran.said and bool(said) == bool(ran.said) and ran.output.startswith(shown), ran)
     expect({*os.listdir(directory.path)} - {LOCK} == {*before} and directory.holds() == OLD, f"the directory has {os.listdir(directory.path)}")
@@ -68,6 +68,8 @@ SAYING = (
     ("a directory as key", [".", *PATHS[1:]], FAILED, error(".", "Is a directory (os error 21)")),
     ("a key that is no text", ["new.sig", *PATHS[1:]], REJECTED, b"error: new.sig: "),
     ("a signature that is none", [PK, "new", PK, PLACE], REJECTED, b"error: key.pub: "),
+    ("a key that is not UTF-8", ["bytes", *PATHS[1:]], REJECTED, error("bytes", "it is not UTF-8")),
+    ("a signature that is not UTF-8", [PK, "new", "bytes", PLACE], REJECTED, error("bytes", "it is not UTF-8")),
     ("a key in the other's place", [PK, "new", PK, PLACE], REJECTED,
      b"\nkey.pub: this is a public key, not a signature\nthe order is PK DATA SIG TARGET\n"),
     ("a signature in the other's place", ["new.sig", *PATHS[1:]], REJECTED,
@@ -100,14 +102,6 @@ def takes(directory, words, mode=0o751, name=PLACE, names=PLACE):
     directory.has_mode(mode, name)
 
 
-@word_cases.case("texts that are not UTF-8")
-def no_text(directory):
-    """Bytes in place of a key or of a signature."""
-    directory.put("bytes", b"\xff\n")
-    for words in (["bytes", *PATHS[1:]], [PK, "new", "bytes", PLACE]):
-        says(directory, words, REJECTED, error("bytes", "it is not UTF-8"))
-
-
 @word_cases.case("progress at a terminal")
 def at_terminal(directory):
     """Where the error stream is a terminal, it shows how far the installation is."""
@@ -126,12 +120,3 @@ def at_terminal(directory):
         status = process.wait(timeout=SECONDS)
     expect(not status and b"copied 4 of 4 MiB\r" in shown and b"verified 4 MiB\r" in shown, f"it ended with status {status}, and showed {shown}")
     directory.expect(data, b"6")
-
-
-@word_cases.case("a closed error stream")
-def without_errors(directory):
-    """No file gets its number."""
-    directory.offer("bad", signed=LATER)
-    for name, status in (("bad", REJECTED), ("new", 0)):
-        words = ["sh", "-c", 'exec "$@" 2>&-', "sh", directory.installing.program, *directory.arguments(name)]
-        directory.leaves(run_program(words, directory.path, env={}), status)

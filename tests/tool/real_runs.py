@@ -25,65 +25,53 @@ import verify_raw_runs
 import verify_runs
 from running import CLOSED, Case, FULL, Runner, run_cases
 from toy import WARNING
-from verify_raw_runs import KEY, SIGNATURE, by_bytes
+from verify_raw_runs import KEY, SIGNATURE
 
 CRATE = os.path.join(HERE, "..", "..", "crates", "minisign_tool")
 
 USAGE = "usage: minisign_tool keygen PK SK | sign SK FILE SIG | verify PK FILE SIG | verify-raw PK SIG | cat PK FILE SIG\n"
 
 
-def usage_cases():
-    """Arguments that are none of the table's."""
-    rows = [
-        ("no arguments", []),
-        ("a command alone", ["verify-raw"]),
-        ("a pair without a second file", ["keygen", "new.pk"]),
-        ("a pair and a third file", ["keygen", "new.pk", "new.sk", "new"]),
-        ("too few arguments", ["verify-raw", "key.pk"]),
-        ("too many arguments", ["verify-raw", "key.pk", "abc.sig", "abc.sig"]),
-        ("an empty argument too many", ["verify-raw", "key.pk", "abc.sig", ""]),
-        ("an unknown command", ["frobnicate", "key.pk", "abc.sig"]),
-        ("a command of no letters", ["", "key.pk", "abc.sig"]),
-        ("a command in upper letters", ["VERIFY-RAW", "key.pk", "abc.sig"]),
-        ("a command with a space after it", ["verify-raw ", "key.pk", "abc.sig"]),
-        ("the beginning of a command", ["verify-ra", "key.pk", "abc.sig"]),
-        ("a command after its files", ["key.pk", "abc.sig", "verify-raw"]),
-        ("an option", ["--help"]),
-        ("a command that is no UTF-8", [b"verify-raw\xff", "key.pk", "abc.sig"]),
-        ("a key's name that is no UTF-8", ["verify-raw", b"\xff.pk", "abc.sig"]),
-        ("a signature's name that is no UTF-8", ["verify-raw", "key.pk", b"abc\xc3.sig"]),
-        ("an argument too many that is no UTF-8", ["verify-raw", "key.pk", "abc.sig", b"\x80"]),
-        ("two files to sign", ["sign", "key.pk", "abc.sig"]),
-        ("four files to sign", ["sign", "key.pk", "abc.sig", "new.sig", "new.sig"]),
-        ("two files to verify", ["verify", "key.pk", "abc.sig"]),
-        ("four files to verify", ["verify", "key.pk", "abc.sig", "abc.sig", "abc.sig"]),
-        ("two files to copy", ["cat", "key.pk", "abc.sig"]),
-        ("four files to copy", ["cat", "key.pk", "abc.sig", "abc.sig", "abc.sig"]),
-    ]
-    files = {"key.pk": KEY, "abc.sig": SIGNATURE, b"\xff.pk": KEY, b"abc\xc3.sig": SIGNATURE}
-    cases = [Case(name, arguments, 2, [WARNING, USAGE], files=by_bytes(files), stdin=b"abc") for name, arguments in rows]
-    return [
-        *cases,
-        Case("no arguments, and a closed error stream", [], 2, stderr=CLOSED),
-        Case("no arguments, and a full error stream", [], 2, stderr=FULL),
-        Case("no arguments, and a closed input", [], 2, [WARNING, USAGE], stdin=CLOSED),
-    ]
+ONE_PAIR = ["key.pk", "abc.sig"]
+# Arguments that are none of the table's.
+USAGE_CASES = [
+    *(Case(name, arguments, 2, [WARNING, USAGE], stdin=b"abc",
+           files={os.fsdecode(name): data for name, data in (("key.pk", KEY), ("abc.sig", SIGNATURE), (b"\xff.pk", KEY), (b"abc\xc3.sig", SIGNATURE))})
+      for name, arguments in (
+          ("no arguments", []),
+          ("a command alone", ["verify-raw"]),
+          ("a pair without a second file", ["keygen", "new.pk"]),
+          ("a pair and a third file", ["keygen", "new.pk", "new.sk", "new"]),
+          ("too few arguments", ["verify-raw", "key.pk"]),
+          ("too many arguments", ["verify-raw", *ONE_PAIR, "abc.sig"]),
+          ("an empty argument too many", ["verify-raw", *ONE_PAIR, ""]),
+          ("an unknown command", ["frobnicate", *ONE_PAIR]),
+          ("a command of no letters", ["", *ONE_PAIR]),
+          ("a command in upper letters", ["VERIFY-RAW", *ONE_PAIR]),
+          ("a command with a space after it", ["verify-raw ", *ONE_PAIR]),
+          ("the beginning of a command", ["verify-ra", *ONE_PAIR]),
+          ("a command after its files", [*ONE_PAIR, "verify-raw"]),
+          ("an option", ["--help"]),
+          ("a command that is no UTF-8", [b"verify-raw\xff", *ONE_PAIR]),
+          ("a key's name that is no UTF-8", ["verify-raw", b"\xff.pk", "abc.sig"]),
+          ("a signature's name that is no UTF-8", ["verify-raw", "key.pk", b"abc\xc3.sig"]),
+          ("an argument too many that is no UTF-8", ["verify-raw", *ONE_PAIR, b"\x80"]),
+          *((f"{count} files for {command}", [command, *ONE_PAIR, *more]) for command in ("sign", "verify", "cat")
+            for count, more in ((2, []), (4, ["abc.sig", "abc.sig"]))))),
+    Case("no arguments, and a closed error stream", [], 2, stderr=CLOSED),
+    Case("no arguments, and a full error stream", [], 2, stderr=FULL),
+    Case("no arguments, and a closed input", [], 2, [WARNING, USAGE], stdin=CLOSED),
+]
 
-
-# The parts of the table, by the commands.
-CASES = {"usage": (usage_cases,), "keygen": keygen_runs.PARTS, "sign": sign_runs.PARTS, "verify": verify_runs.VERIFY,
-         "verify-raw": verify_raw_runs.PARTS, "cat": verify_runs.CAT}
-
-
-def all_cases():
-    """The command and the case of each."""
-    return ((command, case) for command, parts in CASES.items() for part in parts for case in part())
+# By the commands.
+CASES = {"usage": USAGE_CASES, "keygen": keygen_runs.CASES, "sign": sign_runs.CASES, "verify": verify_runs.VERIFY,
+         "verify-raw": verify_raw_runs.CASES, "cat": verify_runs.CAT}
 
 
 def cases_of(program, room):
     """The names of all cases of a program, and what runs each."""
     runner = Runner(program, room)
-    return ((f"{command}: {case.name}", runner.run, case) for command, case in all_cases())
+    return [(f"{command}: {case.name}", runner.run, case) for command, cases in CASES.items() for case in cases]
 
 
 def built_programs():

@@ -13,6 +13,7 @@ Needs Python 3.9 or later and a C compiler, which it installs if it may.
 
 import contextlib
 import errno
+import itertools
 import os
 import resource
 import shutil
@@ -21,6 +22,7 @@ import stat
 import subprocess
 import sys
 import tempfile
+from dataclasses import dataclass, field
 from functools import partial
 
 HERE = os.path.dirname(os.path.realpath(__file__))
@@ -28,10 +30,11 @@ sys.path.append(os.path.join(HERE, "..", "shared"))
 
 import toy
 from disturbed import Disturbing, content, run_at_once, small_disk, without_room
-from keygen_runs import PK, SK, public_record, record_of
+from keygen_runs import PK, SK, check_public, check_secret
 from real_runs import run_over
-from running import NOBODY, Failure, Skip, expect, write
+from running import DIRECTORY, NOBODY, Link, Skip, WithMode, expect, make_files, write
 from sign_runs import FILE, OPEN_KEY, SIG, check_signature
+from tool_cases import Leaves, names_in
 
 WRITING_FAILED = toy.WRITING_FAILED.encode()
 LEGACY = b"error: Legacy signatures are not accepted\n"
@@ -40,55 +43,42 @@ PUBLIC_FRONT, SECRET_FRONT = b"untrusted comment: minisign", b"untrusted comment
 TYPED = b"p\np\n"
 
 
+@dataclass(frozen=True)
 class Task:
-    """A run that replaces files, by what stands in its directory before it. What a link names is its value."""
+    """A run that replaces files, by what stands in its directory before it, and the mode of that."""
 
-    def __init__(self, name, arguments, targets, files, links=None, mode=0o644):
-        self.name = name
-        self.arguments = arguments
-        # What each file that is written has to hold, in the order in which they are replaced.
-        self.targets = targets
-        self.files = files
-        self.links = links or {}
-        self.mode = mode
+    name: str
+    arguments: list
+    # What each file that is written has to hold, in the order in which they are replaced.
+    targets: dict
+    files: dict
+    links: dict = field(default_factory=dict)
+    mode: int = 0o644
 
     def make(self, directory):
-        os.makedirs(os.path.join(directory, "kept"))
-        for name, data in self.files.items():
-            os.chmod(write(directory, name, data), self.mode)
-        for name, target in self.links.items():
-            os.symlink(target, os.path.join(directory, name))
+        files = {name: WithMode(data, self.mode) for name, data in self.files.items()}
+        make_files(directory, {"kept": DIRECTORY, **files, **self.links})
 
     def check(self, directory, killed=False):
         """Which of the targets are new. Raises a `Failure` where one is neither the old nor a new one, where anything
-        else was changed, and where a file stands beside them."""
-        for name, target in self.links.items():
-            expect(os.path.islink(os.path.join(directory, name)) and os.readlink(os.path.join(directory, name)) == target,
-                   f"the link {name} is gone")
-        found = {os.path.relpath(os.path.join(at, name), directory) for at, _, names in os.walk(directory) for name in names}
-        for name in sorted(found - set(self.files) - set(self.links) - set(self.targets)):
-            self.check_stage(directory, name, killed)
-        for name, data in self.files.items():
-            expect(name in self.targets or content(directory, name) == data, f"{name} was changed")
-        return tuple(self.is_new(directory, name, judge) for name, judge in self.targets.items())
-
-    def check_stage(self, directory, name, killed):
-        """Only a killed run leaves a file beside the others, under a name of its own. It has no more permissions than the
-        files that were there, or than a new file of its kind, whatever it holds by then."""
-        expect(killed and os.path.basename(name).startswith(STAGE), f"it left {name}")
-        if mode_of(directory, name) & ~self.permissions_of(directory, name):
-            raise Failure(f"{name} has the mode {mode_of(directory, name):o}")
+        else was changed, and where a file stands beside them that is none which a killed run may leave."""
+        stages = {name for name in names_in(directory) if killed and os.path.basename(name).startswith(STAGE)}
+        others = {name: data for name, data in self.files.items() if name not in self.targets}
+        Leaves({**others, **self.links}, others={*self.targets, *stages, "kept"})(directory)
+        for name in stages:
+            # It has no more permissions than the files that were there, or than a new file of its kind, whatever it holds by then.
+            expect(not mode_of(directory, name) & ~self.permissions_of(directory, name), f"{name} has the mode {mode_of(directory, name):o}")
+        return [self.is_new(directory, name, judge) for name, judge in self.targets.items()]
 
     def permissions_of(self, directory, name):
         """The most permissions that a file may have which a killed run left. The file of a secret key is made once that of its
         public key is whole."""
-        if set(self.targets) & set(self.files):
+        if {*self.targets} & {*self.files}:
             return self.mode
         held = content(directory, name)
         stages = [each for each in os.listdir(os.path.join(directory, os.path.dirname(name))) if each.startswith(STAGE)]
-        if held.startswith(SECRET_FRONT) or (len(stages) == 2 and not held.startswith(PUBLIC_FRONT)):
-            return 0o600
-        return 0o644
+        is_secret = held.startswith(SECRET_FRONT) or (len(stages) == 2 and not held.startswith(PUBLIC_FRONT))
+        return 0o600 if is_secret else 0o644
 
     def is_new(self, directory, name, judge):
         held, older = content(directory, name), self.files.get(name)
@@ -96,8 +86,7 @@ class Task:
             return False
         expect(held is not None, f"{name} is gone")
         judge(held)
-        if older is not None and mode_of(directory, name) != self.mode:
-            raise Failure(f"{name} has the mode {mode_of(directory, name):o}")
+        expect(older is None or mode_of(directory, name) == self.mode, f"{name} has the mode {mode_of(directory, name):o}")
         return True
 
 
@@ -105,16 +94,12 @@ def mode_of(directory, name):
     return stat.S_IMODE(os.stat(os.path.join(directory, name)).st_mode)
 
 
-def is_secret(text):
-    record_of(text, 158)
-
-
 def is_signature(text):
     check_signature(b"abc", text)
 
 
 KEYGEN, SIGN = ["keygen", PK, SK], ["sign", SK, FILE, SIG]
-PAIR = {PK: public_record, SK: is_secret}
+PAIR = {PK: check_public, SK: check_secret}
 OLDER_PAIR = {PK: toy.public_text(), SK: toy.sealed_text(b"older")}
 TO_SIGN = {SK: OPEN_KEY, FILE: b"abc"}
 
@@ -127,15 +112,15 @@ TASKS = [
     Task("a new pair", KEYGEN, PAIR, {}),
     Task("a pair through links", KEYGEN, {"kept/" + name: judge for name, judge in PAIR.items()},
          {"kept/" + name: text for name, text in OLDER_PAIR.items()},
-         {PK: "kept/" + PK, SK: "chain", "chain": "./kept/" + SK}, mode=0o604),
+         {PK: Link("kept/" + PK), SK: Link("chain"), "chain": Link("./kept/" + SK)}, mode=0o604),
     REPLACED_SIGNATURE,
     NEW_SIGNATURE,
-    Task("a signature through a link that leads nowhere", SIGN, {"kept/" + SIG: is_signature}, TO_SIGN, {SIG: "kept/" + SIG}),
+    Task("a signature through a link that leads nowhere", SIGN, {"kept/" + SIG: is_signature}, TO_SIGN, {SIG: Link("kept/" + SIG)}),
 ]
 
 
 class Surviving(Disturbing):
-    """Runs a program in fresh directories."""
+    """Runs a program in fresh directories, with a password typed twice."""
 
     @contextlib.contextmanager
     def made(self, task):
@@ -145,8 +130,12 @@ class Surviving(Disturbing):
             yield directory
 
     def run(self, directory, arguments, environment=None, program=None, **how):
-        """A run in a directory, with a password typed twice."""
         return super().run(directory, arguments, environment, program, **{"typed": TYPED, **how})
+
+    def does(self, task, directory, arguments=None, **how):
+        """A run that does its task."""
+        ran = self.run(directory, arguments or task.arguments, **how)
+        expect(ran.status == 0 and all(task.check(directory)), ran)
 
     def killed(self, task):
         """A run that is killed before each of its calls. The secret key is replaced last."""
@@ -155,38 +144,31 @@ class Surviving(Disturbing):
         def judge(ran, directory):
             expect(ran.status == (-signal.SIGKILL if ran.came else 0), ran)
             new = task.check(directory, killed=ran.came)
-            expect(list(new) == sorted(new, reverse=True), "a later file is new, and an earlier one is not")
+            expect(new == sorted(new, reverse=True), "a later file is new, and an earlier one is not")
             seen.add(sum(new))
 
         self.break_each(task.make, task.arguments, judge)
-        expect(seen == set(range(len(task.targets) + 1)), f"the kills left {sorted(seen)} new files alone")
+        expect(seen == {*range(len(task.targets) + 1)}, f"the kills left {sorted(seen)} new files alone")
 
     def failing(self, task, calls, number_of_new, number=errno.EIO, **how):
         """A run in which each of these calls fails in turn; `number_of_new` answers how many files are new then, or
-        None where it has to succeed all the same."""
-        at = 0
+        None where it has to succeed all the same. Without that it ends with all files old or all new."""
+        counted = itertools.count(1)
 
         def judge(ran, directory):
-            nonlocal at
-            at += 1
-            new, wanted = sum(task.check(directory)), number_of_new(at) if ran.came else None
-            if wanted is None:
-                expect(ran.status == 0 and new == len(task.targets), ran, f"{new} files are new")
+            new, at = sum(task.check(directory)), next(counted)
+            done = ran.status == 0 and new == len(task.targets)
+            wanted = number_of_new(at) if number_of_new and ran.came else None
+            if number_of_new is None:
+                expect(done or (ran.status, new) == (1, 0), ran, f"{new} files are new")
+            elif wanted is None:
+                expect(done, ran, f"{new} files are new")
             else:
                 expect_unwritten(ran)
                 expect(new == wanted, f"{new} files are new in place of {wanted}")
 
-        expect(self.break_each(task.make, task.arguments, judge, CALLS=calls, ERRNO=number, **how),
+        expect(self.break_each(task.make, task.arguments, judge, CALLS=calls, ERRNO=number, **how) or number_of_new is None,
                "it made no such call")
-
-    def failing_whatever(self, task, calls):
-        """A run in which each of these calls fails in turn, and which ends with all files old or all new."""
-
-        def judge(ran, directory):
-            new = sum(task.check(directory))
-            expect((ran.status, new) in [(0, len(task.targets)), (1, 0)], ran, f"{new} files are new")
-
-        self.break_each(task.make, task.arguments, judge, CALLS=calls, ERRNO=errno.EIO)
 
     def on_full_disk(self, task):
         """A run on a small file system without room."""
@@ -213,20 +195,18 @@ class Surviving(Disturbing):
 
     def keeps_owner(self):
         """A run as root over another's file, which stays that one's."""
-        if os.geteuid() != 0:
-            raise Skip("only root may give a file away")
+        only_root()
         with self.made(REPLACED_PAIR) as directory:
             for name in (PK, SK):
                 os.chown(os.path.join(directory, name), 12345, 54321)
-            expect_done(self.run(directory, KEYGEN), REPLACED_PAIR, directory)
+            self.does(REPLACED_PAIR, directory)
             for name in (PK, SK):
                 found = os.stat(os.path.join(directory, name))
                 expect((found.st_uid, found.st_gid) == (12345, 54321), f"{name} belongs to {found.st_uid} and {found.st_gid}")
 
-    def takes_what_it_may(self, owner, group, mode, left):
-        """A run as nobody over a file that may be written, of this owner, group and mode, which leaves `left`."""
-        if os.geteuid() != 0:
-            raise Skip("only root may give a file away and become nobody")
+    def takes_what_it_may(self, owner, group, mode, *left):
+        """A run as nobody over a file that may be written, of this owner, group and mode, which leaves a file of nobody's with these."""
+        only_root()
         with self.made(REPLACED_SIGNATURE) as directory:
             program = shutil.copy(self.program, os.path.join(self.room, "program"))
             os.chmod(self.room, 0o711)
@@ -237,7 +217,7 @@ class Surviving(Disturbing):
             expect(ran.status == 0, ran)
             is_signature(content(directory, SIG))
             found = os.stat(os.path.join(directory, SIG))
-            expect((found.st_uid, found.st_gid, stat.S_IMODE(found.st_mode)) == left, f"it left {found}")
+            expect((found.st_uid, found.st_gid, stat.S_IMODE(found.st_mode)) == (NOBODY, NOBODY, *left), f"it left {found}")
 
     def taken_names(self, count):
         """A run that draws the same number each time, in a directory in which so many names from that one on are taken."""
@@ -255,16 +235,14 @@ class Surviving(Disturbing):
         """Runs that replace the same file at once."""
         with self.made(NEW_SIGNATURE) as directory:
             ended = run_at_once([self.program, *SIGN], directory, {})
-            expect(not any(status for status, _ in ended) and all(NEW_SIGNATURE.check(directory)),
-                   f"they ended with {ended}")
+            expect(not any(status for status, _ in ended) and all(NEW_SIGNATURE.check(directory)), f"they ended with {ended}")
 
     def into_standard_output(self):
         """A signature into a file that standard output leads into goes into that very file."""
         with self.made(NEW_SIGNATURE) as directory:
             with open(os.path.join(directory, SIG), "w+b") as output:
                 inode = os.fstat(output.fileno()).st_ino
-                expect_done(self.run(directory, ["sign", SK, FILE, "/dev/stdout"], stdout=output), NEW_SIGNATURE,
-                            directory)
+                self.does(NEW_SIGNATURE, directory, ["sign", SK, FILE, "/dev/stdout"], stdout=output)
             expect(os.stat(os.path.join(directory, SIG)).st_ino == inode, "it replaced the file")
 
     def under_odd_path(self):
@@ -272,36 +250,34 @@ class Surviving(Disturbing):
         with self.made(NEW_SIGNATURE) as directory:
             odd = os.path.join(os.fsencode(self.room), b"tool\xff")
             shutil.copy(self.program, odd)
-            expect_done(self.run(directory, map(os.fsencode, SIGN), program=odd), NEW_SIGNATURE, directory)
+            self.does(NEW_SIGNATURE, directory, [*map(os.fsencode, SIGN)], program=odd)
 
     def legacy_within(self, command, mebibytes=2):
         """A legacy signature over 1 GiB is rejected within so many MiB more than a prehashed one over nothing takes."""
+        is_raw = command == "verify-raw"
         with tempfile.TemporaryDirectory(dir=self.place) as directory:
-            legacy, prehashed = (toy.signature_record(b"", algorithm=algorithm) for algorithm in (b"Ed", b"ED"))
-            for name, data in {"raw.pk": toy.RECORD, PK: toy.public_text(), "large": b"", "nothing": b"",
-                               "old.raw": legacy, "old.sig": toy.signature_text(b"", record=legacy),
-                               "new.raw": prehashed, "new.sig": toy.signature_text(b"", record=prehashed)}.items():
-                write(directory, name, data)
-            os.truncate(os.path.join(directory, "large"), 1 << 30)
-            least = next((kibibytes for kibibytes in range(1024, 65536, 256)
-                          if self.run_within(directory, command, "nothing", "new", kibibytes).status == 0), None)
+            for name, algorithm in (("old", b"Ed"), ("new", b"ED")):
+                record = toy.signature_record(b"", algorithm=algorithm)
+                write(directory, name, record if is_raw else toy.signature_text(b"", record=record))
+            write(directory, PK, toy.RECORD if is_raw else toy.public_text())
+            write(directory, "nothing", b"")
+            os.truncate(write(directory, "large", b""), 1 << 30)
+
+            def run_within(data, signature, kibibytes):
+                bound = (kibibytes * 1024,) * 2
+                with open(os.path.join(directory, data if is_raw else os.devnull), "rb") as file:
+                    return self.run(directory, [command, PK, *([] if is_raw else [data]), signature], stdin=file, stdout=subprocess.DEVNULL,
+                                    preexec_fn=lambda: resource.setrlimit(resource.RLIMIT_AS, bound))
+
+            least = next((kibibytes for kibibytes in range(1024, 65536, 256) if run_within("nothing", "new", kibibytes).status == 0), None)
             expect(least is not None, "64 MiB are not enough for no data")
-            ran = self.run_within(directory, command, "large", "old", least + 1024 * mebibytes)
+            ran = run_within("large", "old", least + 1024 * mebibytes)
             expect(ran.status == 1 and ran.said.endswith(LEGACY), ran)
 
-    def run_within(self, directory, command, data, signature, kibibytes):
-        """A run of a command that verifies within so much memory."""
-        raw = command == "verify-raw"
-        arguments = [command, "raw.pk", signature + ".raw"] if raw else [command, PK, data, signature + ".sig"]
-        bound = kibibytes * 1024
-        with open(os.path.join(directory, data), "rb") as file:
-            return self.run(directory, arguments, stdin=file if raw else subprocess.DEVNULL, stdout=subprocess.DEVNULL,
-                            preexec_fn=lambda: resource.setrlimit(resource.RLIMIT_AS, (bound, bound)))
 
-
-def expect_done(ran, task, directory):
-    """Raises a `Failure` where a run did not do its task."""
-    expect(ran.status == 0 and all(task.check(directory)), ran)
+def only_root():
+    if os.geteuid() != 0:
+        raise Skip("only root may give a file away and become nobody")
 
 
 def expect_unwritten(ran):
@@ -309,40 +285,44 @@ def expect_unwritten(ran):
     expect(ran.status == 1 and ran.said.endswith(WRITING_FAILED), ran)
 
 
+def of_task(surviving, task):
+    """What each case of a task says of its run, and what makes it."""
+    count = len(task.targets)
+    none = lambda at: 0
+    yield "killed", surviving.killed
+    for number in (errno.ENOSPC, errno.EDQUOT):
+        name = f"and a write fails by {errno.errorcode[number]}"
+        yield name, surviving.failing, "write", none, number
+        yield f"{name} half way", partial(surviving.failing, SHORT=1), "write", none, number
+    # After the files themselves their directory is synced, when all are replaced.
+    yield "and a sync fails", surviving.failing, "fsync", lambda at: 0 if at <= count else count
+    yield "and a sync is of no use", surviving.failing, "fsync", lambda at: 0 if at <= count else None, errno.EINVAL
+    yield "and a rename fails", surviving.failing, "rename", lambda at: at - 1
+    yield "and a close fails", surviving.failing, "close", lambda at: None
+    yield "and no name is drawn", surviving.failing, "getentropy", none
+    if {*task.targets} & {*task.files}:
+        yield "and no permissions are given", surviving.failing, "fchmod", none
+    for calls in ("open", "read", "statx readlink"):
+        yield f"and {calls} fails", surviving.failing, calls, None
+    yield "on a full disk", surviving.on_full_disk
+    yield "beyond the size of files", surviving.within_file_size, False
+    yield "beyond the size of files, whose signal is ignored", surviving.within_file_size, True
+
+
 def cases(surviving):
     """The names of all cases, and what makes each."""
     for task in TASKS:
-        count = len(task.targets)
-        is_replaced = bool(set(task.targets) & set(task.files))
-        yield f"{task.name}, killed", surviving.killed, task
-        for number in (errno.ENOSPC, errno.EDQUOT):
-            name = f"{task.name}, and a write fails by {errno.errorcode[number]}"
-            yield name, surviving.failing, task, "write", lambda at: 0, number
-            yield f"{name} half way", partial(surviving.failing, task, "write", lambda at: 0, number, SHORT=1)
-        # After the files themselves their directory is synced, when all are replaced.
-        for what, after, number in (("fails", count, errno.EIO), ("is of no use", None, errno.EINVAL)):
-            number_of_new = lambda at, n=count, after=after: 0 if at <= n else after
-            yield f"{task.name}, and a sync {what}", surviving.failing, task, "fsync", number_of_new, number
-        yield f"{task.name}, and a rename fails", surviving.failing, task, "rename", lambda at: at - 1
-        yield f"{task.name}, and a close fails", surviving.failing, task, "close", lambda at: None
-        yield f"{task.name}, and no name is drawn", surviving.failing, task, "getentropy", lambda at: 0
-        if is_replaced:
-            yield f"{task.name}, and no permissions are given", surviving.failing, task, "fchmod", lambda at: 0
-        for calls in ("open", "read", "statx readlink"):
-            yield f"{task.name}, and {calls} fails", surviving.failing_whatever, task, calls
-        yield f"{task.name}, on a full disk", surviving.on_full_disk, task
-        yield f"{task.name}, beyond the size of files", surviving.within_file_size, task, False
-        yield f"{task.name}, beyond the size of files, whose signal is ignored", surviving.within_file_size, task, True
+        for name, run, *given in of_task(surviving, task):
+            yield f"{task.name}, {name}", run, task, *given
     yield f"{OWNERS_PAIR.name}, killed", surviving.killed, OWNERS_PAIR
     yield "another's files stay another's", surviving.keeps_owner
-    rows = [
-        ("its own", NOBODY, NOBODY, 0o664, (NOBODY, NOBODY, 0o644)),
-        ("of another group", NOBODY, 54321, 0o664, (NOBODY, NOBODY, 0o604)),
-        ("of another group that may not do what all others may", NOBODY, 54321, 0o606, (NOBODY, NOBODY, 0o600)),
-        ("of another owner", 12345, NOBODY, 0o664, (NOBODY, NOBODY, 0o644)),
-        ("of another owner and group", 12345, 54321, 0o666, (NOBODY, NOBODY, 0o606)),
-    ]
-    for name, *row in rows:
+    for name, *row in [
+        ("its own", NOBODY, NOBODY, 0o664, 0o644),
+        ("of another group", NOBODY, 54321, 0o664, 0o604),
+        ("of another group that may not do what all others may", NOBODY, 54321, 0o606, 0o600),
+        ("of another owner", 12345, NOBODY, 0o664, 0o644),
+        ("of another owner and group", 12345, 54321, 0o666, 0o606),
+    ]:
         yield f"a file that is {name}", surviving.takes_what_it_may, *row
     for count in (1, 40, 200):
         yield f"{count} names that are taken", surviving.taken_names, count

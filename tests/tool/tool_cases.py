@@ -1,10 +1,14 @@
-"""What the cases of all commands of `minisign_tool` have in common: what a run says, and what it leaves."""
+"""What the cases of all commands of `minisign_tool` have in common: what a run says, what it leaves, and in which order it tells what
+is wrong."""
 
+import itertools
 import os
 import stat
+from dataclasses import replace
 
-from running import DIRECTORY, LOCKED, Case, Link, RoomFor, expect
-from toy import WARNING
+import toy
+from running import DIRECTORY, LOCKED, MISSING, OPENED_PIPE, UNOPENED_PIPE, Case, Link, RoomFor, expect, read, unreadable
+from toy import READING_FAILED, WARNING
 
 
 def command(name, arguments, said, status=None, stderr=None, **how):
@@ -15,16 +19,45 @@ def command(name, arguments, said, status=None, stderr=None, **how):
     return Case(name, arguments, status, lines, stderr=stderr, **how)
 
 
+def opening(file, what, data):
+    """A phase of `in_order`: a file is opened."""
+    return file, [(f"missing {what}", MISSING, READING_FAILED), (f"unreadable {what}", unreadable(data), READING_FAILED)]
+
+
+def in_order(make, *phases):
+    """A run does one thing after the other, and what is wrong first is told. Each phase is of a file, and says what stands there that is
+    wrong then, and how that is told; the first phase of a file that has several opens it, and the next one reads it. The cases: each
+    thing that is wrong, alone, with each later one of another file, and with a pipe that nobody feeds in the place of another file,
+    which has to be opened in its turn and is not waited for."""
+    faults = [(at, file, *wrong) for at, (file, all_wrong) in enumerate(phases) for wrong in all_wrong]
+    turns = {file: [at for at, (other, _) in enumerate(phases) if other == file] for file, _ in phases}
+    for at, file, what, held, line in faults:
+        yield make(what, line, files={file: held})
+        for other, (opened, *later) in turns.items():
+            if other != file and later and at < later[0]:
+                name, pipe = ("opened", UNOPENED_PIPE) if at < opened else ("read", OPENED_PIPE)
+                yield make(f"{what} before {other} is {name}", line, files={file: held, other: pipe})
+    for (_, file, what, held, line), (_, other, what_else, held_there, _) in itertools.combinations(faults, 2):
+        if file != other:
+            yield make(f"{what} before {what_else}", line, files={file: held, other: held_there})
+
+
+def refusing(lines, *rows, **how):
+    """Each allocation of these cases fails, alone and with all after it, and one of these lines is said."""
+    return [replace(case, name=f"{name}, and {many} failing", lines=lines, rejecting=rejecting, **how)
+            for name, case in rows for rejecting, many in toy.REJECTING]
+
+
 class Leaves:
     """Looks at the directory that a run leaves. Each file has these bytes, or what judges them, or is such a link, or an empty directory,
     and some have these modes; nothing else is there, but files that may be anything. A last judge gets the directory."""
 
     def __init__(self, files, modes=None, others=(), judge=None):
-        self.files, self.modes, self.others, self.judge = files, modes or {}, others, judge
+        self.files, self.modes, self.others, self.judge = files, modes or {}, {*others}, judge
 
     def __call__(self, directory):
-        names = names_in(directory) - {*self.others}
-        expect(names | {*self.others} >= {*self.files} and names <= {*self.files},
+        names = names_in(directory)
+        expect(names >= {*self.files} - self.others and names <= {*self.files} | self.others,
                f"it left {sorted(names)} in place of {sorted(self.files)}")
         for name, mode in self.modes.items():
             found = stat.S_IMODE(os.stat(os.path.join(directory, name)).st_mode)
@@ -44,10 +77,8 @@ class Leaves:
 
 def names_in(directory):
     """The names of all files and links in a directory, and of all directories in it that are empty."""
-    found = {os.path.relpath(os.path.join(at, name), directory) for at, _, names in os.walk(directory)
-             for name in names}
-    return found | {os.path.relpath(at, directory) for at, below, names in os.walk(directory) if at != directory
-                    and not below and not names}
+    return {os.path.relpath(os.path.join(at, name), directory) for at, below, names in os.walk(directory)
+            for name in (names if names or below or at == directory else ["."])}
 
 
 def held_by(directory, name):
@@ -55,5 +86,4 @@ def held_by(directory, name):
     path = os.path.join(directory, name)
     if not os.access(path, os.R_OK):
         os.chmod(path, 0o600)
-    with open(path, "rb") as file:
-        return file.read()
+    return read(path)
