@@ -293,7 +293,7 @@ class Trial:
 
     def begin(self, bodies, submit):
         """Has the crate proved as it stands, and submits the groups. It tells of each body once, here or there."""
-        for body in [body for body in bodies if not body.why_not]:
+        for body in (body for body in bodies if not body.why_not):
             body.places(read(f"crates/{self.crate}/{body.path}"))
         whole = [body for body in bodies if not body.why_not]
         why = proved.supply(proved.crates()[self.crate].below) or self.lacks_proof(whole)
@@ -304,28 +304,18 @@ class Trial:
             submit(self.try_group, group)
 
     def lacks_proof(self, bodies):
-        """Waits until `rt ci` has proved the crate, or checks the functions that these bodies change as they stand, and
-        returns why they are not proved."""
+        """Waits until `rt ci` has proved the crate, or checks the functions that these bodies change as they stand, and what
+        they call, and returns why they are not proved."""
         proved.wait_for([self.crate])
         is_proved, said = proved.has([self.crate]), proved.said()
-        if not said:
-            words = [word for each in sorted({body.function for body in bodies}) for word in ("--only", each)]
-            said = proved.run(["rt", "check", *words], f"crates/{self.crate}").stdout
-            is_proved = re.search(r"(?m)^only=(\d+) proved=\1$", said)
+        words = [word for each in sorted({body.function for body in bodies}) for word in ("--only", each)]
         # (of a crate that an earlier run has proved `rt ci` names no function)
-        self.proved = proved.functions_of(self.crate, said) or (self.functions() if is_proved else [])
+        if not said or is_proved and not proved.functions_of(self.crate, said):
+            place = f"crates/{self.crate}"
+            ran = proved.rattle("check", self.crate, place, *words) if said else proved.run(["rt", "check", *words], place)
+            said, is_proved = ran.stdout, re.search(r"(?m)^only=(\d+) proved=\1$", ran.stdout)
+        self.proved = proved.functions_of(self.crate, said)
         return "" if is_proved else f"the crate as it stands is not proved: {proved.first_of(said)}"
-
-    def functions(self):
-        """The functions of the crate, by what a check says of a copy in which each is a loop without a proof."""
-        with tempfile.TemporaryDirectory(prefix="wrong-bodies-") as room:
-            self.copy_into(room, [])
-            for at, _, files in os.walk(f"{room}/proofs"):
-                for name in {"Proof.antt", "Answers.antt", "Invariants.antt"} & {*files}:
-                    os.remove(f"{at}/{name}")
-            with self.places.place():
-                said = proved.rattle("check", self.crate, room, "--allow-holes", before=("nice", "-n", "19")).stdout
-        return re.findall(rf"(?m)^fn {self.crate}::(\S+): ", said)
 
     def copy_into(self, directory, group):
         """Copies the crate into a directory, with the changes of a group in place, and loops in place of all other bodies."""
