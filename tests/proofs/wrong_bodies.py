@@ -7,8 +7,7 @@ An edit has the form of the kit's, a first line `why:`, and a line `fn:` with th
 into a copy of its function, which stands after it under a name of its own, with the same contract and a copy of its
 written proof. So the callers of the function are not proved again. Where a search proves the clause that `why:` names
 as false, the copy ensures this clause alone, and has no written proof: so it is rejected for this one. A method of a
-trait's impl has no second name and is changed where it stands. An edit that reaches beyond the body of its function
-is tried alone. The crate has to be proved as it stands, by `rt ci` where this runs beside it
+trait's impl has no second name and is changed where it stands. The crate has to be proved as it stands, by `rt ci` where this runs beside it
 (tests/shared/proved.py), and else by a check of the functions that the edits change. The copies assume that: each
 other body is a loop without an end, and its proof a hole, so that a check tries the wrong bodies alone. An edit that
 is not rejected beside others is tried once more alone.
@@ -97,15 +96,15 @@ class WrongBody:
     def __init__(self, crate, file, number):
         self.crate, self.label, text = crate, f"{crate}/{os.path.basename(file).removesuffix('.edit')}", read(file)
         self.is_for_kit = os.path.basename(os.path.dirname(file)) == KIT_TRIED
-        self.is_alone = self.is_unchanged = False
+        self.is_unchanged = False
         # Where its function begins and ends in the file, if it is written into a copy of it, and what the name gets.
         self.copied, self.suffix = None, f"{COPY}{number}"
         said, self.changes = dict(SAID.findall(text)), CHANGE.findall(text)
         self.path, self.function, self.by = (said.get(key, "") for key in ("file", "fn", "by"))
         # The clause that is false, and the same where the copy ensures it alone.
         self.named = (FALSE.match(said.get("why", "")) or ["", ""])[1]
-        is_alone = is_searched(f"{ROOT}/crates/{crate}/proofs/{self.function.replace('::', '/')}", self.named)
-        self.clause, self.why_not = self.named if is_alone else "", ""
+        proof = f"{ROOT}/crates/{crate}/proofs/{self.function.replace('::', '/')}"
+        self.clause, self.why_not = self.named if is_searched(proof, self.named) else "", ""
         if not (file.endswith(".edit") and FORM.fullmatch(text) and text.count("\nfn: ") == 1 and self.path and self.changes):
             self.why_not = "it is no file .edit with first a line `why:`, one line `fn:`, `file:`, and `old:` and `new:`"
         if self.by and f"rejected by {self.by}" not in (GAVE_UP, APART):
@@ -119,15 +118,16 @@ class WrongBody:
         """Returns where in the text of its file each change begins and ends, with the new text."""
         found, left = [], text
         for old, new in self.changes:
-            if left.count(old) != 1:
-                self.why_not = f"its old text stands in {self.path} {left.count(old)} times, and not once"
-            at = left.find(old)
+            at, times = left.find(old), left.count(old)
             left = left.replace(old, "\0" * len(old))
-            around = function_at(text, at)
-            if around and self.named and not re.search(rf"\bensures {self.named} \{{", text[slice(*around[:2])]):
-                self.why_not = f"its function {around[2]} has no clause `{self.named}`"
-            self.is_alone |= not around or around[2] != self.function.rpartition("::")[2]
-            self.copied = around[:2] if around and not self.is_alone and not is_of_trait(text, around[0]) else None
+            begin, end, name = function_at(text, at)
+            if times != 1:
+                self.why_not = f"its old text stands in {self.path} {times} times, and not once"
+            elif name != self.function.rpartition("::")[2]:
+                self.why_not = f"it changes more than the body of {self.function}"
+            elif self.named and not re.search(rf"\bensures {self.named} \{{", text[begin:end]):
+                self.why_not = f"its function {name} has no clause `{self.named}`"
+            self.copied = (begin, end) if name and not is_of_trait(text, begin) else None
             if self.copied and f" ensures {self.clause} {{" not in text[slice(*self.copied)]:
                 self.clause = ""
             found.append((at, at + len(old), new))
@@ -401,12 +401,12 @@ def told_of(lines, proof):
 
 
 def function_at(text, at):
-    """Returns where the function begins and ends in whose body a place of a source file lies, and its name, if it lies in
-    one."""
+    """Returns where the function begins and ends in whose body a place of a source file lies, and its name; where it lies in
+    none, no name."""
     headers = [*HEADER.finditer(text, 0, max(at, 0))]
     body = body_of(text, headers[-1]) if headers else None
     is_there = body and body[0] <= at < body[1]
-    return (headers[-1].start(), text.index("}", body[1]) + 1, headers[-1]["name"]) if is_there else None
+    return (headers[-1].start(), text.index("}", body[1]) + 1, headers[-1]["name"]) if is_there else (0, 0, "")
 
 
 def is_of_trait(text, at):
@@ -423,13 +423,11 @@ def replaced(text, pieces):
 
 
 def groups_of(bodies):
-    """Returns the bodies in groups of about one size in which no function is changed twice where it stands, and alone what
-    others see."""
-    alone = [[body] for body in bodies if body.is_alone]
-    in_order = sorted((body for body in bodies if not body.is_alone), key=lambda value: value.function)
+    """Returns the bodies in groups of about one size in which no function is changed twice where it stands."""
+    in_order = sorted(bodies, key=lambda body: body.function)
     most = max(Counter(body.function for body in in_order if not body.copied).values(), default=0)
     number = max(most, -(-len(in_order) // GROUP))
-    return [*alone, *(in_order[at::number] for at in range(number))]
+    return [in_order[at::number] for at in range(number)]
 
 
 def try_all(tasks):
