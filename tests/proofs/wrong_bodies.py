@@ -1,25 +1,21 @@
 #!/usr/bin/env python3
-"""Tries the must-fail edits of crates/*/wrong-bodies/*.edit: the prover has to reject each. If you name an edit of
-must-fail/, it tries that too; `rt ci` tries all of these.
+"""Tries the must-fail edits of crates/*/wrong-bodies/*.edit: the prover has to reject each. CONTRIBUTING.md says how they are
+written. If you name an edit of must-fail/, it tries that too; `rt ci` tries all of these, each by itself.
 
-An edit has the form of the kit's, a first line `why:`, and a line `fn:` with the function that has to be rejected, as
-`rt check` prints it. `rt ci` checks each edit of must-fail/ by itself; here many share one check. Each is written
-into a copy of its function, which stands after it under a name of its own, with the same contract and a copy of its
-written proof. So the callers of the function are not proved again. Where a search proves the clause that `why:` names
-as false, the copy ensures this clause alone, and has no written proof: so it is rejected for this one. A method of a
-trait's impl has no second name and is changed where it stands. The crate has to be proved as it stands, by `rt ci` where this runs beside it
-(tests/shared/proved.py), and else by a check of the functions that the edits change. The copies assume that: each
-other body is a loop without an end, and its proof a hole, so that a check tries the wrong bodies alone. An edit that
-is not rejected beside others is tried once more alone.
+Here many edits share one check. Each is written into a copy of its function, which stands after it under a name of its
+own, with the same contract and a copy of its written proof. So the callers of the function are not proved again. Where
+a search proves the clause that `why:` names as false, the copy ensures this clause alone, and has no written proof: so
+it is rejected for this one. A method of a trait's impl has no second name and is changed where it stands. The crate
+has to be proved as it stands, by `rt ci` where this runs beside it (tests/shared/proved.py), and else by a check of
+the functions that the edits change. The copies assume that: each other body is a loop without an end, and its proof a
+hole, so that a check tries the wrong bodies alone. An edit that is not rejected beside others is tried once more alone.
 
 An edit passes if the search for a proof of one of the function's own goals ends without one. It fails if the search
-gave up at one of its limits, so that the goal may hold, or if only the function's written proof no longer fits: both
-happen to right bodies too. The few edits for which no smaller function makes a search end say so by a line `by:`, and
-pass where they are rejected as it says. Some limits of a search are limits of time, which come sooner on a busy
-machine: another edit whose search gave up is tried once more alone, when all else of the gate has ended. An edit
-fails too if the function is proved, if the prover could not tell, if all that is left is a limit at which it stopped
-in a written proof, and if its line `why:` names a clause that the function does not have.
-tests/proofs/wrong_bodies.txt says how many edits each crate has: other numbers fail too.
+gave up at one of its limits, so that the goal may hold, or if only the function's written proof no longer fits, unless
+a line `by:` says so: both happen to right bodies too. Some limits of a search are limits of time, which come sooner on
+a busy machine: another edit whose search gave up is tried once more alone, when all else of the gate has ended. An
+edit fails too if the function is proved, if the prover could not tell, and if all that is left is a limit at which it
+stopped in a written proof, or if `why:` names a clause that its function has not. tests/proofs/wrong_bodies.txt says how many edits each crate has: other numbers fail too.
 
 usage: wrong_bodies.py [--unchanged] [CRATE[/NAME]..]
   --unchanged    leaves the changes out, and passes what is proved: so a rejection comes from a change and not from copying
