@@ -59,21 +59,14 @@ SIGNATURE = re.compile(r"(?m)^ *(?:abbrev |unfoldable )*pub \w+ :.*(?:\n +(?:→
 RELATION = re.compile(r"Fault → Type 0$")
 
 
-def files_of(crate, parts=PARTS):
-    """The sources of a crate, by their paths in the repository."""
-    for part in parts:
-        for file in sources.files_below(os.path.join(TOP, "crates", crate, part)):
-            if file.endswith((".rt", ".antt")):
-                yield os.path.relpath(file, TOP)
+def files_of(crate, *parts):
+    """The sources in these parts of a crate, by their paths in the repository."""
+    found = [file for part in parts for file in sources.files_below(os.path.join(TOP, "crates", crate, part), (".rt", ".antt"))]
+    return [os.path.relpath(file, TOP) for file in found]
 
 
 def folded(text):
     return re.sub(r"\s+", " ", text)
-
-
-def size_of(crate, part):
-    """The bytes of a part of a crate, with white space folded."""
-    return sum(len(folded(sources.read(file)).encode()) for file in files_of(crate, (part,)))
 
 
 def is_wide(line):
@@ -83,7 +76,7 @@ def is_wide(line):
 
 def long_clauses(crate):
     """The clauses of a crate that are too long, each by its function and its name, with its lines and letters."""
-    for file in files_of(crate, ("src",)):
+    for file in files_of(crate, "src"):
         for item in sources.read_source(os.path.join(TOP, file)).items:
             for clause in item.clauses:
                 lines, letters = clause.whole.strip().count("\n") + 1, len(folded(clause.whole).strip())
@@ -91,16 +84,12 @@ def long_clauses(crate):
                     yield (crate, item.path, clause.name), lines, letters
 
 
-def relations(crate):
-    """How many definitions of a crate relate something to an error."""
-    texts = [sources.read(file) for file in files_of(crate, ("specs",))]
-    return sum(bool(RELATION.search(folded(match[0]))) for text in texts for match in SIGNATURE.finditer(text))
-
-
 def measured():
     """The numbers that have a limit."""
-    return {"definitions": size_of("minisign", "specs"), "proofs": size_of("minisign", "proofs"),
-            "relations on errors": sum(relations(crate) for crate in CRATES)}
+    sizes = {part: sum(len(folded(sources.read(file)).encode()) for file in files_of("minisign", part)) for part in PARTS}
+    texts = [sources.read(file) for crate in CRATES for file in files_of(crate, "specs")]
+    relations = sum(bool(RELATION.search(folded(match[0]))) for text in texts for match in SIGNATURE.finditer(text))
+    return {"definitions": sizes["specs"], "proofs": sizes["proofs"], "relations on errors": relations}
 
 
 def main():
@@ -109,7 +98,7 @@ def main():
         print("\n".join(f"{what}: {number}" for what, number in numbers.items()))
         return 0
     for crate in CRATES:
-        for file in files_of(crate):
+        for file in files_of(crate, *PARTS):
             lines = sources.read(file).split("\n")
             wide = [number for number, line in enumerate(lines, 1) if is_wide(line)]
             checks.check(not wide, file, f"more than {COLUMNS} columns in line {', '.join(map(str, wide))}")

@@ -1,26 +1,21 @@
 #!/usr/bin/env python3
-"""Tries the must-fail edits of crates/*/wrong-bodies/*.edit: the prover has to reject each. If you name an edit of
-must-fail/, it tries that too; `rt ci` tries all of these.
+"""Tries the must-fail edits of crates/*/wrong-bodies/*.edit: the prover has to reject each. CONTRIBUTING.md says how they are
+written. If you name an edit of must-fail/, it tries that too; `rt ci` tries all of these, each by itself.
 
-An edit has the form of the kit's, a first line `why:`, and a line `fn:` with the function that has to be rejected, as
-`rt check` prints it. `rt ci` checks each edit of must-fail/ by itself; here many share one check. Each is written
-into a copy of its function, which stands after it under a name of its own, with the same contract and a copy of its
-written proof. So the callers of the function are not proved again. Where a search proves the clause that `why:` names
-as false, the copy ensures this clause alone, and has no written proof: so it is rejected for this one. A method of a
-trait's impl has no second name and is changed where it stands. An edit that reaches beyond the body of its function
-is tried alone. The crate has to be proved as it stands, by `rt ci` where this runs beside it
-(tests/shared/proved.py), and else by a check of the functions that the edits change. The copies assume that: each
-other body is a loop without an end, and its proof a hole, so that a check tries the wrong bodies alone. An edit that
-is not rejected beside others is tried once more alone.
+Here many edits share one check. Each is written into a copy of its function, which stands after it under a name of its
+own, with the same contract and a copy of its written proof. So the callers of the function are not proved again. Where
+a search proves the clause that `why:` names as false, the copy ensures this clause alone, and has no written proof: so
+it is rejected for this one. A method of a trait's impl has no second name and is changed where it stands. The crate
+has to be proved as it stands, by `rt ci` where this runs beside it (tests/shared/proved.py), and else by a check of
+the functions that the edits change. The copies assume that: each other body is a loop without an end, and its proof a
+hole, so that a check tries the wrong bodies alone. An edit that is not rejected beside others is tried once more alone.
 
 An edit passes if the search for a proof of one of the function's own goals ends without one. It fails if the search
-gave up at one of its limits, so that the goal may hold, or if only the function's written proof no longer fits: both
-happen to right bodies too. The few edits for which no smaller function makes a search end say so by a line `by:`, and
-pass where they are rejected as it says. Some limits of a search are limits of time, which come sooner on a busy
-machine: another edit whose search gave up is tried once more alone, when all else of the gate has ended. An edit
-fails too if the function is proved, if the prover could not tell, if all that is left is a limit at which it stopped
-in a written proof, and if its line `why:` names a clause that the function does not have.
-tests/proofs/wrong_bodies.txt says how many edits each crate has: other numbers fail too.
+gave up at one of its limits, so that the goal may hold, or if only the function's written proof no longer fits, unless
+a line `by:` says so: both happen to right bodies too. Some limits of a search are limits of time, which come sooner on
+a busy machine: another edit whose search gave up is tried once more alone, when all else of the gate has ended. An
+edit fails too if the function is proved, if the prover could not tell, and if all that is left is a limit at which it
+stopped in a written proof, or if `why:` names a clause that its function has not. tests/proofs/wrong_bodies.txt says how many edits each crate has: other numbers fail too.
 
 usage: wrong_bodies.py [--unchanged] [CRATE[/NAME]..]
   --unchanged    leaves the changes out, and passes what is proved: so a rejection comes from a change and not from copying
@@ -97,15 +92,15 @@ class WrongBody:
     def __init__(self, crate, file, number):
         self.crate, self.label, text = crate, f"{crate}/{os.path.basename(file).removesuffix('.edit')}", read(file)
         self.is_for_kit = os.path.basename(os.path.dirname(file)) == KIT_TRIED
-        self.is_alone = self.is_unchanged = False
+        self.is_unchanged = False
         # Where its function begins and ends in the file, if it is written into a copy of it, and what the name gets.
         self.copied, self.suffix = None, f"{COPY}{number}"
         said, self.changes = dict(SAID.findall(text)), CHANGE.findall(text)
         self.path, self.function, self.by = (said.get(key, "") for key in ("file", "fn", "by"))
         # The clause that is false, and the same where the copy ensures it alone.
         self.named = (FALSE.match(said.get("why", "")) or ["", ""])[1]
-        is_alone = is_searched(f"{ROOT}/crates/{crate}/proofs/{self.function.replace('::', '/')}", self.named)
-        self.clause, self.why_not = self.named if is_alone else "", ""
+        proof = f"{ROOT}/crates/{crate}/proofs/{self.function.replace('::', '/')}"
+        self.clause, self.why_not = self.named if is_searched(proof, self.named) else "", ""
         if not (file.endswith(".edit") and FORM.fullmatch(text) and text.count("\nfn: ") == 1 and self.path and self.changes):
             self.why_not = "it is no file .edit with first a line `why:`, one line `fn:`, `file:`, and `old:` and `new:`"
         if self.by and f"rejected by {self.by}" not in (GAVE_UP, APART):
@@ -119,15 +114,16 @@ class WrongBody:
         """Returns where in the text of its file each change begins and ends, with the new text."""
         found, left = [], text
         for old, new in self.changes:
-            if left.count(old) != 1:
-                self.why_not = f"its old text stands in {self.path} {left.count(old)} times, and not once"
-            at = left.find(old)
+            at, times = left.find(old), left.count(old)
             left = left.replace(old, "\0" * len(old))
-            around = function_at(text, at)
-            if around and self.named and not re.search(rf"\bensures {self.named} \{{", text[slice(*around[:2])]):
-                self.why_not = f"its function {around[2]} has no clause `{self.named}`"
-            self.is_alone |= not around or around[2] != self.function.rpartition("::")[2]
-            self.copied = around[:2] if around and not self.is_alone and not is_of_trait(text, around[0]) else None
+            begin, end, name = function_at(text, at)
+            if times != 1:
+                self.why_not = f"its old text stands in {self.path} {times} times, and not once"
+            elif name != self.function.rpartition("::")[2]:
+                self.why_not = f"it changes more than the body of {self.function}"
+            elif self.named and not re.search(rf"\bensures {self.named} \{{", text[begin:end]):
+                self.why_not = f"its function {name} has no clause `{self.named}`"
+            self.copied = (begin, end) if name and not is_of_trait(text, begin) else None
             if self.copied and f" ensures {self.clause} {{" not in text[slice(*self.copied)]:
                 self.clause = ""
             found.append((at, at + len(old), new))
@@ -293,7 +289,7 @@ class Trial:
 
     def begin(self, bodies, submit):
         """Has the crate proved as it stands, and submits the groups. It tells of each body once, here or there."""
-        for body in [body for body in bodies if not body.why_not]:
+        for body in (body for body in bodies if not body.why_not):
             body.places(read(f"crates/{self.crate}/{body.path}"))
         whole = [body for body in bodies if not body.why_not]
         why = proved.supply(proved.crates()[self.crate].below) or self.lacks_proof(whole)
@@ -304,28 +300,18 @@ class Trial:
             submit(self.try_group, group)
 
     def lacks_proof(self, bodies):
-        """Waits until `rt ci` has proved the crate, or checks the functions that these bodies change as they stand, and
-        returns why they are not proved."""
+        """Waits until `rt ci` has proved the crate, or checks the functions that these bodies change as they stand, and what
+        they call, and returns why they are not proved."""
         proved.wait_for([self.crate])
         is_proved, said = proved.has([self.crate]), proved.said()
-        if not said:
-            words = [word for each in sorted({body.function for body in bodies}) for word in ("--only", each)]
-            said = proved.run(["rt", "check", *words], f"crates/{self.crate}").stdout
-            is_proved = re.search(r"(?m)^only=(\d+) proved=\1$", said)
+        words = [word for each in sorted({body.function for body in bodies}) for word in ("--only", each)]
         # (of a crate that an earlier run has proved `rt ci` names no function)
-        self.proved = proved.functions_of(self.crate, said) or (self.functions() if is_proved else [])
+        if not said or is_proved and not proved.functions_of(self.crate, said):
+            place = f"crates/{self.crate}"
+            ran = proved.rattle("check", self.crate, place, *words) if said else proved.run(["rt", "check", *words], place)
+            said, is_proved = ran.stdout, re.search(r"(?m)^only=(\d+) proved=\1$", ran.stdout)
+        self.proved = proved.functions_of(self.crate, said)
         return "" if is_proved else f"the crate as it stands is not proved: {proved.first_of(said)}"
-
-    def functions(self):
-        """The functions of the crate, by what a check says of a copy in which each is a loop without a proof."""
-        with tempfile.TemporaryDirectory(prefix="wrong-bodies-") as room:
-            self.copy_into(room, [])
-            for at, _, files in os.walk(f"{room}/proofs"):
-                for name in {"Proof.antt", "Answers.antt", "Invariants.antt"} & {*files}:
-                    os.remove(f"{at}/{name}")
-            with self.places.place():
-                said = proved.rattle("check", self.crate, room, "--allow-holes", before=("nice", "-n", "19")).stdout
-        return re.findall(rf"(?m)^fn {self.crate}::(\S+): ", said)
 
     def copy_into(self, directory, group):
         """Copies the crate into a directory, with the changes of a group in place, and loops in place of all other bodies."""
@@ -411,12 +397,12 @@ def told_of(lines, proof):
 
 
 def function_at(text, at):
-    """Returns where the function begins and ends in whose body a place of a source file lies, and its name, if it lies in
-    one."""
+    """Returns where the function begins and ends in whose body a place of a source file lies, and its name; where it lies in
+    none, no name."""
     headers = [*HEADER.finditer(text, 0, max(at, 0))]
     body = body_of(text, headers[-1]) if headers else None
     is_there = body and body[0] <= at < body[1]
-    return (headers[-1].start(), text.index("}", body[1]) + 1, headers[-1]["name"]) if is_there else None
+    return (headers[-1].start(), text.index("}", body[1]) + 1, headers[-1]["name"]) if is_there else (0, 0, "")
 
 
 def is_of_trait(text, at):
@@ -433,13 +419,11 @@ def replaced(text, pieces):
 
 
 def groups_of(bodies):
-    """Returns the bodies in groups of about one size in which no function is changed twice where it stands, and alone what
-    others see."""
-    alone = [[body] for body in bodies if body.is_alone]
-    in_order = sorted((body for body in bodies if not body.is_alone), key=lambda value: value.function)
+    """Returns the bodies in groups of about one size in which no function is changed twice where it stands."""
+    in_order = sorted(bodies, key=lambda body: body.function)
     most = max(Counter(body.function for body in in_order if not body.copied).values(), default=0)
     number = max(most, -(-len(in_order) // GROUP))
-    return [*alone, *(in_order[at::number] for at in range(number))]
+    return [in_order[at::number] for at in range(number)]
 
 
 def try_all(tasks):

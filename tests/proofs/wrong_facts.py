@@ -18,13 +18,12 @@ import sys
 import tempfile
 
 HERE = os.path.dirname(os.path.realpath(__file__))
-sys.path.append(os.path.join(HERE, "..", "shared"))
-sys.path.append(os.path.join(HERE, "..", "..", "tools"))
+sys.path += [os.path.join(HERE, "..", "shared"), os.path.join(HERE, "..", "..", "tools")]
 
 import proved
-import sources
 from checks import Checks
-from wrong_bodies import HOLE, Trial
+from sources import read, read_module
+from wrong_bodies import HOLE, Trial, write
 
 FACTS = "proofs/Facts.antt"
 # The type of a fact: what stands between its name and what it opens, or its proof.
@@ -43,29 +42,27 @@ class Facts:
     """The facts of a crate, and their file with wrong values."""
 
     def __init__(self, crate):
-        self.text = sources.read(f"crates/{crate}/{FACTS}")
-        self.definitions = sources.read_module(os.path.join(sources.ROOT, "crates", crate, FACTS)).definitions
+        self.text = read(f"crates/{crate}/{FACTS}")
+        self.texts = {name: found.text for name, found in read_module(os.path.join(proved.ROOT, "crates", crate, FACTS)).definitions.items()}
         # By the name of each fact that has a value its text with another one, the facts that are computed, and the others.
-        self.wrong = {name: wrong for name in self.definitions if (wrong := self.with_wrong_value(name))}
-        computed = {name for name in self.wrong if COMPUTED.search(self.definitions[name].text)}
+        self.wrong = {name: wrong for name in self.texts if (wrong := self.with_wrong_value(name))}
+        computed = {name for name in self.wrong if COMPUTED.search(self.texts[name])}
         self.groups = [group for group in (computed, {*self.wrong} - computed) if group]
 
     def with_wrong_value(self, name):
         """The text of a fact with a wrong value, and before it the wrong copy of what it names; nothing where it has none."""
-        text = self.definitions[name].text
+        text = self.texts[name]
         found = STATEMENT.match(text)
         if not found:
             return ""
-        begin, end = found.span("right")
         if wrong := self.changed(found["right"]):
-            return text[:begin] + wrong + text[end:]
-        named = [word for word in re.findall(r"\w+", found[0]) if word in self.definitions and word != name]
-        for value in reversed(named):
-            lines = self.definitions[value].lines
-            if wrong := self.changed("\n".join(lines[1:])):
-                copy = re.sub(rf"\b{value}\b", f"wrong_{name}", "\n".join([lines[0], wrong]))
-                at = found[0].rindex(value)
-                return f"{copy}\n\n{text[:at]}wrong_{name}{text[at + len(value):]}"
+            return text[:found.start("right")] + wrong + text[found.end("right"):]
+        for value in reversed([word for word in re.findall(r"\w+", found[0]) if word in self.texts and word != name]):
+            line, _, rest = self.texts[value].partition("\n")
+            if wrong := self.changed(rest):
+                copy = re.sub(rf"\b{value}\b", f"wrong_{name}", f"{line}\n{wrong}")
+                before, after = found[0].rsplit(value, 1)
+                return f"{copy}\n\n{before}wrong_{name}{after}{text[found.end():]}"
         return ""
 
     def changed(self, value):
@@ -77,10 +74,10 @@ class Facts:
         """Another literal of its kind."""
         if literal == "[]":
             return "(0 ∷ [])"
-        if literal[0] == '"':
-            return literal[:-2] + ("1" if literal[-2] == "0" else "0") + '"'
-        if literal[0].isdigit():
-            return literal[:-1] + ("1" if literal[-1] == "0" else "0")
+        end = '"' if literal[0] == '"' else ""
+        if end or literal[0].isdigit():
+            digits = literal.removesuffix(end)
+            return digits[:-1] + ("1" if digits[-1] == "0" else "0") + end
         imported = re.findall(r"\w+", " ".join(IMPORTED.findall(self.text))) or ["OutOfMemory", "ReadingFailed"]
         return next(name for name in imported if name != literal)
 
@@ -88,30 +85,24 @@ class Facts:
         """The text of the file in which these facts are wrong."""
         text = self.text
         for name in names:
-            right = self.definitions[name].text.rstrip()
-            assert text.count(right) == 1, name
-            text = text.replace(right, self.wrong[name].rstrip())
+            assert text.count(self.texts[name].rstrip()) == 1, name
+            text = text.replace(self.texts[name].rstrip(), self.wrong[name].rstrip())
         return text
 
 
-def function_of(crate):
-    """The path of a function of the crate whose proof is written."""
-    proofs = f"crates/{crate}/proofs"
-    return next(os.path.relpath(at, proofs) for at, _, files in sorted(os.walk(proofs)) if "Answers.antt" in files)
-
-
 def said_of(crate, text):
-    """What a check says of the crate with these facts: it proves them alone, for a function whose proof names them."""
-    path = function_of(crate)
+    """What a check says of the crate with these facts: it proves them alone, for a function whose proof is written and then
+    names them."""
+    path = next(os.path.relpath(at, f"crates/{crate}/proofs") for at, _, files in sorted(os.walk(f"crates/{crate}/proofs"))
+                if "Answers.antt" in files)
+    *_, name = names = path.split(os.sep)
     with tempfile.TemporaryDirectory(prefix="wrong-facts-") as room:
         Trial(crate, None, None).copy_into(room, [])
-        for at in (os.path.join(at, file) for at, _, files in os.walk(f"{room}/proofs/{path}") for file in files):
-            os.remove(at)
-        *_, name = names = path.split(os.sep)
-        with open(f"{room}/proofs/{path}/Proof.antt", "w", encoding="utf-8") as file:
-            file.write(f"use Rattle.{crate}.proofs.Facts\n" + HOLE.format(path=".".join([crate, "proofs", *names]), name=name))
-        with open(f"{room}/{FACTS}", "w", encoding="utf-8") as file:
-            file.write(text)
+        for file in [f"{at}/{file}" for at, _, files in os.walk(f"{room}/proofs/{path}") for file in files]:
+            os.remove(file)
+        hole = HOLE.format(path=".".join([crate, "proofs", *names]), name=name)
+        write(f"{room}/proofs/{path}/Proof.antt", f"use Rattle.{crate}.proofs.Facts\n{hole}")
+        write(f"{room}/{FACTS}", text)
         words = ("--allow-holes", "--only", "::".join(names))
         return proved.rattle("check", crate, room, *words, before=("nice", "-n", "19")).stdout
 
@@ -123,22 +114,20 @@ def try_facts(report, crate):
         return
     proved.wait_for([crate])
     why = proved.supply(proved.crates()[crate].below)
-    if not report.check(not why, crate, why):
-        return
-    for group in facts.groups:
+    for group in facts.groups if report.check(not why, crate, why) else []:
         said = said_of(crate, facts.written(group))
         for name in sorted(group):
-            report.check(name in DIFFERS.findall(said), f"{crate}/{FACTS}", f"{name} is not rejected with a wrong value")
+            report.check(name in DIFFERS.findall(said), f"crates/{crate}/{FACTS}", f"{name} is not rejected with a wrong value")
 
 
 def main(names):
     os.chdir(proved.ROOT)
     report, with_facts = Checks(), [crate for crate in proved.crates() if os.path.exists(f"crates/{crate}/{FACTS}")]
+    for name in names:
+        report.check(name in with_facts, name, "it has no facts")
     for crate in with_facts:
         if not names or crate in names:
             try_facts(report, crate)
-    for name in names:
-        report.check(name in with_facts, name, "it has no facts")
     return report.end()
 
 
