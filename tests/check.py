@@ -55,11 +55,17 @@ def groups_of(path):
     return groups
 
 
+def processor_seconds():
+    """What the scripts that have ended, and all that they ran, have taken of the processor."""
+    times = os.times()
+    return times.children_user + times.children_system
+
+
 def run(script):
     """Runs a script, shows what it says, and returns how many of its checks passed and how many failed."""
     shown, last = " ".join(script.words), ""
     print(f"== {shown}", flush=True)
-    begun, used = time.monotonic(), os.times()
+    begun, used = time.monotonic(), processor_seconds()
     environment = {**{name: value for name, value in os.environ.items() if name not in OF_MAKE}, "PYTHONUNBUFFERED": "1"}
     with subprocess.Popen([sys.executable, *script.words], cwd=TOP, env=environment, stdin=subprocess.DEVNULL,
                           stdout=subprocess.PIPE) as process:
@@ -71,8 +77,7 @@ def run(script):
     if not numbers or (process.returncode == 0) != (failed == 0):
         print(f"FAILED: {shown} ended with status {process.returncode}, and its last line is {last!r}")
         failed = max(failed, 1)
-    processor = os.times().children_user - used.children_user + os.times().children_system - used.children_system
-    print(f"== {shown}: {time.monotonic() - begun:.0f} s, {processor:.0f} of the processor", flush=True)
+    print(f"== {shown}: {time.monotonic() - begun:.0f} s, {processor_seconds() - used:.0f} of the processor", flush=True)
     return passed, failed
 
 
