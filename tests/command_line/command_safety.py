@@ -94,7 +94,10 @@ class Terminals(Programs):
         with concurrent.futures.ThreadPoolExecutor() as pool:
             pool.submit(write_slowly)
             at = self.at_terminal(directory, "-Vm", name, "-x", "data.minisig", "-p", PUBLIC, *flags)
-            return at.finish(), at.shown
+            status = at.finish()
+            # (a program that never opens the pipe leaves the writer waiting)
+            os.close(os.open(path, os.O_RDONLY | os.O_NONBLOCK))
+            return status, at.shown
 
 
 class Safety(Terminals):
