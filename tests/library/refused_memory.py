@@ -120,7 +120,8 @@ def check(checks, room):
         refuse_each(checks, tests, name, preload)
     for function, enough, too_little in () if given else WITHIN:
         bound(checks, listed, function, enough, too_little)
-    checks.check(given or any(name.split("::")[-1] == RESERVES for _, name in listed), RESERVES, "no test has this name")
+    is_there = any(name.split("::")[-1] == RESERVES for _, name in listed)
+    checks.check(given or is_there, RESERVES, "no test has this name")
 
 
 if __name__ == "__main__":

@@ -20,6 +20,7 @@ from checks import Checks
 from sources import read
 from toy import KEY_A, SMALL, USUAL, Limits
 
+TEXTS = "crates/minisign_fixtures/src/texts.rt"
 SALT = bytes(range(0x20, 0x40))
 # The limits of Minisign's own program, with which scrypt takes a gibibyte.
 MINISIGN = Limits(1073741824, 33554432, 1048576, 1)
@@ -42,7 +43,7 @@ def main(names):
         sys.stdout.write(text_of(*names))
         return 0
     checks = Checks()
-    kept = dict(re.findall(r'pub const (\w+): &str =\s*"((?:[^"\\]|\\.)*)";', read("crates/minisign_fixtures/src/texts.rt")))
+    kept = dict(re.findall(r'pub const (\w+): &str =\s*"((?:[^"\\]|\\.)*)";', read(TEXTS)))
     for name in SEALED:
         checks.check(kept.get(name, "").replace("\\n", "\n") == text_of(name), name, "another text")
     return checks.end()

@@ -15,7 +15,8 @@ gave up at one of its limits, so that the goal may hold, or if only the function
 a line `by:` says so: both happen to right bodies too. Some limits of a search are limits of time, which come sooner on
 a busy machine: another edit whose search gave up is tried once more alone, when all else of the gate has ended. An
 edit fails too if the function is proved, if the prover could not tell, and if all that is left is a limit at which it
-stopped in a written proof, or if `why:` names a clause that its function has not. tests/proofs/wrong_bodies.txt says how many edits each crate has: other numbers fail too.
+stopped in a written proof, or if `why:` names a clause that its function has not. tests/proofs/wrong_bodies.txt says
+how many edits each crate has: other numbers fail too.
 
 usage: wrong_bodies.py [--unchanged] [CRATE[/NAME]..]
   --unchanged    leaves the changes out, and passes what is proved: so a rejection comes from a change and not from copying

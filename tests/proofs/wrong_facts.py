@@ -43,7 +43,8 @@ class Facts:
 
     def __init__(self, crate):
         self.text = read(f"crates/{crate}/{FACTS}")
-        self.texts = {name: found.text for name, found in read_module(os.path.join(proved.ROOT, "crates", crate, FACTS)).definitions.items()}
+        definitions = read_module(f"{proved.ROOT}/crates/{crate}/{FACTS}").definitions
+        self.texts = {name: found.text for name, found in definitions.items()}
         # By the name of each fact that has a value its text with another one, the facts that are computed, and the others.
         self.wrong = {name: wrong for name in self.texts if (wrong := self.with_wrong_value(name))}
         computed = {name for name in self.wrong if COMPUTED.search(self.texts[name])}
@@ -117,7 +118,7 @@ def try_facts(report, crate):
     for group in facts.groups if report.check(not why, crate, why) else []:
         said = said_of(crate, facts.written(group))
         for name in sorted(group):
-            report.check(name in DIFFERS.findall(said), f"crates/{crate}/{FACTS}", f"{name} is not rejected with a wrong value")
+            report.check(name in DIFFERS.findall(said), f"{crate}/{FACTS}", f"{name} is not rejected with a wrong value")
 
 
 def main(names):

@@ -11,6 +11,8 @@ OF_ABC = bytes.fromhex("ba80a53f981c4d0d6a2797b69f12f6e94c212f14685ac4b74b12bb6f
 # Places after which a message is cut in two, and no such place.
 CUTS = (WHOLE := Word("-"), 1, 127, 128, 129, 255, 256, 257)
 
+PAIRS = ((bytes(3), bytes(4)), (b"abc", b"abd"), (b"bbc", b"abc"), (b"abc", b"abc"), (b"", b""), (b"", b"a"))
+
 
 def counted_to(last, length):
     """Bytes that count up from 0 to the last one, and then from 0 again."""
@@ -32,14 +34,15 @@ def number(name, request, word, out):
 ROWS = [
     hashed("the vector of RFC 7693", b"abc", digest=OF_ABC),
     # Digests of each length, of messages of each length up to three blocks, cut in two and byte by byte.
-    *(hashed(f"{length} bytes of {message}", message, 1, length) for length in range(1, 65) for message in (b"", b"abc")),
+    *(hashed(f"{length} bytes of {message}", message, 1, length)
+      for length in range(1, 65) for message in (b"", b"abc")),
     *(hashed(f"{length} bytes cut after {cut}", counted_to(250, length), cut) for length in range(386) for cut in CUTS),
     *(hashed(f"{length} bytes one by one", counted_to(255, length), Word(",".join(map(str, range(1, length)))))
       for length in (127, 128, 129, 255, 256, 257, 385)),
-    *(Row(f"blake2b: no digest has {length} bytes", ask("blake2b", length, WHOLE, b"abc"), OUTSIDE) for length in (0, 65)),
+    *(Row(f"blake2b: no digest of {length} bytes", ask("blake2b", length, WHOLE, b"abc"), OUTSIDE) for length in (0, 65)),
     # Bytes are equal where each of them is, and there are as many.
     *(Row(f"equal: {one} and {other}", ask("fixed_time_eq", one, other), gives(eq=one == other))
-      for one, other in ((bytes(3), bytes(4)), (b"abc", b"abd"), (b"bbc", b"abc"), (b"abc", b"abc"), (b"", b""), (b"", b"a"))),
+      for one, other in PAIRS),
     # More bytes may follow those of a number.
     *(row for value in (0, 1, 255, 256, 0x0102030405060708, (1 << 63) - 1, (1 << 64) - 1)
       for stored in [value.to_bytes(8, "little")]

@@ -27,12 +27,14 @@ def signed(comment=b"c"):
     return signature(toy.signature_record(b"abc"), toy.signature_text(b"abc", untrusted=comment), untrusted=comment)
 
 
-# What a file is read as: the request, the words after the path, and how many typed lines are left where nothing is asked;
-# what stands after the first line, without the last line feed; and the answer with the comment `c` and with a long one.
+# What a file is read as: the request, the words after the path, and how many typed lines are left where nothing is
+# asked; what stands after the first line, without the last line feed; and the answer with the comment `c` and with a
+# long one.
 Kind = namedtuple("Kind", "name request words left body read read_long")
 PUBLIC = Kind("public", "pk_from_file", (), 0, public_keys.LINE, public_keys.KEY_A, public_keys.KEY_A)
 SECRET = Kind("secret", "sk_from_file", (None, typed(b"")), 1, SEALED_LINE, *[secret_key(OPENED, stdout=OPENING)] * 2)
-SIGNATURE = Kind("signature", "sig_from_file", (), 0, toy.signature_text(b"abc")[len(COMMENT):-1], signed(), signed(LETTERS))
+SIGNATURE = Kind("signature", "sig_from_file", (), 0, toy.signature_text(b"abc")[len(COMMENT):-1], signed(),
+                 signed(LETTERS))
 KINDS = (PUBLIC, SECRET, SIGNATURE)
 
 FILES = {
@@ -69,8 +71,8 @@ def made(kind, path, content, answer):
 
 
 def after_lines(kind, fed, letter, error):
-    """The body is read after a short line and a long one, with and without a long line after it; a letter after it and a
-    line feed before all are rejected."""
+    """The body is read after a short line and a long one, with and without a long line after it; a letter after it and
+    a line feed before all are rejected."""
     for name, line, answer in (("short", COMMENT, kind.read), ("long", LONG_COMMENT, kind.read_long)):
         for more, text, expected in (("nothing", b"", answer), ("a long line", b"\n" + LETTERS, answer),
                                      ("a letter", letter, error)):
@@ -86,10 +88,11 @@ def with_blank(kind, name):
 
 ROWS = [
     # A secret key is read with an empty password that is passed in or typed.
-    reading(PUBLIC, "key.pk", PUBLIC.read), reading(SIGNATURE, "abc.sig", SIGNATURE.read), reading(SECRET, "key.sk", SECRET.read),
-    Row("secret file: a password is passed in", ask("sk_from_file", "key.sk", "", typed(b"")), secret_key(OPENED, typed_left=1)),
-    # What is missing, lies in a file, is a directory, or is no UTF-8 in its only or its last byte gives no text. Nothing is
-    # asked for a file that gives no key.
+    *(reading(kind, path, kind.read) for kind, path in ((PUBLIC, "key.pk"), (SIGNATURE, "abc.sig"), (SECRET, "key.sk"))),
+    Row("secret file: a password is passed in", ask("sk_from_file", "key.sk", "", typed(b"")),
+        secret_key(OPENED, typed_left=1)),
+    # What is missing, lies in a file, is a directory, or is no UTF-8 in its only or its last byte gives no text. Nothing
+    # is asked for a file that gives no key.
     *(reading(kind, path, UNREADABLE) for kind in KINDS
       for path in ("missing", "empty/inside", ".", *(() if may_read_all() else CLOSED))),
     *(reading(kind, path, "NotUtf8") for kind in KINDS for path in ("ff", "long")),
@@ -104,5 +107,6 @@ ROWS = [
     *after_lines(PUBLIC, "PublicKeyLineNotBase64", b" ", "PublicKeyLineLength"),
     *after_lines(SECRET, "SecretKeyNotBase64", b" ", "SecretKeyNotBase64"),
     *after_lines(SIGNATURE, "UntrustedCommentPrefix", b"!", "SignatureNotBase64"),
-    *(row for kind in KINDS for name in (f" {kind.name} led by a blank", f"{kind.name} ended by one ") for row in with_blank(kind, name)),
+    *(row for kind in KINDS for name in (f" {kind.name} led by a blank", f"{kind.name} ended by one ")
+      for row in with_blank(kind, name)),
 ]

@@ -125,7 +125,8 @@ def under_password(password):
     yield signing(f"a key that is {name} does not sign, and nothing is read or drawn", record, data(b"test"),
                   rejected("EncryptedKeyRefused", drawn=0, reads=0, pos=0))
     yield Row(f"the text of a key that is {name}", ask("sk_to_box", record, None), gives(text=secret_text(record)))
-    yield opening(f"opening a key that is {name}", secret_text(record), password, typed("typed"), secret_key(OPENED, typed_left=1))
+    yield opening(f"opening a key that is {name}", secret_text(record), password, typed("typed"),
+                  secret_key(OPENED, typed_left=1))
 
 
 # What goes from one party to another goes as a text: the public key, and the signature with the comments by default.
@@ -170,8 +171,8 @@ ROWS = [
            made(PAIR, RECORD[:126] + hashlib.blake2b(b"Ed" + RECORD[54:126], digest_size=32).digest(), False)),
     opening("xor_keynum: opening restores what sealing changed", secret_text(sealed("password")), "password", NOTHING_TYPED,
             secret_key(sealed("password")[:54] + RECORD[54:])),
-    # The bytes of a pair that is not sealed, from which both keys come back, the public key of its secret one, and the text of
-    # the secret key, which is read again, and which no password opens.
+    # The bytes of a pair that is not sealed, from which both keys come back, the public key of its secret one, and the text
+    # of the secret key, which is read again, and which no password opens.
     making("its bytes", COUNTING, made(PAIR, RECORD, False)),
     Row("the public key of its secret key", ask("pk_from_secret_key", RECORD), public_key(PUBLIC)),
     Row("its public key from its bytes", ask("pk_from_bytes", PUBLIC), public_key(PUBLIC)),
@@ -188,13 +189,15 @@ ROWS = [
       for row in judged(f"a signature of the pair, {name}, over {content}", ACCEPTED if content == b"test" else REJECTED,
                         signature, content, PUBLIC, quiet=True)),
     *(row for password in ("password", "", "key password") for row in under_password(password)),
-    making_sealed("under a typed password", COUNTED[:DRAWN], None, typed("p", "p"), made(PAIR, sealed("p"), True, stdout=SHOWN)),
+    making_sealed("under a typed password", COUNTED[:DRAWN], None, typed("p", "p"),
+                  made(PAIR, sealed("p"), True, stdout=SHOWN)),
     making_sealed("random bytes that are all 9", NINES, "password", NOTHING_TYPED,
                   made(OF_NINES, OF_NINES.sealed(b"password", USUAL, NINES[:32]), True)),
     # The opened key signs. Written again, it is neither a sealed key nor one that was never sealed.
     *signs("a key that was opened", OPENED),
     Row("the text of a key that was made and opened", ask("sk_to_box", OPENED, None), gives(text=OPENED_TEXT)),
-    Row("a key that was made and opened is not read as never sealed", ask("sk_plain", OPENED_TEXT), rejected("KeyMightBeEncrypted")),
+    Row("a key that was made and opened is not read as never sealed", ask("sk_plain", OPENED_TEXT),
+        rejected("KeyMightBeEncrypted")),
     opening("a key that was made and opened is not opened again", OPENED_TEXT, "", typed("typed"),
             rejected("WrongPassword", typed_left=1)),
     Row("the text of a made public key", ask("pk_to_box", PUBLIC), gives(text=PUBLIC_TEXT)),

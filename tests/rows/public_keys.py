@@ -13,6 +13,7 @@ FED = b"\nuntrusted comment: minisign public key: 0807060504030201\n"
 
 # A key of the upstream tool, and how that tool shows its identifier.
 UPSTREAM = b"RWQf6LRCGA9i53mlYecO4IzT51TGPpvWucNSCh1CBM0QTaLn73Y7GFO3"
+UPSTREAM_RECORD = base64.b64decode(UPSTREAM)
 UPSTREAM_TEXT = toy.lines(b"untrusted comment: minisign public key: E7620F1842B4E81F", UPSTREAM)
 
 # Another key, and a line of 58 letters.
@@ -30,7 +31,8 @@ TOO_SHORT = rejected("RecordTooShort")
 
 # Texts around each power of two up to 2^17, and the first 256 characters, but for a line feed, between letters.
 COMMENTS = {
-    **{f"{size} letters": b"x" * size for size in sorted({(1 << exponent) + more for exponent in range(18) for more in (-1, 0, 1)})},
+    **{f"{size} letters": b"x" * size
+       for size in sorted({(1 << exponent) + more for exponent in range(18) for more in (-1, 0, 1)})},
     **{f"the character {code}": f"a{chr(code)}a".encode() for code in range(256) if code != ord("\n")},
 }
 
@@ -43,11 +45,12 @@ def of_prefix(length):
 ROWS = [
     Row("public key: the text of a record", ask("pk_to_box", RECORD), gives(text=TEXT)),
     Row("public key: a bare line", ask("pk_from_base64", LINE), KEY_A),
-    Row("public key: a bare line of the upstream tool", ask("pk_from_base64", UPSTREAM), public_key(base64.b64decode(UPSTREAM))),
-    Row("public key: the text of the upstream tool", ask("pk_to_box", base64.b64decode(UPSTREAM)), gives(text=UPSTREAM_TEXT)),
+    Row("public key: a bare line of the upstream tool", ask("pk_from_base64", UPSTREAM), public_key(UPSTREAM_RECORD)),
+    Row("public key: the text of the upstream tool", ask("pk_to_box", UPSTREAM_RECORD), gives(text=UPSTREAM_TEXT)),
     # Of a secret key's record whose checksum does not match, with and without a key derivation.
     *(Row(f"public half: key derivation {derivation}",
-          ask("pk_from_secret_key", toy.KEY_A.record(derivation, other=bytes(32))), KEY_A) for derivation in (bytes(2), b"Sc")),
+          ask("pk_from_secret_key", toy.KEY_A.record(derivation, other=bytes(32))), KEY_A)
+      for derivation in (bytes(2), b"Sc")),
     # Where a text ends decides what is missing.
     *(Row(f"public box: the first {length} bytes", ask("pk_from_box", TEXT[:length]), of_prefix(length))
       for length in range(len(TEXT) + 1)),
@@ -76,6 +79,6 @@ ROWS = [
         ("a shorter key that is filled up", LINE[:54] + b"o=", TOO_SHORT),
         ("bits are left over", LINE[:55] + b"=", BARE_NOT_BASE64),
         ("the last letter is none of base64", LINE[:55] + b"!", BARE_NOT_BASE64))),
-    *(Row(f"public box: a comment of {name}", ask("pk_from_box", toy.lines(b"untrusted comment: " + comment, LINE)), KEY_A)
-      for name, comment in COMMENTS.items()),
+    *(Row(f"public box: a comment of {name}", ask("pk_from_box", text), KEY_A) for name, comment in COMMENTS.items()
+      for text in [toy.lines(b"untrusted comment: " + comment, LINE)]),
 ]

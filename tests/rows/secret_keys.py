@@ -22,8 +22,8 @@ MIGHT_BE_SEALED = rejected("KeyMightBeEncrypted")
 
 
 def of_prefix(length):
-    """What comes of so many bytes of key A's text: the first line has 46 bytes, and the base64 is in groups of 4 up to the
-    258th."""
+    """What comes of so many bytes of key A's text: the first line has 46 bytes, and the base64 is in groups of 4 up to
+    the 258th."""
     of_line = TOO_SHORT if (length - 46) % 4 == 0 else NOT_BASE64
     return NO_COMMENT if length == 0 else NO_KEY if length <= 46 else of_line if length <= 257 else KEY_A
 

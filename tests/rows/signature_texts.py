@@ -8,7 +8,8 @@ from asking import Row, ask, gives, public_key, rejected, secret_key, signature
 from signing import signed
 from toy import DEFAULT_COMMENT, RECORD, SECRET_RECORD
 from verifying import (ACCEPTED, AT_ONCE, COMMENT_REJECTED, LEGACY_RECORD, LEGACY_TEXT, NO_SIGNATURE, PREHASHED_RECORD,
-                       PREHASHED_TEXT, REJECTED, UNKNOWN_RECORD, UPSTREAM_LEGACY, UPSTREAM_PREHASHED, judged, upstream_parts)
+                       PREHASHED_TEXT, REJECTED, UNKNOWN_RECORD, UPSTREAM_LEGACY, UPSTREAM_PREHASHED, judged,
+                       upstream_parts)
 
 # The lines of the text over `abc` under key A, with the comments `c` and `t`.
 FIRST, SECOND, THIRD, FOURTH = PREHASHED_TEXT.splitlines()
@@ -81,8 +82,8 @@ def odd_text(front="", end="\n", before="", fourth=FOURTH):
 
 
 def commented(size):
-    """Rows of both comments of so many letters: they come back, and the signature is accepted, by a key with such a comment
-    too."""
+    """Rows of both comments of so many letters: they come back, and the signature is accepted, by a key with such a
+    comment too."""
     comment = b"x" * size
     text = toy.signature_text(b"abc", trusted=comment, untrusted=comment)
     first = b"untrusted comment: " + comment
@@ -96,7 +97,7 @@ def commented(size):
 
 
 def signed_and_verified(name, content):
-    """Rows of data that is signed with the trusted comment `t`, accepted and copied, and rejected without its last byte."""
+    """Rows of data that is signed with the comment `t`, accepted and copied, and rejected without its last byte."""
     text = toy.signature_text(content, untrusted=DEFAULT_COMMENT)
     yield from signed(f"{name}, signed", content, b"t", None, moment=0, chunks=AT_ONCE)
     yield from copied(name, ACCEPTED, text, content, chunks=AT_ONCE)
@@ -167,10 +168,11 @@ ROWS = [row for rows in (
         ("empty", b"", COMMENT_REJECTED),
         ("blanks", " \u00a0".encode(), COMMENT_REJECTED))),
     # What stands after a record in the second line is not read, and is not written again.
-    *([read(f"{more} bytes more", text, signature(PREHASHED_RECORD, PREHASHED_TEXT)), *copied(f"{more} bytes more", ACCEPTED, text)]
+    *([read(f"{more} bytes more", text, signature(PREHASHED_RECORD, PREHASHED_TEXT)),
+       *copied(f"{more} bytes more", ACCEPTED, text)]
       for more in (1, 60)
       for text in [toy.lines(FIRST, base64.b64encode(PREHASHED_RECORD + bytes(range(more))), THIRD, FOURTH)]),
-    # All letters of base64: as the first 56 and the last 56 of them, of the records of keys, and as a comment signature.
+    # All letters of base64: the first 56 and the last 56 of them as records of keys, and all as a comment signature.
     *([Row(f"letters: {part}", ask("pk_from_bytes", record), public_key(record))]
       for part in (ALPHABET[:56], ALPHABET[8:]) for record in [base64.b64decode(part)]),
     [read("letters", text, signature(PREHASHED_RECORD, text)) for text in [toy.lines(FIRST, SECOND, THIRD, ALPHABET)]],

@@ -7,7 +7,8 @@ byte a read.
 import toy
 from asking import Row, ask, data, rejected, signature
 from toy import DEFAULT_COMMENT, KEY_A, OTHER_RECORD, RECORD, SCRYPT, SECRET_RECORD
-from verifying import ACCEPTED, BOTH, BY_BYTES, COMMENT_REJECTED, OTHER_KEY, REJECTED, UNREAD, in_pieces, judged, reads_of
+from verifying import (ACCEPTED, BOTH, BY_BYTES, COMMENT_REJECTED, OTHER_KEY, REJECTED, UNREAD, in_pieces, judged,
+                       reads_of)
 
 MOMENT = 1555779966
 # Key A, whose checksum does not match: without a key derivation, and with one.
@@ -83,7 +84,7 @@ ROWS = [row for rows in (
           ("data fails before random bytes do", SECRET_RECORD, 3, 0, UNREAD))),
     signed("source: left by a sealed key", b"abc", None, None, IS_SEALED, b"", SEALED),
     signed("source: read to its end without random bytes", b"abc", None, None, UNDRAWN, b"", UNCHECKED),
-    # The 32 bytes of a public key that is passed in are tested, and never its identifier. The last one is of 32 times 01.
+    # The 32 bytes of a public key that is passed in are tested, never its identifier. The last one is of 32 times 01.
     *(signed(f"given public key: {name}", error=error, public=public) for name, public, error in (
         ("its own", RECORD, None), ("with another identifier", OTHER_RECORD, None),
         ("another key", OTHER_RECORD[:10] + bytes([0x5B]) * 32, OTHER_GIVEN))),

@@ -105,7 +105,8 @@ CHANGED_TEXT, CHANGED_LEGACY = turned(PREHASHED_TEXT), turned(LEGACY_TEXT)
 UNKNOWN_RECORD = b"Ex" + PREHASHED_RECORD[2:]
 # A message of more than one piece, and its record.
 LONG = bytes((7 * i + i // 256) % 256 for i in range(100_000))
-OF_LONG = b"ED" + toy.KEYNUM + bytes(32) + bytes.fromhex("d4f140d88e494e19283fe4a31a2b66a60cde500f743d176788259b07d1098643")
+OF_LONG = b"ED" + toy.KEYNUM + bytes(32) + bytes.fromhex(
+    "d4f140d88e494e19283fe4a31a2b66a60cde500f743d176788259b07d1098643")
 
 BARE = [
     # Whether legacy signatures are accepted makes no difference to others.
@@ -233,7 +234,8 @@ def under_table(of, *cases):
     for text in of:
         record, trusted, comment_signature = upstream_parts(text)
         for message, signature in ((UPSTREAM_MESSAGES[text], record[10:]), (record[10:] + trusted, comment_signature)):
-            yield Row("upstream: a signature is accepted", ask("table_add", message, UPSTREAM_KEY[10:], signature), gives())
+            request = ask("table_add", message, UPSTREAM_KEY[10:], signature)
+            yield Row("upstream: a signature is accepted", request, gives())
     for name, outcome, text, content, how in cases:
         yield from judged(f"upstream: {name}", outcome, text, content, UPSTREAM_KEY_TEXT, upstream_parts(text)[1], **how)
     yield Row("upstream: the table is cleared", ask("table_clear"), gives())
