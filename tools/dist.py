@@ -96,20 +96,22 @@ def said_by_proved():
 # Building.
 
 
-def built_calls(room):
-    """The archives of the proved calls, and the C that is translated from what one of them was compiled from."""
+def built_calls(room, is_check):
+    """The archives of the proved calls, and the C that is translated from what one of them was compiled from. In a check the
+    second and the third archive take the proofs of the first."""
     compilers, bitcode = portable_calls.keeping_compilers(room)
+    kept = ["--incremental", os.path.join(room, "kept")] if is_check else []
     for name, flags in ARCHIVES.items():
         archive = os.path.join(room, name)
         print(f"dist: {name}, and proving first what is not proved", flush=True)
-        verdict = proved.build_archive(CALLS, archive, *flags, compilers=compilers if name == C_CALLS_OF else None)
+        verdict = proved.build_archive(CALLS, archive, *flags, *kept, compilers=compilers if name == C_CALLS_OF else None)
         yield Built(name, read(archive), {name: verdict, "sources of the calls": sources_sum("calls")})
     names = [call.name for call in boundary.proved_calls(c_header.both())]
     said = f"{C_CALLS}, by tools/wasm_to_c.py, which is tested and not proved; sum of the bitcode {hashlib.sha256(read(bitcode)).hexdigest()}"
     yield Built(C_CALLS, portable_calls.text(bitcode, names, room).encode(), {TRANSLATED: said})
 
 
-def built_page(_):
+def built_page(*_):
     """The page, which names the sum of its sources, as PROVED will name that and the module."""
     module, by = build.lowered(build.proved_module()), build.lowering()
     sums = build.sum_of(module), sources_sum("page")
@@ -123,10 +125,10 @@ def lowered_by(page):
     return found[1].decode() if found else "nothing"
 
 
-def built(parts):
+def built(parts, is_check=False):
     """All files of these parts."""
     with tempfile.TemporaryDirectory(prefix="dist-") as room:
-        return [file for part in parts for file in (built_calls if part == "calls" else built_page)(room)]
+        return [file for part in parts for file in (built_calls if part == "calls" else built_page)(room, is_check)]
 
 
 def write(name, data):
@@ -202,7 +204,7 @@ def check(parts):
     report.check(lines.get(MODULE) == build.sum_of(module), f"dist/{PAGE_FILE}", f"its module is not the one that {PROVED} names")
     logics = [re.search(r"logic \S+", kit_said)[0] for kit_said in (lines["kit"], kit)]
     report.check(logics[0] == logics[1], "dist", f"it was proved by {lines['kit']}, and here is {kit}: another logic")
-    for file in built(parts):
+    for file in built(parts, is_check=True):
         check_built(report, file, lines, kit)
         verdicts = [lines.get(file.name), file.lines.get(file.name)]
         is_proved = [said is not None and said.startswith("logic=proved ") for said in verdicts]
