@@ -339,10 +339,12 @@ class Trial:
         return [self.judged(body, said) for body in group]
 
     def check(self, directory, functions):
-        """Checks these functions of the crate, whose files are in this directory, and returns what is said."""
+        """Checks these functions of the crate, whose files are in this directory, and returns what is said. (A check runs the
+        prover once more for what it says of functions that are not proved, which then takes over what the check has kept.)"""
         words = [word for function in sorted(functions) for word in ("--only", function)]
-        with self.places.place():
-            return proved.rattle("check", self.crate, directory, "--allow-holes", *words, before=("nice", "-n", "19")).stdout
+        with self.places.place(), tempfile.TemporaryDirectory(prefix="wrong-bodies-kept-") as kept:
+            words += ["--allow-holes", "--incremental", kept]
+            return proved.rattle("check", self.crate, directory, *words, before=("nice", "-n", "19")).stdout
 
     def changed(self, group):
         """Returns the texts of the crate's sources with the changes of a group in place, and loops in place of all other
