@@ -359,7 +359,7 @@ def check_examples(checks, python_path, room):
 # What needs the words or the messages of a program, and not of a function.
 LEFT_OUT = ("progress at a terminal", "a closed error stream", "an allocation that fails", "an error stream that nobody reads", "what a check shows",
             "what a check shows of what it rejects", "the script of the document", "the unit of the document",
-            "a check: the same, that is asked for again", "a mode that is asked for, of what is there already")
+            "a mode that is asked for, of what is there already")
 
 
 def chosen_cases(installing):
