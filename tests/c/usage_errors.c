@@ -284,6 +284,7 @@ static void keys_made(void)
     opens("\xff", 0, 0, MINISIGN_NOT_UTF8);
     opens("abc", 0, 4 * 1024 - 1, MINISIGN_WORK_TOO_HIGH);
     opens("ab", 1, 4 * 1024, MINISIGN_WRONG_PASSWORD);
+    opens("ab", 16, MINISIGN_ANY_ROWS, MINISIGN_WRONG_PASSWORD);
     unopened.is_sealed = unopened.log2_rows = 0;
     unopened.work = 1;
     opens("abc", FEWEST_KEPT, 4 * 1024, MINISIGN_OK);
