@@ -36,8 +36,8 @@ WRAPPED = ["-Wl,--wrap=malloc", "-Wl,--wrap=realloc", "-Wl,--wrap=free"]
 
 # The programs, with what each is linked with.
 PROGRAMS = {"usage_errors": [], "asked_texts": [], "error_texts": [], "public_keys": WRAPPED, "installations": WRAPPED, "null": [],
-            "out_of_memory": [*WRAPPED, "-Wl,--wrap=pthread_create"], "allocations": [*WRAPPED, "-Wl,--wrap=madvise"], "guard_pages": [],
-            "threads": ["-pthread"], "random_calls": []}
+            "out_of_memory": [*WRAPPED, "-Wl,--wrap=madvise", "-Wl,--wrap=pthread_create"], "allocations": [*WRAPPED, "-Wl,--wrap=madvise"],
+            "guard_pages": [], "threads": ["-pthread"], "random_calls": []}
 # The libraries, with what make is told of each, and the flags that the programs are built with once each.
 NO_THREADS = "-DMINISIGN_NO_THREADS"
 LIBRARIES = {"both copies": ([], ([], SANITIZED)), "for x86-64-v2": ([f"V3={static_library.DIST}/calls-x86-64-v2.a"], ([],)),
@@ -54,7 +54,8 @@ def compiled(checks, what, name, compiler, library, *flags):
 
 def check_program(checks, what, name, compiler, library, *flags, before=()):
     """A program that counts what it checks: by these words before it, it is run."""
-    said = checks.ended(f"{what}: {name}", run([*before, compiled(checks, what, name, compiler, library, *flags)]))
+    ran = run([*before, compiled(checks, what, name, compiler, library, *flags)])
+    said = checks.ended(f"{what}: {name}", ran, says=" passed, 0 failed\n")
     checks.passed += int((re.findall(r"(?m)^(\d+) passed, 0 failed$", said) or [0])[-1])
 
 

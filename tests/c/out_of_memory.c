@@ -1,11 +1,11 @@
 /*
  * Verifying makes no request for memory, nor does opening a secret key in the caller's memory, which begins no thread
- * either. Of the other calls each request is refused in turn: the number is MINISIGN_OUT_OF_MEMORY, the state stays
- * as it was, and what was allocated is freed. The same with each request after it refused, and with the whole memory
- * of scrypt refused for a key sealed as `minisign -G` seals.
+ * either, and does not tell the system how to bring it in. Of the other calls each request is refused in turn: the
+ * number is MINISIGN_OUT_OF_MEMORY, the state stays as it was, and what was allocated is freed. The same with each
+ * request after it refused, and with the whole memory of scrypt refused for a key sealed as `minisign -G` seals.
  *
- * Linked with -Wl,--wrap=malloc -Wl,--wrap=realloc -Wl,--wrap=free -Wl,--wrap=pthread_create, and built with
- * -DMINISIGN_NO_THREADS where the library is.
+ * Linked with -Wl,--wrap=malloc -Wl,--wrap=realloc -Wl,--wrap=free -Wl,--wrap=madvise -Wl,--wrap=pthread_create, and
+ * built with -DMINISIGN_NO_THREADS where the library is.
  */
 #define _DEFAULT_SOURCE
 
@@ -16,8 +16,16 @@
 #include "counted_memory.h"
 #include "texts_for_tests.h"
 
-/* How many threads were asked for. */
-static long threads;
+/* How many threads were asked for, and how many hints about memory the system got. */
+static long threads, hints;
+
+int __real_madvise(void *from, size_t len, int hint);
+
+int __wrap_madvise(void *from, size_t len, int hint)
+{
+    hints++;
+    return __real_madvise(from, len, hint);
+}
 
 /* There is none to be had: the library does without. */
 int __wrap_pthread_create(void *thread, const void *attributes, void *(*begin)(void *), void *with)
@@ -137,7 +145,7 @@ static enum minisign_error open_in_place(const char *password, size_t room)
                                              MINISIGN_USUAL_ROWS, words, room, parts, sizeof parts, &key);
 }
 
-/* Opening in memory of the caller's makes no request and begins no thread, also where no request would be granted. */
+/* Opening in memory of the caller's makes no request and no hint, and begins no thread, also where no request would be granted. */
 static void open_without_memory(const minisign_secret_key *opened)
 {
     const size_t room = LENGTH(words);
@@ -145,15 +153,15 @@ static void open_without_memory(const minisign_secret_key *opened)
 
     CHECK(seal(opened, "pw", 1024 * LARGE_ROWS, 1, message, sizeof message, &text_len) == MINISIGN_OK);
     CHECK(minisign_read_secret_key(message, text_len, &unopened) == MINISIGN_OK);
-    requests = held = threads = 0;
+    requests = held = threads = hints = 0;
     CHECK(minisign_open_sealed_key(&unopened, bytes_of("pw"), 2, MINISIGN_KEEP_EVERY_ROW, MINISIGN_USUAL_ROWS, &key) == MINISIGN_OK);
     CHECK(requests > 0 && held == 0);
     /* (where c/library/allocation.c is what takes the memory) */
 #if defined(__LP64__) && defined(MADV_HUGEPAGE) && defined(MADV_POPULATE_WRITE) && !defined(MINISIGN_NO_THREADS)
-    CHECK(threads == 1);
+    CHECK(threads == 1 && hints > 0);
 #endif
     memset(&key, 0, sizeof key);
-    requests = threads = 0;
+    requests = threads = hints = 0;
     greatest = 0;
     minisign_opening_memory(&unopened, MINISIGN_KEEP_EVERY_ROW, &words_wanted, &bytes_wanted);
     CHECK(words_wanted <= room && bytes_wanted <= sizeof parts);
@@ -162,7 +170,7 @@ static void open_without_memory(const minisign_secret_key *opened)
     memset(words, 0x5a, sizeof words);
     CHECK(open_in_place("pw", room) == MINISIGN_OK);
     CHECK(memcmp(&key, opened, sizeof key) == 0 && is_zeros(words, sizeof words) && is_zeros(parts, sizeof parts));
-    CHECK(requests == 0 && held == 0 && threads == 0);
+    CHECK(requests == 0 && held == 0 && threads == 0 && hints == 0);
     greatest = SIZE_MAX;
 }
 
