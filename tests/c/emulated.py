@@ -117,7 +117,9 @@ def check_keys(checks, built, own):
     opened = built.ended("keys", "open", "1", USUAL_ROWS, "open.key").split()
     sealing = ["secret", *opened, "5a" * 32, "32768", "1048576", "1", "4096", "sealed", "pw"]
     sealed = checks.ended("sealing", run([compiled(checks, "here", "keys", needs.c_compiler(), own), *sealing]))
-    write(built.directory, "sealed.key", built.ended("keys", *sealing, says=sealed).encode())
+    said = built.ended("keys", *sealing)
+    checks.same(said, sealed, f"{built.kind.name}: sealing")
+    write(built.directory, "sealed.key", said.encode())
     for keep_every in ("1", "16"):
         said = built.ended("keys", "open", keep_every, USUAL_ROWS, "sealed.key", "pw")
         checks.check(said.split() == opened, f"{built.kind.name}: opening with {keep_every}: {said}")

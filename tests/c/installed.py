@@ -200,7 +200,8 @@ def check_signing(checks, over, program, cases):
             os.remove(made)
         status, _, why = run_apart([*program, secret, data, made, comment, *password])
         if rejected:
-            checks.check(status == 1 and why.endswith(f": {rejected}\n"), f"{program}, {what}: status {status}, {why!r}")
+            is_said = why in (f"sign: {rejected}\n", f"simple: {rejected}\n")
+            checks.check(status == 1 and is_said, f"{program}, {what}: status {status}, {why!r}")
             checks.check(not os.path.exists(made), f"{program}, {what}: a signature was written")
         else:
             checks.check(status == 0 and not why, f"{program}, {what}: status {status}, {why!r}")
@@ -244,7 +245,7 @@ def check_signers(checks, over):
         ("a key of which a half was changed", (halves[0], data, COMMENT), "Signature verification failed"),
         ("a sealed key", (sealed, data, COMMENT), "Key might be encrypted"), ("a comment of two lines", (key, data, "a\nb"), two_lines)])
     for made, rejected in ((f"{nothing}/made", "a file cannot be opened"), ("/dev/full", "the signature cannot be written")):
-        checks.ended(f"signing to {made}", run([*example, key, data, made, COMMENT]), status=1, says=f"sign: {rejected}\n")
+        checks.same(run([*example, key, data, made, COMMENT]), (1, f"sign: {rejected}\n"), f"signing to {made}")
 
 
 def check_updater(checks, over):
