@@ -11,7 +11,7 @@ in C++; the manual pages are read without a warning. It prints a line for each f
 `N passed, M failed`.
 
 Needs make, binutils, pkg-config, groff, a C and a C++ compiler, rustc, libsodium with its header and minisign, and
-installs what is missing if it may. The library is built over `dist/` (`static_library.py`); `packaging.py` uses what
+installs what is missing if it may. The library is built over `dist/` (`static_library.py`); `releases.py` uses what
 a release installs in the same way.
 """
 
