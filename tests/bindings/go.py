@@ -193,7 +193,9 @@ def check_go_minisign(checks, go, room, program):
             found.add(why)
             checks.check(why in table and table[why](case), f"go-minisign, {case.name}: {here}, and {there}")
     checks.check(found == {*REJECTED_HERE, *REJECTED_THERE}, f"go-minisign differs in {found}")
-    for name, why, verdict, _ in verdicts(go.build_their("changed.go", f"{room}/their")):
+    changed = verdicts(go.build_their("changed.go", f"{room}/their"))
+    checks.check(len(changed) >= 28, f"{len(changed)} changes of go-minisign")
+    for name, why, verdict, _ in changed:
         checks.check(verdict == ("false" if why and name not in OTHERWISE else "true"), f"changed, {name}: go-minisign says {verdict}")
 
 
