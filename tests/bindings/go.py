@@ -96,8 +96,8 @@ REJECTED_THERE = {
 
 
 class Go:
-    """Runs go with what it keeps in a directory of its own, and no network. C that is not to be tried by running it is compiled without
-    optimizing; `AS_USUAL` compiles it as go does."""
+    """Runs go with what it keeps in a directory of its own, and no network. Where it is tried how C is built, and not what it answers,
+    that is compiled without optimizing; `AS_USUAL` compiles it as go does."""
 
     AS_USUAL = {"CGO_CFLAGS": "-g -O2"}
 
@@ -281,10 +281,10 @@ def check_as_c(checks, go, room, package, minisign):
     """Over the calls as C: here, for ARM with pointers of 32 bits, and for Windows, under wine."""
     windows, arm = portable.Windows(room), Kind("armhf", "arm-linux-gnueabihf", "armhf", "arm", "ARM", has_32_bits=True)
     for what, before, words, environment in (
-            ("as C", [], ["-tags", "portable"], Go.AS_USUAL),
+            ("as C", [], ["-tags", "portable"], {}),
             ("for ARM", emulated.emulator(arm), [], {"GOOS": "linux", "GOARCH": "arm", "CC": emulated.compiler(arm)}),
             ("for Windows", [windows.program], [], {"GOOS": "windows", "CC": needs.program("x86_64-w64-mingw32-gcc", "gcc-mingw-w64-x86-64")})):
-        program = go.build("answers.go", os.path.join(room, what.replace(" ", "-")), package, *words, **environment)
+        program = go.build("answers.go", os.path.join(room, what.replace(" ", "-")), package, *words, **Go.AS_USUAL, **environment)
         asked = Program(checks, *before, program, name=what, WINEDEBUG="-all", WINEPREFIX=f"{room}/wine")
         asked.ask_answers(minisign, shared_cases.corpus(), (["verify"], True))
         checks.check(what == "for Windows" or b"machine_minisign_update" in names_in(program), f"{what}: it is not built of dist/calls.c")
