@@ -96,8 +96,8 @@ REJECTED_THERE = {
 
 
 class Go:
-    """Runs go with what it keeps in a directory of its own, and no network. C that is not to be tried by running it is compiled without
-    optimizing; `AS_USUAL` compiles it as go does."""
+    """Runs go with what it keeps in a directory of its own, and no network. Where it is tried how C is built, and not what it answers,
+    that is compiled without optimizing; `AS_USUAL` compiles it as go does."""
 
     AS_USUAL = {"CGO_CFLAGS": "-g -O2"}
 
@@ -193,7 +193,9 @@ def check_go_minisign(checks, go, room, program):
             found.add(why)
             checks.check(why in table and table[why](case), f"go-minisign, {case.name}: {here}, and {there}")
     checks.check(found == {*REJECTED_HERE, *REJECTED_THERE}, f"go-minisign differs in {found}")
-    for name, why, verdict, _ in verdicts(go.build_their("changed.go", f"{room}/their")):
+    changed = verdicts(go.build_their("changed.go", f"{room}/their"))
+    checks.check(len(changed) >= 28, f"{len(changed)} changes of go-minisign")
+    for name, why, verdict, _ in changed:
         checks.check(verdict == ("false" if why and name not in OTHERWISE else "true"), f"changed, {name}: go-minisign says {verdict}")
 
 
@@ -279,10 +281,10 @@ def check_as_c(checks, go, room, package, minisign):
     """Over the calls as C: here, for ARM with pointers of 32 bits, and for Windows, under wine."""
     windows, arm = portable.Windows(room), Kind("armhf", "arm-linux-gnueabihf", "armhf", "arm", "ARM", has_32_bits=True)
     for what, before, words, environment in (
-            ("as C", [], ["-tags", "portable"], Go.AS_USUAL),
+            ("as C", [], ["-tags", "portable"], {}),
             ("for ARM", emulated.emulator(arm), [], {"GOOS": "linux", "GOARCH": "arm", "CC": emulated.compiler(arm)}),
             ("for Windows", [windows.program], [], {"GOOS": "windows", "CC": needs.program("x86_64-w64-mingw32-gcc", "gcc-mingw-w64-x86-64")})):
-        program = go.build("answers.go", os.path.join(room, what.replace(" ", "-")), package, *words, **environment)
+        program = go.build("answers.go", os.path.join(room, what.replace(" ", "-")), package, *words, **Go.AS_USUAL, **environment)
         asked = Program(checks, *before, program, name=what, WINEDEBUG="-all", WINEPREFIX=f"{room}/wine")
         asked.ask_answers(minisign, shared_cases.corpus(), (["verify"], True))
         checks.check(what == "for Windows" or b"machine_minisign_update" in names_in(program), f"{what}: it is not built of dist/calls.c")

@@ -91,8 +91,8 @@ def new_crate(room, name, dependency, source):
 
 
 class Cargo:
-    """Runs cargo with what it keeps in a directory of its own, and no network. C that is not to be tried by running it is compiled
-    without optimizing, by `UNOPTIMIZED`."""
+    """Runs cargo with what it keeps in a directory of its own, and no network. Where it is tried how C is built, and not what it
+    answers, that is compiled without optimizing, by `UNOPTIMIZED`."""
 
     UNOPTIMIZED = {"CFLAGS": "-O0"}
 

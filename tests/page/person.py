@@ -292,7 +292,8 @@ class Person:
 
     def expect_each(self, part, wanted, what):
         """The rows have these verdicts, or numbers, by their names, when nothing is verified any more."""
-        self.same({row.name: getattr(row, part) for row in self.settled(what)}, wanted, what)
+        rows = self.settled(what)
+        self.same((len(rows), {row.name: getattr(row, part) for row in rows}), (len(wanted), wanted), what)
 
     # What the browser takes.
 

@@ -156,8 +156,10 @@ def check_matched(person):
         for files in given:
             first = person.put("unused", b"")
             person.choose(*(person.put(name, data, first) for name, data in files.items()))
-        rows = {row.name: (row.number, row.comment) for row in person.settled(what)}
-        person.same(rows, {name: (number, "t" if number == 0 else None) for name, number in wanted.items()}, what)
+        person.expect_each("number", wanted, what)
+        parts = {0: ("good", "t"), None: ("waiting", None)}
+        found = {row.name: (row.verdict, row.comment) for row in person.rows()}
+        person.same(found, {name: parts.get(number, ("bad", None)) for name, number in wanted.items()}, what)
 
 
 def check_vectors(person):

@@ -52,11 +52,11 @@ function isCancelled() {
 // Whether a key that is made here, written and read again signs what verifies, and one that is given sealed by little work; and nothing
 // once it was cleared.
 async function signs(sealed) {
-  const made = await generateSecretKey(), told = [];
-  for (const key of [await readSecretKey(await writeSecretKey(made, null)), await readSecretKey(sealed, {password: "pass word", lowMemory: true})]) {
+  const made = await generateSecretKey(), given = await readSecretKey(sealed, {password: "pass word", lowMemory: true}), told = [];
+  for (const [key, of] of [[await readSecretKey(await writeSecretKey(made, null)), made], [given, given]]) {
     const signature = await sign(new Blob(["data"]), key, {trustedComment: "version:2"});
-    const verified = await verify(new Blob(["data"]), signature, await writePublicKey(key));
-    told.push(verified.trustedComment, verified.keyId === key.keyId, key.isWeak);
+    const verified = await verify(new Blob(["data"]), signature, await writePublicKey(of));
+    told.push(verified.trustedComment, verified.keyId === of.keyId && key.keyId === of.keyId, key.isWeak);
   }
   clearSecretKey(made);
   return `${told} ${await sign(new Blob(["data"]), made).catch(why => why.code)}`;
