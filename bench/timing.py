@@ -9,7 +9,7 @@ from dataclasses import dataclass
 
 HERE = os.path.dirname(os.path.realpath(__file__))
 # The texts of the toy scheme, and what finds or installs what a script needs, are those of the tests.
-sys.path[:0] = [os.path.join(HERE, "..", "tests", name) for name in ("shared", "whole")]
+sys.path[:0] = [os.path.join(HERE, "..", "tests", name) for name in ("shared", "command_line")]
 import needs
 import toy
 

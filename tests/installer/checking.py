@@ -54,7 +54,8 @@ def tells_of_mode(directory):
 def cannot_be_made(directory, paths, status, said):
     """A check of these paths ends so, and writes nothing."""
     before = directory.everything()
-    directory.ends(directory.run(["--check", *paths]), status, said)
+    ran = directory.run(["--check", *paths])
+    expect(ran.status == status and said in (None, ran.said), ran, f"in place of {status}", said)
     expect(directory.everything() == before, f"the directory has {os.listdir(directory.path)}")
 
 

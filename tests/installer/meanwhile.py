@@ -37,7 +37,7 @@ def stalled_pipe(directory, update, statuses):
                 process.kill()
             else:
                 pipe.write(NEW[1000:])
-        directory.ends_later(process, status)
+        directory.ends_later(process, status, b"" if status == THERE else None)
         directory.expect(update[1], str(update[2]).encode())
         expect(os.stat(directory.at(PLACE)).st_ino == before.st_ino, "it was put there once more")
 

@@ -143,10 +143,6 @@ JUDGED = (
       for record in (b"", b"\n", b"six", b"5\n5\n", b"+5", b"timestamp:", b"timestamp:+5", b"timestamp: 5", b"Timestamp:5", b"time:5",
                      b"5timestamp:", b"timestamp:version:5", b"timestamp:5\tversion:5", b"timestamp:18446744073709551616", b"version:",
                      b"version:x")),
-    # The key, of a file or its letters.
-    ("a key that is too short", REJECTED, error("RWQ", "base64 conversion failed - was an actual public key given?"), dict(keys=("--key", "RWQ"))),
-    ("a key that is no base64", REJECTED, error("*" * 56, "base64 conversion failed - was an actual public key given?: invalid base64"),
-     dict(keys=("--key", "*" * 56))),
 )
 update_cases.table(*JUDGED)(judged)
 
@@ -239,6 +235,16 @@ def key_records(directory):
 
 def key_words(directory, *names):
     return [word for name in names for word in ("--key", base64.b64encode(key_records(directory)[name]).decode())] or [PK]
+
+
+@update_cases.table(
+    ("a key that is too short", "RWQ", ""),
+    ("a key that is no base64", "*" * 56, ": invalid base64"),
+)
+def rejects_key(directory, key, more):
+    """A key on the command line that does not read is rejected before the directory is touched."""
+    judged(directory, REJECTED, error(key, f"base64 conversion failed - was an actual public key given?{more}"), keys=("--key", key))
+    expect(directory.holds(LOCK) is None, "the directory was touched")
 
 
 @update_cases.table(
