@@ -22,6 +22,7 @@ sys.path += [os.path.join(HERE, "..", *directory) for directory in (("shared",),
 
 import acts
 import beside_c
+import build
 import ending
 import helps
 import hostile
@@ -104,4 +105,4 @@ def run_all(checks, room):
 
 
 if __name__ == "__main__":
-    sys.exit(ending.check("page", run_all))
+    sys.exit(ending.check("page", run_all, RuntimeError, build.NotPossible))
