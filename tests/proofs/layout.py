@@ -36,7 +36,7 @@ CRATES = ("minisign_hash", "minisign_kdf", "minisign_base", "minisign", "minisig
           "minisign_page", "minisign_tool", "minisign_programs", "minisign_examples", "minisign_vectors")
 # Bytes of `minisign` with white space folded; and definitions of these crates that relate something to an error, also
 # where their signature goes on in another line.
-LIMITS = {"definitions": 83_963, "proofs": 329_568, "relations on errors": 71}
+LIMITS = {"definitions": 84_000, "proofs": 329_511, "relations on errors": 71}
 # Clauses that are longer: the function, the clause, and why.
 DEVICES = "it names each device of the call, as it was and as it is"
 LAW = "a law over all that its premises name, stated once"

@@ -1,6 +1,6 @@
 -- Verifying over devices, where none fails, answers as the judge does; with texts as with what they read as;
 -- and the comment that was signed.
-use Rattle.std.proofs.Common.{◌≡◌, ℕ, true, List, inl, inr, sym, ap, subst, ◌∙◌, IfErr, IsErrAnd, OnOk}
+use Rattle.std.proofs.Common.{◌≡◌, ℕ, true, List, inl, inr, sym, ap, ◌∙◌, IfErr, IsErrAnd, OnOk}
 use Rattle.std.proofs.Common.{IfSome, ◌⊎◌, ⊎_elim, false, refl, [], Option, None, Some, IfOk, Result, Ok}
 use Rattle.std.proofs.Common.{Err, true≢false, IsSome, Bool}
 use Rattle.minisign.proofs.Common.{⊤, blake2b_digest, RereaderCall, SinkCall, unused, Fault, Named}

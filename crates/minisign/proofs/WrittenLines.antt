@@ -1,7 +1,7 @@
 -- Lines as they are written and read back: first lines, letters that are shown, and lines with labels.
 use Rattle.std.proofs.Common.{◌≡◌, ◌≢◌, ◌==◌, subst, ℕ, zero, suc, ◌+◌, ◌-◌, ◌<◌, ◌≤◌, Bool, true, false}
 use Rattle.std.proofs.Common.{◌&&◌, List, [], ◌∷◌, ◌++◌, length, take, slice_index, refl, sym, ap, ◌∙◌}
-use Rattle.std.proofs.Common.{arith, eqb, leb, ⊎_elim, ◌^◌, ◌*◌, ◌/◌, ◌%◌, replicate, nat_lt, drop, get_or}
+use Rattle.std.proofs.Common.{arith, eqb, leb, ⊎_elim, ◌^◌, ◌*◌, ◌/◌, ◌%◌, replicate, nat_lt, get_or}
 use Rattle.std.proofs.Common.{inl, inr, lit<, cond, ne_eqb, leb-true, length-append, get_or-append-add}
 use Rattle.std.proofs.Common.{take_all, take-append-drop, length-drop, encode_utf8, encode_utf8_all, IsAscii}
 use Rattle.std.proofs.Common.{All, w64, eq-eqb, eqb-true, append-nil, append_assoc}

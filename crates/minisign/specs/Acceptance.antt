@@ -23,8 +23,8 @@ options_of quiet output legacy = record { quiet = quiet; output = output; allow_
 abbrev pub signed_bytes : SignatureBoxRecord → List ℕ → List ℕ
 signed_bytes x message = if is_prehashed x.signature then blake2b_digest 64 message else message
 
--- whether, where there are comments, the first 64 bytes of the comment signature are accepted for the
--- signature followed by the trusted comment
+-- whether the comment signature has at least 64 bytes, and the first 64 are accepted for the signature
+-- followed by the trusted comment; a bare signature has none
 abbrev pub accepts_comments : Verifier → PublicKeyRecord → SignatureBoxRecord → Bool
 accepts_comments accepts pk x = option_map_or (λ c. nat_le 64 (length c.signature)
     && accepts (x.signature.signature ++ c.trusted) pk.key (take 64 c.signature)) x.comments true

@@ -1,6 +1,5 @@
--- Keys that are made: which password a key is sealed under, and what a prompt writes and reads for it; keys
--- of their parts, a key ID and 64 secret bytes, a seed and its public key, and their texts; and the pairs
--- that generation makes, from which random bytes, and what the sinks of a pair take.
+-- Keys that are made: under which password they are sealed, and how a prompt asks for it; keys of a key ID
+-- and 64 secret bytes, which are a seed and its public key; pairs of random bytes, and what their sinks take.
 use Rattle.std.specs.Prelude.{◌≡◌, ℕ, List, [], ◌∷◌, ◌++◌, Option, None, Some, Result, Ok, IfOk, MatchResult}
 use Rattle.std.specs.Prelude.{bytes_eq, if◌then◌else◌, ◌⊎◌, length, replicate, Err, codes, ◌<◌, ◌≤◌, ◌+◌}
 use Rattle.std.specs.Prelude.{unwrap_or}

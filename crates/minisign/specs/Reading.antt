@@ -1,4 +1,4 @@
--- What comes of reading to the end, and of copying that; why no text is read from a source or a file.
+-- What comes of reading to the end, and of copying it; why no text is read from a source or a file.
 use Rattle.std.specs.Prelude.{◌≡◌, ◌⊎◌, ⊤, ℕ, List, Option, IfSome, Result, IfErr, OnOk, OnErr, IsErrAnd}
 use Rattle.std.specs.Prelude.{IsUtf8}
 use Rattle.std.specs.Io.KnownBytes.{IsAtEnd}
@@ -33,8 +33,8 @@ IsReadFault source old new e =
     ((e ≡ Named OutOfMemory) × (source.faults new ≡ source.faults old))
     ⊎ HasFailed ReadingFailed source.faults old new e
 
--- all that is ahead is read, and put to the output, which flushes nothing; or an allocation fails before, or
--- a device fails, and the output holds a prefix of what was ahead, and of what the source gave
+-- all that is ahead is read, and put to the output, which flushes nothing; or an allocation fails before
+-- anything is read, or a device fails, and the output holds a prefix of what was ahead and of what came
 pub record Copies {R O : Type 0} (reader : RereaderCall R) (out : SinkCall O) (second : List ℕ)
     (answer : Result ⊤ Fault) : Type 0 where
   pub read : OnOk answer (ReadsWhole reader.source reader.old reader.new second)

@@ -1,6 +1,6 @@
 -- The checksum of a secret key, whether the key is still sealed, and what sealing and opening do: the last
--- 104 bytes of its record are xored with a stream of scrypt (RFC 7914, section 6). And how opening the text
--- of a sealed key ends.
+-- 104 bytes of its record are xored with a stream of scrypt (RFC 7914, section 6). And how opening its text
+-- ends.
 use Rattle.std.specs.Prelude.{ℕ, ◌*◌, ◌^◌, Bool, true, not, ◌&&◌, nat_lt, List, [], ◌∷◌, ◌++◌, take, drop}
 use Rattle.std.specs.Prelude.{Option, None, Result, Ok, bit_xor, bytes_eq, codes, if◌then◌else◌, ◌≡◌, ◌⊎◌}
 use Rattle.std.specs.Prelude.{Some, Err, false, IsOk}

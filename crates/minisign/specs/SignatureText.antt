@@ -76,7 +76,8 @@ with_comments s untrusted trusted signature = record {
   comments = record { untrusted = untrusted; trusted = trusted; signature = signature };
 }
 
--- the text reads as the signature with its comments, in the same four lines
+-- the text reads as the signature with its comments: two lines of a label and a comment, with base64 behind
+-- each; all but the first are trimmed
 pub record SignatureText (text : List ℕ) (t : SignatureTextRecord) : Type 0 where
   pub first : List ℕ
   pub second : List ℕ
@@ -120,14 +121,14 @@ pub record AreReadBack (untrusted trusted : List ℕ) : Type 0 where
 abbrev pub first_64 : List ℕ → Option (List ℕ)
 first_64 bytes = if nat_le 64 (length bytes) then Some (take 64 bytes) else None
 
--- what a view tells: of the comment signature the first 64 bytes, where it has so many
+-- a signature, its comments, and the first 64 bytes of the comment signature, where it has so many
 pub record SignatureViewRecord : Type 0 where
   pub signature : SignatureRecord
   pub untrusted : List ℕ
   pub trusted : List ℕ
   pub comment_signature : Option (List ℕ)
 
--- so of what a text reads as
+-- the view of what a text reads as
 abbrev pub view_of : SignatureTextRecord → SignatureViewRecord
 view_of t = record {
   signature = t.signature;

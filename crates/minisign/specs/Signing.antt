@@ -115,7 +115,7 @@ BytesSigningFails sk z e =
     × (((e ≡ Named named.OutOfMemory) × RandomHasNoNewFault z)
     ⊎ HasFailed named.RandomSourceFailed z.random.random_faults z.old z.new e))
 
--- == Texts ==
+-- == Boxes and texts ==
 
 -- signing with a genuine key: where neither comment has a line feed and the trusted one is trimmed, the text
 -- reads as a box that every public key of its seed and key ID vouches for the message with
@@ -136,7 +136,7 @@ abbrev pub TextSigningHeadline : Verifier → (List ℕ → List ℕ) → List �
 TextSigningHeadline accepts public_of sk_text ahead chosen text = (sk : SecretKeyRecord) × (message : List ℕ)
     × IsAhead ahead message × IsKeyOf sk_text sk × SigningHeadline accepts public_of sk message chosen text
 
--- what comes of a text that a key is wanted of: that of opening it, where it wants a password; otherwise a
+-- what comes of a text that a key is wanted of: where the key wants a password, that of opening it; else a
 -- key that was never sealed, or why there is none, with nothing asked
 abbrev pub GivesKey : {R W : Type 0} → PromptCall R W → Option (List ℕ) → List ℕ
     → Result SecretKeyRecord Fault → Type 0
@@ -176,7 +176,7 @@ module _ {S Z : Type 0} (s : SchemeOf S) (scheme : S) (sk : SecretKeyRecord) whe
   HasSignedDataText r chosen z text = (message : List ℕ) × ReadsWhole r.source r.old r.new message
       × HasSignedText message chosen z text
 
--- the text of a secret key gave a key, and all the data is signed so with it
+-- the text of a secret key gave a key, and this is the text of a box that is signed over the data with it
 abbrev pub HasSignedWithText : {S P Q R Z : Type 0} → SchemeOf S → S → PromptCall P Q → Option (List ℕ)
     → List ℕ
     → SourceCall R → ChosenComments → RandomCall Z → List ℕ → Type 0

@@ -1,6 +1,5 @@
 -- How verifying ends, with a key and a box or with two texts: its stages, and how each ends; what holds on
--- success, and that otherwise it failed at a stage. The devices are the source of the data, the status, and
--- the output.
+-- success, and that otherwise it failed at a stage. The devices: the source of data, the status, the output.
 use Rattle.std.specs.Prelude.{◌≡◌, ◌≢◌, ◌⊎◌, ⊤, ℕ, Bool, true, false, ◌&&◌, List, [], ◌∷◌, ◌++◌, Result, Ok}
 use Rattle.std.specs.Prelude.{Err, MatchResult, IsErrAnd, if◌then◌else◌, IsSome}
 use Rattle.minisign_hash.specs.Blake2b.{blake2b_digest}
@@ -23,7 +22,7 @@ use Rattle.minisign_base.specs.declared.faults.NamedFault.TheVariants as named
 
 -- a stage: the place is marked; the data is read to its end, which gives these bytes; the box is judged for
 -- this message; the status gets a text; the mark is gone back to; the data is read again, and put to the
--- output; the digest of what was copied is compared with this one; the output gets these bytes; it is flushed
+-- output; the digest of the copy is compared with this one; the output gets these bytes; it is flushed
 pub data Stage : Type 0 where
   Mark : Stage
   Read : List ℕ → Stage
@@ -42,7 +41,7 @@ pub record Devices (R W O : Type 0) : Type 0 where
   pub out : O
 
 module _ {R W O : Type 0} (reader : RereaderCall R) (status : SinkCall W) (out : SinkCall O) where
-  -- the devices that a stage does not use stay as they were
+  -- the reader, the status, the output is as it was: so is what a stage does not use
   abbrev pub Unread : Type 0
   Unread = reader.new ≡ reader.old
 
@@ -107,8 +106,7 @@ reporting_stages false x = Report (status_lines x) ∷ []
 abbrev pub second_copy_stages : List ℕ → List ℕ → List Stage
 second_copy_stages digest second = Return ∷ Copy second ∷ Compare digest second ∷ Flush ∷ []
 
--- where the data is to be copied, it is read again where the signature is over its digest, and otherwise it
--- was kept
+-- where the data is to be copied, it is read again if the signature is over its digest, and else was kept
 abbrev pub copying_stages : Bool → Bool → List ℕ → List ℕ → List Stage
 copying_stages false hashed message second = []
 copying_stages true true message second = second_copy_stages (blake2b_digest 64 message) second

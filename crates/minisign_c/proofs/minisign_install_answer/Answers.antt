@@ -1,4 +1,4 @@
-use Rattle.std.proofs.Common.{◌<◌, Err, inl, inr, lit<, refl}
+use Rattle.std.proofs.Common.{◌<◌, inl, inr, lit<, refl}
 use Rattle.minisign_external.specs.Numbers.{misuse_number, refusal_number}
 use Rattle.minisign_external.specs.declared.state.Misuse.{Misuse}
 use Rattle.minisign_external.specs.declared.state.Misuse.TheVariants.{NotBegun}

@@ -1,5 +1,5 @@
-use Rattle.std.proofs.Common.{◌≡◌, ℕ, List, ◌++◌, length, Some, string_bytes, arith, refl, ap, ◌∙◌, rules}
-use Rattle.minisign.proofs.Common.{common_steps, blake2b_digest}
+use Rattle.std.proofs.Common.{◌≡◌, ℕ, List, ◌++◌, length, string_bytes, arith, ap, ◌∙◌, rules}
+use Rattle.minisign.proofs.Common.{common_steps}
 use Rattle.minisign_base.specs.Scheme.{IsBytes}
 use Rattle.minisign.specs.Signing.{ChosenComments}
 use Rattle.minisign.proofs.SignedBoxes.{made_box, genuine_box}

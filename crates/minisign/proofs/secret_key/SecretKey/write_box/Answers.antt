@@ -1,5 +1,5 @@
 use Rattle.std.proofs.Common.{◌∙◌, refl, rules}
-use Rattle.minisign.specs.Records.{ReadsSecretKey, secret_key_bytes}
+use Rattle.minisign.specs.Records.{secret_key_bytes}
 use Rattle.minisign.specs.KeyTexts.{secret_key_text}
 use Rattle.minisign.specs.Texts.{IsBase64Of, base64_of, untrusted_comment_label}
 use Rattle.minisign.proofs.SecretKeyTexts.{bytes_read_as}
