@@ -9,7 +9,7 @@ import subprocess
 import termios
 import time
 
-SECONDS = 120
+SECONDS = 600
 
 
 class AtTerminal:
