@@ -13,7 +13,6 @@ programs print other results.
 Needs Python 3.9 or later and rustc, which it installs if it may.
 """
 
-import base64
 import hashlib
 import os
 import subprocess
@@ -41,16 +40,6 @@ def built(upstream, directory):
     return program
 
 
-def sealed_text(password, opslimit, memlimit, n, p):
-    """A secret key sealed with other limits than those of new keys."""
-    salt = bytes(range(32))
-    stream = hashlib.scrypt(password, salt=salt, n=n, r=8, p=p, dklen=104, maxmem=(1 << 31) - 1)
-    opened = toy.KEYNUM + toy.SEED + toy.KEY + toy.checksum(toy.KEYNUM, toy.SEED + toy.KEY)
-    limits = opslimit.to_bytes(8, "little") + memlimit.to_bytes(8, "little")
-    record = b"EdScB2" + salt + limits + bytes(a ^ b for a, b in zip(opened, stream))
-    return toy.lines(b"untrusted comment: c", base64.b64encode(record))
-
-
 def write(directory, name, data):
     with open(os.path.join(directory, name), "wb") as file:
         file.write(data)
@@ -70,7 +59,7 @@ def prepare(directory):
     write(directory, "key.pub", toy.public_text())
     write(directory, "plain.key", toy.secret_text())
     write(directory, "sealed.key", toy.sealed_text(b"p"))
-    write(directory, "strong.key", sealed_text(b"p", 1 << 25, 1 << 30, 1 << 20, 1))
+    write(directory, "strong.key", toy.secret_text(toy.KEY_A.sealed(b"p", toy.Limits(1 << 30, 1 << 25, 1 << 20, 1)), b"c"))
     small = toy.some_data(1000)
     write(directory, "small.sig", toy.signature_text(small))
     for number in range(1000):

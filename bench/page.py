@@ -11,26 +11,20 @@ is not timed: in later ones a browser may still hold what earlier pages left beh
 The page is the one of dist/ where none is named. Needs what tests/page/page.py needs, and 1 GB of room on the disk.
 """
 
+import contextlib
+import functools
 import os
+import statistics
 import sys
 import tempfile
+import threading
 import time
+from dataclasses import dataclass
 
 HERE = os.path.dirname(os.path.realpath(__file__))
 sys.path += [os.path.join(HERE, "..", "tests", directory) for directory in ("shared", "page")]
 
 import needs
-
-PYTHON = needs.python_with_selenium()
-if PYTHON != sys.executable:
-    os.execv(PYTHON, [PYTHON, os.path.realpath(__file__), *sys.argv[1:]])
-
-import contextlib
-import functools
-import statistics
-import threading
-from dataclasses import dataclass
-
 import static_library
 from browser import Chromium
 from commands import write_input
@@ -40,10 +34,12 @@ from timing import measured, processor_timed
 PAGE = os.path.realpath(sys.argv[2]) if len(sys.argv) > 2 else os.path.join(static_library.DIST, "minisign.html")
 ROUNDS = 5
 # The verdict, once it is there.
-VERDICT = """const done = arguments[0], timer = setInterval(() => {
-  const verdict = document.querySelector("#verdicts > li")?.dataset.verdict;
-  if (["good", "bad"].includes(verdict)) { clearInterval(timer); done(verdict); }
-}, 10);"""
+VERDICT = """return new Promise(done => {
+  const timer = setInterval(() => {
+    const verdict = document.querySelector("#verdicts > li")?.dataset.verdict;
+    if (["good", "bad"].includes(verdict)) { clearInterval(timer); done(verdict); }
+  }, 10);
+});"""
 
 
 @dataclass(frozen=True)
@@ -102,7 +98,7 @@ def page_run(browser, pk, data, sig):
     with Watch(browser) as watch:
         begun = time.perf_counter()
         browser.send("files", f"{data}\n{sig}")
-        verdict = browser.run_later(VERDICT)
+        verdict = browser.run(VERDICT)
         seconds = time.perf_counter() - begun
     if verdict != "good":
         raise SystemExit(f"the page says {browser.rows()[0].text!r}")

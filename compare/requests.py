@@ -15,8 +15,7 @@ import toy  # noqa: E402
 
 KEYNUM = toy.KEYNUM
 PUBLIC = b'Ed' + KEYNUM + toy.KEY
-SECRET = (b'Ed' + bytes(2) + b'B2' + bytes(48) + KEYNUM + toy.SEED + toy.KEY
-          + toy.checksum(KEYNUM, toy.SEED + toy.KEY))
+SECRET = toy.SECRET_RECORD
 COMMENT = b'untrusted comment: '
 TRUSTED = b'trusted comment: '
 # All that `trim` drops, and characters near them that it keeps.
@@ -55,7 +54,7 @@ def sealed_record(password, opslimit, memlimit, salt=bytes(range(32)), keynum=KE
     if p is None:
         p = min(0x3fffffff, (operations // 4 >> n_log2) & 0xffffffff) // 8
     stream = hashlib.scrypt(password, salt=salt, n=1 << n_log2, r=8, p=p, dklen=104, maxmem=1 << 30)
-    opened = keynum + toy.SEED + toy.KEY + toy.checksum(keynum, toy.SEED + toy.KEY)
+    opened = toy.Key(keynum=keynum).record()[54:]
     limits = opslimit.to_bytes(8, 'little') + memlimit.to_bytes(8, 'little')
     return b'Ed' + kdf + b'B2' + salt + limits + bytes(a ^ b for a, b in zip(opened, stream))
 

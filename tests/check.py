@@ -36,10 +36,6 @@ Group = namedtuple("Group", "name words scripts")
 Script = namedtuple("Script", "needs words")
 
 
-class Unreadable(Exception):
-    """A line of the list that has not its form."""
-
-
 def groups_of(path):
     """The groups that a list has."""
     groups = []
@@ -51,7 +47,7 @@ def groups_of(path):
             elif len(words) > 1 and words[0] in NEEDS and groups:
                 groups[-1].scripts.append(Script(words[0], words[1:]))
             elif words:
-                raise Unreadable(f"{path}:{number}: {line.strip()!r} is neither a group nor a script of one")
+                sys.exit(f"{path}:{number}: {line.strip()!r} is neither a group nor a script of one")
     return groups
 
 
@@ -88,15 +84,19 @@ def run_all(scripts):
     return 1 if failed or not passed else 0
 
 
-def without_kit(groups, names, is_for_debian):
-    """The scripts that need no kit, or those that are named, and where no browser is here not that of the page."""
-    for script in (script for group in groups for script in group.scripts if script.needs != "gate"):
-        if is_for_debian and script.needs != "debian" or names and script.words[0] not in names:
-            continue
-        if script.words[0] == IN_BROWSERS and not any(map(shutil.which, BROWSERS)):
-            print(f"left out: {IN_BROWSERS}: there is neither {' nor '.join(BROWSERS)}")
-            continue
-        yield script
+def scripts_of(groups, options):
+    """The scripts of a group, but for those that run in a fresh Debian; or those that need no kit, and where no browser is here not
+    that of the page, of which some may be named."""
+    for group, script in ((group, script) for group in groups for script in group.scripts):
+        is_named = not options.names or script.words[0] in options.names
+        if options.group:
+            if group.name == options.group and script.needs != "debian":
+                yield script
+        elif is_named and script.needs in (("debian",) if options.debian else ("any", "debian")):
+            if script.words[0] == IN_BROWSERS and not any(map(shutil.which, BROWSERS)):
+                print(f"left out: {IN_BROWSERS}: there is neither {' nor '.join(BROWSERS)}")
+            else:
+                yield script
 
 
 def main(words):
@@ -112,14 +112,8 @@ def main(words):
     if options.groups:
         print("\n".join(" ".join([group.name, *group.words]) for group in groups))
         return 0
-    if options.group:
-        return run_all(script for group in groups if group.name == options.group for script in group.scripts
-                       if script.needs != "debian")
-    return run_all(list(without_kit(groups, options.names, options.debian)))
+    return run_all(scripts_of(groups, options))
 
 
 if __name__ == "__main__":
-    try:
-        sys.exit(main(sys.argv[1:]))
-    except (Unreadable, OSError) as why:
-        sys.exit(f"tests/check.py: {why}")
+    sys.exit(main(sys.argv[1:]))

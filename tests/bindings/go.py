@@ -5,12 +5,12 @@ dependency by a git path, in a path with blanks, with no make in PATH.
 
     tests/bindings/go.py
 
-Its own tests and examples run under `go vet` and under the race detector, over each copy of the calls for x86-64, and
+Its own tests and examples run under `go vet`, under the race detector over the newer copy of the calls for x86-64, and
 for AArch64 in an emulator; over the calls as C it answers the same here, for ARM with pointers of 32 bits, and for
 Windows under wine; without cgo a sentence says so. What it answers is compared with `c/minisign`, with libsodium and
 with the header (`ask_all`). 20,000 damaged texts, and keys and signatures that the caller has changed since they were
 read, or put together, get the verdict of go-minisign, which is run beside, but for differences that tables name. The
-program of README.md is built. Each of some planted bugs is noticed. It prints a line for each failure; the last line
+program of README.md is built. Each bug of go/planted.txt is noticed. It prints a line for each failure; the last line
 is `N passed, M failed`.
 
 Needs Python 3.9 or later, golang-go, make, a C compiler, binutils and libsodium with its header, and of Debian
@@ -19,6 +19,7 @@ libc6-dev-armhf-cross, qemu-user-static, gcc-mingw-w64-x86-64, wine64 and git. I
 """
 
 import base64
+import binascii
 import glob
 import os
 import re
@@ -29,6 +30,7 @@ HERE = os.path.dirname(os.path.realpath(__file__))
 sys.path += [HERE, *(os.path.join(HERE, "..", name) for name in ("shared", "c")), os.path.join(HERE, "..", "..", "tools")]
 
 import carried
+import commands
 import emulated
 import ending
 import needs
@@ -36,7 +38,7 @@ import portable
 import shared_cases
 import static_library
 from emulated import Kind
-from shared_cases import TOP, Program, read, run, write
+from shared_cases import TOP, Program, names_in, read, run, write
 
 PACKAGE = os.path.join(TOP, "bindings", "go")
 LINES = 500
@@ -58,31 +60,32 @@ def line_of(text, number):
     return (text.split(b"\n") + [b""] * 4)[number - 1]
 
 
-def is_utf8(text):
-    try:
-        return text.decode() is not None
-    except UnicodeDecodeError:
-        return False
-
-
 def has_blank_comment(case):
-    """Whether a trusted comment has white space at its end."""
-    comment = line_of(case.signature, 3).decode().rstrip("\r")
-    return comment != comment.rstrip()
+    """Whether a trusted comment has white space at an end."""
+    comment = line_of(case.signature, 3).decode().removeprefix("trusted comment: ").rstrip("\r")
+    return comment != comment.strip()
+
+
+def is_broken(case):
+    """Whether the last base64 goes on behind a line break."""
+    return line_of(case.signature, 5) != b""
 
 
 def is_canonical(letters):
     """Whether base64 is written as an encoder writes it."""
-    return base64.b64encode(base64.b64decode(letters)) == letters.rstrip(b"\r")
+    try:
+        return base64.b64encode(base64.b64decode(letters)) == letters.rstrip(b"\r")
+    except binascii.Error:
+        return False
 
 
 # Which cases this package rejects, by the header's name of why, and go-minisign accepts.
 REJECTED_HERE = {
-    "COMMENT_SIGNATURE_REFUSED": lambda case: has_blank_comment(case) or line_of(case.signature, 4).strip() == b"",
-    "NOT_UTF8": lambda case: not (is_utf8(case.key) and is_utf8(case.signature)),
+    "COMMENT_SIGNATURE_REFUSED": lambda case: has_blank_comment(case) or is_broken(case),
+    "NOT_UTF8": lambda case: any(text.decode(errors="ignore").encode() != text for text in (case.key, case.signature)),
     "UNTRUSTED_COMMENT_PREFIX": lambda case: not case.signature.startswith(b"untrusted comment: "),
     "PUBLIC_KEY_LENGTH": lambda case: len(line_of(case.key, 2)) != 56,
-    "SIGNATURE_NOT_BASE64": lambda case: not all(is_canonical(line_of(case.signature, number)) for number in (2, 4)),
+    "SIGNATURE_NOT_BASE64": lambda case: is_broken(case) or not all(is_canonical(line_of(case.signature, number)) for number in (2, 4)),
     "SIGNATURE_REFUSED": lambda case: case in [vector for vector, _ in shared_cases.vector_texts()],
 }
 # Which cases go-minisign rejects, by its words, and this package accepts.
@@ -97,7 +100,8 @@ REJECTED_THERE = {
 
 class Go:
     """Runs go with what it keeps in a directory of its own, and no network. Where it is tried how C is built, and not what it answers,
-    that is compiled without optimizing; `AS_USUAL` compiles it as go does."""
+    that is compiled without optimizing; `AS_USUAL` compiles it as go does. (The calls as C are compiled in many ways by
+    tests/c/portable.py.)"""
 
     AS_USUAL = {"CGO_CFLAGS": "-g -O2"}
 
@@ -108,10 +112,7 @@ class Go:
                             "PATH": static_library.path_without_kit(), **environment}
 
     def run(self, directory, *words, **environment):
-        status, said, why = run([self.go, *words], directory, {**self.environment, **environment})
-        if status != 0:
-            raise static_library.NotBuilt(f"go {' '.join(words)}: {said.decode(errors='replace')[-1500:]}{why[-1500:]}")
-        return said.decode(errors="replace")
+        return shared_cases.hold([self.go, *words], directory, {**self.environment, **environment})
 
     def begin(self, directory, package):
         """Begins a module that uses the package, as README.md tells a user."""
@@ -137,14 +138,11 @@ class Go:
 
 def check_sources(checks):
     """The package is small, and calls C in one file alone."""
-    shared_cases.check_readme(checks, "go")
-    lines = 0
-    for path in sorted(glob.glob(f"{PACKAGE}/*.go")):
-        name, text = os.path.basename(path), read(path).decode()
-        if name not in MADE and not name.endswith("_test.go"):
-            lines += sum(1 for line in text.splitlines() if line.strip() and not line.strip().startswith("//"))
-            checks.check(name == "raw.go" or 'import "C"' not in text and '"unsafe"' not in text, f"{name}: it calls C")
-    checks.check(lines <= LINES, f"the package has {lines} lines")
+    names = [name for name in os.listdir(PACKAGE) if name.endswith(".go") and not name.endswith("_test.go")]
+    texts = {name: read(PACKAGE, name).decode() for name in names if name not in MADE}
+    for name, text in texts.items():
+        checks.check(name == "raw.go" or 'import "C"' not in text and '"unsafe"' not in text, f"{name}: it calls C")
+    shared_cases.check_written(checks, "go", shared_cases.code_of("\n".join(texts.values())), LINES)
 
 
 # ---- What its programs answer ----
@@ -158,11 +156,8 @@ def ask_all(program, room, minisign, cases):
     program.ask_reasons(["verify"], shared_cases.vector_texts(), told)
     program.ask_reasons(["pieces", "7"], shared_cases.rejections(), told)
     program.ask_readings(["read"], lambda reading: f"{reading.key_id.hex()} {reading.signature_key_id.hex()} {'Ed' if reading.is_legacy else 'ED'}")
-    key = shared_cases.LETTERS
-    record, wrong = base64.b64decode(key), "minisign: base64 conversion failed"
-    for text, wanted in ((key, f"{record[2:10].hex()} {record[10:].hex()} <nil>\n"), (key[:-1], wrong), (key[:-1] + "!", wrong), (f"x\n{key}", wrong)):
-        said = program.run("bare", text)[1].decode()
-        program.checks.check(said == wanted or wanted == wrong in said, f"the key {text!r} alone: {said}")
+    record = base64.b64decode(shared_cases.LETTERS)
+    program.ask_bare(f"{record[2:10].hex()} {record[10:].hex()} <nil>", *[".*minisign: base64 conversion failed.*"] * 3)
 
 
 def verdicts(program):
@@ -201,7 +196,7 @@ def check_go_minisign(checks, go, room, program):
 
 def check_errors(program):
     """Each error has the number, the name and the text of the header, and is found where another error wraps it."""
-    names, said = {number: name for name, number in shared_cases.error_numbers().items() if number != 0}, program.run("errors")[1].decode().splitlines()
+    names, said = {number: name for name, number in shared_cases.ERRORS.items()}, program.run("errors")[1].decode().splitlines()
     program.checks.check(len(said) == 1000 and len(names) > 50, f"{len(said)} numbers of errors")
     for number, line in enumerate(said):
         name = names.get(number)
@@ -225,13 +220,17 @@ def check_signing(program, room, minisign, opens=True):
     shared_cases.check_signing(program, room, minisign, opens=opens)
 
 
+# What the examples say of `app`, which is a kept file, with or without the published signature beside it.
+README = [("test", True, 0, "trusted comment: timestamp:1556193335\tfile:test <nil> 4\n", ""),
+          ("hello", True, 1, "", "Signature verification failed"), ("test", False, 1, "", "no such file or directory")]
+
+
 def check_readme(checks, go, room, package, minisign):
     """The examples of README.md accept a file that its key has signed, and no other one; and sign one."""
     directory = os.path.join(room, "readme")
     os.makedirs(directory)
-    verify, sign, stream = re.findall(r"```go\n(.*?)```", read(package, "README.md").decode(), re.S)
     program = read(HERE, "go", "readme.go").decode()
-    for mark, example in (("VERIFY", verify), ("SIGN", sign), ("STREAM", stream)):
+    for mark, example in zip(("VERIFY", "SIGN", "STREAM"), re.findall(r"```go\n(.*?)```", read(package, "README.md").decode(), re.S)):
         program = program.replace(f"\t// {mark}\n", example)
     write(directory, "main.go", program.encode())
     go.begin(directory, package)
@@ -243,17 +242,15 @@ def check_readme(checks, go, room, package, minisign):
     os.rename(away, package)
     shutil.copy(shared_cases.PATHS[1], os.path.join(directory, "app"))
     run([minisign, "-G", "-W", "-s", "app.key", "-p", "app.pub"], directory)
-    ran = run([os.path.join(directory, "readme"), "sign"], directory)
+    ran = run(["./readme", "sign"], directory)
     verified = run([minisign, "-V", "-Q", "-p", "app.pub", "-m", "app"], directory)
     checks.check((ran[0], verified[1]) == (0, b"version:2\tfile:app\n"), f"the example of README.md that signs: {ran} {verified}")
-    shutil.copy(shared_cases.PATHS[2], os.path.join(directory, "app.minisig"))
-    for app, wanted, why in (("test", "trusted comment: timestamp:1556193335\tfile:test <nil> 4\n", ""), ("hello", "", "Signature verification failed"),
-                             ("test", "", "no such file or directory")):
-        shutil.copy(os.path.join(shared_cases.CORPUS, app), os.path.join(directory, "app"))
-        if why.startswith("no such"):
-            os.remove(os.path.join(directory, "app.minisig"))
-        status, said, told = run([os.path.join(directory, "readme")], directory)
-        checks.check((status, said.decode()) == (int(why != ""), wanted) and why in told, f"the examples of README.md, {app}: {status} {said!r} {told}")
+    for app, is_signed, *wanted, why in README:
+        os.remove(os.path.join(directory, "app.minisig"))
+        for name, kept in (("app", app), ("app.minisig", "published.minisig"))[:1 + is_signed]:
+            shutil.copy(os.path.join(shared_cases.CORPUS, kept), os.path.join(directory, name))
+        status, said, told = run(["./readme"], directory)
+        checks.check([status, said.decode()] == wanted and why in told, f"the examples of README.md, {app}: {status} {said!r} {told}")
 
 
 # ---- Where it is built ----
@@ -264,17 +261,14 @@ NO_CGO = "minisign calls C: set CGO_ENABLED=1, and CC to a C compiler for this s
 
 
 def check_own_tests(checks, go, package):
-    """The package's own tests and examples: under the race detector, over the other archive for x86-64, and for AArch64 in an emulator."""
+    """The package's own tests and examples: under the race detector, over the archive for x86-64 that the programs are not built over, and
+    for AArch64 in an emulator."""
     checks.check(go.run(package, "vet", "./...") == "", "go vet has words")
     arm = emulated.AARCH64
     in_emulator = ["-exec", " ".join(emulated.emulator(arm))], {"GOARCH": "arm64", "CC": emulated.compiler(arm)}
-    for words, environment in ((["-race"], {}), (["-tags", "amd64.v3"], {}), in_emulator):
+    for words, environment in ((["-race", "-tags", "amd64.v3"], {}), in_emulator):
         said = go.run(package, "test", "-count=1", "-v", *words, "./...", **environment)
         checks.check(said.count("--- PASS: ") >= 6 and "--- SKIP" not in said, f"go test {words}: {said[-500:]}")
-
-
-def names_in(program):
-    return run([needs.program("nm", "binutils"), program])[1]
 
 
 def check_as_c(checks, go, room, package, minisign):
@@ -284,24 +278,25 @@ def check_as_c(checks, go, room, package, minisign):
             ("as C", [], ["-tags", "portable"], {}),
             ("for ARM", emulated.emulator(arm), [], {"GOOS": "linux", "GOARCH": "arm", "CC": emulated.compiler(arm)}),
             ("for Windows", [windows.program], [], {"GOOS": "windows", "CC": needs.program("x86_64-w64-mingw32-gcc", "gcc-mingw-w64-x86-64")})):
-        program = go.build("answers.go", os.path.join(room, what.replace(" ", "-")), package, *words, **Go.AS_USUAL, **environment)
-        asked = Program(checks, *before, program, name=what, WINEDEBUG="-all", WINEPREFIX=f"{room}/wine")
+        program = go.build("answers.go", os.path.join(room, what.replace(" ", "-")), package, *words, **environment)
+        asked = Program(checks, *before, program, name=what, **windows.variables)
         asked.ask_answers(minisign, shared_cases.corpus(), (["verify"], True))
-        checks.check(what == "for Windows" or b"machine_minisign_update" in names_in(program), f"{what}: it is not built of dist/calls.c")
+        checks.check(what == "for Windows" or "machine_minisign_update" in names_in(program), f"{what}: it is not built of dist/calls.c")
     windows.end()
-    signing = go.build("signing.go", os.path.join(room, "signing-as-c"), package, "-tags", "portable", **Go.AS_USUAL)
+    signing = go.build("signing.go", os.path.join(room, "signing-as-c"), package, "-tags", "portable")
     check_signing(Program(checks, signing, name="as C"), os.path.join(room, "signed-as-c"), minisign, opens=False)
 
 
 def check_by_git(checks, room):
     """As a dependency by a git path of `example.com`, in a path with blanks, with few programs in PATH and no make; over the archives."""
-    own = shared_cases.repository(room)
+    clone, own = commands.Clone(room), os.path.join(room, "repository.git")
+    os.rename(clone.top, own)
     config = write(room, "gitconfig", f'[url "file://{room}/"]\n\tinsteadOf = https://example.com/\n'.encode())
     go = Go(room, PATH=shared_cases.few_programs(room, *NEEDED), GIT_CONFIG_GLOBAL=config, GOSUMDB="off", GOFLAGS="-mod=mod -modcacherw", GOPROXY="direct")
-    commit = run(["git", "-C", own, "rev-parse", "HEAD"])[1].decode().strip()
+    commit = clone.git("rev-parse", "HEAD", at=own).strip()
     program = go.build("answers.go", os.path.join(room, "a user's module"), f"example.com/repository.git/bindings/go@{commit}")
     said = Program(checks, program).run("verify", cases=shared_cases.corpus()[:1])[1]
-    checks.check(said.startswith(b"accepted") and b"machine_minisign_update" not in names_in(program), f"by a git path: {said!r}")
+    checks.check(said.startswith(b"accepted") and "machine_minisign_update" not in names_in(program), f"by a git path: {said!r}")
 
 
 def check_without_cgo(checks, go, room, package):
@@ -314,63 +309,30 @@ def check_without_cgo(checks, go, room, package):
     checks.check(NO_CGO not in without_cgo(bare), "without cgo: the sentence is in another file")
 
 
-# The file, and what is changed in it.
-BUGS = [
-    ("ed25519.go", "!isRejectedPoint(publicKey[:]) && !", "!"),
-    ("ed25519.go", "second.Cmp(it) == 0", "second.Cmp(it) == 2"),
-    ("ed25519.go", "second.Cmp(prime) >= 0", "second.Sign() < 0"),
-    ("minisign.go", "\t\tmessage = bin\n", ""),
-    ("minisign.go", "callVerdict(verifier.state, first, verifier.acceptsComment())", "callVerdict(verifier.state, first, first)"),
-    ("minisign.go", "return begin(publicKey, signature, false)", "return begin(publicKey, signature, true)"),
-    ("minisign.go", "verifier.end(held.Bytes())", "verifier.end(nil)"),
-    ("minisign.go", "if read.signature() != signature {", "if false {"),
-    ("raw.go", "unsafe.Pointer(&it.of.key_id)", "unsafe.Pointer(&it.of.signature)"),
-    ("raw.go", "it.text[it.of.comment_offset:]", "it.text[it.of.comment_offset-1:]"),
-    ("minisign.go", "if publicKey.SignatureAlgorithm != [2]byte{'E', 'd'} {", "if false {"),
-    ("minisign.go", "signature.KeyId[:], signature.Signature[:]}", "signature.KeyId[:], signature.GlobalSignature[:]}"),
-    ("header.go", "\t\treturn C.MINISIGN_ANSWER_YES", "\t\treturn C.MINISIGN_ANSWER_YES + 1"),
-]
-# The same of what signs.
-SIGNING_BUGS = [
-    ("signing.go", "if !accepts(key.PublicKey, message, *signature) {", "if accepts(key.PublicKey, nil, *signature) {"),
-    ("raw.go", "unopened.log2_rows < C.MINISIGN_LEAST_LOG2_ROWS", "unopened.log2_rows < 2"),
-    ("raw.go", "sealing.operations_limit < C.MINISIGN_LEAST_OPERATIONS_LIMIT || ", ""),
-    ("raw.go", " || sealing.memory_limit < C.MINISIGN_LEAST_MEMORY_LIMIT", ""),
-    ("raw.go", "\t*(*[32]byte)(unsafe.Pointer(&sealing.salt)) = salt\n", "\t_ = salt\n"),
-    ("raw.go", "func (key *openedKey) clear() { *key = openedKey{} }", "func (key *openedKey) clear() {}"),
-    ("raw.go", "callSignedText(key.raw(), first, second, trusted, untrusted)", "callSignedText(key.raw(), first, second, untrusted, trusted)"),
-    ("signing.go", "fmt.Fprintf(to, \"SecretKey(%s)\", key.shownId())", "fmt.Fprintf(to, \"SecretKey(%s)\", *key.opened)"),
-    ("signing.go", "\tif len(password) == 0 {", "\tif password == nil {"),
-    ("signing.go", "\tfor at := range secret {\n\t\tsecret[at] = 0\n\t}\n", ""),
-    ("header.go", "C.size_t(len(trustedComment)), pointer(untrustedComment)", "C.size_t(len(trustedComment)), pointer(trustedComment)"),
-]
-
-
 def with_compiled_c(go, package, room):
     """A copy of the package whose C stands there compiled, as go links it: the bugs are in what is Go."""
     copied = shutil.copytree(package, os.path.join(room, "with-compiled-c"))
     sources = glob.glob(f"{copied}/*.c")
-    for command in ([go.environment["CC"], "-O2", "-I.", "-c", *sources], ["ld", "-r", "-o", "compiled.syso", *(path[:-1] + "o" for path in sources)]):
-        status, _, why = run(command, copied)
-        if status != 0:
-            raise static_library.NotBuilt(f"the package's C: {why[-1000:]}")
-    for path in [*sources, *glob.glob(f"{copied}/*.o")]:
+    objects = [path[:-1] + "o" for path in sources]
+    shared_cases.hold([go.environment["CC"], "-O2", "-I.", "-c", *sources], copied)
+    shared_cases.hold(["ld", "-r", "-o", "compiled.syso", *objects], copied)
+    for path in [*sources, *objects]:
         os.remove(path)
     return copied
 
 
 def check_planted(checks, go, package, room, minisign):
     """Each planted bug is noticed by what is asked of a program over the changed package."""
-    def ask(found, changed, directory):
-        ask_all(Program(found, go.build("answers.go", os.path.join(directory, "answers"), changed)), directory, minisign, shared_cases.corpus())
-        check_changed(found, go.build("changed.go", os.path.join(directory, "changed"), changed))
-
-    def ask_to_sign(found, changed, directory):
-        check_signing(Program(found, go.build("signing.go", os.path.join(directory, "signing"), changed)), os.path.join(directory, "signed"), minisign)
+    def ask(found, changed, directory, word):
+        built = lambda name: go.build(f"{name}.go", os.path.join(directory, name), changed)
+        if word == "sign":
+            check_signing(Program(found, built("signing")), os.path.join(directory, "signed"), minisign)
+        else:
+            ask_all(Program(found, built("answers")), directory, minisign, shared_cases.corpus())
+            check_changed(found, built("changed"))
 
     compiled = with_compiled_c(go, package, room)
-    shared_cases.check_planted(checks, compiled, BUGS, room, ask)
-    shared_cases.check_planted(checks, compiled, SIGNING_BUGS, room, ask_to_sign)
+    shared_cases.check_planted(checks, compiled, shared_cases.bugs_of(HERE, "go", "planted.txt"), room, ask)
 
 
 def run_all(checks, room):
@@ -388,9 +350,7 @@ def run_all(checks, room):
 
     program, racing = programs("answers.go", "answers")
     checks.check(go.run(os.path.join(room, "answers"), "vet", "./...") == "", "go vet has words of the program")
-    cases = shared_cases.corpus() + shared_cases.damaged()
-    shared_cases.check_cases(checks, minisign, cases)
-    ask_all(program, room, minisign, cases + shared_cases.large(minisign))
+    ask_all(program, room, minisign, shared_cases.all_cases(checks, minisign))
     check_errors(program)
     few = shared_cases.corpus() + shared_cases.damaged(60)
     program.ask_growth(CALLS, PAGES, few)

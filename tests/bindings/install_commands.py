@@ -39,25 +39,21 @@ USERS = {
 }
 
 
-def lines_of(package, language):
-    """What the README of a package has between fences of a language."""
-    text = read(TOP, "bindings", package, "README.md").decode()
-    return [line for block in re.findall(rf"^```{language}\n(.*?)^```$", text, re.M | re.S) for line in block.splitlines(keepends=True)]
-
-
 def check_package(checks, package, room):
     """Each command of a README succeeds, and the user's program accepts what the key has signed, and nothing else."""
     described, source, place, program = USERS[package]
+    readme = os.path.join("bindings", package, "README.md")
+    dependencies = "".join(re.findall(r"^```toml\n(.*?)^```$", read(TOP, readme).decode(), re.M | re.S))
     os.makedirs(os.path.dirname(os.path.join(room, place)))
     shutil.copy(os.path.join(HERE, package, source), os.path.join(room, place))
     for name, text in described.items():
-        write(room, name, (text + "".join(lines_of(package, "toml"))).encode())
+        write(room, name, (text + dependencies).encode())
     shutil.copy(shared_cases.PATHS[2], os.path.join(room, "app.minisig"))
     os.symlink(os.path.join("..", CLONE), os.path.join(room, CLONE))
     # (C is compiled without optimizing, to take less time)
     environment = {"PATH": static_library.path_without_kit(), "HOME": room, "GOPROXY": "off", "GOFLAGS": "", "GOTOOLCHAIN": "local",
                    "CARGO_HOME": f"{room}/cargo", "CARGO_NET_OFFLINE": "true", "CFLAGS": "-O0", "CGO_CFLAGS": "-O0"}
-    lines = lines_of(package, "sh")
+    lines = commands.commands_of(readme)
     checks.check(any(line.startswith(f"make -C {CLONE}/bindings {package}") for line in lines), f"{package}: README does not pack it")
     for line in lines:
         if not line.startswith(LEFT_OUT):

@@ -6,36 +6,39 @@ without network and kit.
     tests/bindings/javascript.py [PAGE]
 
 The module is that of PAGE, by default the one of `dist/`. What it answers is compared with `c/minisign`, with libsodium
-and with the header (`ask_all`), and its list of errors and its sizes of structs with the header. The types need neither
+and with the header (`ASKED`), and its list of errors and its sizes of structs with the header. The types need neither
 those of the web nor those of Node. The examples of README.md run. It runs where there is nothing but the language and a
-few globals that browsers, Node, Deno and workers all have, and needs each of these. Each of some planted bugs is
-noticed. Where there is no npm, the files that package.json names are taken. It prints a line for each failure; the last
+few globals that browsers, Node, Deno and workers all have, and needs each of these. Each bug of javascript/planted.txt
+is noticed. Where there is no npm, all files are packed that it could take. It prints a line for each failure; the last
 line is `N passed, M failed`.
 
 Needs Python 3.9 or later, nodejs (the one that the environment names NODE, if any), node-typescript, make, clang,
-lld, a C compiler, libsodium with its header, and for the browsers chromium, chromium-driver, python3-selenium and
-firefox-esr. It installs what is missing if it may.
+lld, a C compiler, libsodium with its header, and for the browsers chromium, chromium-driver and firefox-esr. It
+installs what is missing if it may.
 """
 
+import functools
+import http.server
 import json
 import os
 import re
 import shutil
 import sys
+import threading
 
 HERE = os.path.dirname(os.path.realpath(__file__))
-sys.path += [HERE, os.path.join(HERE, "..", "shared")]
+sys.path += [HERE, *(os.path.join(HERE, "..", name) for name in ("shared", "page"))]
 
 import ending
 import needs
 import shared_cases
 import static_library
+from browser import Chromium
+from firefox import Firefox
 from shared_cases import PATHS, PUBLISHED, TOP, Program, read, run, write
 
 PACKAGE = os.path.join(TOP, "bindings", "javascript")
-BUILD = os.path.join(TOP, "page", "build.py")
 PROGRAMS = [os.path.join(HERE, "javascript", name) for name in ("answers.mjs", "signing.mjs", "streams.mjs", "bare.mjs")]
-BROWSERS = os.path.join(HERE, "javascript_browsers.py")
 MODULE, SIGNING_MODULE = "module.js", "signing_module.js"
 # What tools/bindings.py makes, and which part of calls.js.
 MADE = ("errors.js", "header.js")
@@ -45,7 +48,7 @@ LINES = 600
 # (the "Minimum common web platform API").
 GLOBALS = ("TextDecoder", "TextEncoder", "WebAssembly", "atob", "crypto")
 # How many bytes may be in memory after so many calls, or keys, that were not after a tenth of them.
-CALLS, GROWTH = 100_000, 16 * 1048576
+CALLS, GROWTH = 10_000, 1_600_000
 KEYS, GROWTH_OF_KEYS = 3_000, 64 * 1048576
 # What becomes of streams, each tried in a program of its own, which an error that is lost would end.
 STREAMS = ("descriptors", "opening", "cancelled", "absent", "both", "begun", "between", "event", "late", "web", "accepted", "aborted")
@@ -53,25 +56,22 @@ STREAMS = ("descriptors", "opening", "cancelled", "absent", "both", "begun", "be
 VERIFYING = {8, *range(16, 33), 44, 45}
 
 
+# What packs in place of npm, where that is not here.
+PACKER = """#!/bin/sh
+exec tar -czf ../minisign-proved.tgz --transform 's,^,package/,' LICENSE README.md package.json *.js *.ts
+"""
+
+
 def made(room, page):
     """A user's directory with the packed package in it, and the programs: its path."""
-    user = os.path.join(room, "user")
-    package = os.path.join(user, "node_modules", "minisign-proved")
-    os.makedirs(os.path.dirname(package))
-    clang = needs.program("clang", "clang")
+    user, packing = os.path.join(room, "user"), {"PAGE": page, "CLANG": needs.program("clang", "clang")}
     needs.program("wasm-ld", "lld")
-    if shutil.which("npm", path=static_library.path_without_kit()) is not None:
-        os.rename(shared_cases.packed("javascript", room, PAGE=page, CLANG=clang), package)
-    else:
-        print("without npm: the files that package.json names, and what npm adds")
-        os.mkdir(package)
-        for name in {*json.loads(read(PACKAGE, "package.json"))["files"], "package.json", "README.md"} - {MODULE, SIGNING_MODULE}:
-            shutil.copy(os.path.join(PACKAGE, name), package)
-        for command in ([BUILD, "--package", "--from", page, os.path.join(package, MODULE)],
-                        [os.path.join(TOP, "tools", "signing_module.py"), os.path.join(package, SIGNING_MODULE)]):
-            status, _, why = run([sys.executable, *command], environment={"CLANG": clang})
-            if status != 0:
-                raise static_library.NotBuilt(why)
+    if shutil.which("npm", path=static_library.path_without_kit()) is None:
+        print("without npm: all files that it could take")
+        packing["NPM"] = write(room, "npm", PACKER.encode())
+        os.chmod(packing["NPM"], 0o755)
+    os.makedirs(os.path.join(user, "node_modules"))
+    os.rename(shared_cases.packed("javascript", room, **packing), os.path.join(user, "node_modules", "minisign-proved"))
     for program in PROGRAMS:
         shutil.copy(program, user)
     return user
@@ -84,20 +84,17 @@ def text_of(name):
 def check_sources(checks, user):
     """The package is small, names its files and the header's version, calls the module in one file alone, and has the errors of
     the header that verifying has."""
-    shared_cases.check_readme(checks, "javascript")
     described = json.loads(text_of("package.json"))
-    version = re.search(r'MINISIGN_VERSION_TEXT "(.*)"', read(shared_cases.HEADER).decode())[1]
-    checks.check(described["version"] == version, f"package.json has the version {described['version']}, and the header {version}")
+    checks.same(described["version"], shared_cases.VERSION, "the version of package.json")
     names = {name for name in os.listdir(os.path.join(user, "node_modules", "minisign-proved")) if name.endswith((".js", ".ts"))}
     checks.check(set(described["files"]) == names, f"package.json names {described['files']}, and there are {sorted(names)}")
-    lines = 0
+    code = []
     for name in sorted(names - {MODULE, SIGNING_MODULE, *MADE}):
         bare = re.sub(r"/\*.*?\*/", "", MADE_IN_CALLS.sub("", text_of(name)), flags=re.S)
-        lines += 0 if name.endswith(".d.ts") else sum(1 for line in bare.splitlines() if line.strip() and not line.strip().startswith("//"))
+        code += [] if name.endswith(".d.ts") else shared_cases.code_of(bare)
         checks.check(name == "calls.js" or not re.search(r"page_|WebAssembly\.|\.memory\b|\.calls\b", bare), f"{name}: it calls the module")
-    checks.check(lines <= LINES, f"the package has {lines} lines")
-    wanted = {name: number for name, number in shared_cases.error_numbers().items() if number != 0}
-    found = re.search(r"ERRORS = Object\.freeze\(\{(.*?)\}\)", text_of("errors.js"), re.S)[1]
+    shared_cases.check_written(checks, "javascript", code, LINES)
+    wanted, found = shared_cases.ERRORS, re.search(r"ERRORS = Object\.freeze\(\{(.*?)\}\)", text_of("errors.js"), re.S)[1]
     errors = {name: int(number) for name, number in re.findall(r"(\w+): (\d+)", found)}
     checks.check(errors == wanted, f"errors.js has other errors than the header: {set(errors.items()) ^ set(wanted.items())}")
     typed = set(re.findall(r'"([A-Z0-9_]+)"', re.search(r"type ErrorCode =(.*?);", text_of("errors.d.ts"), re.S)[1]))
@@ -116,42 +113,40 @@ def check_sources(checks, user):
 # ---- What its programs answer ----
 
 
-class Node(Program):
+def by_node(checks, user, program):
     """A program of a user's directory, run by Node."""
-
-    def __init__(self, checks, user, program):
-        # (Node 18 warns that its Ed25519 is experimental)
-        super().__init__(checks, os.environ.get("NODE") or needs.node(), "--expose-gc", "--experimental-vm-modules", program, name=program,
-                         directory=user, NODE_NO_WARNINGS="1", PATH=static_library.path_without_kit())
-
-    def ask_itself(self, least, *words, cases=()):
-        """It says of so many things at least what has to come of them, and behind a tabulator what came."""
-        status, said, why = self.run(*words, cases=cases)
-        lines = said.decode().splitlines()
-        self.checks.check(status == 0 and len(lines) >= least, f"{words}: {status}, {lines}, {why[-800:]}")
-        for line in lines:
-            wanted, _, came = line.partition("\t")
-            self.checks.check(wanted == came, f"{words}: {came} in place of {wanted}")
+    # (Node 18 warns that its Ed25519 is experimental)
+    return Program(checks, os.environ.get("NODE") or needs.node(), "--expose-gc", "--experimental-vm-modules", program, name=program,
+                   directory=user, NODE_NO_WARNINGS="1", PATH=static_library.path_without_kit())
 
 
-def ask_all(checks, user, minisign, cases, in_pieces):
-    """All that is asked of the programs that verify: with legacy signatures and without, and data in pieces of each kind."""
-    program = Node(checks, user, "answers.mjs")
+def ask_cases(program, minisign, cases):
+    """With legacy signatures and without."""
     program.ask_answers(minisign, cases, (["cases", "legacy"], True), (["cases"], False))
-    program.ask_answers(minisign, in_pieces, (["pieces"], False), (["pieces", "legacy"], True))
     program.ask_reasons(["cases"], shared_cases.rejections())
     program.ask_reasons(["cases", "legacy"], shared_cases.vector_texts())
+
+
+def ask_pieces(program, minisign, _):
+    """Data in pieces of each kind."""
+    cases = shared_cases.corpus() + shared_cases.large(minisign)
+    program.ask_answers(minisign, cases, (["pieces"], False), (["pieces", "legacy"], True))
+
+
+def ask_itself(program, *_):
+    """Calls with other arguments, and the parts of a verifier."""
+    for least, word in ((32, "wrong"), (10, "verifier"), (9, "letters")):
+        program.ask_itself(least, word, cases=[PUBLISHED])
     program.ask_comments(["comment"])
-    ask_readings(program, minisign)
     program.ask_vectors(["vectors"])
-    program.ask_itself(32, "wrong", cases=[PUBLISHED])
-    program.ask_itself(10, "verifier", cases=[PUBLISHED])
-    program.ask_itself(9, "letters", cases=[PUBLISHED])
+
+
+def ask_streams(program, *_):
     for what in STREAMS:
-        Node(checks, user, "streams.mjs").ask_itself(1, what, *PATHS)
+        by_node(program.checks, program.directory, "streams.mjs").ask_itself(1, what, *PATHS)
 
 
-def ask_readings(program, minisign):
+def ask_readings(program, minisign, _):
     """It tells which key a signature names, and whether it is legacy, before anything is asked; and verifies with what was read."""
     def form_of(allow_legacy):
         def form(reading):
@@ -166,14 +161,18 @@ def ask_readings(program, minisign):
 
     for words, allow_legacy in ((["read"], False), (["read", "legacy"], True)):
         program.ask_readings(words, form_of(allow_legacy))
-    rows = [(case, name) for case, name in shared_cases.rejections() if case.key == PUBLISHED.key and "signature" in case.name]
+    rows = [(case, name) for case, name in shared_cases.rejections() if case.signature != PUBLISHED.signature]
     program.ask_reasons(["read"], rows, lambda name: rf"([0-9A-F]{{16}} [0-9A-F]{{16}} (true|false) )?rejected {name}")
+
+
+# All that is asked of the programs that verify.
+ASKED = {"cases": ask_cases, "pieces": ask_pieces, "read": ask_readings, "itself": ask_itself, "streams": ask_streams}
 
 
 def check_signing(checks, user, room, minisign, opens=True):
     """The program and `c/minisign` read each other's keys and signatures; it shows no secret, and nothing is left of a key that was
     cleared; arguments of other types are rejected, and streams closed; threads sign at once."""
-    program = Node(checks, user, "signing.mjs")
+    program = by_node(checks, user, "signing.mjs")
     for least, *words in ((9, "shown"), (31, "wrong"), (4, "streams", PATHS[1])):
         program.ask_itself(least, *words)
     program.ask_threads()
@@ -195,7 +194,7 @@ def check_readme(checks, user):
                                 ("signed.mjs", verifies, ((data, b"version:2\n", ""),))):
         write(user, name, (given + example).encode())
         for path, wanted, reason in rows:
-            status, said, why = Node(checks, user, name).run(path, PATHS[2])
+            status, said, why = by_node(checks, user, name).run(path, PATHS[2])
             checks.check((status, said) == (int(reason != ""), wanted) and (reason in why if reason else why == ""), f"the README's {name}: {status} {said} {why}")
 
 
@@ -215,20 +214,20 @@ def check_bare(checks, user):
     wanted = ["accepted timestamp:1556193335\tfile:test"] * 4 + ["rejected SIGNATURE_REFUSED"]
     rows = [("context", GLOBALS), ("thread", GLOBALS), *(("context", [word for word in GLOBALS if word != left_out]) for left_out in GLOBALS)]
     for where, names in rows:
-        status, said, why = Node(checks, user, "bare.mjs").run(where, *names, cases=[PUBLISHED])
+        status, said, why = by_node(checks, user, "bare.mjs").run(where, *names, cases=[PUBLISHED])
         is_told = said.decode().splitlines() == wanted
         checks.check(is_told == (names is GLOBALS), f"in a bare {where} with {names}: {said} {status} {why[-500:]}")
 
 
-class Told(Program):
-    """What was answered before, by the words that ask it."""
+PAGE = """<!doctype html><meta charset="utf-8"><title>Answers</title><body><script type="module" src="browser.mjs"></script>"""
+SECONDS = 600
 
-    def __init__(self, checks, name, answers):
-        super().__init__(checks, name=name)
-        self.answers = answers
 
-    def run(self, *words, cases=()):
-        return 0, "\n".join(self.answers[words[0]]).encode(), ""
+class Handler(http.server.SimpleHTTPRequestHandler):
+    """Hands out the files of the directory, and the page."""
+
+    def log_message(self, *words):
+        pass
 
 
 def check_browsers(checks, user, room, minisign):
@@ -236,107 +235,74 @@ def check_browsers(checks, user, room, minisign):
     kept, vectors = shared_cases.corpus(), [case for case, _ in shared_cases.vectors()]
     cases = kept + shared_cases.damaged() + [case for case, _ in shared_cases.vector_texts()]
     asked = {"cases": cases, "pieces": kept, "vectors": vectors}
+    digits = {what: [[part.hex() for part in case[1:]] for case in of] for what, of in asked.items()}
+    run([minisign, "-G", "-W", "-s", "strong", "-p", "public"], room)
+    sealed = shared_cases.sealed(read(room, "strong"), shared_cases.LIMITS[4][0]).decode()
     directory = os.path.join(room, "served")
     shutil.copytree(os.path.join(user, "node_modules", "minisign-proved"), os.path.join(directory, "minisign-proved"))
     shutil.copy(os.path.join(HERE, "javascript", "browser.mjs"), directory)
-    digits = {what: [[part.hex() for part in case[1:]] for case in of] for what, of in asked.items()}
-    run([minisign, "-G", "-W", "-s", "strong", "-p", "public"], room)
-    sealed = shared_cases.sealed(read(room, "strong"), shared_cases.LIMITS[4]).decode()
     write(directory, "asked.json", json.dumps({**digits, "sealed": sealed}).encode())
-    status, said, why = run([needs.python_with_selenium(), BROWSERS, directory])
-    if status != 0:
-        checks.check(False, f"the browsers ended with {status}: {why[-1000:]}")
-        return
-    for browser, told in json.loads(said).items():
-        for where in ("page", "thread"):
-            answers, what = told.get(where), f"{browser} {told['version']}, {where}"
-            if answers is None:
-                checks.check(False, f"{what}: {told}")
-                continue
-            program = Told(checks, what, answers)
-            program.ask_answers(minisign, cases, (["legacy"], True), (["strict"], False))
-            program.ask_answers(minisign, kept, (["pieces"], False))
-            program.ask_vectors(["vectors"])
-            checks.check(answers["cancelled"], f"{what}: a stream is not cancelled")
-            checks.check(answers["signs"] == "version:2,true,false,version:2,true,false KEY_NOT_OPENED", f"{what}, signing: {answers['signs']}")
-            for name, text in zip(("sealed", "sealed.pub"), answers["pair"]):
-                write(room, name, text.encode())
-            run([minisign, "-S", "-s", "sealed", "-m", "public", "-x", "sig", "-t", what], room, data=f"{shared_cases.PASSWORD}\n".encode())
-            found = run([minisign, "-V", "-Q", "-p", "sealed.pub", "-m", "public", "-x", "sig"], room)
-            checks.check(found[:2] == (0, f"{what}\n".encode()), f"{what}: c/minisign does not sign by a sealed key: {found}")
-        print(f"bindings/javascript: in a page and in a worker of {browser} {told['version']}", flush=True)
+    write(directory, "index.html", PAGE.encode())
+    with http.server.ThreadingHTTPServer(("127.0.0.1", 0), functools.partial(Handler, directory=directory)) as server:
+        threading.Thread(target=server.serve_forever, daemon=True).start()
+        for begin in (lambda: Firefox(needs.firefox(), room), lambda: Chromium(*needs.chromium(), room)):
+            browser = begin()
+            try:
+                browser.go(f"http://127.0.0.1:{server.server_port}/")
+                browser.wait(lambda: browser.run("return document.documentElement.dataset.ready !== undefined"), SECONDS)
+                told, what = json.loads(browser.run("return document.body.textContent")), f"{browser.name} {browser.version()}"
+            finally:
+                browser.quit()
+            for where in ("page", "thread"):
+                if checks.check(where in told, f"{what}, {where}: {told}"):
+                    check_told(checks, f"{what}, {where}", told[where], room, minisign, cases)
+            print(f"bindings/javascript: in a page and in a worker of {what}", flush=True)
+        server.shutdown()
 
 
-# The file, and what is changed in it.
-BUGS = [
-    ("ed25519.js", "[publicKey, signature.subarray(0, 32)]", "[signature.subarray(0, 32)]"),
-    ("ed25519.js", "second >= PRIME || ", ""),
-    ("verification.js", "accepts(publicKey, commentSignature, message)", "accepts(publicKey, this.questions.signature, this.questions.digest ?? message)"),
-    ("verification.js", "library.verdict(state, true, await this.acceptsComment())", "library.verdict(state, true, true)"),
-    ("verification.js", "    hold(this.library.feed(this.state, bytes));", "    hold(this.library.feed(this.state, bytes.subarray(0, 65536)));"),
-    ("verification.js", "this.kept.push(bytes.slice());", "this.kept = [bytes.slice()];"),
-    ("calls.js", "it ? ANSWER_YES : ANSWER_NO", "it ? ANSWER_YES : ANSWER_YES"),
-    ("arguments.js", "new Uint8Array(it, 0, lengthOfBuffer.call(it))", "new Uint8Array(it instanceof ArrayBuffer ? it : null.it)"),
-    ("feeding.js", "throw signal.reason;", ""),
-    ("feeding.js", "reader.cancel(signal.reason)", "Promise.resolve()"),
-    ("arguments.js", "      throw new TypeError(`options has no ${name}`);", "      continue;"),
-    ("feeding.js", "isEnded = true;", ""),
-    ("feeding.js", "progress?.(fed.bytes, total);", "progress?.(fed.bytes);"),
-    ("calls.js", "allowsLegacy ? 1 : 0", "1"),
-    ("calls.js", "text: text.slice(),", "text: this.memory.subarray(this.text, this.text + text.length),"),
-    ("calls.js", "value[SIGNATURE.legacy] === 1", "number === 1"),
-    ("calls.js", "SIGNATURE.key_id, SIGNATURE.key_id + 8", "SIGNATURE.key_id + 8, SIGNATURE.key_id + 16"),
-    ("calls.js", 'numberAt("comment_offset", 8)', '0'),
-    ("errors.js", "UNSUPPORTED_ALGORITHM: 28,\n  DIFFERENT_KEY_IDS: 29", "UNSUPPORTED_ALGORITHM: 29,\n  DIFFERENT_KEY_IDS: 28"),
-    ("feeding.js", "source.destroy()", "null"),
-    ("feeding.js", "source.cancel(why)", "null"),
-    ("feeding.js", "source?.return?.()", "null"),
-    ("feeding.js", 'source?.on?.("error", reject)', 'source?.on?.("error", () => {})'),
-    ("feeding.js", "giveUp(source, why).catch(() => {});", 'giveUp(source, why).catch(() => {}); source?.removeAllListeners?.("error");'),
-]
-# The same of what signs.
-SIGNING_BUGS = [
-    ("signing.js", "number: isGood ? 0 : ERRORS.SIGNATURE_REFUSED", "number: 0"),
-    ("signing.js", "log2Rows < h.LEAST_LOG2_ROWS", "log2Rows < 2"),
-    ("signing.js", "calls.signedText(bytes, first, second, trusted, untrusted)", "calls.signedText(bytes, first, second, untrusted, trusted)"),
-    ("signing.js", "bytesOfKey(secretKey).fill(0);", "bytesOfKey(secretKey);"),
-    ("signing.js", "Object.freeze({ keyId, isWeak })", "Object.freeze({ keyId, isWeak, bytes })"),
-    ("signing.js", "  if (typed?.length === 0) {", "  if (false) {"),
-    ("signing.js", "trustedComment ?? usual", "trustedComment || usual"),
-    ("signing.js", "mostRows ?? h.USUAL_ROWS", "1"),
-    ("signing.js", ".replace(/^0+(?=.)/, \"\")", ".slice(1)"),
-]
+def check_told(checks, what, answers, room, minisign, cases):
+    """What it has answered in one place of a browser."""
+    program = Program(checks, name=what)
+    program.run = lambda word, **_: (0, "\n".join(answers[word]).encode(), "")
+    program.ask_answers(minisign, cases, (["legacy"], True), (["strict"], False))
+    program.ask_answers(minisign, shared_cases.corpus(), (["pieces"], False))
+    program.ask_vectors(["vectors"])
+    checks.check(answers["cancelled"], f"{what}: a stream is not cancelled")
+    checks.same(answers["signs"], "version:2,true,false,version:2,true,false KEY_NOT_OPENED", f"{what}, signing")
+    for name, text in zip(("sealed", "sealed.pub"), answers["pair"]):
+        write(room, name, text.encode())
+    run([minisign, "-S", "-s", "sealed", "-m", "public", "-x", "sig", "-t", what], room, data=f"{shared_cases.PASSWORD}\n".encode())
+    found = run([minisign, "-V", "-Q", "-p", "sealed.pub", "-m", "public", "-x", "sig"], room)
+    checks.check(found[:2] == (0, f"{what}\n".encode()), f"{what}: c/minisign does not sign by a sealed key: {found}")
 
 
 def check_planted(checks, user, room, minisign):
     """Each planted bug is noticed by what is asked of the programs over the changed package, in Node."""
-    def over(changed, directory):
-        """The user's directory over the changed package."""
+    def ask(found, changed, directory, word):
+        """Asks in a copy of the user's directory, over the changed package."""
         copied = shutil.copytree(user, os.path.join(directory, "user"), ignore=shutil.ignore_patterns("minisign-proved"))
         os.symlink(changed, os.path.join(copied, "node_modules", "minisign-proved"))
-        return copied
+        if word == "sign":
+            check_signing(found, copied, os.path.join(directory, "signed"), minisign, opens=False)
+        else:
+            ASKED[word](by_node(found, copied, "answers.mjs"), minisign, shared_cases.corpus())
 
-    kept, large = shared_cases.corpus(), shared_cases.large(minisign)
-    ask = lambda found, changed, directory: ask_all(found, over(changed, directory), minisign, kept + large, kept)
-    ask_to_sign = lambda found, changed, directory: check_signing(found, over(changed, directory), os.path.join(directory, "signed"), minisign, opens=False)
     package = os.path.join(user, "node_modules", "minisign-proved")
-    shared_cases.check_planted(checks, package, BUGS, room, ask)
-    shared_cases.check_planted(checks, package, SIGNING_BUGS, room, ask_to_sign)
+    shared_cases.check_planted(checks, package, shared_cases.bugs_of(HERE, "javascript", "planted.txt"), room, ask)
 
 
 def run_all(checks, room):
     page = os.path.realpath(sys.argv[1]) if len(sys.argv) > 1 else os.path.join(TOP, "dist", "minisign.html")
     user, minisign = made(room, page), shared_cases.c_minisign(room)
-    kept, large = shared_cases.corpus(), shared_cases.large(minisign)
-    cases = kept + shared_cases.damaged()
     check_sources(checks, user)
-    shared_cases.check_cases(checks, minisign, cases)
-    ask_all(checks, user, minisign, cases, kept + large)
-    program = Node(checks, user, "answers.mjs")
+    cases = shared_cases.all_cases(checks, minisign)
+    program = by_node(checks, user, "answers.mjs")
+    for ask in ASKED.values():
+        ask(program, minisign, cases)
     program.ask_answers(minisign, cases, (["threads"], False))
     program.ask_growth(CALLS, GROWTH, cases=[PUBLISHED, PUBLISHED._replace(data=b"other data")])
     tried = {name for _, name in shared_cases.rejections()} | {"BARE_PUBLIC_KEY_LENGTH", "BARE_PUBLIC_KEY_NOT_BASE64"}
-    wanted = {name for name, number in shared_cases.error_numbers().items() if number in VERIFYING}
+    wanted = {name for name, number in shared_cases.ERRORS.items() if number in VERIFYING}
     checks.check(tried == wanted, f"an error is not tried: {tried ^ wanted}")
     check_signing(checks, user, os.path.join(room, "signed"), minisign).ask_growth(KEYS, GROWTH_OF_KEYS)
     check_readme(checks, user)
@@ -347,4 +313,4 @@ def run_all(checks, room):
 
 
 if __name__ == "__main__":
-    sys.exit(ending.check("javascript", run_all, ValueError))
+    sys.exit(ending.check("javascript", run_all, ValueError, RuntimeError))

@@ -7,8 +7,8 @@ rustfmt, gofmt, black, and prettier.
 Debian has the first three, which run here; they also lay out what tools/bindings.py makes. Of JavaScript, whose
 formatter Debian does not have, this looks at the width of lines, indentation, quotes, the blanks inside of brackets,
 the brackets around parameters and the comma behind the last of a list. No formatter breaks comments and docstrings:
-this looks at their width. Then it notices each of some lines that are laid out otherwise. It prints a line for each
-failure; the last line is `N passed, M failed`.
+this looks at their width. Then it notices each line of layout.txt, which is laid out otherwise. It prints a line for
+each failure; the last line is `N passed, M failed`.
 
 Needs Python 3.9 or later, and of Debian rustfmt, golang-go and black. It installs what is missing if it may.
 """
@@ -25,7 +25,7 @@ sys.path.append(os.path.join(HERE, "..", "shared"))
 
 import ending
 import needs
-from shared_cases import TOP, check_planted, read, run
+from shared_cases import TOP, bugs_of, check_planted, read, run
 
 # The files of each language from the top of the repository, how wide its lines are, and its formatter and the package that has that:
 # it says nothing and ends well where all is as it writes it.
@@ -97,34 +97,6 @@ def check_language(checks, language, top):
         checks.check(text == json.dumps(json.loads(text), indent=2, ensure_ascii=False) + "\n", f"{PACKAGE} is laid out otherwise")
 
 
-# A file, and a line of it that is laid out otherwise.
-PLANTED = [
-    ("bindings/rust/src/lib.rs", "pub fn decode(lines: &str)", "pub fn decode( lines: &str)"),
-    ("bindings/rust/src/raw/header.rs", "    fn minisign_init(state: *mut State);", "  fn minisign_init(state: *mut State);"),
-    ("bindings/rust/src/signing.rs", "/// Begins to sign data", "/// Begins to sign data" + " of any length" * 6),
-    ("examples/rust/src/main.rs", "-> ExitCode {", "-> ExitCode\n{"),
-    ("bindings/go/raw.go", "func read(text string) (", "func read(text string)  ("),
-    ("bindings/go/header.go", "func callInit() ", "func callInit()  "),
-    ("bindings/go/errors.go", "\tErrNotBegun ", "\tErrNotBegun  "),
-    ("bindings/python/src/minisign_proved/_keys.py", "        text = file.read(TEXT_BYTES + 1)", "        text = file.read(TEXT_BYTES+1)"),
-    ("bindings/python/src/minisign_proved/errors.py", "    number = 1\n\n\n", "    number = 1\n\n"),
-    ("bindings/python/src/minisign_proved/_calls.py", "# The prime of the field", "# The prime of the field" + " of numbers" * 6),
-    ("bindings/javascript/loaded.js", "let loading;\n", "let loading;\t\n"),
-    ("bindings/javascript/loaded.js", "let loading;\n", "let loading; \n"),
-    ("bindings/javascript/loaded.js", "let loading;\n", "let loading;\n\n\n"),
-    ("bindings/javascript/loaded.js", "  return loading;", "   return loading;"),
-    ("bindings/javascript/arguments.js", "(it) => typeof", "it => typeof"),
-    ("bindings/javascript/loaded.js", '"./calls.js"', "'./calls.js'"),
-    ("bindings/javascript/loaded.js", "{ hasEd25519 }", "{hasEd25519}"),
-    ("bindings/javascript/header.js", "Uint8Array(STRUCTS.public_key.size);", "Uint8Array(STRUCTS.public_key.size)"),
-    ("bindings/javascript/ed25519.js", "accepts(publicKey", "accepts( publicKey"),
-    ("bindings/javascript/ed25519.js", "8f95e826n,\n", "8f95e826n\n"),
-    ("bindings/javascript/verification.js", "this.kept = [];", "this.kept = []; // " + "what is kept of it " * 3),
-    ("bindings/javascript/verification.js", "const { library } = this;", "const { library } = this"),
-    (PACKAGE, '  "license"', '    "license"'),
-]
-
-
 def run_all(checks, room):
     for language in LANGUAGES:
         check_language(checks, language, TOP)
@@ -132,9 +104,8 @@ def run_all(checks, room):
     for name in [*(name for language in LANGUAGES for name in files_of(language, TOP)), PACKAGE]:
         os.makedirs(os.path.dirname(os.path.join(copy, name)), exist_ok=True)
         shutil.copy(os.path.join(TOP, name), os.path.join(copy, name))
-    languages = {name: language for language in LANGUAGES for name in files_of(language, TOP)}
-    planted = [(name, old, new, languages.get(name, "JavaScript")) for name, old, new in PLANTED]
-    check_planted(checks, copy, planted, room, lambda found, changed, _, language: check_language(found, language, changed))
+    check_planted(checks, copy, bugs_of(HERE, "layout.txt"), room,
+                  lambda found, changed, _, language: check_language(found, language, changed))
 
 
 if __name__ == "__main__":

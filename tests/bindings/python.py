@@ -10,7 +10,7 @@ with those of `c/minisign`: the kept corpus, 500 damaged texts, data in pieces; 
 the signatures of Ed25519 that implementations answer differently. Also: the exceptions and structs are those of the
 header; the types hold; each call names the argument that is of another type or value; calls hold no memory in the
 end; threads; keys and signatures of Minisign's own program; the examples of the README; the cases of tests/installer
-for `install` and `check`; and each of some planted bugs is noticed. It prints a line for each case that failed or was
+for `install` and `check`; and each bug of python/planted.txt is noticed. It prints a line for each case that failed or was
 skipped; the last line is `N passed, M failed`.
 
 Needs Debian's Python with pip, venv, setuptools, wheel and cryptography, mypy, make, binutils, a C compiler,
@@ -19,14 +19,13 @@ gcc-aarch64-linux-gnu, libc6-dev-arm64-cross and qemu-user-static. It installs w
 """
 
 import ast
-import base64
 import functools
 import glob
 import hashlib
+import json
 import os
 import re
 import shutil
-import subprocess
 import sys
 import zipfile
 
@@ -39,14 +38,13 @@ import needs
 import portable
 import shared_cases as shared
 import static_library
-from checking import check_cases
 from cut_off import BEGINNINGS, CUTS
 from installers import RealInstaller
 from installing import cases
-from running import build_preload, run_cases
+from running import build_preload, expect, run_cases
 from runs import Installing
 from shared_cases import TOP, read, run, write
-from words import says, word_cases
+from words import word_cases
 
 USER, INSTALLER = os.path.join(HERE, "python_user.py"), os.path.join(HERE, "python_installing.py")
 PACKAGE = "minisign_proved"
@@ -54,26 +52,15 @@ SOURCES = os.path.join(TOP, "bindings", "python")
 # How many lines are written by hand. Docstrings do not count.
 LINES = 800
 MADE = ("errors.py", "_header.py")
-OLDEST = (3, 9)
-
-
-def python_with(*modules):
-    """Debian's Python, where it has these modules."""
-    path = os.path.join(needs.DEBIAN, "python3")
-    look = f"import importlib.util, sys; sys.exit(any(importlib.util.find_spec(it) is None for it in {modules}))"
-    return path if os.path.exists(path) and subprocess.run([path, "-c", look]).returncode == 0 else None
 
 
 @functools.lru_cache(maxsize=None)
 def python():
     """The path of Debian's Python with all that the package is built and tried with."""
-    return needs.need(lambda: python_with("pip", "venv", "ensurepip", "setuptools", "wheel", "cryptography"),
+    path, look = os.path.join(needs.DEBIAN, "python3"), "import setuptools, pip, venv, ensurepip, wheel, cryptography"
+    return needs.need(lambda: path if os.path.exists(path) and run([path, "-c", look])[0] == 0 else None,
                       "Debian's Python with pip, venv, setuptools, wheel and cryptography", "python3-pip", "python3-venv",
                       "python3-setuptools", "python3-wheel", "python3-cryptography")
-
-
-def class_name(name):
-    return "".join(word.capitalize() for word in name.split("_"))
 
 
 # ---- How it is built ----
@@ -93,8 +80,8 @@ except NotImplementedError as why:
     print(why)
 """
 # What is changed in setup.py, and with which of its libraries that is noticed: with C alone, or with the archives.
-SETUP_BUGS = [("setup.py", 'if not archives:\n            flags.append("-DMINISIGN_PORTABLE")', 'if not archives:\n            flags.append("-DMINISIGN_NO")', "1"),
-              ("setup.py", "f\"--redefine-sym={name}={prefix}_{name}\"", "f\"--redefine-sym={name}=v2_{name}\"", "")]
+SETUP_BUGS = [("setup.py", 'flags.append("-DMINISIGN_PORTABLE")', 'flags.append("-DMINISIGN_NO")', "1"),
+              ("setup.py", "={prefix}_{name}", "=v2_{name}", "")]
 
 
 def build(sources, programs, **environment):
@@ -104,14 +91,12 @@ def build(sources, programs, **environment):
     return status, why, os.path.join(sources, "built", PACKAGE, "libminisign.so")
 
 
-def check_loaded(checks, what, compiler, library, before=(), host=True):
-    """The library is loaded, and hashes."""
-    room = os.path.dirname(library)
-    program = os.path.join(room, "loaded.exe")
-    status, _, why = run([compiler, "-std=c11", "-w", "-I", os.path.join(TOP, "include"), "-o", program, os.path.join(HERE, "python", "loaded.c")])
-    checks.check(status == 0, f"{what}: loaded.c: {why[-500:]}")
-    said = run([*before, program, library], environment={"WINEDEBUG": "-all", "WINEPREFIX": f"{room}/wine"})[1].decode()
-    wanted = rf"\d+ {hashlib.blake2b(bytes([7]) * 1000).hexdigest()} with{'' if host else 'out'} a host\r?\n"
+def check_loaded(checks, what, compiler, library, before=(), **variables):
+    """The library is loaded, and hashes; and has a host, but for Windows."""
+    program = os.path.join(os.path.dirname(library), "loaded.exe")
+    shared.hold([compiler, "-std=c11", "-w", "-I", os.path.join(TOP, "include"), "-o", program, os.path.join(HERE, "python", "loaded.c")])
+    said = run([*before, program, library], environment=variables)[1].decode()
+    wanted = rf"\d+ {hashlib.blake2b(bytes([7]) * 1000).hexdigest()} with{'out' if what == 'Windows' else ''} a host\r?\n"
     checks.check(re.fullmatch(wanted, said), f"{what}: {said}")
 
 
@@ -133,9 +118,8 @@ def check_builds(checks, archive, room):
         sources = unpacked(what)
         status, why, library = build(sources, programs, CC=compiler, MINISIGN_PORTABLE=is_portable)
         if checks.check(status == 0, f"{what}: it was not built: {why[-1000:]}"):
-            check_loaded(checks, what, compiler, library, before, host=what != "Windows")
-            names = run([needs.program("nm", "binutils"), library])[1]
-            checks.check((b"v3_minisign_update" in names) == (what == "the archives"), f"{what}: the archives")
+            check_loaded(checks, what, compiler, library, before, **windows.variables)
+            checks.check(("v3_minisign_update" in shared.names_in(library)) == (what == "the archives"), f"{what}: the archives")
             wheel, = os.listdir(os.path.join(sources, "made"))
             checks.check(wheel.endswith(f"-none-{machine}.whl"), f"{what}: the wheel is {wheel}")
     windows.end()
@@ -162,29 +146,24 @@ def build_wheel(checks, room):
     package = shared.packed("python", room, PYTHON=python())
     archive, = glob.glob(os.path.join(room, "packed", "*.tar.gz"))
     command = [python(), "-m", "pip", "wheel", "-q", "--no-index", "--no-build-isolation", "--no-deps", "-w", room, archive]
-    status, _, why = run(command, environment={"PATH": check_builds(checks, archive, room)})
-    wheels = glob.glob(os.path.join(room, "*.whl"))
-    if status != 0 or len(wheels) != 1:
-        raise static_library.NotBuilt(f"the wheel was not built: {why[-2000:]}")
-    with zipfile.ZipFile(wheels[0]) as wheel:
+    shared.hold(command, environment={"PATH": check_builds(checks, archive, room)})
+    path, = glob.glob(os.path.join(room, "*.whl"))
+    with zipfile.ZipFile(path) as wheel:
         names = {name.partition("/")[2] for name in wheel.namelist() if name.startswith(PACKAGE + "/")}
         told, = (wheel.read(name).decode() for name in wheel.namelist() if name.endswith("METADATA"))
     sources = {os.path.basename(path) for path in glob.glob(os.path.join(package, "src", PACKAGE, "*.p*"))}
     checks.check(names == sources | {"libminisign.so", "py.typed"}, f"the wheel has {sorted(names)}")
-    version = re.search(r'VERSION_TEXT "([^"]+)"', read(shared.HEADER).decode())[1]
-    checks.check(f"\nVersion: {version}\n" in told, f"the header is of version {version}, and the wheel says {told[:200]}")
+    checks.check(f"\nVersion: {shared.VERSION}\n" in told, f"the header is of version {shared.VERSION}, and the wheel says {told[:200]}")
     checks.check("Requires-Dist" not in told and "Name: minisign-proved\n" in told, f"the wheel says {told[:300]}")
-    checks.check(re.search(r"-py3-none-linux_(x86_64|aarch64)\.whl$", wheels[0]) is not None, f"the wheel is {wheels[0]}")
-    return wheels[0]
+    checks.check(re.search(r"-py3-none-linux_(x86_64|aarch64)\.whl$", path) is not None, f"the wheel is {path}")
+    return path
 
 
 def environment(room, name, wheel, *words):
     """A fresh environment that has the wheel: its Python, and where the package stands in it."""
     path = os.path.join(room, name)
     for command in ([python(), "-m", "venv", *words, path], [f"{path}/bin/pip", "install", "-q", "--no-index", wheel]):
-        status, _, why = run(command)
-        if status != 0:
-            raise static_library.NotBuilt(f"{command}: {why[-1000:]}")
+        shared.hold(command)
     return os.path.join(path, "bin", "python"), glob.glob(f"{path}/lib/python3*/site-packages/{PACKAGE}")[0]
 
 
@@ -192,76 +171,50 @@ def environment(room, name, wheel, *words):
 
 
 def lines_of(path):
-    """How many lines a source has, without blank ones, comments and docstrings."""
-    text = read(path).decode()
-    told = set()
-    for node in ast.walk(ast.parse(text)):
-        if isinstance(node, (ast.Module, ast.ClassDef, ast.FunctionDef)) and ast.get_docstring(node, False) is not None:
-            told.update(range(node.body[0].lineno, node.body[0].end_lineno + 1))
-    return sum(1 for number, line in enumerate(text.splitlines(), 1) if line.strip() and not line.strip().startswith("#") and number not in told)
-
-
-def is_of_oldest(text):
-    """Whether a text is a program of the oldest version of Python that the package is for."""
-    try:
-        return ast.parse(text, feature_version=OLDEST) is not None
-    except SyntaxError:
-        return False
+    """The lines of a source, without blank ones, comments and docstrings, which alone have three quotes."""
+    return shared.code_of(re.sub('""".*?"""', "", read(path).decode(), flags=re.S), "#")
 
 
 def check_sources(checks):
     """The package is small, and its README too."""
-    shared.check_readme(checks, "python")
     sources = glob.glob(os.path.join(SOURCES, "src", PACKAGE, "*.py"))
     by_hand = [path for path in sources if os.path.basename(path) not in MADE]
-    lines = {os.path.basename(path): lines_of(path) for path in [*by_hand, os.path.join(SOURCES, "setup.py")]}
-    checks.check(sum(lines.values()) <= LINES, f"the package has {lines} lines")
+    shared.check_written(checks, "python", sum(map(lines_of, [*by_hand, os.path.join(SOURCES, "setup.py")]), []), LINES)
     for path in sources:
-        checks.check(is_of_oldest(read(path).decode()), f"{os.path.basename(path)} is not for Python {OLDEST}")
+        # (a `SyntaxError` where it is not for the oldest version of Python that the package is for)
+        checks.check(ast.parse(read(path), path, feature_version=(3, 9)))
 
 
-# A program that prints what the package has of the headers: each number behind its name.
-TOLD = f"""
-import ctypes
-from {PACKAGE} import _header, errors, installing
-from {PACKAGE}._calls import error_of
-for number, kind in errors.BY_NUMBER.items():
-    print("error", number, kind.__name__, error_of(number))
+# A program that prints what the package has of the headers: the errors; the sizes of structs, and where their fields stand; and of the
+# installing host's structs, in one of which some fields stand inside of others in C, the numbers by what they are in C.
+TOLD = r"""
+import ctypes, json, re
+from minisign_proved import _calls, _header, errors, installing
+places, host = {}, {"INT64_MAX": installing.LONGEST, "sizeof(struct wanted)": ctypes.sizeof(installing.Wanted)}
 for name, struct in vars(_header).items():
     if isinstance(struct, type) and issubclass(struct, ctypes.Structure) and struct is not ctypes.Structure:
-        print("place", name, ctypes.sizeof(struct))
-        for field, _ in struct._fields_:
-            print("place", f"{{name}}.{{field}}", getattr(struct, field).offset)
+        name = "minisign" + re.sub("([A-Z])", r"_\1", name).lower()
+        places[name] = ctypes.sizeof(struct)
+        places.update((f"{name}.{field}", getattr(struct, field).offset) for field, _ in struct._fields_)
 for struct in (installing.Wanted, installing.Installing):
     for field, _ in struct._fields_:
-        print("host", f"{{struct.__name__.lower()}}.{{field}}", getattr(struct, field).offset)
-        print("size", f"{{struct.__name__.lower()}}.{{field}}", getattr(struct, field).size)
-print("host", "wanted", ctypes.sizeof(installing.Wanted))
-print("host", "longest", installing.LONGEST)
+        name, value = "struct " + struct.__name__.lower(), getattr(struct, field)
+        if name == "struct installing" and field in ("shown", "cause", "number"):
+            field = "directory.trouble." + field
+        host.update({f"offsetof({name}, {field})": value.offset, f"sizeof((({name} *) 0)->{field})": value.size})
+print(json.dumps([[[number, kind.__name__, str(_calls.error_of(number))] for number, kind in errors.BY_NUMBER.items()], places, host]))
 """
-# The fields of the installing host's struct that stand inside of others in C.
-INSIDE = {"installing.shown": "directory.trouble.shown", "installing.cause": "directory.trouble.cause", "installing.number": "directory.trouble.number"}
 
 
 def check_headers(checks, room, python_path):
     """The exceptions, the numbers, the structs and their fields are those of the headers, and of c/install/installing.h as far as the
     package has them."""
-    status, said, why = run([python_path, "-c", TOLD])
-    lines = [line.split(" ", 3) for line in said.decode().splitlines()]
-    numbers = lambda kind: {line[1]: int(line[2]) for line in lines if line[0] == kind}
-    errors, texts = {int(line[1]): line[2:] for line in lines if line[0] == "error"}, shared.error_texts()
-    wanted = {number: [class_name(name), texts[name]] for name, number in shared.error_numbers().items() if number != 0}
-    checks.check(status == 0 and errors == wanted, f"the exceptions are {errors}: {why}")
-    layout = {class_name(name.partition(".")[0].removeprefix("minisign_")) + "".join(name.partition(".")[1:]): at
-              for name, at in shared.layout(room).items()}
-    checks.check(numbers("place") == layout, f"the structs are {numbers('place')}, and in C {layout}")
-    struct_of, field_of = lambda name: name.partition(".")[0], lambda name: INSIDE.get(name, name.partition(".")[2])
-    rows = [(name, f"offsetof(struct {struct_of(name)}, {field_of(name)})") for name in numbers("host") if "." in name]
-    sizes = [(name, f"sizeof(((struct {struct_of(name)} *) 0)->{field_of(name)})") for name in numbers("size")]
-    more = [("wanted", "sizeof(struct wanted)"), ("longest", "INT64_MAX")]
-    for kind, expressions in (("host", [*rows, *more]), ("size", sizes)):
-        in_c = shared.numbers_in_c(room, ['"install/installing.h"'], expressions)
-        checks.check(numbers(kind) == in_c and len(in_c) > 15, f"the host's structs are {numbers(kind)}, and in C {in_c}")
+    errors, places, host = json.loads(shared.hold([python_path, "-c", TOLD]))
+    wanted = [[number, "".join(map(str.capitalize, name.split("_"))), shared.error_texts()[name]] for name, number in shared.ERRORS.items()]
+    checks.same(sorted(errors), sorted(wanted), "the exceptions")
+    checks.same(places, shared.layout(room), "the structs")
+    in_c = shared.numbers_in_c(room, ['"install/installing.h"'], [(expression, expression) for expression in host])
+    checks.check(host == in_c and len(in_c) > 30, f"the host's structs are {host}, and in C {in_c}")
 
 
 def check_types(checks, python_path, package):
@@ -274,68 +227,25 @@ def check_types(checks, python_path, package):
 # ---- What its user is told ----
 
 
-class User(shared.Program):
-    """Runs the program of a user, by one kind of Ed25519, over the package of its Python or a changed one."""
-
-    def __init__(self, checks, python_path, kind, changed=""):
-        super().__init__(checks, python_path, USER, kind, name=kind, PYTHONPATH=changed, PYTHONDONTWRITEBYTECODE="1", PATH=static_library.path_without_kit())
-
-    def check_itself(self, word, room):
-        """What the program checks itself."""
-        status, said, why = self.run(word, room)
-        lines = said.decode(errors="replace").splitlines()
-        last = re.fullmatch(r"(\d+) passed, (\d+) failed", lines[-1] if lines else "")
-        self.checks.check(last and status in (0, 1), f"{word}, {self.name}: it ended with status {status}: {why[-500:]}")
-        for _ in range(int(last[1]) if last else 0):
-            self.checks.check(True, word)
-        for line in lines[:-1]:
-            self.checks.check(False, f"{word}, {self.name}: {line.removeprefix('FAILED: ')}")
-
-    def ask_reasons(self, words, rows, told=lambda name: shared.rejected(class_name(name))):
-        super().ask_reasons(words, rows, told)
-
-    def ask_readings(self):
-        super().ask_readings(["read"], lambda it: f"{shared.shown_id(it.key_id)} {shared.shown_id(it.signature_key_id)} {it.is_legacy}")
+def user_of(checks, python_path, kind, changed=""):
+    """The program of a user, by one kind of Ed25519, over the package of its Python or a changed one."""
+    return shared.Program(checks, python_path, USER, kind, name=kind, PYTHONPATH=changed, PYTHONDONTWRITEBYTECODE="1",
+                          PATH=static_library.path_without_kit())
 
 
-def ask_all(user, minisign):
-    """The corpus, damaged texts, vectors of Ed25519 and large data, with legacy signatures or without; data in pieces, each rejection by
-    its name, and what is read before anything is asked."""
-    kept, large, vectors = shared.corpus(), shared.large(minisign), [case for case, _ in shared.vector_texts()]
-    user.ask_answers(minisign, kept + shared.damaged() + large + vectors, (["answers", "allow"], True), (["answers", "reject"], False))
-    user.ask_answers(minisign, kept + large, (["pieces"], True))
+def shown(reading):
+    return f"{shared.shown_id(reading.key_id)} {shared.shown_id(reading.signature_key_id)} {reading.is_legacy}"
+
+
+def ask_all(user, minisign, cases):
+    """The cases, with legacy signatures or without; data in pieces, each rejection by its name, also of vectors of Ed25519, and what is
+    read before anything is asked."""
+    user.ask_answers(minisign, cases, (["answers", "allow"], True), (["answers", "reject"], False))
+    user.ask_answers(minisign, shared.corpus() + shared.large(minisign), (["pieces"], True))
     user.ask_reasons(["answers", "reject"], shared.rejections())
     user.ask_reasons(["answers", "allow"], shared.vector_texts())
-    user.ask_readings()
+    user.ask_readings(["read"], shown)
     user.ask_vectors(["vectors"])
-
-
-def prepare_keys(room):
-    """What the checks of keys find: a key and a signature of Minisign's own program, a damaged one, one that asks for much, and such
-    as are sealed weakly or not."""
-    os.mkdir(room)
-    write(room, "data", b"what is signed")
-    for words in (["-G", "-W", "-p", "theirs.pub", "-s", "theirs.key"],
-                  ["-S", "-s", "theirs.key", "-m", "data", "-x", "theirs.minisig", "-t", "by Minisign"]):
-        run([needs.minisign(), *words], room)
-    theirs = read(room, "theirs.key")
-    write(room, "damaged.key", shared.with_other_half(theirs))
-    # (the limits of a derivation that is made many times)
-    sealed = b"EdScB2" + bytes(32) + (2**40).to_bytes(8, "little") + (2**24).to_bytes(8, "little") + bytes(104)
-    write(room, "many.key", theirs.splitlines()[0] + b"\n" + base64.b64encode(sealed) + b"\n")
-    for number, limits in enumerate(shared.LIMITS):
-        write(room, f"limits-{number}-{'weak' if limits[-1] else 'strong'}.key", shared.sealed(theirs, limits))
-
-
-def check_keys(user, room):
-    """The checks of keys; then Minisign's own program looks at what they have made, and signs with a key of them."""
-    prepare_keys(room)
-    user.check_itself("keys", room)
-    verify = lambda key, signature: ["-V", "-q", "-p", key, "-m", "data", "-x", signature]
-    for words in (verify("theirs.pub", "ours-by-theirs.minisig"), verify("theirs-again.pub", "ours-by-theirs.minisig"), verify("ours.pub", "data.minisig"),
-                  ["-S", "-s", "ours.key", "-m", "data", "-x", "theirs-by-ours.minisig"], verify("ours.pub", "theirs-by-ours.minisig")):
-        status, _, why = run([needs.minisign(), *words], room)
-        user.checks.check(status == 0, f"keys, {user.name}: Minisign, {words}: {why}")
 
 
 def check_examples(checks, python_path, room):
@@ -357,17 +267,19 @@ def check_examples(checks, python_path, room):
 # ---- The cases of tests/installer ----
 
 # What needs the words or the messages of a program, and not of a function.
-LEFT_OUT = ("progress at a terminal", "a closed error stream", "an allocation that fails", "an error stream that nobody reads", "what a check shows",
-            "what a check shows of what it rejects", "the script of the document", "the unit of the document",
-            "a mode that is asked for, of what is there already")
+LEFT_OUT = {"progress at a terminal", "a closed error stream", "an allocation that fails", "an error stream that nobody reads",
+            "what a check shows", "the script of the document", "the unit of the document",
+            "a mode that is asked for, of what is there already"}
+KEPT = {"a name that begins with a dash", "another name than the signed one"}
 
 
 def chosen_cases(installing):
-    words = {name for name, *_ in word_cases(installing)} | {name for name, case, *_ in check_cases(installing) if case is says} | set(LEFT_OUT)
-    kept = {"a name that begins with a dash", "another name than the signed one"}
     # (what the host does after a cut over other beginnings, the cases of the program show)
     cut_off = {f"cut off by {cut}, over {begin}" for begin, *_ in BEGINNINGS[1:] for cut, _ in CUTS}
-    return [case for case in cases(installing) if case[0] not in (words - kept) | cut_off]
+    left_out = LEFT_OUT | cut_off | {name for name, *_ in word_cases} - KEPT
+    found = cases(installing)
+    expect(left_out | KEPT <= {case[0] for case in found}, "what is left out is no case")
+    return [case for case in found if case[0] not in left_out]
 
 
 def check_installing(checks, python_path, room):
@@ -386,72 +298,18 @@ def check_installing(checks, python_path, room):
 
 # ---- Planted bugs ----
 
-# The file, what is changed in it, and the checks of the user's program that have to notice it.
-BUGS = [
-    ("_header.py", "            state,\n            ANSWER_YES if first is True else", "            state,\n            ANSWER_YES if first is not None else", "answers"),
-    ("_keys.py", "accepts(bytes(second), self._message, bytes(key))", "accepts(bytes(second), self._message, bytes(key)) or True", "answers"),
-    ("_keys.py", "calls.comment_verdict(self._state, self._accepts_comment())", "pass", "parts"),
-    ("_keys.py", "        return f\"<SecretKey {self.public_key.key_id}>\"", "        return repr(bytes(self._opened.secret))", "parts"),
-    ("_keys.py", "    def __reduce__(self) -> NoReturn:", "    def reduce(self) -> NoReturn:", "parts"),
-    ("_keys.py", "int(allow_legacy)", "1", "answers"),
-    ("_keys.py", "return bool(self._read.legacy)", "return bool(self._read.whole)", "read"),
-    ("_keys.py", "        return identifier(self._read.key_id)\n\n    @property\n    def is_legacy", "        return identifier(self._read.signature)\n\n    @property\n    def is_legacy", "read"),
-    ("_keys.py", "self._message[begin:]", "self._message[begin - 1 :]", "parts"),
-    ("_keys.py", "        Verifier(PublicKey(", "        False and Verifier(PublicKey(", "keys"),
-    ("_calls.py", "second >= PRIME or second in SMALL_ORDER", "second in SMALL_ORDER", "vectors"),
-    ("_calls.py", "second >= PRIME or second in SMALL_ORDER", "second >= PRIME", "vectors"),
-    ("_calls.py", "is_rejected(key) or is_rejected(signature[:32])", "is_rejected(key)", "vectors"),
-    ("_keys.py", "                self._held.append(piece)", "                self._held = [piece]", "pieces"),
-    ("_keys.py", "        with self._turn:\n            calls.update(self._state, piece)", "        if True:\n            calls.update(self._state, piece)",
-     "threads"),
-    ("_keys.py", "unopened.log2_rows < h.LEAST_LOG2_ROWS", "unopened.log2_rows < 2", "keys"),
-    ("_keys.py", "        check_number(\"operations_limit\", operations_limit, least, most)\n", "", "arguments"),
-    ("_keys.py", "memory_limit, h.LEAST_MEMORY_LIMIT,", "memory_limit, 0,", "arguments"),
-    ("_keys.py", "    if len(text) > TEXT_BYTES:", "    if len(text) > 2 * TEXT_BYTES:", "keys"),
-    ("_keys.py", "        ctypes.memset(pair, 0, ctypes.sizeof(pair))", "        pass", "keys"),
-    ("_keys.py", "        os.replace(os.path.join(room, \"key\"), name)", "        pass", "keys"),
-    ("_keys.py", "    name = os.path.realpath(path_text(\"path\", path))", "    name = path_text(\"path\", path)", "keys"),
-    ("_keys.py", "os.O_EXCL | getattr(os, \"O_CLOEXEC\", 0)\n    with open(os.open(name, flags, 0o600)", "os.O_TRUNC\n    with open(os.open(name, flags, 0o644)", "keys"),
-    ("installing.py", "        library.end_installing(begun)", "        pass", "installing"),
-    ("installing.py", "is_first=first,", "is_first=True,", "installing"),
-    ("installing.py", " else h.ANSWER_NO", " else h.ANSWER_YES", "installing"),
-    ("installing.py", "    if run.error != 0:", "    if run.error > 60:", "installing"),
-    ("installing.py", "    wanted.most = LONGEST if most is None else min(most, LONGEST)", "    wanted.most = LONGEST", "installing"),
-    ("installing.py", "    numbering: str = \"timestamp\",\n    name: Optional[Path] = None,\n    mode",
-     "    numbering: str = \"version\",\n    name: Optional[Path] = None,\n    mode", "installing"),
-    ("installing.py", "Offer.THERE if run.call == h.DUE_ALREADY else Offer.NEWER", "Offer.NEWER", "installing"),
-    ("installing.py", "must_expire=must_expire,", "must_expire=False,", "installing"),
-    ("installing.py", "minisign_install_number(run.machine)\n", "minisign_install_number(run.machine) + 1\n", "installing"),
-    ("installing.py", "is_held = due == h.DUE_RENAME_RECORD and is_main", "is_held = due == h.DUE_RENAME and is_main", "signals"),
-    ("installing.py", "            signal.signal(end, signal.SIG_DFL)\n", "            pass\n", "signals"),
-    ("installing.py", "            signal.raise_signal(number)\n", "            pass\n", "signals"),
-    ("installing.py", "    wanted.is_check = True\n", "", "installing"),
-    ("installing.py", "return bool(run.call == h.DUE_INSTALLED)", "return True", "installing"),
-    ("installing.py", "key_count=len(keys)", "key_count=1", "installing"),
-    ("_arguments.py", "        view = memoryview(cast(Any, value))", "        view = bytes(cast(Any, value))", "arguments"),
-    ("_arguments.py", "        text = os.fsdecode(cast(Path, value))", "        text = os.fsdecode(cast(Path, value)) if value != 3 else \"/dev/null/3\"", "arguments"),
-    ("_arguments.py", " or (kind is int and isinstance(value, bool)):", ":", "arguments"),
-    ("_arguments.py", "    if text == \"\" or \"\\0\" in text:", "    if \"\\0\" in text:", "arguments"),
-    ("_keys.py", "        check_kind(\"allow_legacy\", allow_legacy, bool)", "        pass", "arguments"),
-    ("_keys.py", "path_text(\"path\", path), octets(\"text\", text)", "path_text(\"path\", path), text", "arguments"),
-    ("_keys.py", "new_password(\"new\", new)", "new and new_password(\"new\", new)", "arguments"),
-    ("_keys.py", "if isinstance(data, str) or not isinstance(data, Iterable):", "if not isinstance(data, Iterable):", "arguments"),
-    ("installing.py", "0, 0o777, oct)", "0, 0o7777, oct)", "arguments"),
-    ("installing.py", "last if name is None else", "last if not name else", "arguments"),
-    ("installing.py", "    check_kind(\"first\", first, bool)\n", "", "arguments"),
-]
-
-
-def check_planted(checks, python_path, package, room):
-    """Each planted bug is noticed by the checks of its row."""
+def check_planted(checks, python_path, package, room, minisign):
+    """Each planted bug is noticed by the checks of its word."""
     def ask(found, changed, directory, word):
-        user = User(found, python_path, "cryptography", os.path.dirname(changed))
-        asked = {"answers": lambda: user.ask_reasons(["answers", "reject"], shared.rejections()), "read": user.ask_readings,
-                 "pieces": lambda: user.ask(["pieces"], shared.corpus(), ["(accepted|rejected) .*"] * len(shared.corpus())),
-                 "vectors": lambda: user.ask_vectors(["vectors"]), "keys": lambda: check_keys(user, os.path.join(directory, "keys"))}
-        asked.get(word, lambda: user.check_itself(word, directory))()
+        user = user_of(found, python_path, "cryptography", os.path.dirname(changed))
+        asked = {"answers": lambda: user.ask_reasons(["answers", "reject"], shared.rejections()),
+                 "read": lambda: user.ask_readings(["read"], shown),
+                 "pieces": lambda: user.ask_answers(minisign, shared.corpus(), (["pieces"], True)),
+                 "vectors": lambda: user.ask_vectors(["vectors"]),
+                 "sign": lambda: shared.check_signing(user, os.path.join(directory, "signed"), minisign)}
+        asked.get(word, lambda: user.ask_itself(1, word, directory))()
 
-    shared.check_planted(checks, package, BUGS, room, ask)
+    shared.check_planted(checks, package, shared.bugs_of(HERE, "python", "planted.txt"), room, ask)
 
 
 def run_all(checks, room):
@@ -464,17 +322,18 @@ def run_all(checks, room):
     check_headers(checks, room, alone)
     check_types(checks, beside, package)
     check_examples(checks, alone, os.path.join(room, "examples"))
-    shared.check_cases(checks, minisign, shared.corpus() + shared.damaged())
-    for kind, python_path, more in (("libsodium", alone, ("passwords", "documentation")), ("cryptography", beside, ())):
-        user, own = User(checks, python_path, kind), os.path.join(room, kind)
+    cases = shared.all_cases(checks, minisign)
+    words = {"memory": 1, "threads": 3, "installing": 40, "signals": 3, "arguments": 1000, "parts": 25, "keys": 30}
+    for kind, python_path, more in (("libsodium", alone, {"passwords": 10, "documentation": 100}), ("cryptography", beside, {})):
+        user, own = user_of(checks, python_path, kind), os.path.join(room, kind)
         os.mkdir(own)
-        ask_all(user, minisign)
-        for word in ("memory", "threads", "installing", "signals", "arguments", "parts", *more):
-            user.check_itself(word, own)
-        check_keys(user, os.path.join(own, "keys"))
-    check_planted(checks, beside, package, room)
+        ask_all(user, minisign, cases)
+        for word, least in {**words, **more}.items():
+            user.ask_itself(least, word, own)
+        shared.check_signing(user, os.path.join(own, "signed"), needs.minisign())
+    check_planted(checks, beside, package, room, minisign)
     check_installing(checks, alone, os.path.join(room, "installs"))
 
 
 if __name__ == "__main__":
-    sys.exit(ending.check("bindings-python", run_all, ValueError))
+    sys.exit(ending.check("bindings-python", run_all, ValueError, SyntaxError))

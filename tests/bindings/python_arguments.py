@@ -12,12 +12,25 @@ import os
 import pathlib
 import re
 import shutil
-from typing import Any, Callable, Dict, Iterator, List, NamedTuple, Sequence, Tuple
+from typing import Any, Callable, Dict, Iterator, List, NamedTuple, Sequence, Tuple, Type
 
 import minisign_proved as minisign
 from minisign_proved import PublicKey, SecretKey, Signature, Verifier, _calls
 
-Check = Callable[[bool, str], None]
+
+def check(holds: bool, what: str) -> None:
+    """Tells what has to come of what is checked, and what comes."""
+    print(f"good\t{'good' if holds else what}".replace("\n", " "))
+
+
+def rejects(kind: Type[BaseException], call: Callable[[], object], what: str, says: str = "") -> None:
+    """Checks that a call raises an exception of just this kind, and whether that says what is wanted, a regular expression."""
+    try:
+        call()
+    except BaseException as why:
+        check(type(why) is kind and re.search(says, str(why)) is not None, f"{what}: {why!r} in place of {kind.__name__}")
+    else:
+        check(False, f"{what}: it is not rejected")
 
 
 class BytesPath(pathlib.PurePosixPath):
@@ -86,12 +99,11 @@ KINDS = {
 OR_NONE = " or none"
 
 
-class Row(NamedTuple):
+class Row:
     """A function or a method, and of what; of each argument its kind, and what it takes. What is a function here is called for one anew."""
 
-    name: str
-    of: object
-    arguments: Dict[str, Tuple[str, object]]
+    def __init__(self, name: str, of: object, /, **arguments: Tuple[str, object]) -> None:
+        self.name, self.of, self.arguments = name, of, arguments
 
     def call(self) -> Tuple[Callable[..., object], Dict[str, Any]]:
         """What is called, and with which arguments."""
@@ -107,8 +119,7 @@ def table(room: str) -> List[Row]:
     """All functions and methods, over a directory with a key, data and a signature."""
     secret, path, key_path = SecretKey.generate(), os.path.join(room, "data"), os.path.join(room, "data.key")
     public = secret.public_key
-    with open(path, "wb") as file:
-        file.write(b"data")
+    pathlib.Path(path).write_bytes(b"data")
     minisign.write_new(key_path, secret.to_bytes(None))
     minisign.write_new(os.path.join(room, "data.pub"), secret.public_bytes())
     signature = minisign.sign(path, secret, trusted_comment="version:1\tfile:app")
@@ -121,9 +132,9 @@ def table(room: str) -> List[Row]:
         return os.path.join(directory, "app")
 
     def other_data() -> str:
-        with open(there(), "wb") as file:
-            file.write(b"data")
-        return str(file.name)
+        path = there()
+        pathlib.Path(path).write_bytes(b"data")
+        return path
 
     def verifier() -> Verifier:
         return Verifier(public, signature)
@@ -133,41 +144,38 @@ def table(room: str) -> List[Row]:
         made.update(b"data")
         return made
 
-    def row(name: str, of: object, /, **arguments: Tuple[str, object]) -> Row:
-        return Row(name, of, arguments)
-
     opening: Dict[str, Any] = {"password": ("password", None), "low_memory": ("truth", False), "most_rows": ("rows", 1)}
     limits: Dict[str, Any] = {"operations_limit": ("operations", 2**20), "memory_limit": ("memory", 2**25)}
     comments: Dict[str, Any] = {"trusted_comment": ("text or none", "comment \u00e9"), "untrusted_comment": ("text", "other")}
     progress: Dict[str, Any] = {"progress": ("function or none", None)}
     update: Dict[str, Any] = {"must_expire": ("truth", False), "numbering": ("numbering", "version"), "name": ("path or none", "app")}
     return [
-        row("Signature", minisign, text=("bytes", signature.text)),
-        row("Signature.from_file", Signature, path=("path", path + ".minisig")),
-        row("PublicKey", minisign, text=("bytes", secret.public_bytes())),
-        row("PublicKey.from_file", PublicKey, path=("path", os.path.join(room, "data.pub"))),
-        row("PublicKey.from_base64", PublicKey, letters=("text", secret.public_bytes().split(b"\n")[1].decode())),
-        row("PublicKey.verify", public, data=("data", b"data"), signature=("signature", signature), allow_legacy=("truth", False)),
-        row("Verifier", minisign, key=("public key", public), signature=("signature", signature), allow_legacy=("truth", True)),
-        row("Verifier.update", verifier, piece=("bytes", b"data")),
-        row("Verifier.trusted_comment", verifier),
-        row("Verifier.finish", fed),
-        row("verify", minisign, path=("path", path), key=("public key", public), signature=("signature or none", None), allow_legacy=("truth", False), **progress),
-        row("SecretKey", minisign, opened=("secret key", secret._opened)),
-        row("SecretKey.generate", SecretKey),
-        row("SecretKey.from_bytes", SecretKey, text=("bytes", secret.to_bytes(None)), **opening),
-        row("SecretKey.from_file", SecretKey, path=("path", key_path), **opening),
-        row("SecretKey.to_bytes", secret, password=("new password", None), comment=("text", "comment \u00e9"), low_memory=("truth", False), **limits),
-        row("SecretKey.public_bytes", secret, comment=("text or none", "comment \u00e9")),
-        row("SecretKey.sign", secret, path=("path", path), **comments, **progress),
-        row("SecretKey.sign_data", secret, data=("data", b"data"), **comments),
-        row("SecretKey.clear", lambda: SecretKey.generate()),
-        row("sign", minisign, path=("path", other_data), key=("secret key", secret), **comments, **progress),
-        row("write_new", minisign, path=("path", there), text=("bytes", b"text")),
-        row("change_password", minisign, path=("path", key_path), old=("password", None), new=("new password", None), low_memory=("truth", False)),
-        row("use_ed25519", minisign, name=("Ed25519", kind)),
-        row("check", minisign, key=("public keys", public), signature=("signature", signature), target=("target", there), first=("truth", True), **update),
-        row("install", minisign, key=("public keys", public), data=("path or file", path), signature=("signature", signature), target=("target", there),
+        Row("Signature", minisign, text=("bytes", signature.text)),
+        Row("Signature.from_file", Signature, path=("path", path + ".minisig")),
+        Row("PublicKey", minisign, text=("bytes", secret.public_bytes())),
+        Row("PublicKey.from_file", PublicKey, path=("path", os.path.join(room, "data.pub"))),
+        Row("PublicKey.from_base64", PublicKey, letters=("text", secret.public_bytes().split(b"\n")[1].decode())),
+        Row("PublicKey.verify", public, data=("data", b"data"), signature=("signature", signature), allow_legacy=("truth", False)),
+        Row("Verifier", minisign, key=("public key", public), signature=("signature", signature), allow_legacy=("truth", True)),
+        Row("Verifier.update", verifier, piece=("bytes", b"data")),
+        Row("Verifier.trusted_comment", verifier),
+        Row("Verifier.finish", fed),
+        Row("verify", minisign, path=("path", path), key=("public key", public), signature=("signature or none", None), allow_legacy=("truth", False), **progress),
+        Row("SecretKey", minisign, opened=("secret key", secret._opened)),
+        Row("SecretKey.generate", SecretKey),
+        Row("SecretKey.from_bytes", SecretKey, text=("bytes", secret.to_bytes(None)), **opening),
+        Row("SecretKey.from_file", SecretKey, path=("path", key_path), **opening),
+        Row("SecretKey.to_bytes", secret, password=("new password", None), comment=("text", "comment \u00e9"), low_memory=("truth", False), **limits),
+        Row("SecretKey.public_bytes", secret, comment=("text or none", "comment \u00e9")),
+        Row("SecretKey.sign", secret, path=("path", path), **comments, **progress),
+        Row("SecretKey.sign_data", secret, data=("data", b"data"), **comments),
+        Row("SecretKey.clear", lambda: SecretKey.generate()),
+        Row("sign", minisign, path=("path", other_data), key=("secret key", secret), **comments, **progress),
+        Row("write_new", minisign, path=("path", there), text=("bytes", b"text")),
+        Row("change_password", minisign, path=("path", key_path), old=("password", None), new=("new password", None), low_memory=("truth", False)),
+        Row("use_ed25519", minisign, name=("Ed25519", kind)),
+        Row("check", minisign, key=("public keys", public), signature=("signature", signature), target=("target", there), first=("truth", True), **update),
+        Row("install", minisign, key=("public keys", public), data=("path or file", path), signature=("signature", signature), target=("target", there),
             first=("truth", True), again=("truth", False), **update, mode=("mode or none", 0o640), most=("size or none", 4), wait=("seconds", 1), **progress),
     ]
 
@@ -187,12 +195,7 @@ def public_calls() -> Iterator[Tuple[str, Callable[..., object]]]:
 
 def files(room: str) -> Dict[str, bytes]:
     """All files below a directory, and what they have."""
-    found = {}
-    for directory, _, names in os.walk(room):
-        for name in names:
-            with open(os.path.join(directory, name), "rb") as file:
-                found[os.path.join(directory, name)] = file.read()
-    return found
+    return {str(path): path.read_bytes() for path in pathlib.Path(room).rglob("*") if path.is_file()}
 
 
 def told(result: object) -> object:
@@ -202,7 +205,7 @@ def told(result: object) -> object:
     return result.public_key if isinstance(result, SecretKey) else result.text if isinstance(result, Signature) else result
 
 
-def check_row(row: Row, check: Check, room: str) -> None:
+def check_row(row: Row, room: str) -> None:
     call, good = row.call()
     wanted = told(call(**good))
     for argument, (name, _) in row.arguments.items():
@@ -212,12 +215,7 @@ def check_row(row: Row, check: Check, room: str) -> None:
             what = f"{row.name}, {argument}={value!r}"
             call, good = row.call()
             before = files(room)
-            try:
-                call(**{**good, argument: value})
-            except BaseException as why:
-                check(type(why) is error and re.search(rf"\b{argument}\b", str(why)) is not None, f"{what}: {why!r}")
-            else:
-                check(False, f"{what}: it is not rejected")
+            rejects(error, lambda: call(**{**good, argument: value}), what, rf"\b{argument}\b")
             check(files(room) == before, f"{what}: something is written")
         for number, form in enumerate(kind.same):
             call, good = row.call()
@@ -228,7 +226,7 @@ def check_row(row: Row, check: Check, room: str) -> None:
                 check(False, f"{row.name}, form {number} of {argument}: {why!r}")
 
 
-def check_arguments(room: str, check: Check) -> None:
+def check_arguments(room: str) -> None:
     """Calls each with all that it takes, and with all that it does not, in a new directory."""
     room = os.path.join(room, "arguments")
     os.mkdir(room)
@@ -238,7 +236,7 @@ def check_arguments(room: str, check: Check) -> None:
     for row in rows:
         taken = [name for name in inspect.signature(calls[row.name]).parameters if name != "self" and name[0] != "_"]
         check(taken == list(row.arguments), f"the arguments of {row.name}: {taken}")
-        check_row(row, check, room)
+        check_row(row, room)
     place = os.path.join(room, "there", "app")
     os.mkdir(os.path.dirname(place))
     install, good = rows[-1].call()

@@ -4,6 +4,7 @@ tests/installer run over it.
 Needs Python 3.9 or later.
 """
 
+import getopt
 import os
 import sys
 import threading
@@ -12,6 +13,7 @@ import minisign_proved as minisign
 
 FAILED, MISUSED, REJECTED, OLDER, IN_USE, NOT_ON_DISK, UNRECORDED, SAME, EXPIRED, THERE = range(1, 11)
 OFFERS = {minisign.Offer.NEWER: 0, minisign.Offer.THERE: THERE, minisign.Offer.OLDER: OLDER}
+OPTIONS = ["first", "again", "check", "must-expire", "key=", "name=", "numbering=", "mode=", "most=", "wait="]
 UNITS = {"K": 10, "M": 20, "G": 30, "T": 40}
 
 
@@ -75,36 +77,29 @@ def read_signature(path):
 def main():
     # (a signal for the process goes to this thread, where the other one holds it back)
     threading.Thread(target=threading.Event().wait, daemon=True).start()
-    words, options, keys, paths = sys.argv[1:], {}, [], []
-    while words:
-        word = words.pop(0)
-        if word == "--":
-            paths, words = [*paths, *words], []
-        elif word == "--key":
-            keys.append(words.pop(0))
-        elif word.startswith("--"):
-            options[word[2:]] = True if word in ("--first", "--again", "--check", "--must-expire") else words.pop(0)
-        else:
-            paths.append(word)
+    given, paths = getopt.gnu_getopt(sys.argv[1:], "", OPTIONS)
+    options, keys = dict(given), [value for name, value in given if name == "--key"]
     key = None if keys else paths.pop(0)
-    data = None if "check" in options else paths.pop(0)
+    data = None if "--check" in options else paths.pop(0)
     signature, place = paths
-    most, mode, numbering = options.get("most"), options.get("mode"), options.get("numbering", "timestamp")
+    most, mode, name = map(options.get, ("--most", "--mode", "--name"))
+    numbering = options.get("--numbering", "timestamp")
     if most is not None:
         most = int(most[:-1]) << UNITS[most[-1]] if most[-1] in UNITS else int(most)
     try:
         public_keys = [read_key(minisign.PublicKey.from_base64, text) for text in keys] or read_key(minisign.PublicKey.from_file, key)
-        text, wanted = read_signature(signature), {"first": "first" in options, "must_expire": "must-expire" in options, "numbering": numbering, "name": options.get("name")}
-        if "check" in options:
+        text = read_signature(signature)
+        wanted = {"first": "--first" in options, "must_expire": "--must-expire" in options, "numbering": numbering, "name": name}
+        if "--check" in options:
             return OFFERS[minisign.check(public_keys, text, place, **wanted)]
-        is_new = minisign.install(public_keys, data, text, place, again="again" in options, mode=None if mode is None else int(mode, 8), most=most,
-                                  wait=int(options.get("wait", 0)), **wanted)
+        is_new = minisign.install(public_keys, data, text, place, again="--again" in options, mode=None if mode is None else int(mode, 8),
+                                  most=most, wait=int(options.get("--wait", 0)), **wanted)
     except minisign.MinisignError as error:
         status = STATUSES.get(type(error), REJECTED)
         if status == FAILED and isinstance(error.__cause__, OSError):
             print(failure_text(error.__cause__), file=sys.stderr)
         else:
-            print(rejection_text(data, signature, place, options.get("name") or os.path.basename(place), numbering, error), file=sys.stderr)
+            print(rejection_text(data, signature, place, name or os.path.basename(place), numbering, error), file=sys.stderr)
         if status == NOT_ON_DISK or (status == EXPIRED and error.__cause__):
             print(failure_text(error.__cause__), file=sys.stderr)
         return status

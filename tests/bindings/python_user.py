@@ -1,47 +1,36 @@
 """A user of the Python package, in a Python that has it installed: `python.py` runs it. With the word `answers`,
-`pieces` or `vectors` it answers a line for each case that it reads; with another one it checks, and its last line is
-`N passed, M failed`.
+`pieces`, `read` or `vectors` it answers a line for each case that it reads; with `make`, `sign`, `opened` or `sealed`
+it does that with a key; with another one it says of each thing that it checks what has to come of it, and what came.
 
 Needs Python 3.9 or later.
 """
 
+import base64
+import concurrent.futures
+import contextlib
 import copy
 import inspect
 import io
 import os
+import pathlib
 import pickle
 import pydoc
 import random
 import re
 import signal
+import struct
 import sys
 import threading
-from typing import IO, Any, Callable, Dict, Iterator, List, Tuple, Type, cast
+from typing import Any, Callable, Dict, Iterator, List, Optional, Tuple, Type
+from unittest import mock
 
 import minisign_proved as minisign
-import python_arguments
-from minisign_proved import Data, PublicKey, SecretKey, Signature, Text, Verifier, _calls
+from minisign_proved import Data, PublicKey, SecretKey, Signature, Text, Verifier, _calls, _header
+from minisign_proved import installing as host
+from python_arguments import check, check_arguments, public_calls, rejects
 
 # What so many calls may take more memory than the first ones, in KiB.
 CALLS, FIRST_CALLS, MAX_GROWTH = 20_000, 2_000, 96
-passed, failures = 0, []  # type: int, List[str]
-
-
-def check(holds: bool, what: str) -> None:
-    global passed
-    passed += holds
-    if not holds:
-        failures.append(what)
-
-
-def rejects(kind: Type[BaseException], call: Callable[[], object], what: str) -> None:
-    """Checks that a call raises an exception of just this kind."""
-    try:
-        call()
-    except BaseException as why:
-        check(type(why) is kind, f"{what}: {why!r} in place of {kind.__name__}")
-    else:
-        check(False, f"{what}: it is not rejected")
 
 
 # ---- Cases that are read ----
@@ -53,16 +42,21 @@ def read_cases() -> Iterator[Tuple[bytes, bytes, bytes]]:
         yield key, data, signature
 
 
+def name_of(error: minisign.MinisignError) -> str:
+    """The name that an error has in the header."""
+    return re.sub(r"(?<!^)(?=[A-Z])", "_", type(error).__name__).upper()
+
+
 def answer(verify: Callable[[], str]) -> str:
     try:
         return f"accepted {verify().encode().hex() or '-'}"
     except minisign.MinisignError as why:
-        return f"rejected {type(why).__name__}"
+        return f"rejected {name_of(why)}"
 
 
-def answers(allow_legacy: bool) -> None:
+def answers(word: str) -> None:
     for key, data, signature in read_cases():
-        print(answer(lambda: PublicKey(key).verify(data, Signature(signature), allow_legacy)))
+        print(answer(lambda: PublicKey(key).verify(data, Signature(signature), word == "allow")))
 
 
 def cut(data: bytes, choose: random.Random) -> Iterator[bytes]:
@@ -117,10 +111,7 @@ def resident() -> int:
 
 
 def memory(room: str) -> None:
-    key = SecretKey.generate()
-    path = os.path.join(room, "data")
-    with open(path, "wb") as file:
-        file.write(b"data" * 500)
+    key, path = SecretKey.generate(), write(room, "data", b"data" * 500)
     signature, public = key.sign(path), key.public_bytes()
     calls: List[Callable[[], object]] = [
         lambda: PublicKey(public).verify(b"data" * 500, signature), lambda: key.public_key.verify(b"other", signature),
@@ -131,43 +122,33 @@ def memory(room: str) -> None:
     for number in range(FIRST_CALLS + CALLS):
         if number == FIRST_CALLS:
             grown = resident()
-        try:
+        with contextlib.suppress(minisign.MinisignError):
             calls[number % len(calls)]()
-        except minisign.MinisignError:
-            pass
     grown = resident() - grown
     check(grown <= MAX_GROWTH, f"{CALLS} calls took {grown} KiB")
 
 
 def threads(room: str) -> None:
-    key, piece, wrong = SecretKey.generate(), os.urandom(400_000), []
+    key, piece = SecretKey.generate(), os.urandom(400_000)
     path = write(room, "data", piece)
     signature = key.sign(path, trusted_comment="in threads")
-    for_all = key.sign(write(room, "all", piece * 160), trusted_comment="by all")
+    shared = Verifier(key.public_key, key.sign(write(room, "all", piece * 160), trusted_comment="by all"))
 
-    def run(own: int) -> None:
+    def is_right(own: int) -> bool:
+        """Whether what a thread signs verifies, and a file that all verify."""
         data = bytes([own]) * 50_000
-        mine = os.path.join(room, f"data-{own}")
-        with open(mine, "wb") as file:
-            file.write(data)
-        for number in range(20):
-            made = key.sign(mine, trusted_comment=f"{own} {number}")
-            if key.public_key.verify(data, made) != f"{own} {number}" or minisign.verify(path, key.public_key, signature) != "in threads":
-                wrong.append(own)
+        mine = write(room, f"data-{own}", data)
+        return all(key.public_key.verify(data, key.sign(mine, trusted_comment=f"{own} {number}")) == f"{own} {number}"
+                   and minisign.verify(path, key.public_key, signature) == "in threads" for number in range(20))
 
-    def feed(verifier: Verifier) -> None:
+    def feed(_: int) -> None:
         for _ in range(20):
-            verifier.update(piece)
+            shared.update(piece)
 
-    shared = Verifier(key.public_key, for_all)
-    started = [threading.Thread(target=run, args=(number,)) for number in range(8)]
-    started += [threading.Thread(target=feed, args=(shared,)) for _ in range(8)]
-    for thread in started:
-        thread.start()
-    for thread in started:
-        thread.join()
-    check(not wrong, f"threads: {wrong} verified something else")
-    check(answer(shared.finish) == f"accepted {b'by all'.hex()}", "threads: one verifier that eight fed")
+    with concurrent.futures.ThreadPoolExecutor(16) as pool:
+        fed = pool.map(feed, range(8))
+        check(all(pool.map(is_right, range(8))), "threads: one verified something else")
+    check([*fed] == [None] * 8 and answer(shared.finish) == f"accepted {b'by all'.hex()}", "threads: one verifier that eight fed")
     rejects(minisign.NotBegun, shared.finish, "a verifier that was finished before")
 
 
@@ -175,28 +156,48 @@ def threads(room: str) -> None:
 
 
 def write(room: str, name: str, data: bytes) -> str:
-    path = os.path.join(room, name)
-    with open(path, "wb") as file:
-        file.write(data)
-    return path
+    path = pathlib.Path(room, name)
+    path.write_bytes(data)
+    return str(path)
+
+
+def make(directory: str, password: Optional[str] = None) -> None:
+    """Makes a pair of keys in a directory; with a password it is sealed by the least work."""
+    key = SecretKey.generate()
+    write(directory, "secret", key.to_bytes(password, operations_limit=2**19, memory_limit=2**24))
+    write(directory, "public", key.public_bytes())
+
+
+def sign(key: str, data: str, to: str, comment: str, password: Optional[str] = None) -> None:
+    made = SecretKey.from_file(key, password).sign(data, trusted_comment=comment)
+    pathlib.Path(to).write_bytes(made.text)
+
+
+def sealed(operations: str, memory: str) -> None:
+    SecretKey.generate().to_bytes("pass word", operations_limit=int(operations), memory_limit=int(memory))
+
+
+def opened(key: str, password: Optional[str] = None) -> None:
+    print("weak" if SecretKey.from_file(key, password).is_weak else "strong")
+
+
+def outcome(call: Callable[..., None], *words: str) -> str:
+    try:
+        call(*words)
+    except minisign.MinisignError as why:
+        return name_of(why)
+    except ValueError as why:
+        return "WEAK_LIMITS" if "_limit" in str(why) else str(why)
+    return "OK"
 
 
 def keys(room: str) -> None:
-    """Keys and signatures, also those that Minisign's own program has made in this directory and will look at."""
     data = write(room, "data", b"what is signed")
-    theirs = SecretKey.from_file(os.path.join(room, "theirs.key"))
-    check(theirs.public_key == PublicKey.from_file(os.path.join(room, "theirs.pub")), "the public key of Minisign's key")
-    check(minisign.verify(data, theirs.public_key, Signature.from_file(os.path.join(room, "theirs.minisig"))) == "by Minisign", "Minisign's signature")
-    write(room, "theirs-again.pub", theirs.public_bytes())
-    write(room, "ours-by-theirs.minisig", theirs.sign(data, trusted_comment="by Python").text)
-    rejects(minisign.KeyNotSealed, lambda: SecretKey.from_file(os.path.join(room, "theirs.key"), "pw"), "a password for a key without one")
-
     key = SecretKey.generate()
     check(key.public_key.key_id == PublicKey(key.public_bytes()).key_id and len(key.public_key.key) == 32, "the parts of a public key")
     check(key.public_key == PublicKey.from_base64(key.public_bytes().split(b"\n")[1].decode()), "a key from its base64 alone")
     check(key.public_key != SecretKey.generate().public_key and key.public_key != 1, "another key")
     check(len({key.public_key, PublicKey(key.public_bytes())}) == 1, "keys in a set")
-    write(room, "ours.pub", key.public_bytes())
     write(room, "ours.key", key.to_bytes(None))
     check(SecretKey.from_file(os.path.join(room, "ours.key")).public_key == key.public_key, "a key that was not sealed")
     made = minisign.sign(data, key, trusted_comment="by Python \u00e9", untrusted_comment="another comment")
@@ -207,8 +208,8 @@ def keys(room: str) -> None:
     default = key.public_key.verify(b"what is signed", key.sign(data))
     check(default.startswith("timestamp:") and default.endswith("\tfile:data\thashed"), f"the default comment: {default}")
     check(made.text.startswith(b"untrusted comment: another comment\n"), "the untrusted comment")
-    for kind, comment in ((minisign.BadComment, "a\nb"), (minisign.BadComment, " a"), (minisign.UnreadableComment, "a\0b"),
-                          (minisign.UnreadableComment, "x" * 9000), (minisign.NotUtf8, "\udcff")):
+    for kind, comment in ((minisign.BadComment, " a"), (minisign.UnreadableComment, "a\0b"), (minisign.UnreadableComment, "x" * 9000),
+                          (minisign.NotUtf8, "\udcff")):
         rejects(kind, lambda comment=comment: key.sign(data, trusted_comment=comment), f"the comment {comment[:9]!r}")  # type: ignore[misc]
 
     minisign.change_password(os.path.join(room, "ours.key"), None, None)
@@ -216,37 +217,32 @@ def keys(room: str) -> None:
     with SecretKey.from_file(os.path.join(room, "ours.key")) as opened:
         check(opened.public_key == key.public_key, "a key that was written again")
     rejects(minisign.KeyNotOpened, lambda: opened.sign(data), "a key that was cleared")
-    other = write(room, "many.key", open(os.path.join(room, "many.key"), "rb").read())
+    check(not opened.is_weak, "a key that was not sealed is weak")
+    # (the limits of a derivation that is made many times)
+    many = b"EdScB2" + bytes(32) + struct.pack("<QQ", 2**40, 2**24) + bytes(104)
+    other = write(room, "many.key", key.to_bytes(None).split(b"\n")[0] + b"\n" + base64.b64encode(many) + b"\n")
     rejects(minisign.WorkTooHigh, lambda: SecretKey.from_file(other, "x"), "a key that asks for much work")
-
-    limited = sorted(name for name in os.listdir(room) if name.startswith("limits-"))
-    told = [SecretKey.from_file(os.path.join(room, name), "pass word").is_weak for name in limited]
-    check(told == [name.endswith("-weak.key") for name in limited] and {*told} == {True, False}, f"whether keys are weak: {limited}, {told}")
-    least = key.to_bytes("pw", operations_limit=2**19, memory_limit=2**24)
-    check(not SecretKey.from_bytes(least, "pw").is_weak and not opened.is_weak, "a key that is sealed by the least, or not at all, is weak")
-
-    damaged = write(room, "damaged.key", open(os.path.join(room, "damaged.key"), "rb").read())
-    rejects(minisign.SignatureRefused, lambda: SecretKey.from_file(damaged).sign(data), "a key whose halves do not belong together")
     link, away = os.path.join(room, "link.key"), os.path.join(room, "away")
     os.symlink("ours.key", link)
     minisign.change_password(link, None, None)
     check(os.path.islink(link) and SecretKey.from_file(link).public_key == key.public_key, "a key that a link leads to, written again")
     os.mkdir(away)
     write(away, "app.key", key.to_bytes(None))
-    replace, found = os.replace, os.listdir(away)
-    os.replace = lambda *_: (_ for _ in ()).throw(PermissionError())
-    rejects(PermissionError, lambda: minisign.change_password(os.path.join(away, "app.key"), None, None), "a key that cannot be replaced")
-    os.replace = replace
-    check(os.listdir(away) == found, f"beside a key that was not replaced: {os.listdir(away)}")
     opening = os.open
-    os.open = lambda path, flags, *rest, **more: (_ for _ in ()).throw(PermissionError()) if flags & os.O_CREAT else opening(path, flags, *rest, **more)
-    rejects(PermissionError, lambda: minisign.change_password(os.path.join(away, "app.key"), None, None), "a directory that nothing is written into")
-    os.open = opening
+
+    def opens(path: str, flags: int, *rest: int, **more: int) -> int:
+        if flags & os.O_CREAT:
+            raise PermissionError()
+        return opening(path, flags, *rest, **more)
+
+    for name, instead in (("replace", mock.Mock(side_effect=PermissionError)), ("open", opens)):
+        with mock.patch.object(os, name, instead):
+            rejects(PermissionError, lambda: minisign.change_password(os.path.join(away, "app.key"), None, None), f"a key, and no {name}")
+        check(os.listdir(away) == ["app.key"], f"beside a key that was not replaced: {os.listdir(away)}")
     ours = _calls.ed25519()
-    pair, pairing = ours.pair(), ours.pair
-    setattr(ours, "pair", lambda: pair)
-    taken = SecretKey.generate()
-    setattr(ours, "pair", pairing)
+    pair = ours.pair()
+    with mock.patch.object(ours, "pair", lambda: pair):
+        taken = SecretKey.generate()
     check(bytes(pair) == bytes(64) and any(taken._opened.secret), "the pair that a key was made of is not cleared")
     taken.clear()
     check(not any(taken._opened.secret), "a key that was cleared has its secret")
@@ -256,9 +252,6 @@ def keys(room: str) -> None:
     check(os.stat(fresh).st_mode & 0o777 == 0o600, "the mode of a new file")
     rejects(FileExistsError, lambda: minisign.write_new(fresh, b"other"), "a file that is there")
 
-    for wrong in (3, "text", None):
-        rejects(TypeError, lambda wrong=wrong: Verifier(key.public_key, made).update(wrong), f"a piece that is {wrong!r}")  # type: ignore[misc]
-        rejects(TypeError, lambda wrong=wrong: key.public_key.verify([wrong], made), f"data that has {wrong!r}")  # type: ignore[misc]
     check(key.public_key.verify(b"", key.sign(write(room, "empty", b""), trusted_comment="empty")) == "empty", "an empty file")
 
     rejects(minisign.TooLong, lambda: PublicKey.from_file(write(room, "long", bytes(1 << 20 | 1))), "a text of more than 1 MiB")
@@ -284,8 +277,8 @@ def parts(room: str) -> None:
     check(pickle.loads(pickle.dumps(made)) == made and copy.deepcopy(made).key_id == made.key_id, "copies of a signature that was read")
     longer = Signature(made.text.replace(b"trusted comment: one", b"trusted comment: ones"))
     for signature, fed, comment, all_of_it in (
-            (made, b"what is signed", "one", "one"), (made, b"other", "one", "rejected SignatureRefused"),
-            (longer, b"what is signed", "rejected CommentSignatureRefused", "rejected CommentSignatureRefused")):
+            (made, b"what is signed", "one", "one"), (made, b"other", "one", "rejected SIGNATURE_REFUSED"),
+            (longer, b"what is signed", "rejected COMMENT_SIGNATURE_REFUSED", "rejected COMMENT_SIGNATURE_REFUSED")):
         verifier = Verifier(key.public_key, signature)
         before = answer(verifier.trusted_comment)
         verifier.update(fed)
@@ -310,7 +303,7 @@ def documentation(room: str) -> None:
         named = getattr(minisign, name)
         check(re.search(rf"\b{name}\b", shown) is not None, f"help does not show {name}")
         check(not (inspect.isclass(named) or inspect.isfunction(named)) or bool(named.__doc__), f"{name} says nothing")
-    for name, call in python_arguments.public_calls():
+    for name, call in public_calls():
         check(bool(inspect.getdoc(call)), f"{name} says nothing")
     there = {name for name, value in vars(minisign).items() if not name.startswith("_") and not inspect.ismodule(value)}
     check(there == set(minisign.__all__) and len(minisign.__all__) == len(there), f"in __all__, or there, and not both: {there ^ set(minisign.__all__)}")
@@ -344,9 +337,8 @@ def installing(room: str) -> None:
     def signed(data: bytes, comment: str) -> Signature:
         return key.sign(write(room, "update", data), trusted_comment=comment)
 
-    one, two, another = (signed(data, comment) for data, comment in (
-        (b"one", "version:1\tfile:app"), (b"two", "version:2\tfile:app"), (b"another one", "version:1\tfile:app")))
-    write(room, "update", b"two")
+    one, another, two = (signed(data, comment) for data, comment in (
+        (b"one", "version:1\tfile:app"), (b"another one", "version:1\tfile:app"), (b"two", "version:2\tfile:app")))
 
     def install(data: Any = path, update: Signature = two, keys: Any = public, **how: Any) -> bool:
         how.setdefault("numbering", "version")
@@ -367,21 +359,14 @@ def installing(room: str) -> None:
     seen: List[Tuple[int, int]] = []
     install(io.BytesIO(b"one"), one, first=True, progress=lambda done, size: seen.append((done, size)))
     stands(b"one", 1, "data in memory")
-    check(offer(one) is minisign.Offer.THERE, "a check of what is there")
+    check(bool(seen), "progress of an installation")
+    rejects(minisign.SameNumber, lambda: offer(another), "a check of another update of the number")
     write(directory, "app", b"changed")
     check(offer(one) is minisign.Offer.NEWER, "a check of a changed file")
     check(install(io.BytesIO(b"one"), one) is True, "a changed file")
-    rejects(minisign.SameNumber, lambda: offer(another), "a check of another update of the number")
-    check(bool(seen), "progress of an installation")
 
-    class Stops(Exception):
-        pass
-
-    for raised in (Stops, minisign.SignatureRefused):
-        def stop(done: int, size: int) -> None:
-            raise raised()
-
-        stops(raised, f"progress that raises {raised.__name__}", progress=stop)
+    for raised in (LookupError, minisign.SignatureRefused):
+        stops(raised, f"progress that raises {raised.__name__}", progress=mock.Mock(side_effect=raised))
     for most, source in ((2, io.BytesIO(b"two")), (2, path), (0, path)):
         stops(minisign.TooLong, f"data of more than {most} bytes", source, most=most)
     stops(minisign.SignatureRefused, "other data", io.BytesIO(b"2"), most=3)
@@ -391,43 +376,24 @@ def installing(room: str) -> None:
         stops(TypeError, "a pipe that has nothing yet", pipe)
     os.close(end)
 
-    class Interrupted(io.RawIOBase):
-        def fileno(self) -> int:
-            return file.fileno()
-
-        def read(self, size: int = -1) -> bytes:
-            raise KeyboardInterrupt()
-
     with open(path, "rb") as file:
-        stops(KeyboardInterrupt, "a run that is interrupted", cast("IO[bytes]", Interrupted()))
-
-    class Unable:
-        def accepts(self, *asked: bytes) -> bool:
-            raise KeyboardInterrupt()
-
-    chosen, sys.unraisablehook = _calls._chosen[:], lambda told: None
-    _calls._chosen[:] = [cast(_calls.Sodium, Unable())]
-    stops(minisign.ReadingFailed, "an Ed25519 that raises")
-    _calls._chosen[:], sys.unraisablehook = chosen, sys.__unraisablehook__
+        interrupted = mock.Mock(fileno=file.fileno, read=mock.Mock(side_effect=KeyboardInterrupt))
+        stops(KeyboardInterrupt, "a run that is interrupted", interrupted)
+    unable = mock.Mock(**{"accepts.side_effect": KeyboardInterrupt})
+    with mock.patch.object(_calls, "_chosen", [unable]), mock.patch.object(sys, "unraisablehook"):
+        stops(minisign.ReadingFailed, "an Ed25519 that raises")
     with open(path, "rb") as file:
-        install(file, mode=0o755, most=3)
+        check(install(file, mode=0o755, most=3) is True, "whether a file that is open is installed now")
     stands(b"two", 2, "a file that is open")
     check(os.stat(place).st_mode & 0o777 == 0o755, "the mode of what is installed of a file that is open")
-    rejects(minisign.OlderUpdate, lambda: install(io.BytesIO(b"one"), one), "an older update")
     rejects(minisign.KeptByVersion, lambda: minisign.install(public, path, two, place), "the other field, which is the usual one")
     tells_of_updates(key, path, place)
-    found = [offer(signed(b"3", "version:3\tfile:app")), offer(one)]
-    check(found == [minisign.Offer.NEWER, minisign.Offer.OLDER], f"a check says {found}")
     stands(b"two", 2, "checks")
-    write(room, "update", b"two")
     for keys in ([other, public], (public, other)):
         check(offer(two, keys) is minisign.Offer.THERE, "a check with two keys")
         check(install(keys=keys) is False, "an installation with two keys")
     rejects(minisign.DifferentKeyIds, lambda: offer(two, [other, other]), "two keys of others")
     rejects(ValueError, lambda: offer(two, [other] * 3), "three keys")
-    for wrong in ("", ".", "..", directory + "/"):
-        rejects(ValueError, lambda wrong=wrong: minisign.install(public, path, two, wrong), f"the place {wrong!r}")  # type: ignore[misc]
-    rejects(FileNotFoundError, lambda: minisign.install(public, path, two, os.path.join(room, "none", "app")), "no directory")
     opened = len(os.listdir("/proc/self/fd"))
     for _ in range(20):
         install()
@@ -448,65 +414,54 @@ def tells_of_updates(key: SecretKey, path: str, place: str) -> None:
         rejects(minisign.NoExpiry, lambda: minisign.install(key.public_key, path, update, place, **expires), "one that does not expire")
 
 
-class Ends:
-    """The library, in which a signal that ends a process comes where the record is to get its name."""
-
-    def __init__(self, due: int) -> None:
-        self.due = due
-
-    def __getattr__(self, name: str) -> Any:
-        return getattr(_calls.library, name)
-
-    def make_call(self, begun: Any) -> Any:
-        if self.minisign_install_due(begun.contents.machine) == self.due:
-            os.kill(os.getpid(), signal.SIGTERM)
-        return _calls.library.make_call(begun)
-
-
 def signals(room: str) -> None:
     """A process that is asked to end between the two names ends once the target has its own; and no handler stays."""
     key = SecretKey.generate()
     path, place = write(room, "update", b"one"), os.path.join(room, "app")
-    update = key.sign(path, trusted_comment="version:1\tfile:app")
+
+    def make_call(begun: Any) -> Any:
+        """A signal that ends a process comes where the record is to get its name."""
+        if _calls.library.minisign_install_due(begun.contents.machine) == _header.DUE_RENAME_RECORD:
+            os.kill(os.getpid(), signal.SIGTERM)
+        return _calls.library.make_call(begun)
+
+    def signed(number: int) -> Signature:
+        return key.sign(path, trusted_comment=f"version:{number}\tfile:app")
+
+    def install(number: int, **how: Any) -> None:
+        minisign.install(key.public_key, path, signed(number), place, numbering="version", **how)
+
     child = os.fork()
     if child == 0:
-        from minisign_proved import _header, installing as host
-
         signal.signal(signal.SIGTERM, signal.SIG_DFL)
-        setattr(host, "library", Ends(_header.DUE_RENAME_RECORD))
-        minisign.install(key.public_key, path, update, place, first=True, numbering="version")
+        setattr(host, "library", mock.Mock(wraps=_calls.library, make_call=make_call))
+        install(1, first=True)
         os._exit(0)
     ended = os.waitpid(child, 0)[1]
     there = sorted(name for name in os.listdir(room) if "app" in name)
     check(os.WIFSIGNALED(ended) and os.WTERMSIG(ended) == signal.SIGTERM and there == [".app.lock", ".app.number", "app"], f"it ended by {ended}: {there}")
     before = {number: signal.getsignal(number) for number in (signal.SIGHUP, signal.SIGINT, signal.SIGQUIT, signal.SIGTERM)}
-    minisign.install(key.public_key, path, key.sign(path, trusted_comment="version:2\tfile:app"), place, numbering="version")
+    install(2)
     check({number: signal.getsignal(number) for number in before} == before, "a handler stays")
-    thread = threading.Thread(target=lambda: minisign.install(key.public_key, path, key.sign(path, trusted_comment="version:3\tfile:app"), place, numbering="version"))
+    thread = threading.Thread(target=install, args=(3,))
     thread.start()
     thread.join()
-    check(minisign.check(key.public_key, key.sign(path, trusted_comment="version:3\tfile:app"), place, numbering="version") == minisign.Offer.THERE,
-          "an installation in another thread")
+    found = minisign.check(key.public_key, signed(3), place, numbering="version")
+    check(found == minisign.Offer.THERE, "an installation in another thread")
 
 
-def arguments(room: str) -> None:
-    python_arguments.check_arguments(room, check)
-
-
-def main() -> int:
+def main() -> None:
     kind, word, *rest = sys.argv[1:]
-    if kind != "default":
-        minisign.use_ed25519(kind)
-    if word in ("answers", "pieces", "read", "vectors"):
-        {"answers": lambda: answers(rest == ["allow"]), "pieces": pieces, "read": read, "vectors": vectors}[word]()
-        return 0
-    {"memory": memory, "threads": threads, "keys": keys, "passwords": passwords, "installing": installing, "signals": signals,
-     "arguments": arguments, "parts": parts, "documentation": documentation}[word](rest[0])
-    for failure in failures:
-        print(f"FAILED: {failure}")
-    print(f"{passed} passed, {len(failures)} failed")
-    return 1 if failures else 0
+    minisign.use_ed25519(kind)
+    calls: Dict[str, Callable[..., None]] = {
+        "answers": answers, "pieces": pieces, "read": read, "vectors": vectors, "make": make, "sign": sign, "sealed": sealed,
+        "opened": opened, "memory": memory, "threads": threads, "keys": keys, "passwords": passwords, "installing": installing,
+        "signals": signals, "arguments": check_arguments, "parts": parts, "documentation": documentation}
+    if word in ("make", "sign", "sealed"):
+        print(outcome(calls[word], *rest))
+    else:
+        calls[word](*rest)
 
 
 if __name__ == "__main__":
-    sys.exit(main())
+    main()

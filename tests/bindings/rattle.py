@@ -12,7 +12,6 @@ Needs Python 3.9 or later, the Rattle kit, a C compiler, libsodium with its head
 installs what is missing if it may, but for the kit.
 """
 
-import glob
 import os
 import re
 import shutil
@@ -60,11 +59,6 @@ def build(room, libsodium):
     return os.path.join(directory, NAME), made.stdout
 
 
-def find_archive():
-    found = glob.glob("/usr/lib/*/libsodium.a") + glob.glob("/usr/lib/libsodium.a") + glob.glob("/usr/local/lib/libsodium.a")
-    return found[0] if found else None
-
-
 def check_files(checks, program, room):
     """A file that was signed, and what is not what was signed. The signature that fits every file where small orders are accepted is over
     the data itself: it is rejected before libsodium is asked."""
@@ -104,9 +98,8 @@ def check_document(checks, room):
 
 
 def run_all(checks, room):
-    needs.libsodium()
-    archive = needs.need(find_archive, "the archive of libsodium", "libsodium-dev")
-    program, said = build(os.path.join(room, "copy"), archive)
+    _, archive, _ = run([needs.libsodium(), "-print-file-name=libsodium.a"])
+    program, said = build(os.path.join(room, "copy"), archive.decode().strip())
     checks.check(re.search(r"logic=proved", said) is not None, f"the example was not built: {said[-1500:]}")
     check_files(checks, program, room)
     check_document(checks, room)

@@ -8,16 +8,15 @@ of README.md and of its comments run.
 
 What it answers is compared with `c/minisign`, with libsodium and with the header (`ask_all`), and what it declares with
 the header; what is written by hand has at most 650 lines, and no `unsafe` outside one module; without its feature
-`sodium` nothing of libsodium is linked. Each of some planted bugs is noticed. It prints a line for each failure; the
-last line is `N passed, M failed`.
+`sodium` nothing of libsodium is linked. Each bug of rust/planted.txt is noticed. It prints a line for each failure;
+the last line is `N passed, M failed`.
 
 Needs Python 3.9 or later, cargo, rustc, make, a C compiler, binutils and libsodium with its header, git, and of
 Debian libstd-rust-dev-windows, gcc-mingw-w64-x86-64, wine64, gcc-aarch64-linux-gnu, libc6-dev-arm64-cross and
 qemu-user-static. It installs what is missing if it may; apt-get fetches Rust's library for AArch64 once. Where
-another cargo than Debian's comes first in PATH, both are tried.
+another cargo than Debian's comes first in PATH, that is tried too.
 """
 
-import base64
 import glob
 import hashlib
 import os
@@ -28,13 +27,14 @@ import sys
 HERE = os.path.dirname(os.path.realpath(__file__))
 sys.path += [HERE, *(os.path.join(HERE, "..", name) for name in ("shared", "c"))]
 
+import commands
 import emulated
 import ending
 import needs
 import portable
 import shared_cases
 import static_library
-from shared_cases import TOP, Program, read, run, write
+from shared_cases import TOP, Program, read, record_of, run, write
 
 CRATE = os.path.join(TOP, "bindings", "rust")
 # What is written by hand, of which the first three have nothing unsafe; and what tools/bindings.py makes.
@@ -111,10 +111,7 @@ class Cargo:
         return status, said.decode(errors="replace") + why
 
     def run(self, directory, *words, **environment):
-        status, said = self.try_to_run(directory, *words, **environment)
-        if status != 0:
-            raise static_library.NotBuilt(f"cargo {' '.join(words)}: {said[-3000:]}")
-        return said
+        return shared_cases.hold([self.cargo, *words], directory, {**self.environment, **environment})
 
     def program(self, room, name, dependency, source):
         """A program of a crate of its own, over this one: its path in that crate."""
@@ -125,40 +122,33 @@ class Cargo:
 
 def check_sources(checks):
     """The crate is small, and unsafe in one module alone."""
-    shared_cases.check_readme(checks, "rust")
-    lines = 0
-    for name in BY_HAND:
-        code = [line for line in read(CRATE, name).decode().splitlines() if line.strip() and not line.strip().startswith("//")]
-        lines += len(code)
-        words = "\n".join(code).replace("unsafe_code", "")
+    code = {name: shared_cases.code_of(read(CRATE, name).decode()) for name in BY_HAND}
+    shared_cases.check_written(checks, "rust", sum(code.values(), []), LINES)
+    for name, lines in code.items():
+        words = "\n".join(lines).replace("unsafe_code", "")
         checks.check(name.startswith("src/raw") or "unsafe" not in words, f"{name}: it has `unsafe`")
-    checks.check(lines <= LINES, f"the crate has {lines} lines")
     there = {os.path.relpath(path, CRATE) for path in glob.glob(f"{CRATE}/src/**", recursive=True) if os.path.isfile(path)}
     checks.check({*there, "build.rs"} == {*BY_HAND, MADE}, f"the crate has the files {sorted(there)}")
 
 
 def check_declarations(checks):
     """Each call is declared with the kinds of parameters that the header has."""
-    kinds = {"size_t": "usize", "uint32_t": "u32", "uint64_t": "u64", "uint8_t": "u8", "char": "u8", "minisign_answer": "u32",
-             "minisign_error": "u32", **STRUCTS}
-    header = shared_cases.header_text()
+    kinds = {"size_t": "usize", "uint32_t": "u32", "uint64_t": "u64", "uint8_t": "u8", "char": "u8", "enum minisign_answer": "u32",
+             "enum minisign_error": "u32", "void": "", **STRUCTS}
 
-    def kind_of(parameter):
+    def kind_of(value):
         """As Rust writes the kind of a parameter in C."""
-        constant, kind, star, array = re.fullmatch(r"(const )?(?:enum )?(\w+) (\*?)\w*(\[\d+\])?", parameter.strip()).groups()
-        if array:
-            return f"&{'' if constant else 'mut '}[{kinds[kind]}; {array[1:-1]}]"
-        return f"*{'const' if constant else 'mut'} {kinds[kind]}" if star else kinds[kind]
+        if value.count:
+            return f"&{'' if value.const else 'mut '}[{kinds[value.kind]}; {value.count}]"
+        return f"*{'const' if value.const else 'mut'} {kinds[value.kind]}" if value.star else kinds[value.kind]
 
+    calls = {call.name: call for call in shared_cases.HEADERS.calls}
     declared = re.findall(r"fn (minisign_\w+)\(([^)]*?),?\s*\)(?:\s*-> (\w+))?;", read(CRATE, MADE).decode())
     checks.check(len(declared) >= 10, f"the crate declares only {len(declared)} calls")
     for name, parameters, answer in declared:
-        found = re.search(rf"(\w+) {name}\((.*?)\)", header, re.S)
-        wanted = [kind_of(re.sub(r"\s+", " ", parameter)) for parameter in found[2].split(",") if parameter.strip() != "void"]
-        told = [parameter.partition(":")[2].strip() for parameter in parameters.split(",") if parameter]
-        checks.check(told == wanted, f"{name}: declared with {told} in place of {wanted}")
-        result = {"void": "", "size_t": "usize"}.get(found[1], "u32")
-        checks.check(answer == result, f"{name}: declared with the answer {answer!r} in place of {result}")
+        wanted = [*map(kind_of, calls[name].parameters), kinds[calls[name].answer]]
+        told = [*(parameter.partition(":")[2].strip() for parameter in parameters.split(",") if parameter), answer]
+        checks.same(told, wanted, f"{name}: with what it is declared")
 
 
 # How rust/inside.rs looks at a struct, and at a field of one.
@@ -190,7 +180,7 @@ def reason(known):
     def line_of(name):
         kind, text = known.get(name, "InvalidEncoding"), re.escape(shared_cases.error_texts()[name])
         detail = {"InvalidEncoding": rf"\({name}\)", "InvalidSignature": rf"\({name}\)", "IoError": r"\(.*\)"}.get(kind, "")
-        return f"rejected {kind}{detail} {shared_cases.error_numbers()[name]}: {text}"
+        return f"rejected {kind}{detail} {shared_cases.ERRORS[name]}: {text}"
     return line_of
 
 
@@ -205,10 +195,7 @@ def ask_all(program, room, minisign, cases):
     program.ask_readings(["read"], lambda reading: f"{reading.key_id.hex()} {reading.signature_key_id.hex()} {str(reading.is_legacy).lower()}")
     program.ask_vectors(["accepts"])
     of_length, of_base64 = (f"Err(InvalidEncoding(BARE_PUBLIC_KEY_{why}))" for why in ("LENGTH", "NOT_BASE64"))
-    key = shared_cases.LETTERS
-    for text, wanted in ((key, "Ok(None)"), (key[:-1], of_length), (key[:-1] + "!", of_base64), (f"x\n{key}", of_length)):
-        said = program.run("bare", text)[1].decode().strip()
-        program.checks.check(said == wanted, f"the key {text!r} alone: {said} in place of {wanted}")
+    program.ask_bare(*map(re.escape, ("Ok(None)", of_length, of_base64, of_length)))
     # (nothing secret is shown, and a reason by its name)
     said = program.run("shown")[1].decode().splitlines()
     wanted = ["Signer", "StreamVerifier", "Signer", "Sodium", "WRONG_PASSWORD Reason(77) WRONG_PASSWORD"]
@@ -235,13 +222,13 @@ NEEDED = ("cargo", "rustc", "gcc", "cc", "ld", "as", "ar", "objcopy", "git", "sh
 WINDOWS, ARM = "x86_64-pc-windows-gnu", "aarch64-unknown-linux-gnu"
 NO_COMPILER = "there is no C compiler with GNU's options, as gcc and clang have them, that builds for "
 # (build.rs, and what is changed in it)
-TARGET_BUG = ("build.rs", "processor && system && has_numbers && has(", "has(")
+TARGET_BUG = ("build.rs", "processor && system && has_numbers && has(", "has(", "the target")
 
 
 def messages():
     """What Ed25519 is asked of the published texts: to verify the digest of other data, and the comment behind the signature."""
-    lines = shared_cases.PUBLISHED.signature.split(b"\n")
-    second = base64.b64decode(lines[1])[10:] + lines[2].removeprefix(b"trusted comment: ")
+    signature = shared_cases.PUBLISHED.signature
+    second = record_of(signature)[10:] + signature.split(b"\n")[2].removeprefix(b"trusted comment: ")
     return f"{hashlib.blake2b(bytes([7]) * 1000).hexdigest()}\n{second.hex()}\nOk(())\n"
 
 
@@ -249,7 +236,7 @@ class Place:
     """A crate of a user in a directory of its own, over this one, which is built with few programs in PATH."""
 
     def __init__(self, programs, room, name, dependency):
-        self.room, self.directory = room, new_crate(room, name, dependency, "target.rs")
+        self.directory = new_crate(room, name, dependency, "target.rs")
         self.cargo = Cargo(self.directory, *(os.path.join(needs.DEBIAN, name) for name in ("cargo", "rustc")), PATH=programs, RUSTFLAGS="")
 
     def build(self, target="", **environment):
@@ -257,15 +244,15 @@ class Place:
         words = ["--target", target] if target else []
         return self.cargo.try_to_run(self.directory, "build", "--release", *words, **{**Cargo.UNOPTIMIZED, **environment})
 
-    def check(self, checks, what, names, before=(), target="", ending="", **environment):
-        """Builds and runs it: it answers as it has to, and has these names or has them not."""
+    def check(self, checks, what, names, before=(), target="", ending="", variables=None, **environment):
+        """Builds and runs it, under these variables: it answers as it has to, and has these names or has them not."""
         status, why = self.build(target, **environment)
         if not checks.check(status == 0, f"{what}: it was not built: {why[-1000:]}"):
             return
         program, (key, _, signature) = os.path.join(self.cargo.target, target, "release", f"user{ending}"), shared_cases.PATHS
-        status, said, why = run([*before, program, key, signature], environment={"WINEPREFIX": f"{self.room}/wine", "WINEDEBUG": "-all"})
+        status, said, why = run([*before, program, key, signature], environment=variables)
         checks.check(said.decode().replace("\r", "") == messages(), f"{what}: status {status}, {said.decode()}{why[-500:]}")
-        found = run([needs.program("nm", "binutils"), program])[1].decode()
+        found = shared_cases.names_in(program)
         for name, has_it in names.items():
             checks.check((name in found) == has_it, f"{what}: whether it has {name} is not {has_it}")
 
@@ -286,7 +273,7 @@ def check_here(checks, programs, crate, room):
     status, why = place.build(CC="cl", MINISIGN_PORTABLE="")
     checks.check(status != 0 and NO_COMPILER + "x86_64-unknown-linux-gnu: name one in CC_x86_64_unknown_linux_gnu (tried: cl)\n" in why,
                  f"a compiler without GNU's options: {why[-500:]}")
-    place = Place(programs, room, "by git", f'minisign-proved = {{ git = "file://{shared_cases.repository(room)}", default-features = false }}')
+    place = Place(programs, room, "by git", f'minisign-proved = {{ git = "file://{commands.Clone(room).top}", default-features = false }}')
     place.check(checks, "as a git dependency", {}, CARGO_NET_OFFLINE="false")
 
 
@@ -299,45 +286,19 @@ def check_targets(checks, programs, crate, room):
     for name in ("x86_64-w64-mingw32-gcc", os.path.basename(compiler)):
         os.symlink(os.path.join(needs.DEBIAN, name), os.path.join(programs, name))
     place = Place(programs, room, "for others", ALONE.format(crate=crate))
-    place.check(checks, "for Windows", {}, [own.program], WINDOWS, ".exe")
+    place.check(checks, "for Windows", {}, [own.program], WINDOWS, ".exe", own.variables)
     own.end()
     os.makedirs(f"{room}/sysroot/lib")
     os.symlink(f"{library}/usr/lib/rustlib", f"{room}/sysroot/lib/rustlib")
     linker = {f"CARGO_TARGET_{ARM.upper().replace('-', '_')}_LINKER": compiler}
     place.check(checks, "for AArch64", {"aarch64_minisign_update": True}, emulator, ARM, RUSTFLAGS=f"--sysroot {room}/sysroot", **linker)
 
-    def ask_for_windows(found, changed, directory):
+    def ask_for_windows(found, changed, directory, _):
         """Where the named compiler is for another target nothing is built."""
         status, why = Place(programs, directory, "for Windows", ALONE.format(crate=changed)).build(WINDOWS, CC="gcc")
         found.check(status != 0 and NO_COMPILER + WINDOWS in why, f"the compiler for here for Windows: {why[-500:]}")
 
-    ask_for_windows(checks, crate, os.path.join(room, "by-gcc"))
     shared_cases.check_planted(checks, crate, [TARGET_BUG], room, ask_for_windows)
-
-
-# The file, and what is changed in it.
-BUGS = [
-    ("src/lib.rs", "if it.legacy == 1 { data } else { &digest }", "&digest"),
-    ("src/lib.rs", "raw::verdict(&mut self.state, first, second)", "raw::verdict(&mut self.state, first, first)"),
-    ("src/lib.rs", "raw::comment_verdict(&self.state, self.accepts_comment())?", "raw::comment_verdict(&self.state, true)?"),
-    ("src/lib.rs", "progress(taken)", "progress(0)"),
-    ("src/lib.rs", "if error.kind() == io::ErrorKind::Interrupted", "if error.kind() == io::ErrorKind::NotFound"),
-    ("src/lib.rs", "io::Error::new(io::ErrorKind::InvalidData, Reason::NOT_UTF8)", "io::Error::from(io::ErrorKind::InvalidData)"),
-    ("src/lib.rs", "self.read.comment_offset as usize..]", "self.read.comment_offset as usize + 1..]"),
-    ("src/lib.rs", "&self.read.key_id", "&[0; 8]"),
-    ("src/lib.rs", "self.read.legacy == 1", "self.read.whole == 1"),
-    ("src/lib.rs", "Reason(16..=27 | 44..=45)", "Reason(16..=26 | 44..=45)"),
-    ("src/lib.rs", "other => other.reason().map(|it| it as _)", "_ => None"),
-    ("src/raw/sodium.rs", "crypto_sign_verify_detached(signature, from, len, key) == 0",
-     "crypto_sign_verify_detached(signature, from, len, key) <= 0"),
-    ("src/signing.rs", "|it| ed25519.accepts(it, message, &key)", "|it| it.len() + key.len() == 96"),
-    ("src/signing.rs", "!ed25519.random(&mut sealing.salt)", "work.keep_every == 0"),
-    ("src/signing.rs", "work.operations_limit < raw::LEAST_OPERATIONS_LIMIT as u64\n            || ", ""),
-    ("src/signing.rs", "raw::LEAST_MEMORY_LIMIT as u64", "1"),
-    ("src/signing.rs", "usize::from(unopened.log2_rows) < raw::LEAST_LOG2_ROWS", "unopened.log2_rows < 2"),
-    ("src/signing.rs", "signer.update_from(fs::File::open(path)?)?;", "fs::File::open(path)?;"),
-    (MADE, "with_password, password) = (password.is_some().into()", "with_password, password) = (0"),
-]
 
 
 def take_built(cargo, room):
@@ -352,38 +313,36 @@ def take_built(cargo, room):
 
 def check_planted(checks, cargo, crate, room, minisign):
     """Each planted bug is noticed by what is asked of a program over the changed crate, which may have warnings."""
-    flags = {"RUSTFLAGS": "", "CARGO_INCREMENTAL": "0"}
-
-    def ask(found, changed, directory):
-        cargo.run(new_crate(directory, "planted", RENAMED.format(crate=changed), "answers.rs"), "build", **flags)
+    def ask(found, changed, directory, _):
+        planted = new_crate(directory, "planted", RENAMED.format(crate=changed), "answers.rs")
+        cargo.run(planted, "build", RUSTFLAGS="", CARGO_INCREMENTAL="0")
         ask_all(Program(found, f"{cargo.target}/debug/user"), directory, minisign, shared_cases.corpus())
 
-    shared_cases.check_planted(checks, crate, BUGS, room, ask)
+    shared_cases.check_planted(checks, crate, shared_cases.bugs_of(HERE, "rust", "planted.txt"), room, ask)
 
 
 def check_toolchain(checks, room, toolchain, minisign, is_first):
-    """All of it with one cargo. With the first one it is built in many places, and bugs are planted."""
+    """What one cargo builds. With the first one it is asked of more cases and for growth and threads, bugs are planted, and it is built in
+    many places."""
     cargo = Cargo(room, *toolchain, **({} if is_first else Cargo.UNOPTIMIZED))
     crate = shared_cases.packed("rust", room, cargo.environment, CARGO=cargo.cargo)
     program = Program(checks, cargo.program(room, "answers", RENAMED.format(crate=crate), "answers.rs"))
-    cases = shared_cases.corpus() + shared_cases.damaged()
-    shared_cases.check_cases(checks, minisign, cases)
-    ask_all(program, room, minisign, cases + shared_cases.large(minisign))
     few = shared_cases.corpus() + shared_cases.damaged(60)
-    program.ask_growth(CALLS, PAGES, few)
-    program.ask_threads(few)
-    if is_first:
-        programs = shared_cases.few_programs(room, *NEEDED)
-        check_here(checks, programs, crate, room)
-        check_targets(checks, programs, crate, room)
+    ask_all(program, room, minisign, shared_cases.all_cases(checks, minisign) if is_first else few)
     take_built(cargo, room)
     said = cargo.run(crate, "test", "--doc")
     checks.check(re.search(r"test result: ok\. [2-9] passed; 0 failed; 0 ignored", said), f"the examples: {said[-500:]}")
     check_inside(checks, cargo, crate, room)
     check_own(checks, cargo, room, crate)
-    if is_first:
-        check_planted(checks, cargo, crate, room, minisign)
+    if not is_first:
+        return
+    program.ask_growth(CALLS, PAGES, few)
+    program.ask_threads(few)
+    check_planted(checks, cargo, crate, room, minisign)
     shutil.rmtree(os.path.join(room, ".cargo"))
+    programs = shared_cases.few_programs(room, *NEEDED)
+    check_here(checks, programs, crate, room)
+    check_targets(checks, programs, crate, room)
     shutil.rmtree(os.path.join(crate, "library"))
     status, _ = cargo.try_to_run(crate, "build", "--profile", "bench")
     checks.check(status != 0, "the crate is built without what it needs")

@@ -7,46 +7,48 @@ package's language, one on each line, and compares what comes back with `c/minis
 Needs Python 3.9 or later, make, a C compiler and libsodium with its header. It installs what is missing if it may.
 """
 
-import base64
 import concurrent.futures
 import functools
-import hashlib
-import json
 import os
 import random
 import re
 import shutil
-import subprocess
 import sys
 import tempfile
-from typing import NamedTuple
+from collections import namedtuple
 
 HERE = os.path.dirname(os.path.realpath(__file__))
 TOP = os.path.realpath(os.path.join(HERE, "..", ".."))
-sys.path.append(os.path.join(HERE, "..", "shared"))
+sys.path += [os.path.join(TOP, *path) for path in (("tests", "shared"), ("tests", "verdicts"), ("tests", "page"), ("tools",))]
 
+import c_header
 import edges
+import minisign_cases
 import needs
 import static_library
+import texts
+from cases import kept_cases, key_errors, signature_errors
 from checks import Checks
+from planted import MARK, before_and_after
+from process import SECONDS, run_program
 from running import read, write
+from texts import CORPUS, Limits, record_of, text_of, turned
 
-CORPUS = os.path.join(TOP, "tests", "corpus")
-HEADER = os.path.join(TOP, "include", "minisign.h")
-INSTALLING = os.path.join(TOP, "include", "minisign_install.h")
-SECONDS = 1800
-# The damage is the same at each run.
-SEED = 7
-DAMAGED = 500
-
-BASE64 = b"ABCDEFGHIJKLMNOPQRSTUVWXYZabcdefghijklmnopqrstuvwxyz0123456789+/="
+DAMAGED, BY_LINES = 500, 150
 
 
 def run(command, directory=None, environment=None, data=b""):
     """Runs a command: its status, its output, and what it said."""
-    ran = subprocess.run(command, cwd=directory, env=dict(os.environ, **(environment or {})), input=data, stdout=subprocess.PIPE,
-                         stderr=subprocess.PIPE, timeout=SECONDS)
-    return ran.returncode, ran.stdout, ran.stderr.decode(errors="replace")
+    ran = run_program(command, directory, data, SECONDS, env=dict(os.environ, **(environment or {})))
+    return ran.status, ran.output, ran.said.decode(errors="replace")
+
+
+def hold(command, directory=None, environment=None):
+    """Runs a command that builds something, and has to succeed: its output."""
+    status, said, why = run(command, directory, environment)
+    if status != 0:
+        raise static_library.NotBuilt(f"{' '.join(command)[:200]}: {said.decode(errors='replace')[-1500:]}{why[-3000:]}")
+    return said.decode(errors="replace")
 
 
 def packed(package, room, environment=None, **chosen):
@@ -54,12 +56,10 @@ def packed(package, room, environment=None, **chosen):
     out, to = os.path.join(room, "packed"), os.path.join(room, "unpacked")
     words = [f"{name}={value}" for name, value in {"OUT": out, "PYTHON": sys.executable, **chosen}.items()]
     command = [needs.program("make", "make"), "-s", "-C", os.path.join(TOP, "bindings"), package, *words]
-    status, _, why = run(command, environment={"PATH": static_library.path_without_kit(), **(environment or {})})
-    archives = [name for name in os.listdir(out) if name.endswith((".crate", ".tar.gz", ".tgz"))] if os.path.isdir(out) else []
-    if status != 0 or len(archives) != 1:
-        raise static_library.NotBuilt(f"make -C bindings {package} packed {archives}: {why[-1500:]}")
+    hold(command, environment={"PATH": static_library.path_without_kit(), **(environment or {})})
+    archive, = (name for name in os.listdir(out) if name.endswith((".crate", ".tar.gz", ".tgz")))
     os.makedirs(to)
-    subprocess.run(["tar", "-xf", os.path.join(out, archives[0]), "-C", to], check=True)
+    hold(["tar", "-xf", os.path.join(out, archive), "-C", to])
     return os.path.join(to, *os.listdir(to))
 
 
@@ -74,20 +74,20 @@ def few_programs(room, *names):
 
 
 def c_minisign(room):
-    """Builds `c/` over `dist/`: the path of the program minisign, beside which the library stands."""
-    compiler = needs.libsodium()
-    static_library.run_make(f"OUT={room}/c", f"CC={compiler}")
-    return os.path.join(room, "c", "minisign")
+    """The path of the program minisign of `c/`, built over `dist/`."""
+    program = os.path.join(room, "c", "minisign")
+    static_library.run_make(f"OUT={room}/c", f"CC={needs.libsodium()}", program)
+    return program
 
 
-def repository(room):
-    """A repository of one commit, of what is committed here: its path."""
-    path = os.path.join(room, "repository.git")
-    git = lambda *words: run([needs.git(), "-c", "user.name=Ann", "-c", "user.email=ann@example.com", *words], room)[1].decode().strip()
-    git("clone", "-q", "--bare", "--depth", "1", f"file://{TOP}", path)
-    git("-C", path, "update-ref", "HEAD", git("-C", path, "commit-tree", "-m", "as it stands", "HEAD^{tree}"))
-    os.remove(os.path.join(path, "shallow"))
-    return path
+def names_in(program):
+    """What `nm` says of a program or a library."""
+    return run([needs.program("nm", "binutils"), program])[1].decode()
+
+
+def code_of(text, comment="//"):
+    """The lines of a source that are neither blank nor a comment."""
+    return [line for line in text.splitlines() if line.strip() and not line.strip().startswith(comment)]
 
 
 # How long a README may be, and what it answers, in this order.
@@ -97,8 +97,10 @@ README_PARTS = ["Install", "Verify", "Sign", "Stream", "Errors", "What is differ
 README_VERIFYING = 5
 
 
-def check_readme(checks, package):
-    """The README of a package is short and answers in the order of the others, and its key and signature are kept ones."""
+def check_written(checks, package, code, most):
+    """The lines of code that are written by hand are so many at the most. The README is short and answers in the order of the others, and
+    its key and signature are kept ones."""
+    checks.check(len(code) <= most, f"the package has {len(code)} lines")
     text = read(TOP, "bindings", package, "README.md").decode()
     lines, parts = text.splitlines(), re.findall(r"^## (What is different from|.*)", text, re.M)
     checks.check(len(lines) <= README_LINES, f"README.md has {len(lines)} lines")
@@ -113,26 +115,25 @@ def check_readme(checks, package):
 # ---- Cases ----
 
 
-class Case(NamedTuple):
-    """What is verified together."""
-
-    name: str
-    key: bytes
-    data: bytes
-    signature: bytes
-
-
+# What is verified together.
+Case = namedtuple("Case", "name key data signature")
+# What a case says before anything is asked: the key IDs of its key and of its signature, and whether that is over the data itself.
+Reading = namedtuple("Reading", "case key_id signature_key_id is_legacy")
 # The texts that the crate's documentation has: of these the paths, and of its key the letters alone.
 PATHS = [os.path.join(CORPUS, name) for name in ("published.pub", "test", "published.minisig")]
 PUBLISHED = Case("published", *map(read, PATHS))
 LETTERS = PUBLISHED.key.decode().split("\n")[1]
 
 
+def of_others(cases):
+    """Cases of the tests of whole programs."""
+    return [Case(case.name, case.pk, case.data, case.sig) for case in cases]
+
+
 @functools.lru_cache(maxsize=None)
 def corpus():
     """The kept keys, data and signatures of Minisign's own program."""
-    name_of = lambda case: f"{case['key']}, {case['data']}, {case['signature']}"
-    return [Case(name_of(case), *(read(CORPUS, case[part]) for part in ("key", "data", "signature"))) for case in json.loads(read(CORPUS, "cases.json"))]
+    return of_others(kept_cases())
 
 
 def vectors():
@@ -153,84 +154,36 @@ def vector_texts():
 
 
 def damaged(count=DAMAGED):
-    """Kept cases of which the key, the signature or the data was changed, at most in three places: the same at each run."""
-    choose, good, cases = random.Random(SEED), corpus(), []
-    while len(cases) < count:
-        of = choose.choice(good)
-        part = choose.choice(("key", "signature", "signature", "signature", "data"))
-        changed = getattr(of, part)
-        for _ in range(choose.choice((1, 1, 1, 2, 3))):
-            changed = damage(choose, changed)
-        if changed != getattr(of, part):
-            cases.append(of._replace(name=f"{len(cases)}: {of.name}, another {part}", **{part: changed}))
-    return cases
+    """Kept cases with random changes of the key, the signature or the data: the same ones at each run."""
+    return of_others(minisign_cases.random_cases(kept_cases(), count))
 
 
-def damage(choose, text):
-    """Bytes that were changed in one way."""
-    at = choose.randrange(len(text) + 1)
-    lines = text.split(b"\n")
-    line = choose.randrange(len(lines))
-    ways = [
-        lambda: text[:at] + text[at + 1:],
-        lambda: text[:at] + bytes([choose.randrange(256)]) + text[at:],
-        lambda: text[:at] + bytes([choose.choice(BASE64)]) + text[at + 1:],
-        lambda: text[:at] + bytes([text[at] ^ 1 << choose.randrange(8)]) + text[at + 1:] if at < len(text) else text + b"\n",
-        lambda: text[:at],
-        lambda: b"\n".join(lines[:line] + lines[line + 1:]),
-        lambda: b"\n".join(lines[:line] + [lines[line]] + lines[line:]),
-        lambda: b"\n".join(lines[:line] + lines[line + 1:] + [lines[line]]),
-        lambda: text.replace(b"\n", b"\r\n"),
-        lambda: text + choose.choice((b"\n", b" ", b"\r\n", b"more\n", b"\x00")),
-        lambda: b"\n".join(line + choose.choice((b"", b" ", b"\t", b"\r")) for line in lines),
-    ]
-    return choose.choice(ways)()
+def damaged_by_lines():
+    """A kept text, damaged by lines and by letters, cut, and over other data: some of these cases, the same ones at each run."""
+    whole = next(case for case in kept_cases() if case.data and case.sig.count(b"\n") == 4)
+    return of_others(random.Random(BY_LINES).sample(minisign_cases.damaged(whole), BY_LINES))
 
 
 def rejections():
     """Cases that are rejected, each with the header's name of why: no legacy signatures are allowed."""
-    key, data, signature = PUBLISHED[1:]
-    lines, rows = signature.split(b"\n"), key.split(b"\n")
-    text_of = lambda number, line: b"\n".join(lines[:number] + [line] + lines[number + 1:])
-    first_of = lambda count: b"\n".join(lines[:count]) + b"\n"
-    return [(Case(name, *texts), why) for name, texts, why in (
-        ("no key", (b"", data, signature), "MISSING_PUBLIC_KEY_COMMENT"),
-        ("a key of one line", (rows[0] + b"\n", data, signature), "MISSING_PUBLIC_KEY"),
-        ("a short key", (key[:-5], data, signature), "PUBLIC_KEY_LENGTH"),
-        ("a key that is no base64", (key.replace(b"RWQ", b"RW!"), data, signature), "PUBLIC_KEY_NOT_BASE64"),
-        ("no signature", (key, data, b""), "MISSING_UNTRUSTED_COMMENT"),
-        ("a signature of 1 lines", (key, data, first_of(1)), "MISSING_SIGNATURE"),
-        ("a signature of 2 lines", (key, data, first_of(2)), "MISSING_TRUSTED_COMMENT"),
-        ("a signature of 3 lines", (key, data, first_of(3)), "MISSING_COMMENT_SIGNATURE"),
-        ("another first line", (key, data, b"x" + signature), "UNTRUSTED_COMMENT_PREFIX"),
-        ("another third line", (key, data, text_of(2, b"x" + lines[2])), "TRUSTED_COMMENT_PREFIX"),
-        ("a signature that is no base64", (key, data, text_of(1, b"!" + lines[1][1:])), "SIGNATURE_NOT_BASE64"),
-        ("a short signature", (key, data, text_of(1, b"RUQf")), "RECORD_TOO_SHORT"),
-        ("another algorithm", (key, data, read(CORPUS, "other-algorithm.minisig")), "UNSUPPORTED_ALGORITHM"),
-        ("another key", (read(CORPUS, "second.pub"), data, signature), "DIFFERENT_KEY_IDS"),
-        ("a legacy signature", (key, data, read(CORPUS, "published-legacy.minisig")), "LEGACY_NOT_ACCEPTED"),
-        ("other data", (key, data + b"2", signature), "SIGNATURE_REFUSED"),
-        ("another comment", (key, data, text_of(2, lines[2] + b"2")), "COMMENT_SIGNATURE_REFUSED"),
-        ("a text that is no UTF-8", (key, data, signature.replace(b"signature", b"\xff", 1)), "NOT_UTF8"))]
-
-
-class Reading(NamedTuple):
-    """What a case says before anything is asked: the key IDs of its key and of its signature, and whether that is over the data itself."""
-
-    case: Case
-    key_id: bytes
-    signature_key_id: bytes
-    is_legacy: bool
+    _, key, data, signature = PUBLISHED
+    found = [(error, error.text, signature) for error in key_errors(key)]
+    # (a changed signature of the data belies the trusted comment too, which is not looked at then: other data does not)
+    errors = signature_errors(signature + b"\n", read(CORPUS, "second.minisig"))
+    found += [(error, key, error.text) for error in errors if error.number != 31]
+    names = {number: name for name, number in ERRORS.items()}
+    return [*((Case(error.words, key, data, signature), names[error.number]) for error, key, signature in found),
+            (Case("other data", key, data + b"2", signature), "SIGNATURE_REFUSED"),
+            (Case("a legacy signature", key, data, read(CORPUS, "published-legacy.minisig")), "LEGACY_NOT_ACCEPTED")]
 
 
 @functools.lru_cache(maxsize=None)
 def readings():
     """What the kept cases say that Minisign's own program accepts, but for the one of no UTF-8, and one whose signature is of
     another key: as Python's base64 decodes it."""
-    rows = json.loads(read(CORPUS, "cases.json"))
-    cases = [case for case, row in zip(corpus(), rows) if row["status"] == 0 and row["signature"] != "no-utf8.minisig"]
+    cases = [case for case, row in zip(corpus(), texts.kept_rows()) if row["status"] == 0 and row["signature"] != "no-utf8.minisig"]
     cases.append(cases[0]._replace(name="a signature of another key", key=read(CORPUS, "second.pub")))
-    decoded = [(case, *(base64.b64decode(text.split(b"\n")[1]) for text in (case.key, case.signature))) for case in cases]
+    decoded = [(case, record_of(case.key), record_of(case.signature)) for case in cases]
     return [Reading(case, key[2:10], signature[2:10], signature[:2] == b"Ed") for case, key, signature in decoded]
 
 
@@ -271,12 +224,14 @@ def large(minisign):
     return [case, case._replace(name="large data, changed", data=data[:-1] + b"x")]
 
 
-def check_cases(checks, minisign, cases):
-    """Of the cases `c/minisign` accepts neither too few nor too many, and of the large data what was signed."""
+def all_cases(checks, minisign):
+    """Kept and damaged cases, of which `c/minisign` accepts neither too few nor too many, and the large data, of which it accepts what
+    was signed."""
+    cases = corpus() + damaged() + damaged_by_lines()
     count = sum(comment is not None for comment in answers_of(minisign, cases, True))
-    checks.check(60 <= count <= 200, f"of the cases too few, or too many, are accepted: {count}")
-    found = answers_of(minisign, large(minisign), False)
-    checks.check(found == [b"large", None], f"c/minisign answers {found} to the large data")
+    checks.check(40 <= count <= 200, f"of the cases too few, or too many, are accepted: {count}")
+    checks.same(answers_of(minisign, large(minisign), False), [b"large", None], "what c/minisign answers to the large data")
+    return cases + large(minisign)
 
 
 # ---- What a package's program is asked ----
@@ -290,13 +245,6 @@ def accepted(comment):
 def rejected(name):
     """What it says of one that it rejects, by the header's name of why."""
     return f"rejected {name}"
-
-
-def compare(checks, what, names, lines, forms):
-    """Each line has its form, a regular expression."""
-    checks.check(len(lines) == len(names) == len(forms) > 0, f"{what}: {len(lines)} answers to {len(forms)} cases")
-    for name, line, form in zip(names, lines, forms):
-        checks.check(re.fullmatch(form, line), f"{what}, {name}: {line} in place of {form}")
 
 
 class Program:
@@ -317,8 +265,19 @@ class Program:
         """Each line that it answers has the form that is wanted of the case, a regular expression."""
         status, said, why = self.run(*words, cases=cases)
         lines = said.decode(errors="replace").splitlines()
-        self.checks.check(status == 0, f"{self.name} {words} ended with {status}: {why[-800:]}")
-        compare(self.checks, f"{self.name} {words}", [case.name for case in cases], lines, forms)
+        is_whole = status == 0 and len(lines) == len(cases) == len(forms) > 0
+        self.checks.check(is_whole, f"{self.name} {words}: {status}, {len(lines)} answers to {len(forms)} cases: {why[-800:]}")
+        for case, line, form in zip(cases, lines, forms):
+            self.checks.check(re.fullmatch(form, line), f"{self.name} {words}, {case.name}: {line} in place of {form}")
+
+    def ask_itself(self, least, *words, cases=()):
+        """It says of so many things at least what has to come of them, and behind a tabulator what came."""
+        status, said, why = self.run(*words, cases=cases)
+        lines = said.decode(errors="replace").splitlines()
+        self.checks.check(status == 0 and len(lines) >= least, f"{self.name} {words}: {status}, {lines[-5:]}, {why[-800:]}")
+        for line in lines:
+            wanted, _, came = line.partition("\t")
+            self.checks.check(wanted == came, f"{self.name} {words}: {came} in place of {wanted}")
 
     def ask_answers(self, minisign, cases, *ways):
         """It answers as `c/minisign`, in each way: by these words, and with legacy signatures or without."""
@@ -341,6 +300,13 @@ class Program:
         self.checks.check(len(rows) > 20 and {reading.is_legacy for reading in rows} == {True, False}, f"only {len(rows)} cases are read")
         self.ask(words, [reading.case for reading in rows], [form(reading) for reading in rows])
 
+    def ask_bare(self, *answers):
+        """It reads the letters of a key alone; and rejects what is too short, what is no base64, and what has two lines. The answers are
+        patterns."""
+        for text, wanted in zip((LETTERS, LETTERS[:-1], LETTERS[:-1] + "!", f"x\n{LETTERS}"), answers):
+            said = self.run("bare", text)[1].decode()
+            self.checks.check(re.fullmatch(wanted, said.strip(), re.S), f"{self.name}: the key {text!r} alone: {said} in place of {wanted}")
+
     def ask_vectors(self, words):
         """Its Ed25519 answers as libsodium does."""
         cases, wanted = zip(*vectors())
@@ -362,10 +328,10 @@ class Program:
 
 # A comment that is signed, and a password.
 COMMENT, PASSWORD = "version:2\tfile:app \u00e9", "pass word"
-# Limits of a sealed key, by libsodium's names and in its order: operations and memory; which logarithm of its rows and which number of
-# parts libsodium makes of them; and whether they are weak, which all are that have fewer rows than the weakest key of `minisign -G`.
-LIMITS = [((0, 0), 1, 512, True), ((32768, 1 << 24), 10, 1, True), ((524287, 1 << 30), 13, 1, True),
-          ((1048576, (1 << 24) - 1), 13, 4, True), ((524288, 1 << 24), 14, 1, False), ((1048576, 1 << 25), 15, 1, False)]
+# Limits of a sealed key, and whether they are weak, which all are that have fewer rows than the weakest key of `minisign -G`.
+LIMITS = [(Limits(0, 0, 2, 512), True), (Limits(1 << 24, 32768, 1 << 10, 1), True), (Limits(1 << 30, 524287, 1 << 13, 1), True),
+          (Limits((1 << 24) - 1, 1048576, 1 << 13, 4), True), (Limits(1 << 24, 524288, 1 << 14, 1), False),
+          (Limits(1 << 25, 1048576, 1 << 15, 1), False)]
 # Limits that a package is asked to seal under, and whether they are too weak.
 SEALED_UNDER = [((524287, 1 << 24), True), ((524288, (1 << 24) - 1), True), ((1, 1), True), ((524288, 1 << 24), False)]
 # What a key signs with, by its directory: the comment, the password, and for what it is rejected.
@@ -376,26 +342,9 @@ SIGNED = [
 ]
 
 
-@functools.lru_cache(maxsize=None)
 def sealed(text, limits):
-    """The text of a secret key that is not sealed, sealed under the password and these limits of the list."""
-    (operations, memory), log2_rows, parts, _ = limits
-    first, line = text.split(b"\n")[:2]
-    record, salt = base64.b64decode(line), bytes(range(32))
-    body = record[54:126] + hashlib.blake2b(record[:2] + record[54:126], digest_size=32).digest()
-    stream = hashlib.scrypt(PASSWORD.encode(), salt=salt, n=1 << log2_rows, r=8, p=parts, maxmem=1 << 30, dklen=len(body))
-    numbers = operations.to_bytes(8, "little") + memory.to_bytes(8, "little")
-    made = b"EdScB2" + salt + numbers + bytes(one ^ other for one, other in zip(body, stream))
-    return first + b"\n" + base64.b64encode(made) + b"\n"
-
-
-def with_other_half(text):
-    """The text of a secret key with a byte of its public half changed, which would give its secret away: of no checksum."""
-    first, line = text.split(b"\n")[:2]
-    record = bytearray(base64.b64decode(line))
-    record[100] ^= 1
-    record[126:158] = bytes(32)
-    return first + b"\n" + base64.b64encode(record) + b"\n"
+    """The text of a secret key that is not sealed, sealed under the password and these limits."""
+    return text_of(texts.sealed(record_of(text), PASSWORD.encode(), limits))
 
 
 def check_signing(program, room, minisign, told=str, good="OK", seals=True, opens=True):
@@ -417,7 +366,7 @@ def check_signing(program, room, minisign, told=str, good="OK", seals=True, open
         checks.check(found[:2] == (0, b"t\n"), f"c/minisign with a key, {name}: {found}")
         by_c("-R", "-s", f"{name}/secret", "-p", f"{name}/again")
         checks.check(read(room, name, "public") == read(room, name, "again"), f"c/minisign writes another public key, {name}")
-    records = [base64.b64decode(read(room, name, "public").split(b"\n")[1]) for name in names[:2]]
+    records = [record_of(read(room, name, "public")) for name in names[:2]]
     checks.check(all(records[0][at:at + 8] != records[1][at:at + 8] for at in (2, 10)), "two keys have one key ID, or are the same")
     by_c("-G", "-W", "-s", "by-c/secret", "-p", "by-c/public")
     for name, comment, password, why in (row for row in SIGNED if row[0] in names):
@@ -430,8 +379,10 @@ def check_signing(program, room, minisign, told=str, good="OK", seals=True, open
         else:
             checks.check(not os.path.exists(sig), f"signing, {name}, {comment!r}: a file was written")
             write(room, "sig", b"")
+    # (a key with a byte of its public half changed, which would give its secret away: of no checksum)
     secret = read(room, "by-c", "secret")
-    said = answer("sign", write(room, "damaged", with_other_half(secret)), data, f"{room}/none", "a")
+    damaged_key = write(room, "damaged", text_of(turned(record_of(secret), 100)[:126] + bytes(32)))
+    said = answer("sign", damaged_key, data, f"{room}/none", "a")
     checks.check("SIGNATURE_REFUSED" in said and not os.path.exists(f"{room}/none"), f"a key of two halves that do not fit: {said}")
     check_weak(checks, answer, room, secret, good if seals else None)
 
@@ -441,8 +392,8 @@ def check_weak(checks, answer, room, secret, good):
     `sealed OPERATIONS MEMORY`, which names why, where the package seals under other limits than the usual ones."""
     said = answer("opened", write(room, "unsealed", secret))
     checks.check(said == "strong", f"a key that is not sealed is {said}")
-    for limits in LIMITS:
-        said, wanted = answer("opened", write(room, "weak", sealed(secret, limits)), PASSWORD), "weak" if limits[-1] else "strong"
+    for limits, is_weak in LIMITS:
+        said, wanted = answer("opened", write(room, "weak", sealed(secret, limits)), PASSWORD), "weak" if is_weak else "strong"
         checks.check(said == wanted, f"a key of the limits {limits} is {said}")
     for limits, is_weak in SEALED_UNDER if good else []:
         said = answer("sealed", *map(str, limits))
@@ -465,13 +416,27 @@ class Noticing(Checks):
         return True
 
 
-def is_noticed(package, room, ask, file, old, new, *more):
+# A bug, marked as by `wdiff`, of one line but for what goes and comes.
+BUG = re.compile(rf"(?:{MARK.pattern}|[^\n])+", re.S)
+
+
+def bugs_of(*path):
+    """The bugs of a file: the file that each is in, the text that is there and the one in its place, and by what it has to be noticed.
+    A line with the first and the last of these stands above the bugs, and a blank one below."""
+    for part in re.split(r"\n\n(?=\S+: \w+\n)", read(*path).decode()):
+        head, *bugs = (found[0] for found in BUG.finditer(part))
+        file, word = head.split(": ")
+        for bug in bugs:
+            yield (file, *before_and_after(bug), word)
+
+
+def is_noticed(package, room, ask, file, old, new, word):
     """Whether a question fails over a copy of a package in which a file is changed."""
     with tempfile.TemporaryDirectory(prefix="planted-", dir=room) as directory:
         changed = shutil.copytree(package, os.path.join(directory, "package", os.path.basename(package)))
         write(changed, file, read(changed, file).decode().replace(old, new, 1).encode())
         try:
-            ask(Noticing(), changed, directory, *more)
+            ask(Noticing(), changed, directory, word)
         except (Noticed, OSError):
             return True
     return False
@@ -479,27 +444,22 @@ def is_noticed(package, room, ask, file, old, new, *more):
 
 def check_planted(checks, package, bugs, room, ask):
     """Each bug, a file with what is changed in it to what, is noticed by what `ask` asks of a copy of a package, with a directory of its
-    own and what else stands in the bug's row; and no copy without a bug."""
-    for file, more in {tuple(bug[3:]): (bug[0], bug[3:]) for bug in bugs}.values():
-        checks.check(not is_noticed(package, room, ask, file, "", "", *more), f"without a bug a copy is noticed, {more}")
-    for bug in bugs:
-        is_there = bug[1].encode() in read(package, bug[0])
-        checks.check(is_there and is_noticed(package, room, ask, *bug), f"planted in {bug[0]}, and not noticed: {bug[2]}")
+    own and the word of the bug; and no copy without a bug."""
+    bugs = [*bugs]
+    for word, file in {bug[3]: bug[0] for bug in bugs}.items():
+        checks.check(not is_noticed(package, room, ask, file, "", "", word), f"without a bug a copy is noticed: {word}")
+    for file, old, new, word in bugs:
+        is_there = old.encode() in read(package, file)
+        checks.check(is_there and is_noticed(package, room, ask, file, old, new, word), f"planted in {file}, and not noticed: {new}")
 
 
 # ---- What the header says ----
 
 
-def header_text():
-    """Both headers, one after the other, without their comments."""
-    return re.sub(r"/\*.*?\*/", "", (read(HEADER) + read(INSTALLING)).decode(), flags=re.S)
-
-
-@functools.lru_cache(maxsize=None)
-def error_numbers():
-    """The errors of the header: their names, without `MINISIGN_`, and their numbers."""
-    body = re.search(r"enum minisign_error \{(.*?)\}", header_text(), re.S)[1]
-    return {name: int(number, 0) for name, number in re.findall(r"MINISIGN_(\w+) = (\w+)", body)}
+HEADERS = c_header.both()
+VERSION = dict(HEADERS.texts)["VERSION_TEXT"].strip('"')
+# The numbers of errors by their names, without `MINISIGN_`.
+ERRORS = {error.name: error.number for error in HEADERS.errors}
 
 
 @functools.lru_cache(maxsize=None)
@@ -514,16 +474,12 @@ def numbers_in_c(room, includes, rows):
     text = "".join(f"#include {header}\n" for header in ("<stddef.h>", "<stdint.h>", "<stdio.h>", *includes))
     path = write(room, "numbers.c", f"{text}int main(void) {{\n{''.join(lines)}return 0; }}\n".encode())
     words = [f"-I{os.path.join(TOP, directory)}" for directory in ("include", "c")]
-    status, _, why = run([needs.c_compiler(), *words, "-o", f"{room}/numbers", path])
-    if status != 0:
-        raise static_library.NotBuilt(f"the program of numbers was not built: {why[-1000:]}")
-    return {name: int(number) for name, _, number in (line.rpartition(" ") for line in run([f"{room}/numbers"])[1].decode().splitlines())}
+    hold([needs.c_compiler(), *words, "-o", f"{room}/numbers", path])
+    return {name: int(number) for name, _, number in (line.rpartition(" ") for line in hold([f"{room}/numbers"]).splitlines())}
 
 
 def layout(room):
     """The sizes of the structs of both headers, and where their fields stand: `name` or `name.field`, and a number of bytes."""
-    rows = []
-    for body, name in re.findall(r"typedef struct \w+ \{(.*?)\} (\w+);", header_text(), re.S):
-        rows.append((name, f"sizeof({name})"))
-        rows += [(f"{name}.{field}", f"offsetof({name}, {field})") for field in re.findall(r"\w+ \*?(\w+)(?:\[\w+\])*;", body)]
+    rows = [(name, f"sizeof({name})") for name in HEADERS.structs]
+    rows += [(f"{name}.{field.name}", f"offsetof({name}, {field.name})") for name, fields in HEADERS.structs.items() for field in fields]
     return numbers_in_c(room, ['"minisign_install.h"'], rows)

@@ -35,63 +35,6 @@
 
 #include "texts_for_tests.h"
 
-enum { MOST = 256 };
-
-/*
- * What the calls that are wrapped here note is volatile: the compiler knows malloc, free and madvise as functions that
- * change nothing of this file's own.
- *
- * What malloc gave and was not given back, with the lengths.
- */
-static volatile struct { char *block; size_t len; } held[MOST];
-/* Requests so far, whether they are refused, blocks that were given back with more in them than a front, and blocks in
- * all. */
-static volatile unsigned requests, is_refusing, uncleared, given_back;
-/* What the system was asked for: how often, and each time the range. */
-static volatile struct { char *from; size_t len; int hint; } hinted[64];
-static volatile unsigned hints;
-/* Whether it does what it is asked, refuses, says yes and does nothing, or is slow with huge pages. */
-static volatile enum { WILLING, REFUSING, LYING, SLOW } system_is;
-
-void *__real_malloc(size_t size);
-void *__real_realloc(void *old, size_t size);
-void __real_free(void *block);
-int __real_madvise(void *from, size_t len, int hint);
-
-static void check_block_of(int holds, const char *what, size_t len, size_t alignment)
-{
-    check(holds, "%s: %zu bytes, aligned to %zu", what, len, alignment);
-}
-
-void *__wrap_malloc(size_t size)
-{
-    char *block;
-    unsigned at = 0;
-
-    requests++;
-    if (is_refusing) {
-        return NULL;
-    }
-    block = __real_malloc(size);
-    while (at < MOST && held[at].block != NULL) {
-        at++;
-    }
-    if (block == NULL || at == MOST) {
-        abort();
-    }
-    memset(block, 0, size);
-    held[at].block = block;
-    held[at].len = size;
-    return block;
-}
-
-/* Not called: what grows is moved by a new block. */
-void *__wrap_realloc(void *old, size_t size)
-{
-    uncleared++;
-    return __real_realloc(old, size);
-}
-
 /* All of it is zero but for one front. */
 static int is_cleared(const char *block, size_t len)
 {
@@ -101,31 +44,29 @@ static int is_cleared(const char *block, size_t len)
         first++;
     }
     first = first / sizeof(struct heading) * sizeof(struct heading);
-    for (size_t at = first + front; at < len; at++) {
-        if (block[at] != 0) {
-            return 0;
-        }
-    }
-    return 1;
+    return first + front >= len || is_zeros(block + first + front, len - first - front);
 }
 
-void __wrap_free(void *block)
-{
-    unsigned at = 0;
+/* Blocks that were given back with more in them than a front, and blocks in all. */
+static volatile unsigned uncleared, given_back;
 
-    while (at < MOST && held[at].block != block) {
-        at++;
-    }
-    if (at == MOST) {
-        abort();
-    }
-    given_back++;
-    uncleared += !is_cleared(block, held[at].len);
-    held[at].block = NULL;
-    __real_free(block);
+#define LOOK_AT(block, len) (given_back++, uncleared += !is_cleared(block, len))
+#include "counted_memory.h"
+
+/* What the system was asked for: how often, and each time the range. (This is volatile as what counted_memory.h notes.) */
+static volatile struct { char *from; size_t len; int hint; } hinted[64];
+static volatile unsigned hints;
+/* Whether it does what it is asked, refuses, says yes and does nothing, or is slow with huge pages. */
+static volatile enum { WILLING, REFUSING, LYING, SLOW } system_is;
+
+static void check_block_of(int holds, const char *what, size_t len, size_t alignment)
+{
+    check(holds, "%s: %zu bytes, aligned to %zu", what, len, alignment);
 }
 
 #ifndef MINISIGN_MALLOC_ALONE
+
+int __real_madvise(void *from, size_t len, int hint);
 
 int __wrap_madvise(void *from, size_t len, int hint)
 {
@@ -144,15 +85,10 @@ int __wrap_madvise(void *from, size_t len, int hint)
 
 #endif
 
-/* How many blocks are held, where all that were given back were cleared. */
-static unsigned blocks_held(void)
+/* Whether so many blocks are held, and all that were given back were cleared. */
+static int is_held(long blocks)
 {
-    unsigned count = 0;
-
-    for (unsigned at = 0; at < MOST; at++) {
-        count += held[at].block != NULL;
-    }
-    return uncleared == 0 ? count : MOST + 1;
+    return held == blocks && uncleared == 0;
 }
 
 /* A pattern that differs from byte to byte, and is nowhere zero. */
@@ -199,18 +135,18 @@ static void check_block(size_t len, size_t alignment, size_t other)
     paint(one.block, len);
     two = rattle_realloc(one.block, len, other, alignment);
     check_block_of(two.is_granted == 1 && (uintptr_t) two.block % alignment == 0 && is_painted(two.block, kept), "growing", other, alignment);
-    check_block_of(blocks_held() == 1, "the older block", len, alignment);
+    check_block_of(is_held(1), "the older block", len, alignment);
     paint(two.block, other);
-    is_refusing = 1;
+    greatest = 0;
     one = rattle_realloc(two.block, other, other + 1, alignment);
     check_block_of(one.is_granted == 0 && one.block != NULL, "growing that is refused", other, alignment);
     one = rattle_alloc(len, alignment);
     check_block_of(one.is_granted == 0 && one.block != NULL, "a block that is refused", len, alignment);
-    is_refusing = 0;
-    check_block_of(blocks_held() == 1 && is_painted(two.block, other), "the block that could not grow", other, alignment);
+    greatest = SIZE_MAX;
+    check_block_of(is_held(1) && is_painted(two.block, other), "the block that could not grow", other, alignment);
     errno = 77;
     rattle_dealloc(two.block);
-    check_block_of(blocks_held() == 0, "a block that was given back", other, alignment);
+    check_block_of(is_held(0), "a block that was given back", other, alignment);
     check_block_of(errno == 77, "errno was changed by giving back", other, alignment);
 }
 
@@ -248,12 +184,12 @@ static void check_parts(void)
     check_block_of(at <= len && at + 65536 > len, "all of a block", len, 1);
     paint(grant.block, len);
     rattle_dealloc(grant.block);
-    check_block_of(blocks_held() == 0, "a block of several parts that was given back", len, 1);
+    check_block_of(is_held(0), "a block of several parts that was given back", len, 1);
     /* One that is given back while its pages are still brought in. */
     grant = rattle_alloc(len, 1);
     paint(grant.block, PART_BYTES);
     rattle_dealloc(grant.block);
-    check_block_of(blocks_held() == 0, "a block that was given back early", len, 1);
+    check_block_of(is_held(0), "a block that was given back early", len, 1);
     at = hints;
     usleep(20000);
     check_block_of(hints == at, "a thread that has not ended with its block", len, 1);
@@ -289,7 +225,7 @@ static void check_lengths(void)
     static const size_t lens[] = { SIZE_MAX, SIZE_MAX - 15, SIZE_MAX / 2 + 1, SIZE_MAX / 2, SIZE_MAX / 2 - 16 };
 
     for (size_t one = 0; one < LENGTH(lens); one++) {
-        unsigned before = requests;
+        const long before = requests;
         struct grant grant = rattle_alloc(lens[one], 1);
 
         check_block_of(grant.is_granted == 0 && requests == before, "a length that cannot be", lens[one], 1);
@@ -310,17 +246,17 @@ static void check_library(size_t memory)
     given_back = uncleared = 0;
     minisign_take_secret_key(bytes_of("12345678"), secret_key, &key);
     error = seal(&key, password, memory, 1, text, sizeof text, &len);
-    check_block_of(error == MINISIGN_OK && given_back > 0 && blocks_held() == 0, "making a key", memory, 1);
+    check_block_of(error == MINISIGN_OK && given_back > 0 && is_held(0), "making a key", memory, 1);
     given_back = 0;
     error = minisign_read_secret_key(text, len, &unopened);
-    check_block_of(error == MINISIGN_OK && given_back == 0 && blocks_held() == 0, "reading it", memory, 1);
+    check_block_of(error == MINISIGN_OK && given_back == 0 && is_held(0), "reading it", memory, 1);
     error = minisign_open_sealed_key(&unopened, bytes_of(password), strlen(password), MINISIGN_KEEP_EVERY_ROW, MINISIGN_USUAL_ROWS,
                                      &opened);
-    check_block_of(error == MINISIGN_OK && given_back > 0 && blocks_held() == 0, "opening it", memory, 1);
+    check_block_of(error == MINISIGN_OK && given_back > 0 && is_held(0), "opening it", memory, 1);
     check_block_of(memcmp(&opened, &key, sizeof key) == 0, "another key was opened", memory, 1);
     given_back = 0;
     error = make_signed_text(&opened, digit, digit, bytes_of("c"), 1, bytes_of("c"), 1, signed_text, sizeof signed_text, &len);
-    check_block_of(error == MINISIGN_OK && given_back > 0 && blocks_held() == 0, "signing", memory, 1);
+    check_block_of(error == MINISIGN_OK && given_back > 0 && is_held(0), "signing", memory, 1);
 }
 
 int main(void)

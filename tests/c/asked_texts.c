@@ -1,8 +1,11 @@
 /*
- * Reads the texts of signatures and asks about them, with keys and signatures that Minisign 0.11 made of the bytes
- * `hello` and a line feed, and compares the number of each rejected text. The bytes were read from the texts by
- * Python's base64; the digests are those of its hashlib.
+ * Reads the texts of keys and signatures and asks about them, with keys and signatures that Minisign made, most by 0.11 of
+ * the bytes `hello` and a line feed, and compares the number of each rejected text. The bytes were read from the texts by
+ * Python's base64; the digests are those of its hashlib. Nothing of that allocates.
+ *
+ * Linked with -Wl,--wrap=malloc -Wl,--wrap=realloc -Wl,--wrap=free.
  */
+#include "counted_memory.h"
 #include "texts_for_tests.h"
 
 static const char HELLO_KEY[] =
@@ -22,18 +25,12 @@ static const char DIGEST[] =
 static const char TEXT_DIGEST[] = "3d5e0455569719fc7b08d2328d4738eb12c3fa4ec4b6a07cf554ac51be495855";
 static const char LEGACY_TEXT_DIGEST[] = "add91b152541ffc3ce0fd091e45f1029635c407b50cbf487ff393cddc5284215";
 static const char PUBLIC_KEY[] = "7575ae18298f2a4026f58a9bc4f0755e23d3616e7c04c2b1440b8e10db4adcad";
-static const uint8_t SIGNATURE_BYTES[64] = {
-    0xef, 0xc0, 0x15, 0x46, 0x5e, 0xb0, 0x56, 0x3f, 0x38, 0xd8, 0x32, 0x4e, 0x04, 0x7d, 0x3f, 0x4c,
-    0x25, 0x5c, 0x50, 0x43, 0xf7, 0xc7, 0x03, 0x5f, 0xb3, 0xda, 0xa3, 0x45, 0x81, 0x78, 0xc4, 0x81,
-    0x43, 0x2c, 0x24, 0xb3, 0xa3, 0xdd, 0x3b, 0x19, 0x71, 0x20, 0x76, 0xa7, 0x14, 0x92, 0x58, 0xa6,
-    0x4a, 0x8e, 0xee, 0xd0, 0x6f, 0x61, 0xf9, 0xe6, 0xfc, 0x35, 0xd5, 0x42, 0x6c, 0x05, 0x61, 0x0d,
-};
-static const uint8_t COMMENT_SIGNATURE[64] = {
-    0x54, 0x55, 0xce, 0x9c, 0xb5, 0xd2, 0x3f, 0x7e, 0xb4, 0xb4, 0x53, 0xd4, 0xb7, 0xb7, 0xaa, 0xce,
-    0xc4, 0x87, 0x32, 0x8d, 0x29, 0xd5, 0xb3, 0xd2, 0xf5, 0xf4, 0x64, 0xa0, 0xed, 0x0c, 0x3a, 0xf3,
-    0x72, 0xf2, 0x41, 0xd9, 0xbb, 0x49, 0x3d, 0xa2, 0x48, 0x64, 0x90, 0xe4, 0x50, 0xc9, 0x0b, 0xfb,
-    0xf4, 0x31, 0x25, 0xf8, 0xe7, 0x4d, 0x5e, 0xea, 0xd5, 0x97, 0x54, 0x2d, 0xf8, 0x03, 0x04, 0x01,
-};
+static const char SIGNATURE_BYTES[] =
+    "efc015465eb0563f38d8324e047d3f4c255c5043f7c7035fb3daa3458178c481"
+    "432c24b3a3dd3b19712076a7149258a64a8eeed06f61f9e6fc35d5426c05610d";
+static const char COMMENT_SIGNATURE[] =
+    "5455ce9cb5d23f7eb4b453d4b7b7aacec487328d29d5b3d2f5f464a0ed0c3af3"
+    "72f241d9bb493da2486490e450c90bfbf43125f8e74d5eead597542df8030401";
 static const char KEY_ID[] = "b8a0ef8e4c6be621";
 #define HELLO_COMMENT "a trusted comment"
 
@@ -61,14 +58,6 @@ static minisign_unopened_key unopened;
 static minisign_secret_key signing;
 static uint8_t message[64 + sizeof HELLO_COMMENT - 1];
 
-/* Feeds the data in two pieces, and tells its digest. */
-static void feed(minisign_state *state)
-{
-    CHECK(minisign_update(state, bytes_of("hel"), 3) == MINISIGN_OK);
-    CHECK(minisign_update(state, bytes_of("lo\n"), 3) == MINISIGN_OK);
-    CHECK(minisign_digest(state, questions.digest) == MINISIGN_OK && is_hex(questions.digest, DIGEST));
-}
-
 /* Reads the key and the signature, and asks: the number of the first that rejects. */
 static enum minisign_error ask(minisign_state *state, const char *key, const char *text, uint32_t allow_legacy)
 {
@@ -84,11 +73,6 @@ static enum minisign_error ask(minisign_state *state, const char *key, const cha
                                                message, sizeof message);
 }
 
-static enum minisign_error open_key(const char *text, const char *password)
-{
-    return read_and_open(text, password, &unopened, &signing);
-}
-
 /* A signature is what its text says, before anything is asked. */
 static void read_as(void)
 {
@@ -96,7 +80,7 @@ static void read_as(void)
     minisign_signature prehashed = signature_of(PREHASHED), legacy = signature_of(LEGACY), short_one = signature_of(cut);
 
     CHECK(is_hex(prehashed.key_id, KEY_ID) && memcmp(prehashed.algorithm, "ED", 2) == 0);
-    CHECK(memcmp(prehashed.signature, SIGNATURE_BYTES, 64) == 0 && memcmp(prehashed.comment_signature, COMMENT_SIGNATURE, 64) == 0);
+    CHECK(is_hex(prehashed.signature, SIGNATURE_BYTES) && is_hex(prehashed.comment_signature, COMMENT_SIGNATURE));
     CHECK(prehashed.legacy == 0 && prehashed.whole == 1 && prehashed.reserved == 0);
     CHECK(prehashed.comment_len == sizeof HELLO_COMMENT - 1 && PREHASHED + prehashed.comment_offset == strstr(PREHASHED, HELLO_COMMENT));
     CHECK(is_hex(prehashed.text_digest, TEXT_DIGEST) && prehashed.mark != 0);
@@ -105,25 +89,30 @@ static void read_as(void)
     CHECK(legacy.comment_len == strlen("legacy one") && LEGACY + legacy.comment_offset == strstr(LEGACY, "legacy one"));
     CHECK(is_hex(legacy.text_digest, LEGACY_TEXT_DIGEST));
     /* White space at the ends of a comment is not part of it, and a comment signature may be too short. */
-    CHECK(memcmp(short_one.signature, SIGNATURE_BYTES, 64) == 0 && is_zeros(short_one.comment_signature, 64));
+    CHECK(is_hex(short_one.signature, SIGNATURE_BYTES) && is_zeros(short_one.comment_signature, 64));
     CHECK(short_one.whole == 0 && short_one.comment_len == 4 && cut + short_one.comment_offset == strstr(cut, "\xc3\xa9 t"));
 }
 
 /* The questions are those of the texts, and both answers decide. */
 static void told(void)
 {
+    const minisign_public_key key = key_of(HELLO_KEY);
+    const minisign_signature none = { 0 }, legacy = signature_of(LEGACY);
     minisign_state state;
 
     minisign_init(&state);
+    CHECK(minisign_ask(&state, &key, &none, NULL, 0, 0, &questions, NULL, 0) == MINISIGN_SIGNATURE_NOT_READ);
+    CHECK(minisign_ask(&state, &key, &legacy, NULL, 0, 0, &questions, NULL, 0) == MINISIGN_OTHER_SIGNATURE_TEXT);
     CHECK(ask(&state, HELLO_KEY, PREHASHED, 0) == MINISIGN_OK);
     CHECK(is_hex(questions.public_key, PUBLIC_KEY) && is_zeros(questions.digest, 64));
-    CHECK(memcmp(questions.signature, SIGNATURE_BYTES, 64) == 0);
-    CHECK(memcmp(questions.comment_signature, COMMENT_SIGNATURE, 64) == 0);
+    CHECK(is_hex(questions.signature, SIGNATURE_BYTES) && is_hex(questions.comment_signature, COMMENT_SIGNATURE));
     CHECK(questions.message_len == sizeof message && questions.legacy == 0 && questions.reserved == 0);
     CHECK(questions.comment_offset == 64 && questions.comment_len == sizeof HELLO_COMMENT - 1);
-    CHECK(memcmp(message, SIGNATURE_BYTES, 64) == 0 && memcmp(message + 64, HELLO_COMMENT, sizeof HELLO_COMMENT - 1) == 0);
+    CHECK(is_hex(message, SIGNATURE_BYTES) && memcmp(message + 64, HELLO_COMMENT, sizeof HELLO_COMMENT - 1) == 0);
     CHECK(minisign_comment_verdict(&state, MINISIGN_ANSWER_YES) == MINISIGN_OK);
-    feed(&state);
+    CHECK(minisign_update(&state, bytes_of("hel"), 3) == MINISIGN_OK);
+    CHECK(minisign_update(&state, bytes_of("lo\n"), 3) == MINISIGN_OK);
+    CHECK(minisign_digest(&state, questions.digest) == MINISIGN_OK && is_hex(questions.digest, DIGEST));
     CHECK(minisign_verdict(&state, MINISIGN_ANSWER_YES, MINISIGN_ANSWER_YES) == MINISIGN_OK);
     minisign_init(&state);
     CHECK(ask(&state, HELLO_KEY, LEGACY, 1) == MINISIGN_OK && questions.legacy == 1);
@@ -168,7 +157,7 @@ static void opened(void)
 {
     minisign_public_key half;
 
-    CHECK(open_key(SECRET_KEY, NULL) == MINISIGN_OK);
+    CHECK(read_and_open(SECRET_KEY, NULL, &unopened, &signing) == MINISIGN_OK);
     CHECK(is_hex(signing.secret, SECRET) && is_hex(signing.key_id, SECRET_KEY_ID));
     CHECK(minisign_public_key_of(&signing, &half) == MINISIGN_OK);
     CHECK(is_hex(half.key, SECRET + 64) && is_hex(half.key_id, SECRET_KEY_ID));
@@ -195,7 +184,7 @@ static void not_opened(void)
 
     for (size_t row = 0; row < LENGTH(rows); row++) {
         signing = nothing;
-        check(open_key(rows[row].key, rows[row].password) == rows[row].number, "%s", rows[row].key);
+        check(read_and_open(rows[row].key, rows[row].password, &unopened, &signing) == rows[row].number, "%s", rows[row].key);
         CHECK(memcmp(&signing, &nothing, sizeof signing) == 0);
     }
 }
@@ -204,26 +193,92 @@ static void not_opened(void)
 static void written(void)
 {
     static const char untrusted[] = "signature from minisign secret key";
+    const minisign_signature read = signature_of(PREHASHED);
     uint8_t text[sizeof PREHASHED];
     size_t len = 0;
 
-    CHECK(open_key(KEY_OF_SIGNATURE, NULL) == MINISIGN_OK);
-    CHECK(make_signed_text(&signing, SIGNATURE_BYTES, COMMENT_SIGNATURE, bytes_of(HELLO_COMMENT), sizeof HELLO_COMMENT - 1,
-                               bytes_of(untrusted), sizeof untrusted - 1, text, sizeof text, &len)
-          == MINISIGN_OK);
+    CHECK(read_and_open(KEY_OF_SIGNATURE, NULL, &unopened, &signing) == MINISIGN_OK);
+    CHECK(make_signed_text(&signing, read.signature, read.comment_signature, bytes_of(HELLO_COMMENT), sizeof HELLO_COMMENT - 1,
+                           bytes_of(untrusted), sizeof untrusted - 1, text, sizeof text, &len) == MINISIGN_OK);
     CHECK(len == sizeof PREHASHED - 1 && memcmp(text, PREHASHED, len) == 0);
-    CHECK(minisign_comment_message(SIGNATURE_BYTES, bytes_of(HELLO_COMMENT), sizeof HELLO_COMMENT - 1, message, sizeof message)
+    CHECK(minisign_comment_message(read.signature, bytes_of(HELLO_COMMENT), sizeof HELLO_COMMENT - 1, message, sizeof message)
           == MINISIGN_OK);
-    CHECK(memcmp(message, SIGNATURE_BYTES, 64) == 0 && memcmp(message + 64, HELLO_COMMENT, sizeof HELLO_COMMENT - 1) == 0);
+    CHECK(is_hex(message, SIGNATURE_BYTES) && memcmp(message + 64, HELLO_COMMENT, sizeof HELLO_COMMENT - 1) == 0);
+}
+
+/* ---- Public keys ---- */
+
+#define LINE KEY_LINE
+#define OTHER_LINE "RWQgIL+P9InzHS80IJTTlmrDw4sxOtdRTc3QnmnZMSSaSrd2GcKR5OlJ"
+/* The key and the key ID of each. */
+#define ONE "79a561e70ee08cd3e754c63e9bd6b9c3520a1d4204cd104da2e7ef763b1853b71fe8b442180f62e7"
+#define OTHER "2f342094d3966ac3c38b313ad7514dcdd09e69d931249a4ab77619c291e4e9492020bf8ff489f31d"
+
+/* A text, and the key that it reads as, or why it is rejected. */
+struct row {
+    const char *text;
+    const char *key;
+    enum minisign_error error;
+};
+
+static const struct row of_two_lines[] = {
+    { KEY_COMMENT LINE "\n", ONE, MINISIGN_OK },
+    { KEY_COMMENT LINE, ONE, MINISIGN_OK },
+    { KEY_COMMENT LINE "\r\n", ONE, MINISIGN_OK },
+    { "\n" LINE "\nmore\n", ONE, MINISIGN_OK },
+    { "any comment\n" OTHER_LINE "\n", OTHER, MINISIGN_OK },
+    { "", NULL, MINISIGN_MISSING_PUBLIC_KEY_COMMENT },
+    { KEY_COMMENT, NULL, MINISIGN_MISSING_PUBLIC_KEY },
+    { LINE "\n", NULL, MINISIGN_MISSING_PUBLIC_KEY },
+    { KEY_COMMENT LINE "A\n", NULL, MINISIGN_PUBLIC_KEY_LENGTH },
+    { KEY_COMMENT "RWQf6LRC\n", NULL, MINISIGN_PUBLIC_KEY_LENGTH },
+    { KEY_COMMENT " " LINE "\n", NULL, MINISIGN_PUBLIC_KEY_LENGTH },
+    { KEY_COMMENT "!WQf6LRCGA9i53mlYecO4IzT51TGPpvWucNSCh1CBM0QTaLn73Y7GFO3\n", NULL, MINISIGN_PUBLIC_KEY_NOT_BASE64 },
+    { KEY_COMMENT "RWQf6LRCGA9i53mlYecO4IzT51TGPpvWucNSCh1CBM0QTaLn73Y7GFO=\n", NULL, MINISIGN_PUBLIC_KEY_NOT_BASE64 },
+    { KEY_COMMENT "RWQf6LRCGA9i53mlYecO4IzT51TGPpvWucNSCh1CBM0QTaLn73Y7GA==\n", NULL, MINISIGN_RECORD_TOO_SHORT },
+    { KEY_COMMENT "    RWQf6LRCGA9i53mlYecO4IzT51TGPpvWucNSCh1CBM0QTaLn73Y7\n", NULL, MINISIGN_RECORD_TOO_SHORT },
+    { "\xff\n" LINE "\n", NULL, MINISIGN_NOT_UTF8 },
+};
+static const struct row bare[] = {
+    { LINE, ONE, MINISIGN_OK },
+    { OTHER_LINE, OTHER, MINISIGN_OK },
+    { "", NULL, MINISIGN_BARE_PUBLIC_KEY_LENGTH },
+    { KEY_COMMENT LINE, NULL, MINISIGN_BARE_PUBLIC_KEY_LENGTH },
+    { LINE "A", NULL, MINISIGN_BARE_PUBLIC_KEY_LENGTH },
+    { LINE "\n", NULL, MINISIGN_BARE_PUBLIC_KEY_NOT_BASE64 },
+    { " " LINE, NULL, MINISIGN_BARE_PUBLIC_KEY_NOT_BASE64 },
+    { "!WQf6LRCGA9i53mlYecO4IzT51TGPpvWucNSCh1CBM0QTaLn73Y7GFO3", NULL, MINISIGN_BARE_PUBLIC_KEY_NOT_BASE64 },
+    { "RWQf6LRCGA9i53mlYecO4IzT51TGPpvWucNSCh1CBM0QTaLn73Y7GA==", NULL, MINISIGN_RECORD_TOO_SHORT },
+    { "\xff", NULL, MINISIGN_NOT_UTF8 },
+};
+
+/* Reads each text of a table, and compares all of the key, which a rejection leaves as it was. */
+static void read_keys(enum minisign_error (*read)(const uint8_t *text, size_t len, minisign_public_key *key),
+                      const struct row *rows, size_t count)
+{
+    for (const struct row *row = rows; row < rows + count; row++) {
+        minisign_public_key told, untouched;
+
+        memset(&told, 0xa5, sizeof told);
+        untouched = told;
+        check(read(bytes_of(row->text), strlen(row->text), &told) == row->error, "not the error %u: %s", row->error, row->text);
+        check(row->key != NULL ? is_hex((const uint8_t *) &told, row->key) : memcmp(&told, &untouched, sizeof told) == 0,
+              "another key: %s", row->text);
+    }
 }
 
 int main(void)
 {
+    /* (what comes before this may allocate) */
+    requests = held = 0;
+    read_keys(minisign_read_public_key, of_two_lines, LENGTH(of_two_lines));
+    read_keys(minisign_read_bare_public_key, bare, LENGTH(bare));
     read_as();
     told();
     rejected();
     opened();
     not_opened();
+    CHECK(requests == 0 && held == 0);
     written();
     return ended();
 }

@@ -1,18 +1,25 @@
 #!/usr/bin/env python3
-"""Builds as a user without kit and Python does: README's first commands in a clean copy of the repository, with
-nothing in PATH but a C compiler, make, binutils and what every Debian has.
+"""Builds all that a user builds, in a clean copy of the repository whose path has blanks, and installs it below such a
+path.
 
     tests/c/at_hand.py
 
-They verify a download within 30 seconds, of the processor on a busy machine. If a source of the proved calls has
-changed since `dist/` was made, or an archive is damaged, make stops with a sentence and installs nothing. A source
-that was only touched stops nothing, and you can name other archives. Where the kit is needed one sentence says so. It
-prints a line for each failure; the last line is `N passed, M failed`.
+README's first commands verify a download within 30 seconds, of the processor on a busy machine, with nothing in PATH
+but a C compiler, make, binutils and what every Debian has: no kit and no Python. Where a source of the proved calls
+has changed since `dist/` was made, or an archive is damaged, make stops with a sentence and installs nothing.
 
-Needs git where this is a clone, make, binutils, a C compiler and libsodium with its header, and installs what is
-missing if it may.
+Make checks, installs and releases `c/`, packs the packages of `bindings/` and builds the example in Rust; what was
+packed is built too, as is a page from that of `dist/`. `make uninstall` and `make clean` remove what was installed or
+built, and nothing else: files of others stand beside it, and where a path would lead that falls apart at its blanks.
+An OUT that make cannot have in a target is rejected before anything is written or removed. It prints a line for each
+failure; the last line is `N passed, M failed`.
+
+Needs git where this is a clone, make, binutils, pkg-config, groff, a C compiler, rustc, cargo, golang-go, libsodium
+with its header, and Debian's Python with pip, setuptools and wheel, and, where npm is, clang and lld, and installs
+what is missing if it may. Without npm the package for JavaScript is left out.
 """
 
+import glob
 import os
 import re
 import shutil
@@ -20,71 +27,90 @@ import sys
 import time
 
 HERE = os.path.dirname(os.path.realpath(__file__))
-sys.path += [os.path.join(HERE, "..", name) for name in ("shared", "")]
+sys.path += [os.path.join(HERE, "..", name) for name in ("shared", "bindings", "")]
 
 import ending
+import installed
 import needs
 import static_library
 from check import processor_seconds
+from copies import TOP, Tree, copy_tree, files_below
 from process import run
+from python import python
 from running import read, write
+from texts import turned
 
-TOP = os.path.realpath(os.path.join(HERE, "..", ".."))
-# What is in PATH besides a compiler: of Debian's base, and of make and binutils.
-BASE = ("sh", "cat", "cp", "cut", "dirname", "echo", "find", "grep", "install", "ln", "mkdir", "rm", "sed", "sha256sum", "sort", "xargs")
-TOOLS = ("ar", "as", "ld", "make", "objcopy")
 SECONDS = 30
-SOURCE = "crates/minisign_hash/src/lib.rt"
-# What the library is built of.
-TAKEN = ("dist/calls-x86-64-v2.a", "dist/calls-x86-64-v3.a", "dist/calls.c")
 MAKE = "make -C c"
-NAMED = f"{MAKE} OUT=named V2=../named-v2.a V3=../named-v3.a C_CALLS= named/libminisign.a"
-OLDER = "the sources of the proved calls are not those that dist/ was built from"
+NAMED = f"{MAKE} OUT=../other V2=../other-v2.a V3=../other-v3.a C_CALLS= ../other/libminisign.a"
+SOURCE = "crates/minisign_hash/src/lib.rt"
 DAMAGED = "an archive in dist/, or calls.c, is not the one that dist/SHA256SUMS names"
+OLDER = "the sources of the proved calls are not those that dist/ was built from"
 # What the trusted comment of the download says.
 VERIFIED = "Signature and comment signature verified\nTrusted comment: timestamp:1556193335\tfile:test\n"
 
-
-class Tree:
-    """A clean copy of the repository, or what stands in this directory, and the few programs that are in PATH, with the compiler."""
-
-    def __init__(self, room, top=None, compiler=None):
-        self.top, self.bin = top or os.path.join(room, "tree"), os.path.join(room, "bin")
-        if top is None:
-            copy_tree(self.top)
-        os.mkdir(self.bin)
-        where = static_library.path_without_kit()
-        for name in (*BASE, *TOOLS):
-            self.link(name, needs.need(lambda value=name: shutil.which(value, path=where), f"the program {name}", "make", "binutils"))
-        for name in ("gcc", "cc") if compiler is None else [os.path.basename(compiler)]:
-            self.link(name, compiler or needs.libsodium())
-
-    def link(self, name, program):
-        """Puts a program into PATH."""
-        os.symlink(program, os.path.join(self.bin, name))
-
-    def run(self, command):
-        """Runs a line of a shell at the top: its status, and what it said."""
-        return run(["env", "-i", f"PATH={self.bin}", f"HOME={self.top}", "sh", "-c", command], self.top, seconds=20 * SECONDS)
+PLACE = os.path.join("a b", "c d")
+# The directories that have a Makefile, with what is built there in a directory of others, and what is tried with a wrong OUT.
+MAKEFILES = {"c": ("all", "release"), "bindings": ("rust", "go"), "examples/rust": ()}
+GOALS = {"c": ("all", "install", "release", "uninstall", "clean"), "bindings": ("all", "rust", "javascript", "clean"),
+         "examples/rust": ("out/minisign-verify", "clean")}
+# Where paths in the copy, and in its directories, lead that fall apart at their blanks.
+NEIGHBOURS = ("a", "a b/c", *(f"{PLACE}/{directory}/{name}" for directory in MAKEFILES
+                              for name in ("b/c", "d/bindings/out/rust", "d/c/out")))
+FILE = "a file of others"
+# What others may have where something is built or packed: by other names, and by ours.
+OTHERS = {"notes", "rust/notes", "go/notes", "python/notes", "javascript/notes", "library/notes", "minisign-in-rattle-0.2.0/notes"}
+OURS = {"minisign", "minisign.pc", "SHA256SUMS", "minisign-proved-0.2.0.crate", "minisign-verify"}
+PREFIX = "/us r"
+KEY = "RWQf6LRCGA9i53mlYecO4IzT51TGPpvWucNSCh1CBM0QTaLn73Y7GFO3"
+PUBLISHED = ("published.pub", "test", "published.minisig")
+REJECTION = "OUT has to be one directory without blanks"
 
 
-def listed():
-    """The names of what the repository has, where this is a clone of it, else None."""
-    if not os.path.exists(os.path.join(TOP, ".git")):
-        return None
-    status, said = run([needs.git(), "-C", TOP, "ls-files", "-z", "--cached", "--others", "--exclude-standard"])
-    return said.split("\0") if status == 0 else None
+class Copy:
+    """A copy of the repository whose path has blanks."""
+
+    def __init__(self, checks, room):
+        self.checks, self.room, self.top = checks, room, os.path.join(room, PLACE)
+        self.cargo, self.go, self.python = needs.program("cargo", "cargo"), needs.program("go", "golang-go"), python()
+        rustc, temporary = needs.rust_compiler(), os.path.join(room, "tem p")
+        # (C is compiled without optimizing, to take less time)
+        self.environment = {"PATH": static_library.path_without_kit(), "TMPDIR": temporary, "RUSTC": rustc, "GOCACHE": f"{temporary}/go",
+                            "RUSTDOC": os.path.join(os.path.dirname(rustc), "rustdoc"), "CARGO_NET_OFFLINE": "true", "GOPROXY": "off",
+                            "GOFLAGS": "", "GOTOOLCHAIN": "local", "CFLAGS": "-O0", "CGO_CFLAGS": "-O0"}
+        copy_tree(self.top)
+        os.mkdir(temporary)
+        self.put(room, *(f"{name}/{FILE}" for name in NEIGHBOURS))
+
+    def path(self, *names):
+        return os.path.join(self.top, *names)
+
+    def put(self, at, *names):
+        """Makes files of others."""
+        for name in names:
+            os.makedirs(os.path.dirname(self.path(at, name)), exist_ok=True)
+            write(self.path(at), name, b"of others\n")
+
+    def run(self, *command, at=""):
+        """Runs a command in a directory of the copy: its status, and all that it said."""
+        return run(command, self.path(at), seconds=900, **self.environment)
+
+    def ended(self, *command, at="", says=""):
+        """Runs a command, which has to end well and to say this: what it said."""
+        return self.checks.ended(" ".join(command), self.run(*command, at=at), says=says)
+
+    def make(self, directory, *words, says=""):
+        return self.ended("make", "-s", "-C", directory, *words, says=says)
+
+    def unpack(self, archive, to):
+        """The directory that an archive of the copy holds, unpacked into a new one."""
+        os.mkdir(self.path(to))
+        (packed,) = glob.glob(os.path.join(glob.escape(self.top), archive))
+        self.ended("tar", "-xf", packed, "-C", self.path(to))
+        return os.path.join(to, *os.listdir(self.path(to)))
 
 
-def copy_tree(to):
-    """Copies what the repository has, and nothing that was built."""
-    names = listed()
-    if names is None:
-        shutil.copytree(TOP, to, ignore=shutil.ignore_patterns("out", ".git", "__pycache__", "try-*"))
-    for name in names or []:
-        if os.path.isfile(os.path.join(TOP, name)):
-            os.makedirs(os.path.dirname(os.path.join(to, name)), exist_ok=True)
-            shutil.copy(os.path.join(TOP, name), os.path.join(to, name))
+# ---- With few programs ----
 
 
 def check_building(checks, tree):
@@ -116,7 +142,7 @@ def check_older(checks, tree):
     check_stops(checks, tree, "a changed source", OLDER)
     status, said = tree.run(NAMED)
     checks.check(status != 0 and OLDER not in said, f"archives that are named and are not there: status {status}: {said[-600:]}")
-    tree.run("cp dist/calls-x86-64-v2.a named-v2.a; cp dist/calls-x86-64-v3.a named-v3.a")
+    tree.run("cp dist/calls-x86-64-v2.a other-v2.a; cp dist/calls-x86-64-v3.a other-v3.a")
     checks.ended("archives that are named", tree.run(NAMED))
     write(tree.top, SOURCE, text)
     write(tree.top, added, b"")
@@ -130,17 +156,17 @@ def check_older(checks, tree):
 
 def check_damaged(checks, tree):
     """An archive, or the calls as C, with one bit changed."""
-    for name in TAKEN:
+    for name in ("dist/calls-x86-64-v2.a", "dist/calls-x86-64-v3.a", "dist/calls.c"):
         data = read(tree.top, name)
-        write(tree.top, name, data[:5000] + bytes([data[5000] ^ 1]) + data[5001:])
+        write(tree.top, name, turned(data, 5000))
         check_stops(checks, tree, f"a damaged {name}", DAMAGED)
         write(tree.top, name, data)
 
 
 def check_without_sources(checks, tree):
-    """A release has no crates: what is built and installed is that of dist/."""
+    """Where there are no crates what is built and installed is that of dist/. (The calls as C take the most time.)"""
     os.rename(os.path.join(tree.top, "crates"), os.path.join(tree.top, "elsewhere"))
-    checks.ended("no crates", tree.run(f"{MAKE} install DESTDIR=../installed OUT=again"))
+    checks.ended("no crates", tree.run(f"{MAKE} install DESTDIR=../installed OUT=../again C_CALLS="))
     checks.check(os.path.exists(f"{tree.top}/installed/usr/local/bin/minisign"), "without crates nothing is installed")
     os.rename(os.path.join(tree.top, "elsewhere"), os.path.join(tree.top, "crates"))
 
@@ -152,11 +178,119 @@ def check_kit(checks, tree):
     checks.check(len(lines) == 1 and "Rattle kit" in lines[0], f"prove without the kit: {said}")
 
 
+# ---- With what a user has ----
+
+
+def check_rejected(checks, copy):
+    """An OUT that is no target of make."""
+    for directory, goals in GOALS.items():
+        copy.put(directory, "x/out/library", "y/out/library")
+        before = files_below(copy.room)
+        for goal in goals:
+            for out in ("x y", "x/out y/out", "x ", ""):
+                # (a makefile that took no OUT for one would write into the root directory)
+                status, said = copy.run("make", "-s", "-C", directory, goal, f"OUT={out}", *([] if out else ["--just-print"]))
+                lines = [line for line in said.splitlines() if not re.match(r"make(\[1\])?: (Entering|Leaving)", line)]
+                is_said = len(lines) == 1 and REJECTION in lines[0]
+                checks.check(status != 0 and is_said, f"{directory}, {goal} OUT='{out}': {status}: {said}")
+        changed = before ^ files_below(copy.room)
+        checks.check(not changed, f"a wrong OUT in {directory} makes or removes {changed}")
+
+
+def check_built(checks, copy):
+    """What is built verifies a download."""
+    copy.make("c")
+    copy.make("c", "test", says=" 0 failed")
+    copy.make("examples/rust", f"CARGO={copy.cargo}")
+    copy.ended(copy.path("examples/rust/out/minisign-verify"), *PUBLISHED, at="tests/corpus", says="timestamp:1556193335")
+    copy.ended(sys.executable, "page/build.py", "--from", copy.path("dist/minisign.html"), "--key", KEY, "a page.html")
+    checks.check(os.path.exists(copy.path("a page.html")), "no page was built")
+
+
+def check_installing(checks, copy):
+    """What is installed is used from there, and taken away again, but for what others have there."""
+    root, others = copy.path("dest") + PREFIX, {"bin/minisign-of-others"}
+    for name in ("minisign", "minisign-proved", ""):
+        words = (f"DESTDIR={copy.path('dest')}", f"PREFIX={PREFIX}", f"MINISIGN={name}")
+        said = copy.make("c", "install", *words)
+        checks.check("loader" not in said, f"a package was told of the loader: {said}")
+        if name == "minisign":
+            installed.installed_files(checks, root)
+            program, flags = copy.path("verify"), installed.flags_of(root, copy.top, "--cflags", "--libs")
+            copy.ended(needs.c_compiler(), "c/examples/verify.c", "-o", program, *flags, "-lsodium")
+            copy.ended("env", f"LD_LIBRARY_PATH={root}/lib", program, *PUBLISHED, at="tests/corpus")
+            copy.put(root, *others)
+        found = {path for path in files_below(root) - others if re.search(r"/minisign(-proved)?(\.1)?$", path)}
+        wanted = {f"bin/{name}", f"share/man/man1/{name}.1"} if name else set()
+        checks.check(found == wanted, f"under the name '{name}' are installed: {found}")
+        copy.make("c", "uninstall", *words)
+        checks.check(files_below(root) == others, f"uninstall leaves {files_below(root)}")
+    prefix = copy.path("pre fix")
+    copy.make("c", "install", f"PREFIX={prefix}",
+              says=f"run `ldconfig` as root, link with -Wl,-rpath,{prefix}/lib, or set LD_LIBRARY_PATH={prefix}/lib\n")
+    for words, wanted in ((["--variable=prefix"], prefix), (["--define-variable=prefix=/moved", "--cflags", "--libs"],
+                                                            "-I/moved/include -L/moved/lib -lminisign")):
+        _, said = run([needs.program("pkg-config", "pkg-config"), *words, "minisign"], PKG_CONFIG_PATH=f"{prefix}/lib/pkgconfig")
+        checks.check(said.strip() == wanted, f"pkg-config {words}: {said}")
+
+
+def check_release(_, copy):
+    """A release is written, and built."""
+    copy.make("c", "release")
+    copy.ended("sha256sum", "-c", "SHA256SUMS", at="c/out")
+    copy.make(copy.unpack("c/out/*.tar.gz", "a release") + "/c", "library", "C_CALLS=")
+
+
+def check_packages(checks, copy):
+    """Packages are packed, and what was packed is built."""
+    packages = ["rust", "go", "python"]
+    if shutil.which("npm", path=copy.environment["PATH"]):
+        needs.program("clang", "clang"), needs.program("wasm-ld", "lld")
+        packages.append("javascript")
+    print(f"at hand: packed are {', '.join(packages)}")
+    copy.make("bindings", *packages, f"CARGO={copy.cargo}", f"PYTHON={copy.python}", f"PAGE={copy.path('dist/minisign.html')}")
+    archives = files_below(copy.path("bindings/out"))
+    checks.check(len(archives) == len(packages) + 1, f"packed are {sorted(archives)}")
+    for directory in (copy.unpack("bindings/out/*.crate", "a crate"), "bindings/rust"):
+        copy.ended(copy.cargo, "test", "--quiet", "--doc", at=directory, says="test result: ok. 3 passed")
+    copy.ended(copy.go, "test", at=copy.unpack("bindings/out/*go*.tar.gz", "a module"), says="ok")
+    (archive,) = [archive for archive in archives if archive.endswith(".tar.gz") and "go" not in archive]
+    copy.ended(copy.python, "-m", "pip", "wheel", "-q", "--no-index", "--no-build-isolation", "--no-deps", "-w", copy.path("a wheel"),
+               copy.path("bindings/out", archive))
+    checks.check(len(os.listdir(copy.path("a wheel"))) == 1, "no wheel was built")
+
+
+def check_cleaning(checks, copy):
+    """`clean` takes away what was built, and leaves what others have."""
+    for directory in MAKEFILES:
+        copy.make(directory, "clean")
+        checks.check(not os.path.exists(copy.path(directory, "out")), f"make -C {directory} clean leaves something")
+    # (the library for the example)
+    copy.make("c", "library", "OUT=../library", "C_CALLS=")
+    copy.put("named", *OTHERS)
+    copy.put("never", *OTHERS, *OURS)
+    for directory, words in MAKEFILES.items():
+        up = os.path.relpath("named", directory)
+        copy.make(directory, *words, f"OUT={up}", f"CARGO={copy.cargo}")
+        checks.check(files_below(copy.path("named")) > OTHERS, f"make -C {directory} OUT={up} builds nothing there")
+        for each in ("named", "never"):
+            copy.make(directory, "clean", f"OUT={os.path.relpath(each, directory)}")
+        checks.check(files_below(copy.path("named")) == OTHERS, f"where {directory} has built is {files_below(copy.path('named'))}")
+    checks.check(files_below(copy.path("never")) == OTHERS | OURS, f"where nothing was built is {files_below(copy.path('never'))}")
+
+
 def run_all(checks, room):
-    tree = Tree(room)
-    for check in (check_building, check_older, check_damaged, check_without_sources, check_kit):
+    copy, compiler = Copy(checks, room), needs.libsodium()
+    tree = Tree(room, copy.top, compiler, ("gcc", "cc"))
+    for check in (check_building, check_older, check_damaged, check_kit, check_without_sources):
         check(checks, tree)
+    for check in (check_rejected, check_built, check_installing, check_release, check_packages, check_cleaning):
+        check(checks, copy)
+    for name in NEIGHBOURS:
+        checks.check(FILE in files_below(os.path.join(room, name)), f"what others had in {name} is not there any more")
+    beside = {*os.listdir(room)} | {f"a b/{name}" for name in os.listdir(os.path.join(room, "a b"))}
+    checks.check(beside == {"a", "a b", "a b/c", "a b/c d", "bin", "tem p"}, f"beside the copy stands {sorted(beside)}")
 
 
 if __name__ == "__main__":
-    sys.exit(ending.check("at-hand", run_all))
+    sys.exit(ending.check("at-hand", run_all, ValueError))

@@ -4,14 +4,14 @@
     tests/c/c_library.py
 
 They try the declarations beside the exports of the sources, the layout of its structs as C and as C++ (`exports.py`),
-usage errors (`usage_errors.c`), the questions about texts and the number of each rejection (`asked_texts.c`), the
-text of each number (`error_texts.c`), an installation at each of its calls (`installations.c`), the texts of public
-keys (`public_keys.c`), memory from malloc, which is cleared before it is given back (`allocations.c`), each
-allocation failing, of which verifying makes none (`out_of_memory.c`), buffers beside pages without access
-(`guard_pages.c`), NULL (`null.c`), threads (`threads.c`), and random calls beside a model (`random_calls.c`); each
-program also with sanitizers, where the compiler has them. The library is built over `dist/` (`static_library.py`),
-once more with the copy of the calls for processors without AVX2 alone, and once more with -DMINISIGN_NO_THREADS: such
-a library names no call for threads. It prints a line for each failure; the last line is `N passed, M failed`.
+usage errors and NULL (`usage_errors.c`), the texts of keys and signatures, of which reading and verifying make no
+allocation, and the number of each rejection (`asked_texts.c`), the text of each number (`error_texts.c`), an
+installation at each of its calls (`installations.c`), memory from malloc, which is cleared before it is given back
+(`allocations.c`), each allocation failing (`out_of_memory.c`), buffers beside pages without access (`guard_pages.c`),
+threads (`threads.c`), and random calls beside a model (`random_calls.c`); each program also with sanitizers, where the
+compiler has them. The library is built over `dist/` (`static_library.py`), once more with the copy of the calls for
+processors without AVX2 alone, and once more with -DMINISIGN_NO_THREADS: such a library names no call for threads. It
+prints a line for each failure; the last line is `N passed, M failed`.
 
 Needs binutils, a C compiler and a C++ compiler, and installs what is missing if it may.
 """
@@ -35,9 +35,9 @@ SANITIZED = ["-fsanitize=address,undefined", "-fno-sanitize-recover=all"]
 WRAPPED = ["-Wl,--wrap=malloc", "-Wl,--wrap=realloc", "-Wl,--wrap=free"]
 
 # The programs, with what each is linked with.
-PROGRAMS = {"usage_errors": [], "asked_texts": [], "error_texts": [], "public_keys": WRAPPED, "installations": WRAPPED, "null": [],
-            "out_of_memory": [*WRAPPED, "-Wl,--wrap=madvise", "-Wl,--wrap=pthread_create"], "allocations": [*WRAPPED, "-Wl,--wrap=madvise"],
-            "guard_pages": [], "threads": ["-pthread"], "random_calls": []}
+PROGRAMS = {"usage_errors": [], "asked_texts": WRAPPED, "error_texts": [], "installations": WRAPPED, "guard_pages": [], "random_calls": [],
+            "allocations": [*WRAPPED, "-Wl,--wrap=madvise"], "threads": ["-pthread"],
+            "out_of_memory": [*WRAPPED, "-Wl,--wrap=madvise", "-Wl,--wrap=pthread_create"]}
 # The libraries, with what make is told of each, and the flags that the programs are built with once each.
 NO_THREADS = "-DMINISIGN_NO_THREADS"
 LIBRARIES = {"both copies": ([], ([], SANITIZED)), "for x86-64-v2": ([f"V3={static_library.DIST}/calls-x86-64-v2.a"], ([],)),

@@ -1,6 +1,6 @@
 /*
- * Searches memory for the secrets that calls were given. cleared.py says which bytes are looked for, in needles.h,
- * and what has to be found of them.
+ * Searches memory for the secrets that calls were given. cleared.py says which bytes are looked for, in needles.h, the
+ * first half of a secret key first and a password as the fourth, and what has to be found of them.
  *
  * After each call it searches all registers and all memory that the program may write, but for the caller's own, in
  * which the secrets are found where they belong. A signal on a stack of its own has the system write the registers
@@ -17,8 +17,8 @@
 
 /* ---- What the calls are given, and what they make ---- */
 
-static uint8_t secret_key[64], password[PASSWORD_LEN], sealed[1024], damaged[1024], unsealed[1024], public_key[1024], text[4096];
-static size_t sealed_len, unsealed_len, public_len, text_len;
+static uint8_t secret_key[64], password[64], sealed[1024], damaged[1024], unsealed[1024], public_key[1024], text[4096];
+static size_t password_len, sealed_len, unsealed_len, public_len, text_len;
 static uint8_t key_id[8] = "12345678";
 static minisign_sealing sealing;
 static minisign_unopened_key unopened;
@@ -89,52 +89,51 @@ __attribute__((noinline)) static void paint(void)
 /* A call with what it is given: the limits of a key and how many of its rows are kept, or how it is opened. */
 struct step {
     const char *name;
-    enum minisign_error (*call)(const struct step *step);
+    enum minisign_error (*call)(void);
     uint64_t operations, memory, kept;
     enum { WITH_PASSWORD, IN_PLACE } how;
     bool is_damaged, has_signals;
 };
 
-static enum minisign_error take(const struct step *step)
+static const struct step *step;
+
+static enum minisign_error take(void)
 {
-    (void) step;
     minisign_take_secret_key(key_id, secret_key, &key);
     return MINISIGN_OK;
 }
 
-static enum minisign_error tell_public(const struct step *step)
+static enum minisign_error tell_public(void)
 {
-    (void) step;
     return minisign_public_key_of(&key, &public);
 }
 
-static enum minisign_error make_public(const struct step *step)
+static enum minisign_error make_public(void)
 {
-    (void) step;
     return minisign_public_key_text(&key, COMMENT, sizeof COMMENT - 1, public_key, sizeof public_key, &public_len);
 }
 
-static enum minisign_error make_sealed(const struct step *step)
+static enum minisign_error make_sealed(void)
 {
     sealing = (minisign_sealing) { .operations_limit = step->operations, .memory_limit = step->memory };
-    memcpy(sealing.salt, SALT, sizeof sealing.salt);
+    for (size_t i = 0; i < sizeof sealing.salt; i++) {
+        sealing.salt[i] = (uint8_t) i;
+    }
     rows = step->kept;
-    return minisign_secret_key_text(&key, 1, password, sizeof password, &sealing, rows, COMMENT, sizeof COMMENT - 1, sealed,
+    return minisign_secret_key_text(&key, 1, password, password_len, &sealing, rows, COMMENT, sizeof COMMENT - 1, sealed,
                                     sizeof sealed, &sealed_len);
 }
 
-static enum minisign_error make_unsealed(const struct step *step)
+static enum minisign_error make_unsealed(void)
 {
-    (void) step;
     return minisign_secret_key_text(&key, 0, NULL, 0, &sealing, rows, COMMENT, sizeof COMMENT - 1, unsealed, sizeof unsealed,
                                     &unsealed_len);
 }
 
-static enum minisign_error open_unsealed(const struct step *step)
+static enum minisign_error open_unsealed(void)
 {
     enum minisign_error error = minisign_read_secret_key(unsealed, unsealed_len, &unopened);
 
-    (void) step;
     return error != MINISIGN_OK ? error : minisign_open_unsealed_key(&unopened, &opened);
 }
 
@@ -149,7 +148,7 @@ static void nothing(int number)
 }
 
 /* A key whose checksum does not fit is opened all the same before that is seen. */
-static enum minisign_error open_sealed(const struct step *step)
+static enum minisign_error open_sealed(void)
 {
     struct itimerval often = { { 0, 200 }, { 0, 200 } }, never = { { 0, 0 }, { 0, 0 } };
     enum minisign_error error;
@@ -165,8 +164,8 @@ static enum minisign_error open_sealed(const struct step *step)
         setitimer(ITIMER_REAL, &often, NULL);
     }
     error = step->how == WITH_PASSWORD
-                ? minisign_open_sealed_key(&unopened, password, sizeof password, rows, MINISIGN_ANY_ROWS, &opened)
-                : minisign_open_sealed_key_in_place(&unopened, password, sizeof password, rows, MINISIGN_ANY_ROWS, words,
+                ? minisign_open_sealed_key(&unopened, password, password_len, rows, MINISIGN_ANY_ROWS, &opened)
+                : minisign_open_sealed_key_in_place(&unopened, password, password_len, rows, MINISIGN_ANY_ROWS, words,
                                                     sizeof words / sizeof *words, room_of_parts, sizeof room_of_parts, &opened);
     if (step->has_signals) {
         setitimer(ITIMER_REAL, &never, NULL);
@@ -174,33 +173,25 @@ static enum minisign_error open_sealed(const struct step *step)
     return !step->is_damaged ? error : error == MINISIGN_WRONG_PASSWORD ? MINISIGN_OK : MINISIGN_NOT_DUE;
 }
 
-static enum minisign_error sign(const struct step *step)
+static enum minisign_error sign(void)
 {
     enum minisign_error error;
 
-    (void) step;
     minisign_init(&state);
     error = minisign_update(&state, COMMENT, sizeof COMMENT);
-    if (error == MINISIGN_OK) {
-        error = minisign_digest(&state, digest);
-    }
-    if (error == MINISIGN_OK) {
-        error = minisign_comment_message(parts.signature, COMMENT, sizeof COMMENT - 1, message, sizeof message);
-    }
-    if (error == MINISIGN_OK) {
-        error = minisign_signed_text(&opened, &parts, text, sizeof text, &text_len);
-    }
-    return error;
+    error = error != MINISIGN_OK ? error : minisign_digest(&state, digest);
+    error = error != MINISIGN_OK ? error : minisign_comment_message(parts.signature, COMMENT, sizeof COMMENT - 1,
+                                                                    message, sizeof message);
+    return error != MINISIGN_OK ? error : minisign_signed_text(&opened, &parts, text, sizeof text, &text_len);
 }
 
 /* What the search has to find: a secret on the stack, in a register, and elsewhere. */
 volatile uint8_t elsewhere[256];
 
-static enum minisign_error leave_all(const struct step *step)
+static enum minisign_error leave_all(void)
 {
     volatile uint8_t left[256];
 
-    (void) step;
     for (size_t i = 0; i < 32; i++) {
         left[64 + i] = secret_key[i];
         elsewhere[64 + i] = left[64 + i];
@@ -223,16 +214,16 @@ static const struct step steps[] = {
     { "a key that is taken in", .call = take },
     { "a public key that is told", .call = tell_public },
     { "a public key that is made", .call = make_public },
-    { "a key that is made", make_sealed, LITTLE_OPERATIONS, LITTLE_MEMORY, .kept = MINISIGN_KEEP_EVERY_ROW },
+    { "a key that is made", make_sealed, 32768, 1 << 20, .kept = MINISIGN_KEEP_EVERY_ROW },
     { "a key that is opened", .call = open_sealed },
     { "a key that is opened with a wrong checksum", .call = open_sealed, .is_damaged = true },
     { "a key that is opened in place", .call = open_sealed, .how = IN_PLACE },
     { "a key that is opened in place with a wrong checksum", .call = open_sealed, .how = IN_PLACE, .is_damaged = true },
-    { "a key of more work that is made", make_sealed, LARGE_OPERATIONS, LARGE_MEMORY, .kept = MINISIGN_KEEP_EVERY_ROW },
+    { "a key of more work that is made", make_sealed, 131072, 4 << 20, .kept = MINISIGN_KEEP_EVERY_ROW },
     { "a key of more work that is opened", .call = open_sealed },
     { "a key that is opened with signals meanwhile", .call = open_sealed, .has_signals = true },
     { "a key that is opened in place with signals meanwhile", .call = open_sealed, .how = IN_PLACE, .has_signals = true },
-    { "a key that is made in few rows", make_sealed, LITTLE_OPERATIONS, LITTLE_MEMORY, .kept = MINISIGN_KEEP_FEW_ROWS },
+    { "a key that is made in few rows", make_sealed, 32768, 1 << 20, .kept = MINISIGN_KEEP_FEW_ROWS },
     { "a key that is opened in few rows", .call = open_sealed },
     { "a key that is opened in few rows in place", .call = open_sealed, .how = IN_PLACE },
     { "a key that is made without a password", .call = make_unsealed },
@@ -242,20 +233,19 @@ static const struct step steps[] = {
 };
 
 /* Makes a call and searches: whether it went well. */
-__attribute__((noinline)) static bool search_after(const struct step *step)
+__attribute__((noinline)) static bool search_after(void)
 {
     enum minisign_error error;
 
     frame = __builtin_frame_address(0);
     paint();
-    error = step->call(step);
+    error = step->call();
     TRAP();
     if (error != MINISIGN_OK) {
         printf("%s ended with %d\n", step->name, (int) error);
     }
     for (size_t n = 0; n < NEEDLES; n++) {
-        printf("%s\t%s\t%zu\t%zu\t%zu\t%zu\n", step->name, needles[n].name, counts[n][REGISTERS], counts[n][STACK],
-               counts[n][ELSEWHERE], counts[n][OWN]);
+        printf(COUNTS_OF(step->name, n));
     }
     printf("deepest\t%s\t%zu\n", step->name, depth);
     return error == MINISIGN_OK;
@@ -266,16 +256,16 @@ int main(void)
     bool is_well = true;
 
     watch();
-    for (size_t i = 0; i < sizeof secret_key; i++) {
-        secret_key[i] = masked_secret_key[i] ^ MASK;
+    for (size_t i = 0; i < needles[0].len; i++) {
+        secret_key[i] = needles[0].masked[i] ^ MASK;
     }
-    for (size_t i = 0; i < sizeof password; i++) {
-        password[i] = masked_password[i] ^ MASK;
+    for (password_len = 0; password_len < needles[3].len; password_len++) {
+        password[password_len] = needles[3].masked[password_len] ^ MASK;
     }
     /* (the output is not to take what was given back) */
     setvbuf(stdout, malloc(65536), _IOFBF, 65536);
-    for (size_t i = 0; i < sizeof steps / sizeof *steps; i++) {
-        is_well &= search_after(&steps[i]);
+    for (step = steps; step < steps + sizeof steps / sizeof *steps; step++) {
+        is_well &= search_after();
     }
     return is_well ? 0 : 1;
 }

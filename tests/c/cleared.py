@@ -21,7 +21,6 @@ libc6-dev-arm64-cross and qemu-user-static, and installs what is missing if it m
 import hashlib
 import os
 import re
-import shutil
 import sys
 import tempfile
 
@@ -31,24 +30,25 @@ sys.path += [SHARED, os.path.join(HERE, "..", "command_line")]
 
 import emulated
 import ending
-import musl
 import needles
 import needs
 import proved
 import static_library
 from c_library import STRICT
-from command_running import put_files, record_of, sealed
+from command_running import put_files
+from planted import copy_sources
 from process import run, run_program
 from running import build_preload, read, write
+from texts import Limits, record_of, sealed, stream, text_of
 
-SEED, PUBLIC_HALF = (hashlib.sha256(part).digest() for part in (b"the seed", b"the public half"))
+SEED = hashlib.sha256(b"the seed").digest()
 PASSWORD = b"correct horse battery staple 42"
 SALT = bytes(range(32))
-# The limits of keys by their names, and what scrypt's N is then; the rows of the second take 4 MiB, which is a large block.
-LIMITS = {"LITTLE": (32768, 1048576, 1024), "LARGE": (131072, 4194304, 4096)}
+# What scrypt's N is of the keys; the rows of the second take 4 MiB, which is a large block.
+ROWS = (1024, 4096)
 LEVELS = ("-O0", "-O2")
-# (of the calls as C their compiler decides what is left)
-COPIES = {"x86-64-v2": ["V3=../dist/calls-x86-64-v2.a", "C_CALLS="], "x86-64-v3": ["C_CALLS="], "C": ["PORTABLE=1"]}
+# What make is told of each copy of the calls: for x86-64-v2, for x86-64-v3, and as C, of which the compiler decides what is left.
+COPIES = (["V3=../dist/calls-x86-64-v2.a", "C_CALLS="], ["C_CALLS="], ["PORTABLE=1"])
 LEFT = "what is left by intent"
 STEPS = 19
 # Which needles are the caller's own, after each step that has one: the search finds them where they belong.
@@ -57,23 +57,11 @@ OWN = ("seed", "half of the seed", "password")
 
 def wanted():
     """What is looked for, by its names."""
-    record = b"EdScB2" + bytes(48) + b"12345678" + SEED + PUBLIC_HALF + bytes(32)
-    found = {**needles.of_secret_key(record), **needles.of_password(PASSWORD)}
-    for name, (_, _, rows) in LIMITS.items():
-        derived = hashlib.scrypt(PASSWORD, salt=SALT, n=rows, r=8, p=1, maxmem=1 << 26, dklen=104)
-        found[f"derived by {name}"], found[f"half of what is derived by {name}"] = derived[:32], derived[:16]
+    found = {**needles.of_secret_key(b"EdScB2" + bytes(48) + b"12345678" + SEED + bytes(64)), **needles.of_password(PASSWORD)}
+    for rows in ROWS:
+        derived = stream(PASSWORD, Limits(rows=rows, parts=1), SALT)
+        found[f"derived of {rows} rows"], found[f"half of what is derived of {rows} rows"] = derived[:32], derived[:16]
     return found
-
-
-def needles_text():
-    """The header of cleared.c, in which no secret stands as it is."""
-    lines = [needles.text(wanted()), f"#define PASSWORD_LEN {len(PASSWORD)}",
-             f"static const uint8_t masked_secret_key[64] = {{ {needles.masked(SEED + PUBLIC_HALF)} }};",
-             f"static const uint8_t masked_password[PASSWORD_LEN] = {{ {needles.masked(PASSWORD)} }};",
-             f"static const uint8_t SALT[32] = {{ {', '.join(map(str, SALT))} }};"]
-    for name, (operations, memory, _) in LIMITS.items():
-        lines += [f"#define {name}_OPERATIONS {operations}", f"#define {name}_MEMORY {memory}"]
-    return "\n".join([*lines, ""])
 
 
 class Run:
@@ -82,15 +70,10 @@ class Run:
 
     def __init__(self, command):
         status, said = run(command)
-        self.found, self.depths, self.wrong = {}, {}, [f"status {status}"] * (status != 0)
-        for line in said.splitlines():
-            parts = line.split("\t")
-            if len(parts) == 6:
-                key, self.found[key] = needles.counts_of(line)
-            elif len(parts) == 3 and parts[0] == "deepest":
-                self.depths[parts[1]] = int(parts[2])
-            else:
-                self.wrong.append(line)
+        lines = said.splitlines()
+        self.found = dict(needles.counts_of(line) for line in lines if line.count("\t") == 5)
+        self.depths = {step: int(depth) for step, depth in re.findall(r"(?m)^deepest\t(.*)\t(\d+)$", said)}
+        self.wrong = [f"status {status}"] * (status != 0) + [line for line in lines if line.count("\t") not in (2, 5)]
 
     def left(self):
         """What was left by a step, but by intent, and where."""
@@ -102,13 +85,11 @@ class Builder:
 
     def __init__(self, room):
         self.room = room
-        write(room, "needles.h", needles_text().encode())
+        write(room, "needles.h", needles.text(wanted()).encode())
 
     def copy(self, name, old, new):
         """A copy of what is built, in which a file is changed."""
-        top = tempfile.mkdtemp(dir=self.room)
-        for part in ("c", "include", "dist"):
-            shutil.copytree(os.path.join(proved.ROOT, part), os.path.join(top, part), ignore=shutil.ignore_patterns("out"))
+        top = copy_sources(self.room, "c", "include", "dist")
         text = read(top, "c", name).decode()
         if not re.search(old, text):
             raise static_library.NotBuilt(f"c/{name} has nothing like {old!r}")
@@ -121,17 +102,13 @@ class Builder:
         static_library.run_make("-C", os.path.join(top, "c"), "CPPFLAGS=", f"OUT={out}", *words, f"{out}/{goal}")
         return f"{out}/{goal}"
 
-    def program(self, compiler, level, *words, top=proved.ROOT, linking=()):
-        """The path of the program, over a library that is built for it."""
-        return self.linked(compiler, level, self.make("libminisign.a", f"CC={compiler}", f"CFLAGS={level}", *words, top=top), top, linking)
-
-    def linked(self, compiler, level, library, top=proved.ROOT, linking=()):
-        """The path of the program, over a library that was built."""
+    def program(self, compiler, level, *words, top=proved.ROOT, linking=(), library=None):
+        """The path of the program, over this library, or over one that is built for it."""
+        library = library or self.make("libminisign.a", f"CC={compiler}", f"CFLAGS={level}", *words, top=top)
         made = os.path.join(os.path.dirname(library), "cleared")
-        status, said = run([*compiler.split(), "-std=c11", *STRICT, level, "-I", os.path.join(top, "include"), "-I", self.room, "-I", SHARED, "-o", made,
-                            os.path.join(HERE, "cleared.c"), library, *linking])
-        if status != 0:
-            raise static_library.NotBuilt(f"cleared.c by {compiler}: {said[-800:]}")
+        where = ["-I", os.path.join(top, "include"), "-I", self.room, "-I", SHARED, "-o", made]
+        sources = [os.path.join(HERE, "cleared.c"), library, *linking]
+        static_library.hold([*compiler.split(), "-std=c11", *STRICT, level, *where, *sources])
         return made
 
 
@@ -142,34 +119,36 @@ def cleared_bytes():
 
 def check_run(checks, what, run):
     """Nothing is left, and the search is not blind."""
-    steps = {step for step, _ in run.found}
+    steps, none = {step for step, _ in run.found}, (0,) * 4
     checks.check(not run.wrong and len(steps) == STEPS and len(run.found) == STEPS * len(wanted()), f"{what}: {run.wrong[:5]}, {len(steps)} steps")
-    for (step, needle), counts in run.found.items():
-        if step != LEFT:
-            checks.check(counts[:3] == (0, 0, 0), f"{what}, {step}: the {needle} is left: {counts[0]} times in registers, {counts[1]} on the stack, "
-                                                  f"{counts[2]} elsewhere")
+    checks.check(not run.left(), f"{what}: so often something is left in registers, on the stack, and elsewhere: {run.left()}")
     for needle in OWN:
-        checks.check(all(run.found.get((step, needle), (0,) * 4)[3] > 0 for step in steps), f"{what}: the {needle} is not found in what is the caller's")
-    found = run.found.get((LEFT, "half of the seed"), (0,) * 4)
+        is_seen = all(run.found.get((step, needle), none)[3] > 0 for step in steps)
+        checks.check(is_seen, f"{what}: the {needle} is not found in what is the caller's")
+    found = run.found.get((LEFT, "half of the seed"), none)
     checks.check(all(found[:3]), f"{what}: what is left by intent is found so often: {found}")
-    for step, depth in run.depths.items():
-        # (a signal may come while the stack is cleared, and the registers are: the system writes them below)
-        checks.check(depth < cleared_bytes() + 1024 or "signals" in step, f"{what}, {step}: {depth} bytes of the stack were written")
+    # (a signal may come while the stack is cleared, and the registers are: the system writes them below)
+    deep = {step: depth for step, depth in run.depths.items() if depth >= cleared_bytes() + 1024 and "signals" not in step}
+    checks.check(len(run.depths) == STEPS and not deep, f"{what}: so much of the stack was written: {deep}, in {len(run.depths)} steps")
 
 
 def check_copies(checks, builder):
     """Each copy of the calls, with each C library, by each compiler, for both processors."""
-    for compiler, linking in ((needs.c_compiler(), ["-Wl,-z,lazy"]), (musl.compiler(), ["-static"])):
-        for copy, words in COPIES.items():
-            for level in LEVELS:
-                check_run(checks, f"{compiler}, {copy}, {level}", Run([builder.program(compiler, level, *words, linking=linking)]))
     clang, arm, emulator = needs.program("clang", "clang"), emulated.compiler(emulated.AARCH64), emulated.emulator(emulated.AARCH64)
+
+    def check(compiler, level, *words, linking=(), before=()):
+        program = builder.program(compiler, level, *words, linking=linking)
+        check_run(checks, f"{compiler}, {' '.join(words)}, {level}", Run([*before, program]))
+
     for level in LEVELS:
-        check_run(checks, f"C by clang, {level}", Run([builder.program(clang, level, "PORTABLE=1")]))
-        check_run(checks, f"AArch64, its archive, {level}", Run([*emulator, builder.program(arm, level, linking=["-static"])]))
+        for compiler, linking in ((needs.c_compiler(), ["-Wl,-z,lazy"]), (emulated.musl_compiler(), ["-static"])):
+            for words in COPIES:
+                check(compiler, level, *words, linking=linking)
+        check(clang, level, "PORTABLE=1")
+        check(arm, level, linking=["-static"], before=emulator)
     # (as make builds it: without -O2 it takes half a minute in the emulator, and is seen on x86-64)
     for compiler in (arm, f"{clang} --target=aarch64-linux-gnu"):
-        check_run(checks, f"AArch64, C by {compiler}", Run([*emulator, builder.program(compiler, "-O2", "PORTABLE=1", linking=["-static"])]))
+        check(compiler, "-O2", "PORTABLE=1", linking=["-static"], before=emulator)
 
 
 # How it is run, and what is typed: the password of a key, and new ones.
@@ -190,13 +169,12 @@ class Searched:
         self.draws = build_preload(self.room, "fixed_sources")
         self.run(self.room, ("-G", "-W", "-p", "first.pub", "-s", "first.key"), b"", LD_PRELOAD=self.draws)
         first, data = read(self.room, "first.key"), b"some data\n"
-        self.files = {"data": data, "more": b"more data\n", "first.key": first, "closed.key": sealed(first, PASSWORD)}
         record = record_of(first)
-        found = {**needles.of_secret_key(record), **needles.of_password(PASSWORD), "new password": NEW[:-1],
-                 **needles.of_ed25519(record[needles.SEED_AT:][:32], hashlib.blake2b(data).digest())}
-        write(self.room, "needles.h", needles.text(found).encode())
-        self.finder = os.path.join(self.room, "search_calls.so")
-        run([needs.c_compiler(), "-shared", "-fPIC", "-O1", "-I", self.room, "-o", self.finder, os.path.join(SHARED, "search_calls.c")])
+        closed = text_of(sealed(record, PASSWORD, Limits(1 << 24, 32768, 1024, 1)))
+        self.files = {"data": data, "more": b"more data\n", "first.key": first, "closed.key": closed}
+        self.finder = needles.build_finder(self.room, {
+            **needles.of_secret_key(record), **needles.of_password(PASSWORD), "new password": NEW[:-1],
+            **needles.of_ed25519(record[needles.SEED_AT:][:32], hashlib.blake2b(data).digest())})
 
     def run(self, directory, arguments, typed, **variables):
         return run_program([self.program, *arguments], directory, typed, env={"HOME": directory, **variables})
@@ -208,7 +186,7 @@ class Searched:
         with tempfile.TemporaryDirectory(dir=self.room) as directory:
             put_files(directory, self.files)
             ran = self.run(directory, arguments, typed, LD_PRELOAD=preloaded, SEARCH_SAYS=f"{directory}/found")
-            return ran, [needles.counts_of(line) for line in read(directory, "found").decode().splitlines()]
+            return ran, needles.found_by(directory)
 
 
 def misplaced(found):

@@ -4,16 +4,14 @@ docs/INSTALLING.md, one after the other in one clone of the repository, in one s
 
     tests/c/commands.py
 
-Each ends with the status that its document says, and leaves what that says. After all of them git finds nothing new
-in the clone, and no secret key lies outside of the directories that git ignores. Commands that need the kit are left
-out, and named. It prints a line for each failure; the last line is `N passed, M failed`.
+Each ends with the status that its document says, and leaves what that says; git finds nothing new, and no secret key
+lies outside of what git ignores. Commands that need the kit are left out, and named. It prints a line for each
+failure; the last line is `N passed, M failed`.
 
 Needs git, make, binutils, a C compiler, cargo, rustc and libsodium with its header, and installs what is missing if
 it may.
 """
 
-import base64
-import binascii
 import os
 import re
 import shutil
@@ -25,20 +23,18 @@ sys.path.append(os.path.join(HERE, "..", "shared"))
 import ending
 import needs
 import static_library
-from at_hand import TOP, copy_tree
 from at_terminal import AtTerminal
-from process import run_apart
+from copies import TOP, copy_tree, files_below
 from running import read, write
 
 DOCUMENTS = ("README.md", "examples/README.md", "docs/INSTALLING.md")
 # What is left out, by how it begins, and why.
 LEFT_OUT = {"make -C c prove": "it needs the kit", "bash .ci/run": "it needs the kit", "make -C c check": "it runs this",
             "apt install ": "it changes the system"}
-# The commands that end with another status than 0, by how they begin.
-STATUSES = {"../c/out/minisign-install --check ": 10, "../c/out/minisign-install --numbering version there/release.pub ": 10}
-# What each of these says: nothing; but a check the number, and the signed comment.
-SILENT = ("mkdir ", "cp ", "echo ", "cd ", "../c/out/minisign-install ")
-SAID = {"../c/out/minisign-install --check ": "2\r\nversion:2\tfile:app\r\n"}
+# How the commands end that begin so, and what they say: a check the number, and the signed comment. Others may say what they like.
+ENDS = {"../c/out/minisign-install --check ": (10, "2\r\nversion:2\tfile:app\r\n"),
+        "../c/out/minisign-install --numbering version there/release.pub ": (10, ""),
+        **dict.fromkeys(("mkdir ", "cp ", "echo ", "cd ", "../c/out/minisign-install "), (0, ""))}
 # What is there afterwards; of a record, which has a key and a digest in two more lines, the first line.
 LEFT = {"try-signing/copy": b"test", "try-signing/there/app": b"version 3\n", "try-signing/there/.app.number": b"version:3",
         "try-installing/there/app": b"version 2\n", "try-installing/there/.app.number": b"version:2",
@@ -48,7 +44,6 @@ SECRET_KEYS = {"try-signing/my.key", "try-installing/my.key", "try-installing/ro
 ENDED = "--- ended with status "
 STOP = re.compile(rb"\r?\n" + ENDED.encode() + rb"(\d+)\r\n|Password[^\n:]*: $")
 PASSWORD = b"pass word\n"
-SECRET_KEY_BYTES = 158
 
 
 def commands_of(document):
@@ -94,33 +89,12 @@ class Clone:
             self.git(*words, at=origin)
 
     def git(self, *words, at=None):
-        """What git says."""
-        status, said, why = run_apart([needs.git(), *words], at or self.top, GIT_CONFIG_GLOBAL=os.devnull, GIT_CONFIG_NOSYSTEM="1")
-        if status != 0:
-            raise static_library.NotBuilt(f"git {' '.join(words)}: {why[-600:]}")
-        return said
-
-    def new_secret_keys(self):
-        """Where files with a secret key lie that the repository does not have."""
-        paths = [os.path.join(at, name) for at, _, names in os.walk(self.top) for name in names if ".git" not in at.split(os.sep)]
-        return {os.path.relpath(path, self.top) for path in paths if has_secret_key(path)} - {*self.git("ls-files").splitlines()}
+        return static_library.hold([needs.git(), *words], at or self.top, GIT_CONFIG_GLOBAL=os.devnull, GIT_CONFIG_NOSYSTEM="1")
 
 
 def has_secret_key(path):
-    """Whether a file is the text of a secret key."""
-    if not os.path.isfile(path):
-        return False
-    with open(path, "rb") as file:
-        lines = file.read(1024).splitlines()
-    try:
-        return len(lines) >= 2 and len(base64.b64decode(lines[1], validate=True)) == SECRET_KEY_BYTES
-    except binascii.Error:
-        return False
-
-
-def of_beginning(table, command, other):
-    """What a table has for commands that begin so, or else something other."""
-    return next((found for begins, found in table.items() if command.startswith(begins)), other)
+    """Whether a file is the text of a secret key, whose second line is the base64 of 158 bytes."""
+    return os.path.isfile(path) and re.match(rb"[^\n]*\n[A-Za-z0-9+/]{211}=(\r?\n|$)", read(path)) is not None
 
 
 def check_commands(checks, clone, room):
@@ -131,9 +105,9 @@ def check_commands(checks, clone, room):
         checks.check(any(line.startswith(command) for line in commands), f"no document has the command {command}")
     wanted = [command for command in commands if not command.startswith(tuple(LEFT_OUT))]
     for command, status, said in run_in_shell(clone.top, wanted, room):
-        right = of_beginning(STATUSES, command, 0)
+        right, words = next((ends for begins, ends in ENDS.items() if command.startswith(begins)), (0, said))
         checks.check(status == right, f"{command}: status {status}, and not {right}: {said[-600:]}")
-        checks.check(said == of_beginning(SAID, command, "") or not command.startswith(SILENT), f"{command}: it says {said[-600:]}")
+        checks.check(said == words, f"{command}: it says {said[-600:]}")
 
 
 def check_left(checks, clone):
@@ -144,7 +118,8 @@ def check_left(checks, clone):
         checks.check(found == data, f"{name} has {found} in place of {data}")
     new = clone.git("status", "--porcelain")
     checks.check(not new, f"git finds in the clone: {new}")
-    keys = clone.new_secret_keys()
+    new = files_below(clone.top) - {*clone.git("ls-files").splitlines()}
+    keys = {name for name in new if not name.startswith(".git/") and has_secret_key(os.path.join(clone.top, name))}
     checks.check(keys == SECRET_KEYS, f"secret keys lie at {sorted(keys)}")
 
 

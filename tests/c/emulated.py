@@ -1,7 +1,8 @@
-"""Builds `c/` for other processors by cross compilers of Debian, and runs it under qemu.
+"""Builds `c/` for other processors by cross compilers of Debian, and runs it under qemu; and says how it is built over musl.
 
 apt-get fetches Debian's libsodium for a processor once, and it is unpacked beside what is built here: the system
-stays as it is. Where Debian has none the programs of c/ are not built, and the library is tried alone.
+stays as it is. Where Debian has none the programs of c/ are not built, and the library is tried alone. The compiler
+of musl finds nothing of Debian's: it is told of Debian's libsodium, which is built over the other C library.
 """
 
 import glob
@@ -14,7 +15,7 @@ from collections import namedtuple
 import exports
 import needs
 import static_library
-from c_library import INCLUDE, PROGRAMS, STRICT, check_program, compiled
+from c_library import INCLUDE, STRICT, check_program, compiled
 from process import run
 from proved import ROOT
 from running import read, write
@@ -23,6 +24,13 @@ from running import read, write
 USUAL_ROWS = "1048576"
 # With these the programs of tests/c do less of what takes long, which they do over the archives (`c_library.py`).
 LESS = ["-DIS_EMULATED"]
+
+# What Debian's libsodium calls of its own C library.
+OF_GLIBC = b"""#define _GNU_SOURCE
+#include <string.h>
+void __explicit_bzero_chk(void *data, size_t len, size_t size);
+void __explicit_bzero_chk(void *data, size_t len, size_t size) { (void) size; explicit_bzero(data, len); }
+"""
 
 # A kind of processors: its name, how the names of its compiler begin and what Debian calls it, the emulator, how readelf names
 # it, whether Debian has a libsodium for it, and whether its pointers have 32 bits.
@@ -37,8 +45,9 @@ def fetch(kind, place, *packages):
     with tempfile.TemporaryDirectory(prefix="packages-") as room:
         for directory in ("lists/partial", "cache/archives/partial"):
             os.makedirs(f"{room}/{directory}")
-        options = [word for option in (f"Dir::State::lists={room}/lists", f"Dir::Cache={room}/cache", f"APT::Architecture={kind.debian}",
-                                       f"APT::Architectures={kind.debian}", "APT::Sandbox::User=root", "Acquire::Retries=3") for word in ("-o", option)]
+        options = [f"-o{option}" for option in (
+            f"Dir::State::lists={room}/lists", f"Dir::Cache={room}/cache", f"APT::Architecture={kind.debian}",
+            f"APT::Architectures={kind.debian}", "APT::Sandbox::User=root", "Acquire::Retries=3")]
         # (a mirror may lack one of the lists for a while, of which the packages need the first)
         _, listed = run(["apt-get", "-q", *options, "update"], room)
         status, said = run(["apt-get", "-q", *options, "download", *packages], room)
@@ -79,51 +88,57 @@ def compiler(kind):
     return found
 
 
+def musl_compiler():
+    return needs.program("musl-gcc", "musl-tools")
+
+
+def headers_of_sodium(room):
+    """A directory that has libsodium's headers and no others."""
+    needs.libsodium()
+    place = os.path.join(room, "of-sodium")
+    os.makedirs(place, exist_ok=True)
+    run(["ln", "-sf", "/usr/include/sodium.h", "/usr/include/sodium", place])
+    return place
+
+
+def musl_variables(room):
+    """What make is told to build over musl."""
+    run([musl_compiler(), "-c", "-o", f"{room}/of-glibc.o", write(room, "of-glibc.c", OF_GLIBC)])
+    archive, headers = run([needs.libsodium(), "-print-file-name=libsodium.a"])[1].strip(), headers_of_sodium(room)
+    return {"CC": musl_compiler(), "CPPFLAGS": f"-isystem {headers}", "SODIUM": f"{archive} {room}/of-glibc.o"}
+
+
 class Emulated:
     """The compiler, the emulator, and what was built, with a directory for the files of the programs."""
 
     def __init__(self, checks, room, kind, *more):
-        self.checks, self.room, self.kind, self.out = checks, room, kind, f"{room}/out"
-        self.compiler, self.emulator, self.library = compiler(kind), emulator(kind), f"{room}/out/libminisign.a"
+        self.checks, self.kind, self.room = checks, kind, f"{room}/{kind.name}"
+        self.out, self.directory, self.library = (f"{self.room}/{name}" for name in ("out", "files", "out/libminisign.a"))
+        self.compiler, self.emulator = compiler(kind), emulator(kind)
         self.flags = [f"CC={self.compiler}", *(sodium(kind) if kind.has_sodium else []), *more]
         static_library.run_make(*self.flags, f"OUT={self.out}", "all" if kind.has_sodium else "library")
-        self.directory = f"{room}/files"
         os.mkdir(self.directory)
 
-    def ended(self, name, *words, status=0, says="", typed=b""):
-        """Runs a program that was built, which has to end with this status and to say this: what it said."""
+    def ended(self, name, *words, status=0, typed=b""):
+        """Runs a program that was built, which has to end with this status: what it said."""
         ran = run([*self.emulator, f"{self.out}/{name}", *words], self.directory, typed)
-        return self.checks.ended(f"{self.kind.name}: {name} {' '.join(words)}", ran, status, says)
-
-
-def check_built(checks, built):
-    """It is for this processor, and its structs are laid out as those of the library."""
-    checks.ended(f"{built.kind.name}: the library", run(["readelf", "-h", f"{built.out}/libminisign.so"]), says=built.kind.elf)
-    checks.ended(f"{built.kind.name}: the layout",
-                 run([built.compiler, "-std=c11", *STRICT, "-I", INCLUDE, "-fsyntax-only", exports.write_layout(built.room)]))
-
-
-def check_corpus(checks, built):
-    """The program verifies what is kept, and rejects what is damaged."""
-    said = checks.ended(f"{built.kind.name}: make test", run(["make", "-s", "-C", static_library.DIRECTORY, *built.flags, f"OUT={built.out}", "test"],
-                                                             RUN=" ".join(built.emulator)))
-    checks.check(static_library.VERIFIED.search(said), f"{built.kind.name}: make test: {said[-600:]}")
+        return self.checks.ended(f"{self.kind.name}: {name} {' '.join(words)}", ran, status)
 
 
 def check_keys(checks, built, own):
     """A key from its making to a signature; its text is the one of the library of this processor."""
     compiled(checks, built.kind.name, "keys", built.compiler, built.library, *LESS)
     built.ended("minisign", "-G", "-W", "-p", "a.pub", "-s", "open.key")
-    opened = built.ended("keys", "open", "1", USUAL_ROWS, "open.key").split()
-    sealing = ["secret", *opened, "5a" * 32, "32768", "1048576", "1", "4096", "sealed", "pw"]
+    opened = built.ended("keys", "open", "1", USUAL_ROWS, read(built.directory, "open.key").decode()).split()
+    sealing = ["secret", *opened, "5a" * 32, "32768", "1048576", "1", "sealed", "pw"]
     sealed = checks.ended("sealing", run([compiled(checks, "here", "keys", needs.c_compiler(), own), *sealing]))
     said = built.ended("keys", *sealing)
     checks.same(said, sealed, f"{built.kind.name}: sealing")
     write(built.directory, "sealed.key", said.encode())
     for keep_every in ("1", "16"):
-        said = built.ended("keys", "open", keep_every, USUAL_ROWS, "sealed.key", "pw")
+        said = built.ended("keys", "open", keep_every, USUAL_ROWS, sealed, "pw")
         checks.check(said.split() == opened, f"{built.kind.name}: opening with {keep_every}: {said}")
-    built.ended("keys", "open", "1", USUAL_ROWS, "sealed.key", "pv", status=1)
+    built.ended("keys", "open", "1", USUAL_ROWS, sealed, "pv", status=1)
     data = write(built.directory, "data", bytes(range(256)) * 1000)
     built.ended("minisign", "-S", "-s", "sealed.key", "-m", "data", "-t", "a comment", typed=b"pw\n")
     verifying = ("-V", "-Q", "-p", "a.pub", "-m", "data")
@@ -146,12 +161,18 @@ def check_installing(checks, built):
         checks.check(found == f"version {there}\n".encode(), f"{built.kind.name}: installing {number}: {found}")
 
 
-def check_all(checks, built, own, programs=PROGRAMS):
-    """All of it, as far as there is a libsodium, beside a library of this processor."""
-    check_built(checks, built)
-    for name, flags in programs.items():
-        check_program(checks, built.kind.name, name, built.compiler, built.library, *LESS, *flags, before=built.emulator)
+def check_all(checks, built, own, programs):
+    """What was built is for this processor, and its structs are laid out as those of the library; the programs of tests/c. And where
+    there is a libsodium all that those of c/ do, beside a library of the processor that this runs on."""
+    name = built.kind.name
+    checks.ended(f"{name}: the library", run(["readelf", "-h", f"{built.out}/libminisign.so"]), says=built.kind.elf)
+    layout = [built.compiler, "-std=c11", *STRICT, "-I", INCLUDE, "-fsyntax-only", exports.write_layout(built.room)]
+    checks.ended(f"{name}: the layout", run(layout))
+    for program, flags in programs.items():
+        check_program(checks, name, program, built.compiler, built.library, *LESS, *flags, before=built.emulator)
     if built.kind.has_sodium:
-        check_corpus(checks, built)
+        testing = ["make", "-s", "-C", static_library.DIRECTORY, *built.flags, f"OUT={built.out}", "test"]
+        said = checks.ended(f"{name}: make test", run(testing, RUN=" ".join(built.emulator)))
+        checks.check(static_library.VERIFIED.search(said), f"{name}: make test: {said[-600:]}")
         check_keys(checks, built, own)
         check_installing(checks, built)

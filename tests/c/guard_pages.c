@@ -32,8 +32,11 @@ static uint8_t *copied(const void *bytes, size_t len)
     return memcpy(buffer(len), bytes, len);
 }
 
-/* Room for a value of a type. */
+/* Room for a value of a type; and such a value, alone in its bytes. */
 #define NEW(type) ((type *) (void *) buffer(sizeof(type)))
+#define ALONE(type, value) ((type *) (void *) copied((type[1]) { value }, sizeof(type)))
+#define PUBLIC_KEY() ALONE(minisign_public_key, key_of(KEY))
+#define SIGNATURE_READ() ALONE(minisign_signature, signature_of(SIGNATURE))
 
 /* So many of one letter. */
 static uint8_t *filled(size_t len, int letter)
@@ -71,37 +74,17 @@ static void feeding(void)
     }
 }
 
-/* A public key, alone in its bytes. */
-static minisign_public_key *public_key(void)
-{
-    minisign_public_key *key = NEW(minisign_public_key);
-
-    *key = key_of(KEY);
-    return key;
-}
-
-/* A signature, alone in its bytes. */
-static minisign_signature *signature(void)
-{
-    minisign_signature *read = NEW(minisign_signature);
-
-    *read = signature_of(SIGNATURE);
-    return read;
-}
-
 /* Asks with so much of the text of a signature, and so much room. */
 static enum minisign_error ask_with(minisign_state *state, const minisign_signature *read, size_t len, size_t room)
 {
-    minisign_questions *q = NEW(minisign_questions);
-
-    return minisign_ask(state, public_key(), read, copied(SIGNATURE, len), len, 0, q, buffer(room), room);
+    return minisign_ask(state, PUBLIC_KEY(), read, copied(SIGNATURE, len), len, 0, NEW(minisign_questions), buffer(room), room);
 }
 
 /* A signature whose comment is said to begin here and to have this length: nothing outside the text is read. */
 static void ask_about_place(uint64_t offset, uint64_t len)
 {
     used = 0;
-    minisign_signature *read = signature();
+    minisign_signature *read = SIGNATURE_READ();
     read->comment_offset = offset;
     read->comment_len = len;
     enum minisign_error error = ask_with(begun(), read, sizeof SIGNATURE - 1, 1024);
@@ -122,7 +105,8 @@ static void asking(void)
         CHECK(is_read || len < sizeof SIGNATURE - 1);
         CHECK(ask_with(begun(), cut, len, len) == (is_read ? MINISIGN_OK : MINISIGN_SIGNATURE_NOT_READ));
         used = 0;
-        CHECK(ask_with(begun(), signature(), len, MESSAGE_LEN) == (len < sizeof SIGNATURE - 1 ? MINISIGN_OTHER_SIGNATURE_TEXT : MINISIGN_OK));
+        CHECK(ask_with(begun(), SIGNATURE_READ(), len, MESSAGE_LEN)
+              == (len < sizeof SIGNATURE - 1 ? MINISIGN_OTHER_SIGNATURE_TEXT : MINISIGN_OK));
     }
     for (size_t i = 0; i < LENGTH(places); i++) {
         for (size_t j = 0; j < LENGTH(places); j++) {
@@ -131,34 +115,30 @@ static void asking(void)
     }
     for (size_t len = 0; len < sizeof KEY; len++) {
         used = 0;
-        CHECK(minisign_read_public_key(copied(KEY, len), len, public_key()) == MINISIGN_OK || len < sizeof KEY - 2);
+        CHECK(minisign_read_public_key(copied(KEY, len), len, PUBLIC_KEY()) == MINISIGN_OK || len < sizeof KEY - 2);
         used = 0;
-        CHECK(len > 57 || (minisign_read_bare_public_key(copied(KEY + sizeof KEY - 58, len), len, public_key()) == MINISIGN_OK) == (len == 56));
+        CHECK(len > 57
+              || (minisign_read_bare_public_key(copied(KEY + sizeof KEY - 58, len), len, PUBLIC_KEY()) == MINISIGN_OK)
+                     == (len == 56));
     }
     for (size_t room = 0; room <= MESSAGE_LEN; room++) {
         const int is_asked = room == MESSAGE_LEN;
 
         used = 0;
         minisign_state *state = begun();
-        CHECK(ask_with(state, signature(), sizeof SIGNATURE - 1, room) == (is_asked ? MINISIGN_OK : MINISIGN_NO_ROOM));
+        CHECK(ask_with(state, SIGNATURE_READ(), sizeof SIGNATURE - 1, room) == (is_asked ? MINISIGN_OK : MINISIGN_NO_ROOM));
         CHECK(minisign_comment_verdict(state, YES) == (is_asked ? MINISIGN_OK : MINISIGN_NOT_ASKED));
         CHECK(minisign_digest(state, buffer(64)) == MINISIGN_OK);
         CHECK(minisign_verdict(state, YES, YES) == (is_asked ? MINISIGN_OK : MINISIGN_NOT_ASKED));
     }
 }
 
-/* The key of the tests, opened. */
-static minisign_secret_key *opened_key(void)
-{
-    minisign_secret_key *key = NEW(minisign_secret_key);
-    minisign_unopened_key unopened;
-
-    CHECK(read_and_open(SECRET_KEY, NULL, &unopened, key) == MINISIGN_OK);
-    return key;
-}
-
 static void signing(void)
 {
+    minisign_unopened_key of_tests;
+    minisign_secret_key opened;
+
+    CHECK(read_and_open(SECRET_KEY, NULL, &of_tests, &opened) == MINISIGN_OK);
     for (size_t len = 0; len < sizeof SECRET_KEY; len++) {
         used = 0;
         minisign_unopened_key *unopened = NEW(minisign_unopened_key);
@@ -171,7 +151,7 @@ static void signing(void)
     }
     for (size_t len = 0; len < 200; len++) {
         used = 0;
-        minisign_secret_key *key = opened_key();
+        minisign_secret_key *key = ALONE(minisign_secret_key, opened);
         minisign_signed_parts *parts = NEW(minisign_signed_parts);
         uint8_t *trusted = filled(len, 't'), *untrusted = filled(len / 2, 'u');
         size_t *text_len = NEW(size_t), room = 0;
@@ -202,7 +182,7 @@ static void making(void)
         minisign_secret_key *key = NEW(minisign_secret_key);
         size_t *text_len = NEW(size_t);
         minisign_take_secret_key(copied("12345678", 8), copied((const char *) secret, 64), key);
-        CHECK(minisign_public_key_of(key, public_key()) == MINISIGN_OK);
+        CHECK(minisign_public_key_of(key, PUBLIC_KEY()) == MINISIGN_OK);
         used = 2;
         CHECK(minisign_secret_key_text(key, 0, NULL, 0, &none, 1, copied("c", 1), 1, buffer(room), room, text_len)
               == (room < MINISIGN_SECRET_KEY_BYTES(1) ? MINISIGN_NO_ROOM : MINISIGN_OK));
@@ -250,9 +230,8 @@ static void opening_in_place(uint64_t p)
 /* Asks about the signature, with this room for the message, and has these answers. */
 static enum minisign_error ask_and_answer(minisign_installation *i)
 {
-    minisign_questions *q = NEW(minisign_questions);
     enum minisign_error error = minisign_install_ask(i, bytes_of(SIGNATURE), sizeof SIGNATURE - 1, copied("test", 4), 4, 0,
-                                                     q, buffer(MESSAGE_LEN), MESSAGE_LEN);
+                                                     NEW(minisign_questions), buffer(MESSAGE_LEN), MESSAGE_LEN);
 
     return error == MINISIGN_OK ? minisign_install_answer(i, YES, YES) : error;
 }
@@ -261,7 +240,7 @@ static enum minisign_error ask_and_answer(minisign_installation *i)
 static minisign_installation *installing(uint32_t due)
 {
     minisign_installation *i = NEW(minisign_installation);
-    enum minisign_error error = minisign_install_init(i, public_key(), public_key(), 0, 0, 0, 0, 0, MINISIGN_NUMBERING_TIMESTAMP);
+    enum minisign_error error = minisign_install_init(i, PUBLIC_KEY(), PUBLIC_KEY(), 0, 0, 0, 0, 0, MINISIGN_NUMBERING_TIMESTAMP);
 
     while (error == MINISIGN_OK && minisign_install_due(i) != due) {
         switch (minisign_install_due(i)) {

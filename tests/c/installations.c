@@ -63,8 +63,9 @@ static const struct row {
 static minisign_questions questions;
 static uint8_t message[4096];
 
-/* What is asked about: a signature with this text, and the name that is wanted. */
+/* What is asked about: a signature with this text, and the name that is wanted; and when a record was written. */
 static const char *asked_text = SIGNATURE, *asked_name = "test";
+static uint64_t written;
 
 /* Asks about a signature with this text. */
 static enum minisign_error ask_of(minisign_installation *i, const char *sig_text, const char *file, size_t room)
@@ -88,7 +89,7 @@ static enum minisign_error judge(minisign_installation *i, enum minisign_answer 
 
 static enum minisign_error record(minisign_installation *i, const char *text)
 {
-    return minisign_install_record(i, bytes_of(text), strlen(text), 0);
+    return minisign_install_record(i, bytes_of(text), strlen(text), written);
 }
 
 static enum minisign_error piece(minisign_installation *i, const char *data)
@@ -104,13 +105,15 @@ static enum minisign_error pieces(minisign_installation *i)
     return error == MINISIGN_OK ? piece(i, "") : error;
 }
 
-/* An installation under the published key alone. */
+/* An installation under the published key alone, which has to say when it expires, or not. */
+static uint32_t must_expire;
+
 static enum minisign_error begin(minisign_installation *i, uint32_t is_first, uint32_t again, uint32_t is_check,
                                  uint32_t is_waiting, uint32_t numbering)
 {
     const minisign_public_key key = key_of(KEY);
 
-    return minisign_install_init(i, &key, &key, is_first, again, is_check, is_waiting, 0, numbering);
+    return minisign_install_init(i, &key, &key, is_first, again, is_check, is_waiting, must_expire, numbering);
 }
 
 /* Makes the call that is due, which goes well; the record holds this. */
@@ -180,12 +183,13 @@ static int same(const minisign_installation *one, const minisign_installation *o
                                 : error == MINISIGN_OK && minisign_install_due(&i) == next);                            \
     } while (0)
 
-/* Each call where each is due. */
+/* Each call where each is due; and the record is written where that is, if there is room. */
 static void order(void)
 {
     for (size_t row = 0; row < ROWS; row++) {
         const uint32_t due = table[row].due;
         const int reads = due == MINISIGN_DUE_LOOK || due == MINISIGN_DUE_READ_BACK;
+        const size_t len = due == MINISIGN_DUE_WRITE_RECORD ? sizeof OWN_RECORD - 1 : 0;
         const minisign_installation begun = at(due);
 
         GOES(due, minisign_install_done(&i), table[row].done);
@@ -205,21 +209,10 @@ static void order(void)
         CHECK_AT(due, minisign_install_error(&begun) == (due == MINISIGN_DUE_REFUSED ? MINISIGN_WRITING_FAILED : MINISIGN_OK));
         CHECK_AT(due, minisign_install_number(&begun) == (due <= MINISIGN_DUE_JUDGE || due == MINISIGN_DUE_REFUSED ? 0 : NUMBER));
         CHECK_AT(due, minisign_install_is_vouched(&begun) == (minisign_install_number(&begun) == NUMBER));
-    }
-}
-
-/* The record is written where that is due, if there is room. */
-static void written(void)
-{
-    for (size_t row = 0; row < ROWS; row++) {
-        const minisign_installation begun = at(table[row].due);
-        const size_t len = table[row].due == MINISIGN_DUE_WRITE_RECORD ? sizeof OWN_RECORD - 1 : 0;
-
         memset(message, 0xaa, sizeof message);
-        CHECK_AT(table[row].due, minisign_install_record_text(&begun, message, MINISIGN_RECORD_TEXT_BYTES) == len);
-        CHECK_AT(table[row].due, memcmp(message, OWN_RECORD, len) == 0 && message[len] == 0xaa);
-        memset(message, 0xaa, sizeof message);
-        CHECK_AT(table[row].due, minisign_install_record_text(&begun, message, sizeof OWN_RECORD - 2) == 0 && message[0] == 0xaa);
+        CHECK_AT(due, minisign_install_record_text(&begun, message, sizeof OWN_RECORD - 2) == 0 && message[0] == 0xaa);
+        CHECK_AT(due, minisign_install_record_text(&begun, message, MINISIGN_RECORD_TEXT_BYTES) == len);
+        CHECK_AT(due, memcmp(message, OWN_RECORD, len) == 0 && message[len] == 0xaa);
     }
 }
 
@@ -347,10 +340,10 @@ static void records(void)
     }
 }
 
-/* What the comment gives over a record, where the key has signed it or not: at the judgement before anything is staged, and, but of
- * an update that is asked about there, at the one after that. */
+/* What the comment of this number gives over a record, where the key has signed it or not: at the judgement before anything is
+ * staged, and, but of an update that is asked about there, at the one after that. */
 static void gives(const char *kept, uint32_t is_first, const char *signature, const char *file, uint32_t numbering,
-                  enum minisign_answer second, enum minisign_error rejected)
+                  enum minisign_answer second, enum minisign_error rejected, uint64_t number)
 {
     minisign_installation i;
     enum minisign_error error;
@@ -365,10 +358,9 @@ static void gives(const char *kept, uint32_t is_first, const char *signature, co
         error = minisign_install_answer(&i, NO, second);
         vouched = second == YES;
     }
-    CHECK(error == rejected && minisign_install_error(&i) == rejected);
+    check(error == rejected && minisign_install_error(&i) == rejected, "%s: not the error %u", signature, (unsigned) rejected);
     CHECK((minisign_install_due(&i) == MINISIGN_DUE_REFUSED) == (rejected != MINISIGN_OK));
-    CHECK(minisign_install_is_vouched(&i) == vouched);
-    CHECK(minisign_install_number(&i) == (vouched && numbering == MINISIGN_NUMBERING_TIMESTAMP ? NUMBER : 0));
+    check(minisign_install_is_vouched(&i) == vouched && minisign_install_number(&i) == number, "%s: another number", signature);
 }
 
 /* What the answers give of what the stage holds. */
@@ -390,25 +382,25 @@ static void answers(void)
 {
     const uint32_t by_time = MINISIGN_NUMBERING_TIMESTAMP, by_version = MINISIGN_NUMBERING_VERSION;
 
-    gives("0", 0, SIGNATURE, "test", by_time, YES, MINISIGN_OK);
-    gives(OWN_NUMBER, 0, SIGNATURE, "test", by_time, YES, MINISIGN_OK);
-    gives(OWN_RECORD, 0, SIGNATURE, "test", by_time, YES, MINISIGN_OK);
-    gives("1556193336", 0, SIGNATURE, "test", by_time, YES, MINISIGN_OLDER_UPDATE);
-    gives("timestamp:1556193336", 0, SIGNATURE, "test", by_time, YES, MINISIGN_OLDER_UPDATE);
-    gives("timestamp:1556193336\n" HEX_OF_ABC, 1, SIGNATURE, "test", by_time, YES, MINISIGN_OK);
+    gives("0", 0, SIGNATURE, "test", by_time, YES, MINISIGN_OK, NUMBER);
+    gives(OWN_NUMBER, 0, SIGNATURE, "test", by_time, YES, MINISIGN_OK, NUMBER);
+    gives(OWN_RECORD, 0, SIGNATURE, "test", by_time, YES, MINISIGN_OK, NUMBER);
+    gives("1556193336", 0, SIGNATURE, "test", by_time, YES, MINISIGN_OLDER_UPDATE, NUMBER);
+    gives("timestamp:1556193336", 0, SIGNATURE, "test", by_time, YES, MINISIGN_OLDER_UPDATE, NUMBER);
+    gives("timestamp:1556193336\n" HEX_OF_ABC, 1, SIGNATURE, "test", by_time, YES, MINISIGN_OK, NUMBER);
     /* At a first installation a number of the other field does not count, one of the same field and one alone do. */
-    gives("version:1556193336", 1, SIGNATURE, "test", by_time, YES, MINISIGN_OK);
-    gives("timestamp:1556193336", 1, SIGNATURE, "test", by_time, YES, MINISIGN_OLDER_UPDATE);
-    gives("1556193336", 1, SIGNATURE, "test", by_time, YES, MINISIGN_OLDER_UPDATE);
-    gives("0", 0, SIGNATURE, "tes", by_time, YES, MINISIGN_OTHER_FILE);
-    gives("0", 0, SIGNATURE, "", by_time, YES, MINISIGN_OTHER_FILE);
-    gives("0", 0, SIGNATURE, "test", by_version, YES, MINISIGN_NO_NUMBER);
+    gives("version:1556193336", 1, SIGNATURE, "test", by_time, YES, MINISIGN_OK, NUMBER);
+    gives("timestamp:1556193336", 1, SIGNATURE, "test", by_time, YES, MINISIGN_OLDER_UPDATE, NUMBER);
+    gives("1556193336", 1, SIGNATURE, "test", by_time, YES, MINISIGN_OLDER_UPDATE, NUMBER);
+    gives("0", 0, SIGNATURE, "tes", by_time, YES, MINISIGN_OTHER_FILE, NUMBER);
+    gives("0", 0, SIGNATURE, "", by_time, YES, MINISIGN_OTHER_FILE, NUMBER);
+    gives("0", 0, SIGNATURE, "test", by_version, YES, MINISIGN_NO_NUMBER, 0);
     /* What is said of the comment comes after the verdict. */
-    gives("1556193336", 0, SIGNATURE, "tes", by_version, NO, MINISIGN_COMMENT_SIGNATURE_REFUSED);
-    gives("0", 0, LEGACY_SIGNATURE, "test", by_time, YES, MINISIGN_LEGACY_NOT_ACCEPTED);
-    gives("0", 0, OTHER_SIGNATURE, "test", by_time, YES, MINISIGN_DIFFERENT_KEY_IDS);
-    gives("0", 0, SIGNATURE, "\xff", by_time, YES, MINISIGN_NOT_UTF8);
-    gives("0", 0, "untrusted comment: none", "test", by_time, YES, MINISIGN_MISSING_SIGNATURE);
+    gives("1556193336", 0, SIGNATURE, "tes", by_version, NO, MINISIGN_COMMENT_SIGNATURE_REFUSED, 0);
+    gives("0", 0, LEGACY_SIGNATURE, "test", by_time, YES, MINISIGN_LEGACY_NOT_ACCEPTED, 0);
+    gives("0", 0, OTHER_SIGNATURE, "test", by_time, YES, MINISIGN_DIFFERENT_KEY_IDS, 0);
+    gives("0", 0, SIGNATURE, "\xff", by_time, YES, MINISIGN_NOT_UTF8, 0);
+    gives("0", 0, "untrusted comment: none", "test", by_time, YES, MINISIGN_MISSING_SIGNATURE, 0);
     staged_gives(YES, YES, MINISIGN_OK);
     staged_gives(NO, NO, MINISIGN_SIGNATURE_REFUSED);
     staged_gives(NO, YES, MINISIGN_SIGNATURE_REFUSED);
@@ -424,19 +416,13 @@ static const char *with_comment(const char *comment)
     return text;
 }
 
-/* What a comment of this form with this part, which the key has signed, gives where it has to say when the update expires, or not. */
-static void signed_gives(const char *form, const char *part, uint32_t must_expire, enum minisign_error rejected, uint64_t number)
+/* What a comment of this form with this part and this number, which the key has signed, gives over the number 2. */
+static void signed_gives(const char *form, const char *part, uint32_t is_first, enum minisign_error rejected, uint64_t number)
 {
-    const minisign_public_key key = key_of(KEY);
-    minisign_installation i;
     char comment[256];
 
     snprintf(comment, sizeof comment, form, part);
-    CHECK(minisign_install_init(&i, &key, &key, 0, 0, 0, 0, must_expire, MINISIGN_NUMBERING_VERSION) == MINISIGN_OK);
-    go_to(&i, MINISIGN_DUE_JUDGE, "2");
-    CHECK(ask_of(&i, with_comment(comment), "a", sizeof message) == MINISIGN_OK && minisign_install_answer(&i, NO, YES) == rejected);
-    check(minisign_install_error(&i) == rejected, comment, __LINE__);
-    check(minisign_install_is_vouched(&i) == 1 && minisign_install_number(&i) == number, comment, __LINE__);
+    gives("2", is_first, with_comment(comment), "a", MINISIGN_NUMBERING_VERSION, YES, rejected, number);
 }
 
 /* When the update expires, and how long the data is. */
@@ -447,27 +433,29 @@ static void fields(void)
     static const char *const sizes[] = { "size:", "size:x", "size:+5", "size: 5", "size:18446744073709551616", "size:5\tsize:5", "size:5\tsize:x" };
     static const char *const lengths[] = { "size:0", "size:18446744073709551615", "Size:x", "si ze:x", "size" };
 
-    for (uint32_t must = 0; must < 4; must++) {
-        const enum minisign_error unsaid = must ? MINISIGN_NO_EXPIRY : MINISIGN_OK, unclear = must ? MINISIGN_BAD_EXPIRY : MINISIGN_OK;
+    for (must_expire = 0; must_expire < 4; must_expire++) {
+        const enum minisign_error unsaid = must_expire ? MINISIGN_NO_EXPIRY : MINISIGN_OK;
+        const enum minisign_error unclear = must_expire ? MINISIGN_BAD_EXPIRY : MINISIGN_OK;
 
-        signed_gives("file:a\tversion:3\texpires:1001", "", must, MINISIGN_OK, 3);
-        signed_gives("file:a\tversion:3\texpires:1000", "", must, MINISIGN_EXPIRED, 3);
-        signed_gives("file:a\tversion:3\texpires:x", "", must, MINISIGN_BAD_EXPIRY, 3);
-        signed_gives("expires:2000\tfile:a\tversion:3\texpires:2000", "", must, MINISIGN_BAD_EXPIRY, 3);
-        signed_gives("file:b\tversion:3", "", must, MINISIGN_OTHER_FILE, 3);
-        signed_gives("file:a\tversion:x", "", must, MINISIGN_NO_NUMBER, 0);
-        signed_gives("file:a\tversion:1\texpires:2000", "", must, MINISIGN_OLDER_UPDATE, 1);
-        signed_gives("file:a\t expires:2000\tversion:3", "", must, unclear, 3);
+        signed_gives("file:a\tversion:3\texpires:1001", "", 0, MINISIGN_OK, 3);
+        signed_gives("file:a\tversion:3\texpires:1000", "", 0, MINISIGN_EXPIRED, 3);
+        signed_gives("file:a\tversion:3\texpires:x", "", 0, MINISIGN_BAD_EXPIRY, 3);
+        signed_gives("expires:2000\tfile:a\tversion:3\texpires:2000", "", 0, MINISIGN_BAD_EXPIRY, 3);
+        signed_gives("file:b\tversion:3", "", 0, MINISIGN_OTHER_FILE, 3);
+        signed_gives("file:a\tversion:x", "", 0, MINISIGN_NO_NUMBER, 0);
+        signed_gives("file:a\tversion:1\texpires:2000", "", 0, MINISIGN_OLDER_UPDATE, 1);
+        signed_gives("file:a\t expires:2000\tversion:3", "", 0, unclear, 3);
         for (size_t n = 0; n < LENGTH(others); n++) {
-            signed_gives("file:a\tversion:3\t%s", others[n], must, unsaid, 3);
-            signed_gives("%s\tfile:a\tversion:3\texpires:2000", others[n], must, MINISIGN_OK, 3);
+            signed_gives("file:a\tversion:3\t%s", others[n], 0, unsaid, 3);
+            signed_gives("%s\tfile:a\tversion:3\texpires:2000", others[n], 0, MINISIGN_OK, 3);
         }
         for (size_t n = 0; n < LENGTH(loose); n++) {
-            signed_gives("file:a\tversion:3\t%s", loose[n], must, unclear, 3);
-            signed_gives("%s\tfile:a\tversion:3\texpires:2000", loose[n], must, unclear, 3);
-            signed_gives("file:a\tversion:3\texpires:2000\t%s", loose[n], must, unclear, 3);
+            signed_gives("file:a\tversion:3\t%s", loose[n], 0, unclear, 3);
+            signed_gives("%s\tfile:a\tversion:3\texpires:2000", loose[n], 0, unclear, 3);
+            signed_gives("file:a\tversion:3\texpires:2000\t%s", loose[n], 0, unclear, 3);
         }
     }
+    must_expire = 0;
     for (size_t n = 0; n < LENGTH(sizes); n++) {
         /* The expiry comes before the size, and the age after it. */
         signed_gives("file:a\tversion:1\t%s", sizes[n], 0, MINISIGN_BAD_SIZE, 1);
@@ -539,13 +527,11 @@ static void sizes(void)
 }
 
 /* A clock that shows less than when the record was written is none: what expires has expired. */
-static void clock_gives(const char *comment, uint64_t written, uint32_t is_first, enum minisign_error rejected)
+static void clock_gives(const char *comment, uint64_t when, uint32_t is_first, enum minisign_error rejected, uint64_t number)
 {
-    minisign_installation i;
-
-    CHECK(begin(&i, is_first, 0, 0, 0, MINISIGN_NUMBERING_VERSION) == MINISIGN_OK && minisign_install_done(&i) == MINISIGN_OK);
-    CHECK(minisign_install_record(&i, (const uint8_t *) "2", 1, written) == MINISIGN_OK);
-    CHECK(ask_of(&i, with_comment(comment), "a", sizeof message) == MINISIGN_OK && minisign_install_answer(&i, NO, YES) == rejected);
+    written = when;
+    signed_gives("%s", comment, is_first, rejected, number);
+    written = 0;
 }
 
 static void clocks(void)
@@ -553,13 +539,16 @@ static void clocks(void)
     static const char expires[] = "file:a\tversion:3\texpires:18446744073709551615";
 
     for (uint32_t is_first = 0; is_first < 2; is_first++) {
-        clock_gives(expires, 0, is_first, MINISIGN_OK);
-        clock_gives(expires, NOW, is_first, MINISIGN_OK);
-        clock_gives(expires, NOW + 1, is_first, is_first ? MINISIGN_OK : MINISIGN_EXPIRED);
-        clock_gives(expires, UINT64_MAX, is_first, is_first ? MINISIGN_OK : MINISIGN_EXPIRED);
-        clock_gives("file:a\tversion:3", UINT64_MAX, is_first, MINISIGN_OK);
-        clock_gives("file:a\tversion:1", UINT64_MAX, is_first, MINISIGN_OLDER_UPDATE);
-        clock_gives("file:a\tversion:1\texpires:2000", UINT64_MAX, is_first, is_first ? MINISIGN_OLDER_UPDATE : MINISIGN_EXPIRED);
+        const enum minisign_error expired = is_first ? MINISIGN_OK : MINISIGN_EXPIRED;
+        const enum minisign_error older = is_first ? MINISIGN_OLDER_UPDATE : MINISIGN_EXPIRED;
+
+        clock_gives(expires, 0, is_first, MINISIGN_OK, 3);
+        clock_gives(expires, NOW, is_first, MINISIGN_OK, 3);
+        clock_gives(expires, NOW + 1, is_first, expired, 3);
+        clock_gives(expires, UINT64_MAX, is_first, expired, 3);
+        clock_gives("file:a\tversion:3", UINT64_MAX, is_first, MINISIGN_OK, 3);
+        clock_gives("file:a\tversion:1", UINT64_MAX, is_first, MINISIGN_OLDER_UPDATE, 1);
+        clock_gives("file:a\tversion:1\texpires:2000", UINT64_MAX, is_first, older, 1);
     }
 }
 
@@ -760,7 +749,6 @@ static void nulls(void)
 int main(void)
 {
     order();
-    written();
     failures();
     beginnings();
     records();

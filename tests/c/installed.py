@@ -1,58 +1,41 @@
 #!/usr/bin/env python3
 """Installs the library of `c/` into a directory of its own, and uses only what was installed: from C, linked as a
-static and as a shared library, from C++, from Rust and from Python. The examples of the header verify and sign good
-and bad input.
+static and as a shared library, from C++ and from Rust (`tests/bindings/python.py` calls it from Python). The examples
+of the header verify and sign good and bad input. A release installs the same (`releases.py`).
 
     tests/c/installed.py
 
-Also: exactly these files are installed, with a page for each call that leads to the manual page; the shared library
-has its soname, and like the static one the names of the header and no other; a dropped result is a warning in C and
-in C++; the manual pages are read without a warning. It prints a line for each failure; the last line is
-`N passed, M failed`.
+It prints a line for each failure; the last line is `N passed, M failed`.
 
 Needs make, binutils, pkg-config, groff, a C and a C++ compiler, rustc, libsodium with its header and minisign, and
-installs what is missing if it may. The library is built over `dist/` (`static_library.py`); `releases.py` uses what
-a release installs in the same way.
+installs what is missing if it may.
 """
 
-import base64
 import os
 import re
 import shlex
 import sys
 
 HERE = os.path.dirname(os.path.realpath(__file__))
-sys.path += [os.path.join(HERE, "..", name) for name in ("shared", "command_line")]
+sys.path.append(os.path.join(HERE, "..", "shared"))
 
-import command_running
 import ending
 import needs
 import static_library
+from needles import SEED_AT
 from process import run, run_apart
 from running import read, write
+from texts import CORPUS, Limits, record_of, sealed, text_of, turned
 
 EXAMPLES = os.path.join(static_library.DIRECTORY, "examples")
-CORPUS = os.path.join(HERE, "..", "corpus")
-PREFIX = "/prefix"
 STRICT = ["-Wall", "-Wextra", "-Wpedantic", "-Werror"]
 
 # What is installed beside the shared library, whose name has its version.
-FILES = ["bin/minisign", "bin/minisign-install", "include/minisign.h", "include/minisign_install.h", "include/minisign_simple.h", "lib/libminisign.a",
-         "lib/libminisign.so", "lib/pkgconfig/minisign.pc", "share/man/man1/minisign.1", "share/man/man1/minisign-install.1",
-         "share/man/man3/minisign.3", "share/man/man3/minisign_install.3"]
-
+FILES = ["bin/minisign", "bin/minisign-install", "include/minisign.h", "include/minisign_install.h", "include/minisign_simple.h",
+         "lib/libminisign.a", "lib/libminisign.so", "lib/pkgconfig/minisign.pc", "share/man/man1/minisign.1",
+         "share/man/man1/minisign-install.1", "share/man/man3/minisign.3", "share/man/man3/minisign_install.3"]
 # A result that is dropped.
 DROPPED = b"#include <minisign.h>\nint main(void) { minisign_state s; minisign_init(&s); minisign_update(&s, 0, 0); return 0; }\n"
-
-# A key that Minisign made for these checks alone, by -G with the password `pw`.
-SEALED = (b"untrusted comment: minisign encrypted secret key\n"
-          b"RWRTY0IyQuX046PjIcXDk/r4CSffEseU3JAL7PlB8O5JOO7pY2sAAAACAAAAAAAAAEAAAAAAytQo"
-          b"ugYoRybCRRAxLJa3E89PRFna1w3AliB7UuBmE8V3W7jVZ9SzrxGhcq3qwAvJfFXFH2KZgQM5n6I5"
-          b"9WgTVn+cBdAVDfAnDcoms9nFfblMjk9dV4D6llvod023qwmFQVYufitrKbc=\n")
-
-# Where the two halves of a secret key stand in its record.
-SEED_AT, PUBLIC_HALF_AT = 62, 94
-
 COMMENT = "version 2 \u00e9"
 
 
@@ -70,7 +53,8 @@ def installed_files(checks, root):
     names = set().union(*pages.values())
     links = {f"share/man/man3/{name}.3": page for page, calls in pages.items() for name in calls}
     checks.check(len(versions) == 2 and found == {*FILES, *versions, *links}, f"other files were installed: {sorted(found)}")
-    checks.check(all(read(root, link) == f".so man3/{page}.3\n".encode() for link, page in links.items()), "a page of a call leads elsewhere")
+    is_led = all(read(root, link) == f".so man3/{page}.3\n".encode() for link, page in links.items())
+    checks.check(is_led, "a page of a call leads elsewhere")
     checks.check(all(len(calls) >= 9 for calls in pages.values()), f"a header has only these names: {pages}")
     for name, flags in (("libminisign.so", ["-D"]), ("libminisign.a", [])):
         _, said = run([needs.program("nm", "binutils"), "-g", "--defined-only", *flags, f"{root}/lib/{name}"])
@@ -89,19 +73,17 @@ def installed_files(checks, root):
 def flags_of(root, room, *wanted):
     """What pkg-config tells of what was installed."""
     environment = {"PKG_CONFIG_PATH": f"{root}/lib/pkgconfig", "PKG_CONFIG_SYSROOT_DIR": f"{room}/dest"}
-    status, said, why = run_apart([needs.program("pkg-config", "pkg-config"), *wanted, "minisign"], **environment)
-    if status != 0:
-        raise static_library.NotBuilt(f"pkg-config: {why}")
-    return shlex.split(said)
+    return shlex.split(static_library.hold([needs.program("pkg-config", "pkg-config"), *wanted, "minisign"], **environment))
 
 
 class Installed:
     """What was installed below a directory, how programs are built over it in another one, and Minisign's own program."""
 
-    def __init__(self, checks, root, room, minisign):
-        self.checks, self.root, self.room, self.minisign = checks, root, room, minisign
+    def __init__(self, checks, root, room):
+        self.checks, self.root, self.room, self.minisign = checks, root, room, needs.minisign()
         self.flags = [*STRICT, *flags_of(root, room, "--cflags")]
-        self.c, self.cpp, rust = needs.libsodium(), needs.cpp_compiler(), [needs.program("rustc", "rustc"), "--edition", "2021", "-D", "warnings"]
+        self.c, self.cpp = needs.libsodium(), needs.cpp_compiler()
+        rust = [needs.program("rustc", "rustc"), "--edition", "2021", "-D", "warnings"]
         self.linking = [f"{root}/lib/libminisign.a", "-lsodium"]
         shared, verify = [*flags_of(root, room, "--libs"), "-lsodium"], f"{EXAMPLES}/verify.c"
         in_cpp, in_rust = f"{HERE}/installed_verify.cpp", f"{HERE}/installed_verify.rs"
@@ -113,7 +95,6 @@ class Installed:
             "Rust": [*rust, in_rust, "-C", f"link-arg={root}/lib/libminisign.a", "-l", "sodium"],
             "Rust over the shared library": [*rust, "-L", f"{root}/lib", "-l", "dylib=minisign", in_rust, "-l", "sodium"],
             "simple calls": [self.c, "-std=c99", *self.flags, f"{HERE}/simple.c", *self.linking]}.items()}
-        self.verifiers["Python"] = [sys.executable, f"{HERE}/installed_verify.py", f"{root}/lib/libminisign.so"]
 
     def build(self, name, command):
         """The words that run a program, which is built."""
@@ -127,9 +108,9 @@ class Installed:
     def path(self, name):
         return os.path.join(self.room, name)
 
-    def by_minisign(self, *words):
+    def by_minisign(self, *words, typed=b""):
         """Runs Minisign's own program, which has to do it: what it says."""
-        return self.checks.ended(f"minisign {' '.join(words)}", run([self.minisign, *words], self.room))
+        return self.checks.ended(f"minisign {' '.join(words)}", run([self.minisign, *words], self.room, typed))
 
 
 def check_dropped(checks, over):
@@ -140,46 +121,30 @@ def check_dropped(checks, over):
         checks.check(status != 0 and "minisign_update" in said, f"{command}: a result that is dropped is no warning")
 
 
-def changed(text, at):
-    """Bytes with one of them changed."""
-    return text[:at] + bytes([text[at] ^ 1]) + text[at + 1:]
-
-
-def with_half_changed(text, at):
-    """The text of a key that is not sealed with a byte of its record changed, whose checksum Minisign leaves at
-    zeros."""
-    first, second = text.split(b"\n")[:2]
-    return first + b"\n" + base64.b64encode(changed(base64.b64decode(second), at)) + b"\n"
-
-
 def verifying_cases(over):
-    """What of a good key, data and signature is another one, or is not there, and the trusted comment where these vouch for the
-    data, else None."""
+    """A key, data and a signature, and the trusted comment where these vouch for the data, else None: of the good ones one is another,
+    or is not there."""
     for name in ("key", "other"):
         over.by_minisign("-G", "-W", "-p", f"{name}.pub", "-s", f"{name}.key")
     write(over.room, "data", b"some data\n" * 20000)
     write(over.room, "empty", b"")
-    for words in (("data", "-x", "sig", "-t", COMMENT, "-c", "u"), ("data", "-l", "-x", "legacy", "-t", COMMENT), ("empty", "-x", "empty.sig", "-t", "t")):
+    for words in (("data", "-x", "sig", "-t", COMMENT, "-c", "u"), ("data", "-l", "-x", "legacy", "-t", COMMENT),
+                  ("empty", "-x", "empty.sig", "-t", "t")):
         over.by_minisign("-S", "-s", "key.key", "-m", *words)
-    key, other, data, sig, legacy, of_empty = (read(over.room, name) for name in ("key.pub", "other.pub", "data", "sig", "legacy", "empty.sig"))
+    good = key, data, sig = [read(over.room, name) for name in ("key.pub", "data", "sig")]
     second, fourth = (sig.index(sig.split(b"\n")[number]) for number in (1, 3))
-    yield "good", key, data, sig, COMMENT
-    yield "no data", key, b"", of_empty, "t"
-    yield "another key", other, data, sig, None
-    yield "a key as the signature", key, data, key, None
-    yield "other data", key, changed(data, 100000), sig, None
-    yield "data cut short", key, data[:-1], sig, None
-    yield "no signature", key, data, b"", None
-    yield "no key", b"", data, sig, None
-    yield "a legacy signature", key, data, legacy, None
-    yield "the first signature changed", key, data, changed(sig, second + 40), None
-    yield "the second signature changed", key, data, changed(sig, fourth + 40), None
-    yield "the identifier changed", key, data, changed(sig, second + 5), None
-    yield "the trusted comment changed", key, data, changed(sig, sig.index(COMMENT.encode())), None
-    yield "the key changed", changed(key, key.index(b"\n") + 30), data, sig, None
-    yield "no UTF-8", key, data, sig[:19] + b"\xff" + sig[19:], None
-    yield "a file that is not there", key, None, sig, None
-    yield "a key that is not there", None, data, sig, None
+    in_sig = {"first signature": second + 40, "second signature": fourth + 40, "identifier": second + 5,
+              "trusted comment": sig.index(COMMENT.encode())}
+    yield "good", *good, COMMENT
+    yield "no data", key, b"", read(over.room, "empty.sig"), "t"
+    for what, at, wrong in (
+            ("another key", 0, read(over.room, "other.pub")), ("the key changed", 0, turned(key, key.index(b"\n") + 30)),
+            ("no key", 0, b""), ("a key that is not there", 0, None), ("a file that is not there", 1, None),
+            ("other data", 1, turned(data, 100000)), ("data cut short", 1, data[:-1]), ("no signature", 2, b""),
+            ("a key as the signature", 2, key), ("a legacy signature", 2, read(over.room, "legacy")),
+            ("no UTF-8", 2, sig[:19] + b"\xff" + sig[19:]),
+            *((f"the {what} changed", 2, turned(sig, place)) for what, place in in_sig.items())):
+        yield what, *good[:at], wrong, *good[at + 1:], None
 
 
 def check_verifiers(checks, over):
@@ -211,40 +176,43 @@ def check_signing(checks, over, program, cases):
 
 
 def check_signers(checks, over):
-    """The example, and the one call; where its own signature is not accepted nothing of it is left."""
+    """The example, and the one call, which takes no password; where its own signature is not accepted nothing of it is left."""
     key, pub, data, nothing = map(over.path, ("key.key", "key.pub", "data", "nothing"))
-    unsealed, sealed = read(key), write(over.room, "sealed.key", SEALED)
+    record, by_minisign = record_of(read(key)), over.path("sealed.key")
+    over.by_minisign("-G", "-p", "sealed.pub", "-s", "sealed.key", typed=b"pw\npw\n")
     good, wrong, endless = (write(over.room, name, text) for name, text in (("pw", b"pw\n"), ("wrong", b"pv\n"), ("endless", b"pw")))
     # (Minisign cuts a longer password than of 1,023 bytes)
-    long_sealed = write(over.room, "long.key", command_running.sealed(unsealed, b"p" * 1024))
+    of_long = write(over.room, "long.key", text_of(sealed(record, b"p" * 1024, Limits())))
     long, shorter = (write(over.room, f"{count}.password", b"p" * count + b"\n") for count in (1024, 1023))
-    halves = [write(over.room, f"half{at}.key", with_half_changed(unsealed, at)) for at in (PUBLIC_HALF_AT, SEED_AT, PUBLIC_HALF_AT + 31)]
+    # (of each half a byte, and the last one; Minisign leaves the checksum of such a key at zeros)
+    halves = [write(over.room, f"half{at}.key", text_of(turned(record, at))) for at in (SEED_AT + 32, SEED_AT, SEED_AT + 63)]
     two_lines = "a comment has a line break, or the trusted one white space at an end"
     not_taken = "a comment is too long for minisign, or has a zero byte or a carriage return"
-    example = over.build_c("sign", f"{EXAMPLES}/sign.c")
-    check_signing(checks, over, example, [
+    of_halves, unread = "the key does not sign: its halves do not belong together", "a file cannot be opened"
+    cases = [
         ("a key that was never sealed", (key, data, COMMENT), None),
         ("no comment", (key, data, ""), None),
-        ("a sealed key", (sealed, data, COMMENT, good), None),
-        ("a sealed key without a password", (sealed, data, COMMENT), "Key might be encrypted"),
-        ("a wrong password", (sealed, data, COMMENT, wrong), "Wrong password for that key"),
-        ("a password of 1,024 bytes", (long_sealed, data, COMMENT, long), None),
-        ("its first 1,023 bytes", (long_sealed, data, COMMENT, shorter), "Wrong password for that key"),
-        ("a password without an end", (sealed, data, COMMENT, endless), "the password cannot be read"),
+        ("a sealed key", (by_minisign, data, COMMENT, good), None),
+        ("a sealed key without a password", (by_minisign, data, COMMENT), "Key might be encrypted"),
+        ("a wrong password", (by_minisign, data, COMMENT, wrong), "Wrong password for that key"),
+        ("a password of 1,024 bytes", (of_long, data, COMMENT, long), None),
+        ("its first 1,023 bytes", (of_long, data, COMMENT, shorter), "Wrong password for that key"),
+        ("a password without an end", (by_minisign, data, COMMENT, endless), "the password cannot be read"),
         ("a password for a key without one", (key, data, COMMENT, good), "Key is not encrypted"),
         ("a public key", (pub, data, COMMENT), "failed to fill whole buffer"),
         ("a comment of two lines", (key, data, "a\nb"), two_lines),
         ("a carriage return", (key, data, "a\rb"), not_taken),
         ("too long a comment", (key, data, "a" * 8174), not_taken),
         ("the longest comment", (key, data, "a" * 8173), None),
-        *((f"{half}, of which a half was changed", (half, data, COMMENT), "the key does not sign: its halves do not belong together") for half in halves),
-        ("no data", (key, nothing, COMMENT), "a file cannot be opened"),
-        ("no key", (nothing, data, COMMENT), "a file cannot be opened")])
-    check_signing(checks, over, over.verifiers["simple calls"], [
-        ("a key that was never sealed", (key, data, COMMENT), None), ("no comment", (key, data, ""), None),
-        ("a key of which a half was changed", (halves[0], data, COMMENT), "Signature verification failed"),
-        ("a sealed key", (sealed, data, COMMENT), "Key might be encrypted"), ("a comment of two lines", (key, data, "a\nb"), two_lines)])
-    for made, rejected in ((f"{nothing}/made", "a file cannot be opened"), ("/dev/full", "the signature cannot be written")):
+        *((f"{half}, of which a half was changed", (half, data, COMMENT), of_halves) for half in halves),
+        ("no data", (key, nothing, COMMENT), unread),
+        ("no key", (nothing, data, COMMENT), unread)]
+    by_simple = {of_halves: "Signature verification failed", unread: "a file cannot be read"}
+    example = over.build_c("sign", f"{EXAMPLES}/sign.c")
+    check_signing(checks, over, example, cases)
+    check_signing(checks, over, over.verifiers["simple calls"],
+                  [(what, case, by_simple.get(rejected, rejected)) for what, case, rejected in cases if len(case) == 3])
+    for made, rejected in ((f"{nothing}/made", unread), ("/dev/full", "the signature cannot be written")):
         checks.same(run([*example, key, data, made, COMMENT]), (1, f"sign: {rejected}\n"), f"signing to {made}")
 
 
@@ -252,7 +220,7 @@ def check_updater(checks, over):
     """An updater's check under the published key, and under one that has signed an empty file: data that are not read whole
     are not taken for that."""
     good, signature = (os.path.join(CORPUS, name) for name in ("test", "published.minisig"))
-    other, long = write(over.room, "other-test", changed(read(good), 0)), write(over.room, "long", bytes(1 << 24))
+    other, long = write(over.room, "other-test", turned(read(good), 0)), write(over.room, "long", bytes(1 << 24))
     missing, empty, empty_signature = map(over.path, ("nothing", "empty", "empty.sig"))
     source = f"{EXAMPLES}/check.c"
     own = re.sub(rb'KEY\[\] = "[^"]*"', b'KEY[] = "%s"' % read(over.room, "key.pub").split()[-1], read(source))
@@ -265,38 +233,32 @@ def check_updater(checks, over):
             ("no data for an empty file", under, (missing, empty_signature), 2),
             ("a directory for an empty file", under, (over.room, empty_signature), 2),
             ("too long a file for an empty file", under, (long, empty_signature), 2)):
-        ran = run([*check, *words])
-        checks.check(ran == (status, ""), f"check, {what}: {ran}")
+        checks.same(run([*check, *words]), (status, ""), f"check, {what}")
 
 
 def check_programs(checks, over):
     """The programs that were installed, once each; `tests/command_line/command_line.py` has all about the first."""
     key, secret, data, sig, place = map(over.path, ("key.pub", "key.key", "data", "installed.sig", "place"))
     ours, install = f"{over.root}/bin/minisign", f"{over.root}/bin/minisign-install"
-    checks.ended("minisign -S", run([ours, "-S", "-s", secret, "-m", data, "-x", sig, "-t", COMMENT]))
+    comment = "version:7\tfile:place"
+    checks.ended("minisign -S", run([ours, "-S", "-s", secret, "-m", data, "-x", sig, "-t", comment]))
     for program in (ours, over.minisign):
-        ran = run([program, "-V", "-Q", "-p", key, "-m", data, "-x", sig])
-        checks.check(ran == (0, COMMENT + "\n"), f"{program}: {ran}")
-    over.by_minisign("-S", "-s", secret, "-m", data, "-x", sig, "-t", "version:7\tfile:place")
+        checks.same(run([program, "-V", "-Q", "-p", key, "-m", data, "-x", sig]), (0, f"{comment}\n"), program)
     for words, wanted in (([], 7), (["--first"], 0), ([], 10)):
         status, said, why = run_apart([install, *words, "--numbering", "version", key, data, sig, place])
         checks.check(status == wanted and not said and bool(why) == (wanted == 7), f"minisign-install {words}: status {status}, {why!r}")
-    checks.check(read(place) == read(data) and read(over.room, ".place.number").splitlines()[0] == b"version:7", "minisign-install: what was installed")
-
-
-def use(checks, root, room, minisign):
-    """Looks at what was installed there, and uses it from each language; what is made meanwhile stands in the other
-    directory."""
-    installed_files(checks, root)
-    over = Installed(checks, root, room, minisign)
-    for check in (check_dropped, check_verifiers, check_signers, check_updater, check_programs):
-        check(checks, over)
+    left = read(place), read(over.room, ".place.number").splitlines()[0]
+    checks.same(left, (read(data), b"version:7"), "minisign-install: what was installed")
 
 
 def run_all(checks, room):
     needs.libsodium()
-    static_library.run_make(f"OUT={room}/out", f"PREFIX={PREFIX}", f"DESTDIR={room}/dest", "install")
-    use(checks, os.path.join(room, "dest") + PREFIX, room, needs.minisign())
+    static_library.run_make(f"OUT={room}/out", "PREFIX=/prefix", f"DESTDIR={room}/dest", "install")
+    root = f"{room}/dest/prefix"
+    installed_files(checks, root)
+    over = Installed(checks, root, room)
+    for check in (check_dropped, check_verifiers, check_signers, check_updater, check_programs):
+        check(checks, over)
 
 
 if __name__ == "__main__":

@@ -1,7 +1,7 @@
 /*
- * Verifying makes no request for memory, nor does opening a secret key in the caller's memory, which begins no thread
- * either, and does not tell the system how to bring it in. Of the other calls each request is refused in turn: the
- * number is MINISIGN_OUT_OF_MEMORY, the state stays as it was, and what was allocated is freed. The same with each
+ * Opening a secret key in the caller's memory makes no request for memory, begins no thread, and does not tell the system
+ * how to bring it in. (Nor does verifying: asked_texts.c.) Of the other calls each request is refused in turn: the
+ * number is MINISIGN_OUT_OF_MEMORY, the key stays as it was, and what was allocated is freed. The same with each
  * request after it refused, and with the whole memory of scrypt refused for a key sealed as `minisign -G` seals.
  *
  * Linked with -Wl,--wrap=malloc -Wl,--wrap=realloc -Wl,--wrap=free -Wl,--wrap=madvise -Wl,--wrap=pthread_create, and
@@ -48,20 +48,10 @@ static const char SEALED[] =
     "ugYoRybCRRAxLJa3E89PRFna1w3AliB7UuBmE8V3W7jVZ9SzrxGhcq3qwAvJfFXFH2KZgQM5n6I5"
     "9WgTVn+cBdAVDfAnDcoms9nFfblMjk9dV4D6llvod023qwmFQVYufitrKbc=\n";
 
-static minisign_state state;
-static minisign_public_key public_key;
-static minisign_signature signature;
-static minisign_questions questions;
 static minisign_unopened_key unopened;
 static minisign_secret_key key;
 static uint8_t message[1024];
 static size_t text_len;
-
-static enum minisign_error ask(void)
-{
-    return minisign_ask(&state, &public_key, &signature, bytes_of(SIGNATURE), sizeof SIGNATURE - 1, 0, &questions, message,
-                        sizeof message);
-}
 
 static enum minisign_error write_secret_key(void)
 {
@@ -112,27 +102,6 @@ static void refuse_each(const char *name, enum minisign_error (*call)(void), con
     check_call(1 < request && request < 1000, name, "no end of requests", request);
 }
 
-/* Verifying, also of texts that are refused: it makes no request. */
-static void verify_without_memory(void)
-{
-    requests = held = 0;
-    public_key = key_of(KEY);
-    minisign_init(&state);
-    CHECK(ask() == MINISIGN_SIGNATURE_NOT_READ);
-    signature = signature_of(SIGNATURE);
-    CHECK(ask() == MINISIGN_OK);
-    CHECK(minisign_comment_verdict(&state, YES) == MINISIGN_OK);
-    CHECK(minisign_update(&state, bytes_of("test"), 4) == MINISIGN_OK);
-    CHECK(minisign_digest(&state, questions.digest) == MINISIGN_OK);
-    CHECK(minisign_verdict(&state, YES, YES) == MINISIGN_OK);
-    minisign_init(&state);
-    CHECK(minisign_read_public_key(bytes_of(SIGNATURE), sizeof SIGNATURE - 1, &public_key) == MINISIGN_PUBLIC_KEY_LENGTH);
-    CHECK(minisign_read_signature(bytes_of(KEY), sizeof KEY - 1, &signature) == MINISIGN_MISSING_TRUSTED_COMMENT);
-    CHECK(minisign_ask(&state, &public_key, &signature, bytes_of(KEY), sizeof KEY - 1, 0, &questions, message, sizeof message)
-          == MINISIGN_OTHER_SIGNATURE_TEXT);
-    CHECK(requests == 0 && held == 0);
-}
-
 /* A sealed key whose rows take 32 MiB: the call that takes them from malloc asks for a thread. */
 enum { LARGE_ROWS = 32768 };
 
@@ -178,9 +147,7 @@ int main(void)
 {
     minisign_secret_key opened;
 
-    verify_without_memory();
     CHECK(read_and_open(SECRET_KEY, NULL, &unopened, &key) == MINISIGN_OK);
-    CHECK(requests == 0 && held == 0);
     opened = key;
     open_without_memory(&opened);
     refuse_each("minisign_signed_text", write_text, &opened);

@@ -1,15 +1,18 @@
 #!/usr/bin/env python3
-"""What packagers do with `c/Makefile`.
+"""What packagers do with `c/Makefile`. (`releases.py` packs releases, and builds by Debian's flags, by clang, and over
+musl; `at_hand.py` installs.)
 
     tests/c/packaging.py
 
 Their flags count in each command; without any, programs and the shared library are hardened as Debian's are. The
-programs load the shared libsodium, or its archive if you say so. `test` passes, and fails for a program that
-verifies nothing. `uninstall` removes what was installed under another name, or without `minisign`, and nothing else.
-`minisign.pc` can be moved. Where the loader does not find the library a sentence says so. (`releases.py` tries
-releases.) It prints a line for each failure; the last line is `N passed, M failed`.
+programs load the shared libsodium, or its archive if you say so. By the flags of Ubuntu and Fedora what is built
+verifies the kept signatures, and any compiler links the library, which has no code but the processor's. With
+-fcf-protection and -mbranch-protection the library's object has their notes, by which the linker and the system turn
+the checks on where all else has them, and the assembly begins as they want it; the archives of dist/ have none, so
+that is with PORTABLE=1. It prints a line for each failure; the last line is `N passed, M failed`.
 
-Needs make, binutils, pkg-config, gcc and libsodium with its header, and installs what is missing if it may.
+Needs make, binutils, gcc, libsodium with its header and archive, and gcc-aarch64-linux-gnu, and installs what is
+missing if it may.
 """
 
 import os
@@ -27,19 +30,27 @@ from process import run
 from running import write
 
 PROGRAMS = ("minisign", "minisign-install")
+CHECK = os.path.join(static_library.DIRECTORY, "check.sh")
 # What has to stand in each command that compiles, and in each that links.
 GIVEN = {"CPPFLAGS": "-DNAMED=1", "CFLAGS": "-O1", "LDFLAGS": "-Wl,--hash-style=gnu"}
 COMPILING, LINKING = {GIVEN["CPPFLAGS"], GIVEN["CFLAGS"]}, {GIVEN["CFLAGS"], GIVEN["LDFLAGS"]}
+LTO = "-flto=auto -ffat-lto-objects"
+UBUNTU = {"CFLAGS": f"-g -O2 {LTO} -fstack-protector-strong -fstack-clash-protection -Wformat -Werror=format-security -fcf-protection",
+          "CPPFLAGS": "-Wdate-time -D_FORTIFY_SOURCE=3", "LDFLAGS": f"-Wl,-Bsymbolic-functions {LTO} -Wl,-z,relro -Wl,-z,now"}
+# As redhat-rpm-config 293 has them, but for the plugin annobin, which no other system has.
+FEDORA = {"CFLAGS": f"-O2 {LTO} -fexceptions -g -grecord-gcc-switches -pipe -Wall -Werror=format-security "
+                    "-Wp,-U_FORTIFY_SOURCE,-D_FORTIFY_SOURCE=3 -Wp,-D_GLIBCXX_ASSERTIONS -specs={room}/cc1 -fstack-protector-strong -m64 "
+                    "-mtune=generic -fasynchronous-unwind-tables -fstack-clash-protection -fcf-protection -fno-omit-frame-pointer "
+                    "-mno-omit-leaf-frame-pointer",
+          "LDFLAGS": "-Wl,-z,relro -Wl,--as-needed -Wl,-z,now -specs={room}/ld -Wl,--build-id=sha1"}
+SPECS = {"cc1": b"*cc1_options:\n+ %{!r:%{!fpie:%{!fPIE:%{!fpic:%{!fPIC:%{!fno-pic:-fPIE}}}}}}\n",
+         "ld": b"*self_spec:\n+ %{!static:%{!shared:%{!r:-pie}}}\n\n*link:\n+ -z now\n"}
 
 
 def make(*words, **environment):
     """Runs make in c/, with no kit in PATH: its status, and what it said."""
     path = static_library.path_without_kit()
     return run([needs.program("make", "make"), "-C", static_library.DIRECTORY, *words], PATH=path, **environment)
-
-
-def files_below(directory):
-    return {os.path.relpath(os.path.join(at, name), directory) for at, _, names in os.walk(directory) for name in names}
 
 
 def check_flags(checks, room):
@@ -67,7 +78,8 @@ def check_hardened(checks, out):
 
 def check_sodium(checks, room):
     """libsodium is linked as it is said."""
-    for out, words, is_shared in (("out", [], True), ("static", ["SODIUM=static"], False), ("named", ["SODIUM=-lsodium -Wl,-rpath,/named"], True)):
+    for out, words, is_shared in (("out", [], True), ("static", ["SODIUM=static"], False),
+                                  ("named", ["SODIUM=-lsodium -Wl,-rpath,/named"], True)):
         if out != "out":
             # (what the programs are linked with stands built)
             shutil.copytree(f"{room}/out", f"{room}/{out}", symlinks=True, ignore=shutil.ignore_patterns(*PROGRAMS))
@@ -77,45 +89,57 @@ def check_sodium(checks, room):
             checks.check(("libsodium.so" in said) == is_shared and ("[/named]" in said) == (out == "named"), f"{out}/{name}: {said}")
 
 
-def check_installed(checks, room):
-    """What is installed, and taken away again."""
-    out, dest, other = f"OUT={room}/out", f"{room}/dest", "usr/bin/minisign-of-others"
-    os.makedirs(f"{dest}/usr/bin")
-    write(dest, other, b"")
-    for words, programs in (([], {"minisign"}), (["MINISIGN=minisign-proved"], {"minisign-proved"}), (["MINISIGN="], set())):
-        words = [out, f"DESTDIR={dest}", "PREFIX=/usr", *words]
-        said = checks.ended(f"install {words}", make("-s", "install", *words))
-        found = {name for name in files_below(dest) if re.fullmatch(r"usr/(bin/minisign(-proved)?|share/man/man1/minisign(-proved)?\.1)", name)}
-        wanted = {name for program in programs for name in (f"usr/bin/{program}", f"usr/share/man/man1/{program}.1")}
-        checks.check(found == wanted, f"install {words}: {found}")
-        checks.check("loader" not in said, f"a package was told of the loader: {said}")
-        checks.ended(f"uninstall {words}", make("-s", "uninstall", *words))
-        checks.check(files_below(dest) == {other}, f"uninstall {words}: {files_below(dest)}")
-    checks.ended("install", make("-s", "install", out, f"PREFIX={room}/here"),
-                 says=f"run `ldconfig` as root, link with -Wl,-rpath,{room}/here/lib")
-    for words, wanted in ((["--variable=prefix"], f"{room}/here"), (["--define-variable=prefix=/moved", "--cflags", "--libs"],
-                                                                   "-I/moved/include -L/moved/lib -lminisign")):
-        _, said = run([needs.program("pkg-config", "pkg-config"), *words, "minisign"], PKG_CONFIG_PATH=f"{room}/here/lib/pkgconfig")
-        checks.check(said.strip() == wanted, f"pkg-config {words}: {said}")
-
-
-def check_test(checks, room):
-    """`make test` passes, and fails where a program accepts everything or nothing."""
-    said = checks.ended("make test", make("-s", "test", f"OUT={room}/out"))
-    checks.check(static_library.VERIFIED.search(said), f"make test: {said[-600:]}")
+def check_test(checks):
+    """What `make test` runs fails where a program accepts everything or nothing. (That ours pass, `releases.py` and others check.)"""
     for program in ("/bin/true", "/bin/false"):
-        status, said = run(["sh", os.path.join(static_library.DIRECTORY, "check.sh"), program])
+        status, said = run(["sh", CHECK, program])
         checks.check(status != 0 and "FAILED" in said, f"check.sh {program}: status {status}: {said[-300:]}")
 
 
+def built(checks, room, name, goal, **variables):
+    """The directory of what make builds with these variables, without a warning."""
+    out = os.path.join(room, re.sub(r"\W", "-", name))
+    words = [f"{key}={value.replace('{room}', room)}" for key, value in variables.items()]
+    said = checks.ended(name, make("-s", "-j4", static_library.STRICT, f"OUT={out}", *words, goal))
+    checks.check("warning" not in said, f"{name}: {said[-800:]}")
+    return out
+
+
+def check_distributions(checks, room):
+    """The program verifies the kept signatures, and the library has code of the processor alone."""
+    for name, data in SPECS.items():
+        write(room, name, data)
+    # (the calls as C, which take the most time, are compiled once with LTO)
+    for name, flags in (("Ubuntu", UBUNTU), ("Fedora", {**FEDORA, "C_CALLS": ""})):
+        out = built(checks, room, name, "all", **flags)
+        checks.ended(name, run(["sh", CHECK, f"{out}/minisign"]), says=" 0 failed\n")
+        _, sections = run(["readelf", "-SW", f"{out}/libminisign.a"])
+        checks.check(".text" in sections and ".gnu.lto_" not in sections, f"{name}: the library has code for another compiler run")
+
+
+def check_notes(checks, room, compiler):
+    """The object that the library is made of has the notes, and what is written in assembly begins as jumps have to find it."""
+    cross = needs.program("aarch64-linux-gnu-gcc", "gcc-aarch64-linux-gnu")
+    for flag, notes, landing, compiler in (("-fcf-protection=full", ("IBT", "SHSTK"), "endbr64", compiler),
+                                           ("-mbranch-protection=standard", ("BTI", "PAC"), "bti\tc", cross)):
+        made = f"{built(checks, room, flag, 'library', PORTABLE='1', CC=compiler, CFLAGS=f'-O0 {flag}', CPPFLAGS='')}/minisign.o"
+        _, said = run(["readelf", "-nW", made])
+        checks.check(all(note in said for note in notes), f"{flag}: the object has not the notes {notes}: {said[-400:]}")
+        disassembler = run([compiler, "-print-prog-name=objdump"])[1].strip()
+        _, code = run([disassembler, "-d", "--no-show-raw-insn", "--disassemble=minisign_clear_used", made])
+        first = re.search(r"(?m)^ *[0-9a-f]+:\t.*", code)
+        checks.check(first and landing in first[0], f"{flag}: the assembly begins with {first and first[0]!r}")
+
+
 def run_all(checks, room):
-    needs.libsodium()
-    checks.ended("make", make("-s", f"OUT={room}/out"))
+    compiler, out = needs.libsodium(), f"{room}/out"
+    static_library.run_make(f"OUT={out}")
     check_flags(checks, room)
-    check_hardened(checks, f"{room}/out")
+    check_hardened(checks, out)
     check_sodium(checks, room)
-    check_test(checks, room)
-    check_installed(checks, room)
+    check_test(checks)
+    check_distributions(checks, room)
+    check_notes(checks, room, compiler)
 
 
 if __name__ == "__main__":

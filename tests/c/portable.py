@@ -1,22 +1,23 @@
 #!/usr/bin/env python3
-"""Tries the library over dist/calls.c, the proved calls as C, for processors and systems without an archive in dist/.
+"""Tries the library by several compilers and for other processors and systems: over the archives of dist/, and where
+there is none over dist/calls.c, the proved calls as C.
 
     tests/c/portable.py [PART ..]
 
 PART is one of these; by default all of them. `here`: by gcc, clang and tcc, over musl, and with sanitizers, the
-programs that `c_library.py` runs over the archives. `elsewhere`: under qemu for s390x, whose numbers are the other
-way round, for ARM with pointers of 32 bits, and for RISC-V, all that `processors.py` runs for AArch64 (on RISC-V
-without the programs, as this Debian has no libsodium for it); and no secret stays behind. `windows`: `minisign.dll`
-and the static library by mingw-w64, with pointers of 64 bits, under wine. `compiled`: for the systems of Apple and
-the BSDs, all C of the library compiles over a few declarations, and that of the programs over the headers of musl,
-which are those of POSIX. Everywhere the answers to many texts are those of the archives, byte for byte. It prints a
-line for each failure; the last line is `N passed, M failed`.
+programs that `c_library.py` runs over the archives. `archives`: under qemu each x86-64 runs the right one of the three
+copies of the calls, and a compiler for a processor without an archive says what to do. `elsewhere`: under qemu for
+AArch64, s390x, whose numbers are the other way round, ARM with pointers of 32 bits, and RISC-V (without the programs,
+as this Debian has no libsodium for it), all that `emulated.py` tries; and no secret stays behind. `windows`: the
+dynamic and the static library by mingw-w64, under wine. `compiled`: all C for the systems of Apple and the BSDs.
+Everywhere the answers to many texts are those of the archives, byte for byte. It prints a line for each failure; the
+last line is `N passed, M failed`.
 
 PART may also be Debian's name of another processor that it has a cross compiler for, which the gate does not try (and
 of which the library clears no registers). Under Debian 12's emulator of sh4 no program runs at all.
 
 Needs make, binutils, gcc, clang, tcc, musl-gcc, libsodium with its header, minisign, and of Debian qemu-user-static,
-wine64, gcc-mingw-w64-x86-64 and cross compilers with their C libraries for s390x, armhf and riscv64, or of the
+wine64, gcc-mingw-w64-x86-64 and cross compilers with their C libraries for arm64, s390x, armhf and riscv64, or of the
 processors that are named, and installs what is missing if it may.
 """
 
@@ -35,14 +36,14 @@ import cases
 import cleared
 import emulated
 import ending
-import musl
 import needs
 import static_library
 from c_library import INCLUDE, NO_THREADS, PROGRAMS, SANITIZED, STRICT, check_program, compiled
 from emulated import LESS, Kind
 from minisign_cases import random_cases
 from process import run, run_apart
-from running import write
+from running import read, write
+from texts import CORPUS
 
 C = static_library.DIRECTORY
 LIBRARY, PORTABLE, C_CALLS = f"{C}/library", f"{C}/library/portable", f"{static_library.DIST}/calls.c"
@@ -64,12 +65,13 @@ class Answers:
         found = [*kept, *random_cases(kept, DRAWN)]
         parts = [struct.pack("<I", len(part)) + part for case in found for part in (case.pk, case.sig, case.data)]
         self.file = write(room, "texts", struct.pack("<I", len(found)) + b"".join(parts))
-        self.library = static_library.library(os.path.join(room, "archives"))
+        self.library = static_library.library(os.path.join(room, "by-archives"))
         _, self.wanted, _ = run_apart([compiled(checks, "archives", "answers", needs.c_compiler(), self.library), self.file])
         checks.check(len(self.wanted) > 1000, f"the archives answer {self.wanted[:100]}")
 
     def check(self, what, status, said):
-        self.checks.check(status == 0 and said == self.wanted, f"{what}: status {status}, other answers than the archives give: {said[:100]!r}")
+        is_same = status == 0 and said == self.wanted
+        self.checks.check(is_same, f"{what}: status {status}, other answers than the archives give: {said[:100]!r}")
 
     def check_library(self, what, compiler, library, *flags, before=()):
         """A library answers the same."""
@@ -77,32 +79,25 @@ class Answers:
         self.check(what, *run_apart([*before, program, self.file])[:2])
 
 
-def libraries():
-    """The libraries by their names: with what make is told, how a program is linked to each, and the programs."""
-    # (with -g gcc takes twice as long for the calls; without -O1 all that is run takes several times as long)
-    return {
-        "gcc": ([], LESS, PROGRAMS), "clang": ([f"CC={needs.program('clang', 'clang')}"], LESS, PROGRAMS),
-        "sanitized": ([f"CFLAGS=-O1 {' '.join(SANITIZED)}", "CPPFLAGS=", "LDFLAGS="], [*SANITIZED, *LESS], PROGRAMS),
-        "tcc": ([f"CC={needs.program('tcc', 'tcc')}", "TARGET=x86_64-linux", "LD=ld", "OBJCOPY=objcopy", "AR=ar", "CFLAGS=", "CPPFLAGS=", "HAS_PAGES="],
-                [*LESS, NO_THREADS], OF_MALLOC),
-    }
-
-
 def check_here(checks, room, answers):
     """By the compilers that are here; the programs over musl verify the kept signatures."""
-    gcc, place = needs.program("gcc", "gcc"), os.path.join(room, "musl")
-    for what, (words, flags, programs) in libraries().items():
-        library = f"{room}/{what}/libminisign.a"
-        static_library.run_make("CC=gcc", "PORTABLE=1", f"OUT={room}/{what}", *words, library)
-        answers.check_library(what, gcc, library, *flags)
+    gcc, clang, tcc = (needs.program(name, name) for name in ("gcc", "clang", "tcc"))
+    of_musl = [*(f"{name}={value}" for name, value in emulated.musl_variables(room).items()), "LDFLAGS=-static"]
+    fewer = {name: PROGRAMS[name] for name in ("usage_errors", "asked_texts", "random_calls")}
+    # (with -g gcc takes twice as long for the calls; without -O1 all that is run takes several times as long)
+    for what, words, compiler, flags, programs in (
+            ("gcc", [], gcc, [], PROGRAMS), ("clang", [f"CC={clang}"], gcc, [], PROGRAMS),
+            ("sanitized", [f"CFLAGS=-O1 {' '.join(SANITIZED)}", "CPPFLAGS=", "LDFLAGS="], gcc, SANITIZED, PROGRAMS),
+            ("tcc", [f"CC={tcc}", "TARGET=x86_64-linux", "LD=ld", "OBJCOPY=objcopy", "AR=ar", "CFLAGS=", "CPPFLAGS=", "HAS_PAGES="],
+             gcc, [NO_THREADS], OF_MALLOC),
+            ("musl", of_musl, emulated.musl_compiler(), ["-static"], fewer)):
+        made = f"{room}/{what}/libminisign.a"
+        static_library.run_make("CC=gcc", "PORTABLE=1", f"OUT={room}/{what}", *words, made)
+        answers.check_library(what, compiler, made, *LESS, *flags)
         for name, linking in programs.items():
-            check_program(checks, what, name, gcc, library, *flags, *linking)
-    words = [f"{name}={value}" for name, value in musl.variables(room).items()]
-    static_library.run_make(*words, "LDFLAGS=-static", "PORTABLE=1", f"OUT={place}", "all")
-    answers.check_library("musl", musl.compiler(), f"{place}/libminisign.a", "-static")
-    for name in ("usage_errors", "asked_texts", "null", "random_calls"):
-        check_program(checks, "musl", name, musl.compiler(), f"{place}/libminisign.a", "-static", *LESS)
-    checks.ended("musl: the programs", run(["sh", "check.sh", f"{place}/minisign"], C), says=" passed, 0 failed")
+            check_program(checks, what, name, compiler, made, *LESS, *flags, *linking)
+    static_library.run_make("PORTABLE=1", f"OUT={room}/musl", *of_musl, "all")
+    checks.ended("musl: the programs", run(["sh", "check.sh", f"{room}/musl/minisign"], C), says=" passed, 0 failed")
     check_strict(checks, room)
 
 
@@ -116,7 +111,46 @@ def check_strict(checks, room):
             checks.ended(f"{os.path.basename(source)} by {compiler}", run(command))
 
 
-KINDS = [Kind("s390x", "s390x-linux-gnu", "s390x", "s390x", "IBM S/390"), Kind("armhf", "arm-linux-gnueabihf", "armhf", "arm", "ARM", has_32_bits=True),
+# The copies of the calls for x86-64, by what make calls them, with the processors, by qemu's names, on which each has to run: the one in
+# C where a part of x86-64-v2 lacks, and the first archive where one of x86-64-v3 does.
+COPIES = {
+    "C_CALLS": ("calls.c", "core2duo qemu64 Nehalem,-sse4.2 Nehalem,-sse4.1 Nehalem,-ssse3 Nehalem,-popcnt Nehalem,-cx16 Nehalem,-lahf_lm"),
+    "V2": ("calls-x86-64-v2.a", "Nehalem SandyBridge Haswell,-avx2 Haswell,-bmi1 Haswell,-bmi2 Haswell,-f16c Haswell,-fma Haswell,-abm "
+                                "Haswell,-movbe Haswell,-xsave"),
+    "V3": ("calls-x86-64-v3.a", "Haswell max")}
+# The first initial value of Blake2b in C and in an archive, and a wrong one.
+INITIAL = {b"0x6a09e667f3bcc908": b"0x6a09e667f3bcc909", bytes.fromhex("08c9bcf367e6096a"): bytes.fromhex("09c9bcf367e6096a")}
+# Flags under which the compilers build for a processor without an archive, and what they say.
+REJECTED = ("gcc -m32", "gcc -mx32", "aarch64-linux-gnu-gcc -mbig-endian", "aarch64-linux-gnu-gcc -mabi=ilp32")
+REJECTION = "the archives of dist/ are for x86-64 and AArch64, little-endian and with pointers of 64 bits: build with PORTABLE=1"
+
+
+def check_archives(checks, room, _):
+    """The program over the copies, of which one has a wrong value, rejects where that one runs."""
+    emulator = needs.program("qemu-x86_64-static", "qemu-user-static")
+    verifying, may_run_again = ("-Vm", "test", "-p", "published.pub", "-x", "published.minisig"), True
+    for wrong, (name, _) in COPIES.items():
+        data, out = read(static_library.DIST, name), f"{room}/wrong-{wrong}"
+        for value, other in INITIAL.items():
+            data = data.replace(value, other)
+        static_library.run_make(f"OUT={out}", f"{wrong}={write(room, name, data)}", f"{out}/minisign")
+        for copy, (_, processors) in COPIES.items():
+            for processor in processors.split():
+                command = [emulator, "-cpu", processor, f"{out}/minisign", *verifying]
+                ran = run(command, CORPUS)
+                if ran[0] < 0 and may_run_again:
+                    # (one of many hundred runs was ended by the emulator itself; an instruction that is not there ends each)
+                    print(f"run once more: {processor}, {wrong} with a wrong value: {ran}")
+                    ran, may_run_again = run(command, CORPUS), False
+                checks.ended(f"{processor}, {wrong} with a wrong value", ran, status=int(wrong == copy))
+    emulated.compiler(emulated.AARCH64)
+    for compiler in REJECTED:
+        status, said = run([*compiler.split(), "-std=c11", "-I", INCLUDE, "-c", "-o", os.devnull, f"{LIBRARY}/boundary.c"])
+        checks.check(status != 0 and REJECTION in said, f"{compiler}: status {status}: {said[-300:]}")
+
+
+KINDS = [emulated.AARCH64, Kind("s390x", "s390x-linux-gnu", "s390x", "s390x", "IBM S/390"),
+         Kind("armhf", "arm-linux-gnueabihf", "armhf", "arm", "ARM", has_32_bits=True),
          Kind("riscv64", "riscv64-linux-gnu", "riscv64", "riscv64", "RISC-V", has_sodium=False)]
 # Those that the gate does not try; for some of them gcc has no stack protector.
 MORE_KINDS = {kind.debian: kind for kind in (
@@ -131,25 +165,23 @@ MORE_KINDS = {kind.debian: kind for kind in (
     Kind("hppa", "hppa-linux-gnu", "hppa", "hppa", "HPPA", has_sodium=False, has_32_bits=True),
     Kind("alpha", "alpha-linux-gnu", "alpha", "alpha", "Alpha", has_sodium=False),
     Kind("sparc64", "sparc64-linux-gnu", "sparc64", "sparc64", "Sparc v9", has_sodium=False))}
-UNPROTECTED = ("hppa", "alpha")
 
 
 def check_kind(checks, room, answers, kind):
     """A kind of processors, under qemu; what was built."""
-    place = os.path.join(room, kind.name)
-    os.mkdir(place)
-    built = emulated.Emulated(checks, place, kind, *(["CFLAGS=-O2"] if kind.debian in UNPROTECTED else []))
+    built = emulated.Emulated(checks, room, kind, *(["CFLAGS=-O2"] if kind.debian in ("hppa", "alpha") else []))
     emulated.check_all(checks, built, answers.library, OF_MALLOC if kind.has_32_bits else PROGRAMS)
     answers.check_library(kind.name, built.compiler, built.library, before=built.emulator)
     return built
 
 
 def check_elsewhere(checks, room, answers):
-    """Kinds of processors, of which the registers are cleared too."""
+    """Kinds of processors, of which the registers are cleared too (`cleared.py` tries that of AArch64)."""
     for kind in KINDS:
         built = check_kind(checks, room, answers, kind)
-        program = cleared.Builder(built.room).linked(built.compiler, "-O2", built.library, linking=["-static"])
-        cleared.check_run(checks, kind.name, cleared.Run([*built.emulator, program]))
+        if kind != emulated.AARCH64:
+            program = cleared.Builder(built.room).program(built.compiler, "-O2", library=built.library, linking=["-static"])
+            cleared.check_run(checks, kind.name, cleared.Run([*built.emulator, program]))
 
 
 WINE = "/usr/lib/wine"
@@ -179,9 +211,9 @@ def check_windows(checks, room, answers):
     windows = Windows(room)
     try:
         for library in ("libminisign.a", "libminisign.dll.a"):
-            for name in ("answers", "usage_errors", "asked_texts", "error_texts", "null", "random_calls"):
-                what = f"Windows, {library}"
-                program = compiled(checks, what, name, compiler, f"{place}/{library}", *LESS, "-w", "-D__USE_MINGW_ANSI_STDIO=1") + ".exe"
+            for name in ("answers", "usage_errors", "asked_texts", "error_texts", "random_calls"):
+                what, flags = f"Windows, {library}", [*LESS, "-w", "-D__USE_MINGW_ANSI_STDIO=1", *PROGRAMS.get(name, [])]
+                program = compiled(checks, what, name, compiler, f"{place}/{library}", *flags) + ".exe"
                 if name == "answers":
                     answers.check(what, *windows.run(program, answers.file))
                 else:
@@ -190,51 +222,46 @@ def check_windows(checks, room, answers):
         windows.end()
 
 
-# The functions of the C library that the library calls, where no header of the system is here.
-HEADERS = {"stdlib.h": b"#include <stddef.h>\nvoid *malloc(size_t);\nvoid free(void *);\nvoid abort(void);\n",
-           "string.h": b"#include <stddef.h>\nvoid *memcpy(void *, const void *, size_t);\nvoid *memmove(void *, const void *, size_t);\n"
-                       b"void *memset(void *, int, size_t);\n"}
-TARGETS = ("x86_64-apple-macos11", "arm64-apple-macos11", "x86_64-unknown-freebsd13", "aarch64-unknown-freebsd13", "x86_64-unknown-openbsd7",
-           "x86_64-unknown-netbsd9", "i686-unknown-netbsd9", "aarch64-pc-windows-msvc")
-# Those for which the programs compile, over the headers of musl, which has those of POSIX; and which of its headers Linux alone has,
-# or has otherwise than macOS.
-TARGETS_OF_PROGRAMS = [target for target in TARGETS if re.match("x86_64-.*(apple|bsd)", target)]
-OF_MACOS = {"sys/random.h": b"#include <stddef.h>\nint getentropy(void *, size_t);\n"}
-OF_LINUX = {f"sys/{name}.h": b"#error this is of Linux alone\n"
-            for name in ("inotify", "prctl", "random", "sendfile", "statfs", "syscall", "sysinfo", "vfs", "xattr")}
-
-
-def headers(room, name, texts):
-    """A directory with these headers."""
-    place = os.path.join(room, name)
-    os.makedirs(os.path.join(place, "sys"))
-    for file, text in texts.items():
-        write(place, file, text)
-    return place
+# What stands for headers: with the functions that the library calls, where none of the system are here; and for those of musl that
+# Linux alone has, or has otherwise than macOS.
+HEADERS = {
+    "ours": {"stdlib.h": "void *malloc(size_t);\nvoid free(void *);\nvoid abort(void);\n",
+             "string.h": "void *memcpy(void *, const void *, size_t);\nvoid *memmove(void *, const void *, size_t);\n"
+                         "void *memset(void *, int, size_t);\n"},
+    "macos": {"sys/random.h": "int getentropy(void *, size_t);\n"},
+    "linux": {f"sys/{name}.h": "#error this is of Linux alone\n"
+              for name in ("inotify", "prctl", "random", "sendfile", "statfs", "syscall", "sysinfo", "vfs", "xattr")}}
+TARGETS = ("x86_64-apple-macos11", "arm64-apple-macos11", "x86_64-unknown-freebsd13", "aarch64-unknown-freebsd13",
+           "x86_64-unknown-openbsd7", "x86_64-unknown-netbsd9", "i686-unknown-netbsd9", "aarch64-pc-windows-msvc")
 
 
 def check_compiled(checks, room, _):
     """All C compiles for systems of which nothing is here: that of the library, and that of the programs, which takes nothing of Linux
     alone. And each program is linked with what has the timers of a C library before glibc 2.34."""
-    clang, linux, macos, ours = [needs.program("clang", "clang"), "-std=c11", *STRICT, "-nostdlibinc"], *(
-        headers(room, *each) for each in (("linux", OF_LINUX), ("macos", OF_MACOS), ("ours", HEADERS)))
-    musl.compiler()
-    found = [linux, f"/usr/include/{os.uname().machine}-linux-musl", musl.headers_of_sodium(room)]
+    for place, texts in HEADERS.items():
+        os.makedirs(f"{room}/{place}/sys")
+        for name, text in texts.items():
+            write(f"{room}/{place}", name, f"#include <stddef.h>\n{text}".encode())
+    clang = [needs.program("clang", "clang"), "-std=c11", *STRICT, "-nostdlibinc", "-I", INCLUDE]
+    emulated.musl_compiler()
+    places = [f"{room}/linux", f"/usr/include/{os.uname().machine}-linux-musl", emulated.headers_of_sodium(room)]
     sources = [path for name in ("minisign", "install", "shared") for path in sorted(glob.glob(f"{C}/{name}/*.c"))]
     checks.check(len(sources) > 25, f"the programs have only these files: {sources}")
-    for target in TARGETS_OF_PROGRAMS:
-        system = [word for place in [macos] * ("apple" in target) + found for word in ("-isystem", place)]
-        checks.ended(f"the programs for {target}", run([*clang, f"--target={target}", *system, "-I", C, "-I", INCLUDE, "-fsyntax-only", *sources]))
+    library = (f"{LIBRARY}/boundary.c", f"{LIBRARY}/clearing.c", *sorted(glob.glob(f"{PORTABLE}/*.c")), C_CALLS)
+    how = ["-isystem", f"{room}/ours", "-DMINISIGN_PORTABLE", "-DMINISIGN_MALLOC_ALONE", *OF_LIBRARY, "-c", "-o", os.devnull]
+    for target in TARGETS:
+        for source in library:
+            checks.ended(f"{os.path.basename(source)} for {target}", run([*clang, f"--target={target}", *how, source]))
+        # (the headers of musl have those of POSIX)
+        if re.match("x86_64-.*(apple|bsd)", target):
+            system = [word for place in [f"{room}/macos"] * ("apple" in target) + places for word in ("-isystem", place)]
+            checks.ended(f"the programs for {target}", run([*clang, f"--target={target}", *system, "-I", C, "-fsyntax-only", *sources]))
     said = checks.ended("make -n", run(["make", "-Bn", "-C", C, f"OUT={room}/none", "all"]))
     for name in ("minisign", "minisign-install"):
         checks.check(re.search(rf" -o {room}/none/{name} .* -lrt$", said, re.M), f"{name} is linked without -lrt: {said[-300:]}")
-    how = ["-isystem", ours, "-DMINISIGN_PORTABLE", "-DMINISIGN_MALLOC_ALONE", *OF_LIBRARY, "-I", INCLUDE, "-c", "-o", os.devnull]
-    for target in TARGETS:
-        for source in (f"{LIBRARY}/boundary.c", f"{LIBRARY}/clearing.c", *sorted(glob.glob(f"{PORTABLE}/*.c")), C_CALLS):
-            checks.ended(f"{os.path.basename(source)} for {target}", run([*clang, f"--target={target}", *how, source]))
 
 
-PARTS = {"here": check_here, "elsewhere": check_elsewhere, "windows": check_windows, "compiled": check_compiled}
+PARTS = {"here": check_here, "archives": check_archives, "elsewhere": check_elsewhere, "windows": check_windows, "compiled": check_compiled}
 
 
 def run_all(checks, room):

@@ -1,13 +1,11 @@
 #!/usr/bin/env python3
-"""Builds the programs of `c/` with -DPOSIX_ONLY, which takes nothing that Linux alone has, and runs all tests of
-both.
+"""Builds the programs of `c/` with -DPOSIX_ONLY, which takes nothing that Linux alone has, and runs all tests of both.
 
     tests/c/posix_only.py
 
-They call nothing that Linux alone has. All cases of `tests/command_line/command_line.py` and
-`tests/installer/real_installing.py` pass, but for those that this names, each with what is weaker there; one of these
-that passes is a failure too. In none of them a stranger gets a key. It prints a line for each failure; the last line
-is `N passed, M failed`.
+All cases of `tests/command_line/command_line.py` and `tests/installer/real_installing.py` pass, but for those that
+this names, each with what is weaker there; one of these that passes is a failure too. In none of them a stranger gets
+a key. It prints a line for each failure; the last line is `N passed, M failed`.
 
 Needs what these two scripts need, and installs what is missing if it may.
 """
@@ -15,7 +13,6 @@ Needs what these two scripts need, and installs what is missing if it may.
 import collections
 import os
 import re
-import subprocess
 import sys
 
 HERE = os.path.dirname(os.path.realpath(__file__))
@@ -58,14 +55,13 @@ def check_calls(checks, program):
 
 def check_script(checks, script, *arguments):
     """Runs a script over a program: each of its failures has to be named, and each name has to be of one."""
-    # (it takes longer than any other program that is run)
-    ran = subprocess.run([sys.executable, os.path.join(HERE, "..", script), *arguments], stdin=subprocess.DEVNULL, stdout=subprocess.PIPE,
-                         stderr=subprocess.STDOUT)
-    lines = ran.stdout.decode(errors="replace").splitlines()
-    ended = re.fullmatch(r"(\d+) passed, (\d+) failed", lines[-1] if lines else "")
-    checks.passed += int(ended[1]) if ended else 0
-    if not ended:
-        checks.check(False, f"{script} ended with {ran.returncode}: {lines[-5:]}")
+    status, said = run([sys.executable, os.path.join(HERE, "..", script), *arguments], seconds=None)
+    lines = said.splitlines()
+    ended = re.fullmatch(r"(\d+) passed, \d+ failed", lines[-1] if lines else "")
+    if ended:
+        checks.passed += int(ended[1])
+    else:
+        checks.check(False, f"{script} ended with {status}: {lines[-5:]}")
     found = collections.Counter()
     for line in (line for line in lines if line.startswith("FAILED: ")):
         name = line.removeprefix("FAILED: ").removeprefix("minisign-install: ")

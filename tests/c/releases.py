@@ -3,17 +3,16 @@
 
     tests/c/releases.py
 
-A release has the same bytes twice, and the moment of the commit. It has the sources of what is built in it, and each
-document that a text of it names. Where RELEASE_KEY names a secret key its own program signs it, which Minisign's own
-program verifies; otherwise it says that it is not signed. Where it is unpacked there is no kit, no Python and no
-repository. There it is built by gcc and by clang, and without what stands built, checked, installed, and used from
-what was installed: by gcc also from C++, Rust and Python (`installed.py`). It writes the same release again. Debian's
-tools build packages of it by `packaging/debian.sh`, in which lintian finds no error; the steps of Alpine's build file
-go over musl, and `packaging/others` packs what is installed. No maintainer is made up, and no file of the repository
-is a secret key. It prints a line for each failure; the last line is `N passed, M failed`.
+A release has the same bytes twice, the moment of the commit, the sources of what is built in it, and each document
+that a text of it names. Where it is unpacked there is no kit, no Python and no repository: there gcc and clang build
+it, it is checked, installed and used, also without what stands built, and writes the same release again. By gcc it
+installs the bytes that the repository does, which `installed.py` uses. Its own program signs it. Debian's tools and
+the steps of Alpine's build file, over musl, make packages of it, and `packaging/others` packs what is installed. No
+maintainer is made up, and no file of the repository is a secret key. It prints a line for each failure; the last line
+is `N passed, M failed`.
 
-Needs git where this is a clone, make, binutils, clang, musl-gcc, minisign, libsodium with its header and archive,
-Debian's dpkg-dev, debhelper and lintian, and what `installed.py` needs, and installs what is missing if it may.
+Needs git where this is a clone, make, binutils, gcc, clang, musl-gcc, minisign, libsodium with its header and archive,
+and Debian's dpkg-dev, debhelper and lintian, and installs what is missing if it may.
 """
 
 import glob
@@ -26,15 +25,15 @@ import tarfile
 HERE = os.path.dirname(os.path.realpath(__file__))
 sys.path.append(os.path.join(HERE, "..", "shared"))
 
+import emulated
 import ending
-import installed
-import musl
 import needs
 import proved
 import static_library
-from at_hand import DAMAGED, SOURCE, TOP, Tree, listed
 from c_library import PROGRAMS, check_program
+from at_hand import DAMAGED
 from commands import has_secret_key
+from copies import TOP, Tree, files_below, listed
 from packaging import make
 from process import run
 from running import read
@@ -42,9 +41,8 @@ from running import read
 CORPUS = os.path.join(TOP, "tests", "corpus")
 # How what was published is verified by a program in CORPUS.
 VERIFYING = ("-V", "-p", "published.pub", "-x", "published.minisig", "-m", "DATA")
-# Sources of what is built in a release: of the calls, of their text in C, of the page.
-SOURCES = (SOURCE, "crates/minisign_c/src/lib.rt", "crates.txt", "tools/wasm_to_c.py", "tools/dist.py",
-           "crates/minisign_page/src/lib.rt", "page/page.html", "page/build.py", "bindings/javascript/index.js", "dist/calls.c")
+# Sources of what is built in a release, of which no part has a sum.
+SOURCES = ("tools/wasm_to_c.py", "tools/dist.py", "bindings/javascript/index.js")
 # A document, as a text names it: by a link in another document, or by its path from the top.
 LINK = re.compile(r"\]\((?![a-z]+:|#)([^)#\s]+)")
 DOCUMENT = re.compile(r"(?<![\w./$-])((?:[\w-]+/)*[A-Z][A-Z_]+\.md)\b")
@@ -58,7 +56,7 @@ UNSIGNED = "the release is not signed, as RELEASE_KEY names no secret key"
 OF_DEBIAN = ("usr/include/minisign.h", "usr/share/man/man1/minisign-proved.1.gz", "usr/share/minisign-in-rattle/minisign.html",
              "usr/share/doc/minisign-in-rattle/copyright", "usr/lib/*/libminisign.so.*.*.*", "usr/lib/*/pkgconfig/minisign.pc")
 OF_ALPINE = ("usr/lib/libminisign.so", "usr/include/minisign.h", "usr/share/man/man1/minisign-proved.1")
-# How Alpine's tool runs the steps of its build file.
+# How Alpine's tool runs the steps of its build file. (The calls as C take the most time, and `portable.py` has them over musl.)
 STEPS = """set -eu
     make() { command make -s CC="$cc" CPPFLAGS="$cppflags" SODIUM="$sodium" "$@"; }
     srcdir=$PWD/src pkgdir=$PWD/pkg
@@ -109,14 +107,15 @@ def check_contents(checks, top):
         said = run(["sh", f"{top}/tools/sources.sh", part])[1].strip()
         is_told = f"sources of the {part}: {said}\n" in read(top, "dist/PROVED").decode()
         checks.check(is_told, f"the sources of the {part} of a release have the sum {said}")
-    paths = [path for path in glob.glob(f"{top}/**", recursive=True) if os.path.isfile(path)]
+    paths = [os.path.join(top, name) for name in files_below(top)]
+    ends = {path[at + 1:] for path in paths for at, letter in enumerate(path) if letter == "/"}
     for path in (path for path in paths if not path.endswith((".a", ".png", ".antt", ".edit")) and "/corpus/" not in path):
         text, shown = read(path).decode(errors="replace"), os.path.relpath(path, top)
         for name in LINK.findall(text) if path.endswith(".md") else ():
             is_there = os.path.exists(os.path.join(os.path.dirname(path), name)) or not name.endswith((".md", ".png"))
             checks.check(is_there, f"{shown} of a release has a link to {name}, which is not there")
         for name in DOCUMENT.findall(text):
-            checks.check(any(other.endswith(f"/{name}") for other in paths), f"{shown} of a release names {name}, which is not there")
+            checks.check(name in ends, f"{shown} of a release names {name}, which is not there")
 
 
 def check_nobody(checks):
@@ -165,33 +164,38 @@ def check_compiler(checks, room, top, name):
     """A release that is built by a compiler, checked, installed, and used from what was installed, with few programs in PATH."""
     place, compiler = os.path.join(room, f"by-{name}"), needs.program(name, name)
     os.mkdir(place)
-    tree = Tree(place, top, compiler)
-    for each in ("basename", "date", "env", "gzip", "ldconfig", "mktemp", "tar"):
-        tree.link(each, shutil.which(each, path=f"{os.environ['PATH']}:/usr/sbin:/sbin"))
+    tree = Tree(place, top, compiler, [name], "basename", "date", "env", "gzip", "ldconfig", "mktemp", "tar")
     for goal in ("all", "check", f"install DESTDIR={place}/dest PREFIX=/usr"):
         said = checks.ended(f"a release by {name}, {goal}", tree.run(f"make -C c CC={name} OUT={place}/out {goal}"))
         checks.check("warning:" not in said, f"a release by {name}, {goal}: {said[-800:]}")
         checks.check(goal != "check" or static_library.VERIFIED.search(said), f"a release by {name}, {goal}: {said[-300:]}")
     root, example = f"{place}/dest/usr", f"{place}/verify"
-    checks.ended(f"the example over what {name} installed", run([compiler, "-I", f"{root}/include", "-o", example, f"{top}/c/examples/verify.c",
-                                                                 f"{root}/lib/libminisign.a", "-lsodium"]))
+    building = [compiler, "-I", f"{root}/include", "-o", example, f"{top}/c/examples/verify.c", f"{root}/lib/libminisign.a", "-lsodium"]
+    checks.ended(f"the example over what {name} installed", run(building))
     check_verifying(checks, f"the example by {name}", example, "published.pub", "DATA", "published.minisig")
     check_verifying(checks, f"the program by {name}", f"{root}/bin/minisign", *VERIFYING)
-    status, said = tree.run("make -C c prove")
-    checks.check(status != 0 and "Rattle kit" in said, f"prove in a release without the kit: {said}")
     return tree, root
+
+
+def check_same(checks, room, root):
+    """A release installs what the repository does, byte for byte."""
+    static_library.run_make("CC=gcc", f"OUT={room}/own", f"DESTDIR={room}/own-dest", "PREFIX=/usr", "install")
+    ours, theirs = ({(name, read(at, name)) for name in files_below(at)} for at in (f"{room}/own-dest/usr", root))
+    differing = sorted({name for name, _ in ours ^ theirs})
+    checks.check(ours and not differing, f"the repository installs other files than a release: {differing}")
 
 
 def check_bare(checks, room, top):
     """A release without what stands built, by PORTABLE=1, and with calls that were changed."""
     for archive in glob.glob(f"{top}/dist/*.a"):
         os.remove(archive)
-    words = ["make", "-s", "-C", f"{top}/c", f"CC={needs.libsodium()}", "PORTABLE=1"]
-    said = checks.ended("a release with nothing prebuilt", run([*words, f"OUT={room}/bare", "all", "test"]))
+    words = [f"CC={needs.libsodium()}", f"OUT={room}/bare", "PORTABLE=1", "CFLAGS=-O0", "CPPFLAGS="]
+    said = checks.ended("a release with nothing prebuilt", run(["make", "-s", "-C", f"{top}/c", *words, "all", "test"]))
     checks.check(static_library.VERIFIED.search(said), f"a release with nothing prebuilt: {said[-600:]}")
     with open(f"{top}/dist/calls.c", "a", encoding="utf-8") as file:
         file.write("/* changed */\n")
-    checks.ended("a changed calls.c", run([*words, f"OUT={room}/changed", "library"]), status=2, says=DAMAGED)
+    changed = run(["make", "-s", "-C", f"{top}/c", *words, f"OUT={room}/changed", "library"])
+    checks.ended("a changed calls.c", changed, status=2, says=DAMAGED)
 
 
 def check_debian(checks, room, archive):
@@ -201,7 +205,8 @@ def check_debian(checks, room, archive):
     command, place = ["sh", os.path.join(TOP, "packaging", "debian.sh"), archive, f"{room}/debian"], f"{room}/debian"
     checks.ended("packages without a maintainer", run(command, **dict.fromkeys(MAINTAINER, "")), status=2)
     checks.check(not os.path.exists(place), "packages without a maintainer are begun")
-    checks.ended("packages for Debian", run(command, DEB_BUILD_OPTIONS="noautodbgsym", **MAINTAINER))
+    said = checks.ended("packages for Debian", run(command, DEB_BUILD_OPTIONS="noautodbgsym", **MAINTAINER))
+    checks.check(not re.search(r"\.[ch]:\d+:.*warning:", said), f"packages for Debian: {said[-800:]}")
     packages, changes = glob.glob(f"{place}/*.deb"), glob.glob(f"{place}/*.changes")
     checks.check(len(packages) == 3 and len(changes) == 1, f"there are the packages {packages} of {changes}")
     checks.ended("lintian", run(["lintian", "--allow-root", "--fail-on", "error", *changes]))
@@ -221,20 +226,21 @@ def check_alpine(checks, room, top):
     place, name = f"{room}/alpine", os.path.basename(top)
     os.makedirs(f"{place}/src")
     shutil.copytree(top, f"{place}/src/{name}")
-    told = {variable.lower(): value for variable, value in musl.variables(place).items()}
+    told = {variable.lower(): value for variable, value in emulated.musl_variables(place).items()}
     said = checks.ended("Alpine's build file", run(["sh", "-c", STEPS], place, file=os.path.join(TOP, "packaging", "alpine", "APKBUILD"),
                                                    version=name.rpartition("-")[2], **told), says=" passed, 0 failed")
     checks.check("warning:" not in said, f"Alpine's build file: {said[-800:]}")
     checks.ended("Alpine's program is over musl", run(["readelf", "-l", f"{place}/pkg/usr/bin/minisign-proved"]), says="ld-musl")
     for file in OF_ALPINE:
         checks.check(os.path.exists(f"{place}/pkg/{file}"), f"Alpine's package has no {file}")
-    for program in ("asked_texts", "public_keys", "usage_errors"):
-        check_program(checks, "musl", program, musl.compiler(), f"{place}/src/{name}/c/out/libminisign.a", "-static", *PROGRAMS[program])
+    compiler, library = emulated.musl_compiler(), f"{place}/src/{name}/c/out/libminisign.a"
+    for program in ("asked_texts", "usage_errors"):
+        check_program(checks, "musl", program, compiler, library, "-static", *PROGRAMS[program])
 
 
 def check_others(checks, room, top):
     """What is installed, packed by make alone."""
-    words = ["make", "-s", "-C", f"{top}/packaging/others", "PREFIX=/usr/of-minisign", f"OUT={room}/others"]
+    words = ["make", "-s", "-C", f"{top}/packaging/others", "PREFIX=/usr/of-minisign", f"OUT={room}/others", "C_CALLS="]
     archives = []
     for _ in range(2):
         checks.ended("packaging/others", run(words))
@@ -255,7 +261,7 @@ def run_all(checks, room):
     check_licence(checks)
     check_compiler(checks, room, top, "clang")
     tree, root = check_compiler(checks, room, top, "gcc")
-    installed.use(checks, root, f"{room}/by-gcc", minisign)
+    check_same(checks, room, root)
     check_signed(checks, room, f"{root}/bin/minisign", minisign)
     checks.ended("a release of a release", tree.run(f"make -s -C c release CC=gcc OUT={room}/again"))
     checks.check(read(archive_in(f"{room}/again")) == read(archive_in(f"{room}/two")), "a release of a release differs from it")

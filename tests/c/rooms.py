@@ -4,11 +4,10 @@
     tests/c/rooms.py
 
 No name means two things in the rooms of the programs and in what they share; no room takes from another but as
-docs/ARCHITECTURE.md says; what only Linux has stands in one file each; one function tests UTF-8 and one struct answers
-a request for memory; no function has more than 50 lines, and what is written by hand no more than it may have. Each
-message of the programs is Minisign's own or stands in a test. The manual pages have a date, and mandoc finds nothing.
-What is built needs only names that glibc 2.31 has. Without libsodium's header make says so in one sentence. It prints
-a line for each failure; the last line is `N passed, M failed`.
+docs/ARCHITECTURE.md says; what only Linux has stands in one file each; no function, and not all that is written by
+hand, is longer than it may be. Each message of the programs is Minisign's own or stands in a test. The manual pages
+have a date, and mandoc finds nothing. What is built needs only names that glibc 2.31 has. Without libsodium's header
+make says so in one sentence. It prints a line for each failure; the last line is `N passed, M failed`.
 
 Needs make, gcc, binutils, mandoc, minisign 0.11 and libsodium with its header, and installs what is missing if it
 may.
@@ -16,6 +15,7 @@ may.
 
 import collections
 import glob
+import itertools
 import os
 import re
 import sys
@@ -27,7 +27,7 @@ import ending
 import needs
 import static_library
 from process import run
-from running import write
+from running import read, write
 
 C = static_library.DIRECTORY
 # All but boundary.c and usage.h, which are made, and what the calls as C need besides.
@@ -37,12 +37,9 @@ MAX_LINES, MAX_FUNCTION = 6583, 50
 OF_PROGRAMS, ROOMS = ("minisign", "install", "shared"), ("minisign", "install", "shared", "library", "library/portable", "examples")
 # Which headers each room takes besides its own: those of a room, or one.
 TAKES = {"minisign": ("shared/", "library/clearing.h"), "install": ("shared/",), "shared": (), "library": ()}
-# What only Linux has, in which file alone, and with which words the names of a place that is written through.
-OF_LINUX = {
-    "O_PATH": "handles.c", "fstatfs": "handles.c", "ST_NOSYMFOLLOW": "handles.c", "O_TMPFILE": "stages.c", "renameat2": "stages.c",
-    "RENAME_NOREPLACE": "stages.c", "sync_file_range": "stages.c", "xattr": "permissions.c", "getrandom": "stages.c",
-    '"/proc/self/fd/%d"': "handles.c",
-}
+# What only Linux has, by the file in which alone it stands, and the words that name a place that is written through.
+OF_LINUX = {"handles.c": ("O_PATH", "fstatfs", "ST_NOSYMFOLLOW", '"/proc/self/fd/%d"'), "permissions.c": ("xattr",),
+            "stages.c": ("O_TMPFILE", "renameat2", "RENAME_NOREPLACE", "sync_file_range", "getrandom")}
 # Where tests name messages, but for Minisign's own: command_line/command_cases.py compares what both programs say.
 NAMING = ("command_line", "installer", "c", "verdicts", "shared", "bindings")
 # Messages that no test can cause, and why.
@@ -56,15 +53,10 @@ MOST_GLIBC = (2, 31)
 BY_HEADERS = {"fstat", "fstatat", "lstat", "stat"}
 
 
-def read(path):
-    with open(path, encoding="utf-8") as file:
-        return file.read()
-
-
 def files_of(room):
-    """The files of a room, with their text; and without their comments."""
-    texts = {path: read(path) for path in sorted(glob.glob(f"{C}/{room}/*.[ch]"))}
-    return texts, {path: re.sub(r"/\*.*?\*/", lambda found: re.sub(r"[^\n]", " ", found[0]), text, flags=re.S) for path, text in texts.items()}
+    """The files of a room, with their text without comments."""
+    return {path: re.sub(r"/\*.*?\*/", lambda found: re.sub(r"[^\n]", " ", found[0]), read(path).decode(), flags=re.S)
+            for path in sorted(glob.glob(f"{C}/{room}/*.[ch]"))}
 
 
 def names_of(text):
@@ -79,22 +71,22 @@ def names_of(text):
     return found - {"main", "_DEFAULT_SOURCE", "_GNU_SOURCE", "_POSIX_C_SOURCE"}
 
 
-def check_rooms(checks, texts, code):
+def check_rooms(checks, code):
     """What a name means in each room, and what the rooms take from each other."""
     names = {room: set().union(*map(names_of, code[room].values())) for room in OF_PROGRAMS}
     checks.check(all(len(code[room]) > 5 and names[room] for room in OF_PROGRAMS), "a room is empty")
-    for one, other in (("minisign", "install"), ("minisign", "shared"), ("install", "shared")):
+    for one, other in itertools.combinations(OF_PROGRAMS, 2):
         doubled = names[one] & names[other]
         checks.check(not doubled, f"names mean one thing in {one} and another in {other}: {sorted(doubled)}")
     for room, others in TAKES.items():
-        for path, text in texts[room].items():
+        for path, text in code[room].items():
             for taken in re.findall(r'#include "([a-z]+/.+)"', text):
                 checks.check(taken.startswith(others), f"{path} takes {taken}")
 
 
 def check_sources(checks, files):
     """What stands once, and how long functions are."""
-    for name, file in OF_LINUX.items():
+    for name, file in ((name, file) for file, names in OF_LINUX.items() for name in names):
         found = {os.path.basename(path) for path, text in files.items() if name in text}
         checks.check(found == {file}, f"{name} stands in {sorted(found)}, and not in {file} alone")
     for what, pattern in (("a test of UTF-8", r"0xd800"), ("what answers a request for memory", r"struct grant \{")):
@@ -107,7 +99,7 @@ def check_sources(checks, files):
             length = function.count("\n")
             checks.check(length <= MAX_FUNCTION or path.endswith("boundary.c"), f"{path}: {function.splitlines()[0]} has {length} lines")
     by_hand = {path for pattern in BY_HAND for path in glob.glob(f"{C}/{pattern}")} - {MADE}
-    count = sum(read(path).count("\n") for path in by_hand)
+    count = sum(read(path).count(b"\n") for path in by_hand)
     print(f"lines of C that are written by hand: {count}")
     checks.check(count <= MAX_LINES, f"{count} lines of C are written by hand, of at most {MAX_LINES}")
 
@@ -124,8 +116,7 @@ def messages_of(text):
 
 def check_messages(checks, files):
     tests = {path for room in NAMING for path in glob.glob(f"{HERE}/../{room}/*.[cp]*")} - {f"{HERE}/../c/rooms.py"}
-    with open(needs.minisign(), encoding="latin-1") as program:
-        named, found = "".join(map(read, sorted(tests))) + program.read(), set()
+    named, found = b"".join(map(read, [*sorted(tests), needs.minisign()])).decode(errors="replace"), set()
     for path, text in files.items():
         for words, ends in messages_of(text) if path != MADE else ():
             # (`it is too short` is not named where a test has `it is too short or too long`)
@@ -141,7 +132,7 @@ def check_pages(checks):
     ran = run([needs.program("mandoc", "mandoc"), "-T", "lint", *pages])
     checks.check(len(pages) == 4 and ran == (0, ""), f"mandoc: {ran}")
     for page in pages:
-        checks.check(re.search(r"^\.TH \S+ [13] \d{4}-\d\d-\d\d\b", read(page), re.M), f"{page} has no date")
+        checks.check(re.search(r"^\.TH \S+ [13] \d{4}-\d\d-\d\d\b", read(page).decode(), re.M), f"{page} has no date")
 
 
 def versions(path, *flags):
@@ -166,7 +157,8 @@ def check_glibc(checks, compiler, files):
 def check_built(checks, room):
     compiler, out = needs.libsodium(), os.path.join(room, "c")
     static_library.run_make(f"OUT={out}", f"CC={compiler}", "C_CALLS=", "-j4", "all", f"{out}/libminisign-installing.so")
-    check_glibc(checks, compiler, [f"{out}/{name}" for name in ("minisign", "minisign-install", "libminisign.so", "libminisign-installing.so")])
+    names = ("minisign", "minisign-install", "libminisign.so", "libminisign-installing.so")
+    check_glibc(checks, compiler, [f"{out}/{name}" for name in names])
     write(room, "sodium.h", b"#error it is not there\n")
     said = checks.ended("without libsodium's header", run([needs.program("make", "make"), "-s", "-C", C, f"OUT={room}/none", "C_CALLS=",
                                                            f"CC={compiler} -isystem {room}"]), status=2, says="libsodium-dev")
@@ -175,9 +167,8 @@ def check_built(checks, room):
 
 
 def run_all(checks, room):
-    found = {name: files_of(name) for name in ROOMS}
-    texts, code = ({name: both[at] for name, both in found.items()} for at in (0, 1))
-    check_rooms(checks, texts, code)
+    code = {name: files_of(name) for name in ROOMS}
+    check_rooms(checks, code)
     check_sources(checks, {path: text for files in code.values() for path, text in files.items()})
     check_messages(checks, {path: text for name in OF_PROGRAMS for path, text in code[name].items()})
     check_pages(checks)

@@ -1,15 +1,15 @@
 #!/usr/bin/env python3
-"""Tries the translator, `tools/wasm_to_c.py` over `c/library/portable/machine.h`, which makes dist/calls.c: each row
-of its table, and random functions, beside another WebAssembly, Node's.
+"""Tries the translator, `tools/wasm_to_c.py` over `c/library/portable/machine.h`, which makes dist/calls.c, beside
+another WebAssembly, Node's (`translated.js`), which is right.
 
     tests/c/translated.py
 
-It tries each instruction on pairs of numbers at edges and at random, those that end the program where they have to,
-and each load and store. Then come random functions, of blocks, loops, branches, calls and what reads and writes
-memory; data with addresses; and the stack of the machine. The same bytes are run by Node, and translated and compiled
-by a C compiler with and without a sanitizer of undefined behaviour: what Node answers is right. Each of some bugs
-that are planted in machine.h, in the table and in the stack is noticed. What the translator does not know is an error
-that names it. It prints a line for each failure; the last line is `N passed, M failed`.
+It tries each instruction of its table on pairs of numbers at edges and at random, those that end the program where
+they have to, and each load and store; functions at random, of blocks, loops, branches, calls and what reads and writes
+memory; data with addresses; and the stack of the machine: translated, and compiled with and without a sanitizer of
+undefined behaviour. Bugs that are planted in machine.h (`translated_bugs.txt`), in the table and in the stack are
+noticed. What the translator does not know is an error that names it. It prints a line for each failure; the last line
+is `N passed, M failed`.
 
 Needs a C compiler and Node, and installs what is missing if it may.
 """
@@ -18,8 +18,9 @@ import json
 import os
 import random
 import re
-import subprocess
+import struct
 import sys
+import tempfile
 from unittest import mock
 
 HERE = os.path.dirname(os.path.realpath(__file__))
@@ -28,9 +29,10 @@ sys.path += [os.path.join(TOP, *each) for each in (("tests", "shared"), ("tools"
 
 import ending
 import needs
+import static_library
 import wasm_object
 import wasm_to_c
-from process import run, run_program
+from process import run_program
 from running import read, write
 
 MACHINE = read(TOP, "c", "library", "portable", "machine.h").decode()
@@ -41,17 +43,15 @@ BITS = {"i32": 32, "i64": 64}
 TYPE = {"i32": 0x7F, "i64": 0x7E, "base": 0x7E, "none": 0x40}
 IN_C = {"i32": "uint32_t", "i64": "uint64_t", "base": "uint64_t", "none": "void"}
 EDGES = [0, 1, 2, 3, 7, 8, 31, 32, 33, 63, 64, 127, 128, 255, 256, 0x7FFF, 0x8000, 0xFFFF, 0x10000, 0x7FFFFFFF, 0x80000000,
-         0xFFFFFFFF, 0x100000000, 0x7FFFFFFFFFFFFFFF, 0x8000000000000000, 0xFFFFFFFFFFFFFFFF, 0xFFFFFFFFFFFFFFFE, 0xFFFFFFFF80000000,
-         0xFFFFFFFF7FFFFFFF]
+         0xFFFFFFFF, 0x100000000, (1 << 63) - 1, 1 << 63, (1 << 64) - 1, (1 << 64) - 2, 0xFFFFFFFF80000000, 0xFFFFFFFF7FFFFFFF]
 DRAWN_PAIRS, DRAWN_FUNCTIONS = 1500, 120
 # Where the buffer of a call begins in Node's memory, the data, and the end of the stack.
 BUFFER, BUFFER_BYTES, DATA, STACK_END = 4096, 64, 1024, 3072
 # The data of each module, and where in it the address of which of its bytes stands.
 POINTER_AT, POINTS_TO = 16, 3
 DATA_BYTES = bytes(range(100, 116)) + (DATA + POINTS_TO).to_bytes(8, "little") + b"\x2a" * 8
-# A call is the number of a function, three numbers for it, and the buffer. An answer is whether the program ended, what the function
-# gave, and the buffer.
-CALL_BYTES, ANSWER_BYTES = 32 + BUFFER_BYTES, 9 + BUFFER_BYTES
+# An answer is whether the program ended, what the function gave, and the buffer.
+ANSWER_BYTES = 9 + BUFFER_BYTES
 
 # ---- Writing a module that is an object as well ----
 
@@ -85,9 +85,11 @@ def section(which, *parts):
 # The codes of instructions by their names, with what follows each, and how that is written.
 CODES = {name: (code, operand) for code, (name, operand) in wasm_object.INSTRUCTIONS.items()}
 # (of labels the last is for all other numbers, and not counted)
-OPERANDS = {"block": lambda word, _: bytes([TYPE[word]]), "index": lambda word, _: number(int(word)), "place": lambda word, _: b"\0" + number(int(word)),
-            "labels": lambda word, _: number(word.count(",")) + b"".join(number(int(label)) for label in word.split(",")),
-            "number": lambda word, name: number(int(word), BITS[name[:3]])}
+OPERANDS = {
+    "block": lambda word, _: bytes([TYPE[word]]), "index": lambda word, _: number(int(word)),
+    "place": lambda word, _: b"\0" + number(int(word)),
+    "labels": lambda word, _: number(word.count(",")) + b"".join(number(int(label)) for label in word.split(",")),
+    "number": lambda word, name: number(int(word), BITS[name[:3]])}
 WITHOUT_WORD = {"": b"", "memory": b"\0", "memories": b"\0\0"}
 # The address of the data, in as many bytes as any has.
 ADDRESS = bytes(DATA >> shift & 127 | (128 if shift < 63 else 0) for shift in range(0, 70, 7))
@@ -128,7 +130,7 @@ class Module:
 
     def bytes(self):
         count = len(self.functions)
-        types = [b"\x60" + listed([bytes([TYPE[parameter]]) for parameter in parameters]) + listed([bytes([TYPE[gives]])] if gives != "none" else [])
+        types = [b"\x60" + b"".join(listed([bytes([TYPE[kind]]) for kind in kinds if kind != "none"]) for kinds in (parameters, [gives]))
                  for _, parameters, gives, *_ in self.functions]
         bodies, addresses = [], []
         for *_, code, locals_ in self.functions:
@@ -138,7 +140,8 @@ class Module:
             addresses += [bytes([wasm_object.CONSTANT]) + number(begun + place) + number(count) + b"\0" for place in places]
             bodies.append(body)
         segment = b"\0" + assembled(f"i64.const {DATA} end")[0] + sized(DATA_BYTES)
-        pointer = bytes([wasm_object.DATA]) + number(len(segment) - len(DATA_BYTES) + 1 + POINTER_AT) + number(count) + number(POINTS_TO, 64)
+        place = len(segment) - len(DATA_BYTES) + 1 + POINTER_AT
+        pointer = bytes([wasm_object.DATA]) + number(place) + number(count) + number(POINTS_TO, 64)
         symbols = [b"\0\0" + number(index) + text(name) for index, name in enumerate(self.names())]
         symbols.append(b"\1\0" + text("data") + b"\0\0" + number(len(DATA_BYTES)))
         exports = [text(name) + b"\0" + number(index) for index, name in enumerate(self.names())]
@@ -172,68 +175,40 @@ int main(void)
 }
 """
 
-NODE = """const fs = require('fs');
-const [functions, stack, stackEnd, base, length] = JSON.parse(fs.readFileSync(process.argv[3]));
-const env = { [stack]: new WebAssembly.Global({ value: 'i64', mutable: true }, BigInt(stackEnd)) };
-const translated = new WebAssembly.Instance(new WebAssembly.Module(fs.readFileSync(process.argv[2])), { env }).exports;
-const calls = fs.readFileSync(0), size = 32 + length, out = [];
-for (let at = 0; at < calls.length; at += size) {
-  const [called, ...given] = [0, 8, 16, 24].map((to) => calls.readBigUInt64LE(at + to)), [name, parameters] = functions[Number(called)];
-  const words = parameters.map((kind, i) => kind === 'base' ? BigInt(base) : kind === 'i32' ? Number(BigInt.asIntN(32, given[i])) : given[i]);
-  const memory = new Uint8Array(translated.memory.buffer, base, length);
-  memory.set(calls.subarray(at + 32, at + size));
-  const answer = Buffer.alloc(9);
-  try {
-    const made = translated[name](...words);
-    answer.writeBigUInt64LE(typeof made === 'bigint' ? BigInt.asUintN(64, made) : BigInt((made ?? 0) >>> 0), 1);
-  } catch (error) {
-    if (!(error instanceof WebAssembly.RuntimeError)) { throw error; }
-    answer[0] = 1;
-  }
-  out.push(answer, Buffer.from(memory));
-}
-fs.writeSync(1, Buffer.concat(out));
-"""
-
 
 def call(function, given, buffer=bytes(BUFFER_BYTES)):
     """A call of the function of this number with up to three numbers, before which the buffer has these bytes."""
-    return b"".join(each.to_bytes(8, "little") for each in (function, *given, *[0] * (3 - len(given)))) + buffer
+    return struct.pack("<4Q", function, *given, *[0] * (3 - len(given))) + buffer
 
 
 class Runners:
     """Builds and runs modules."""
 
     def __init__(self, room):
-        self.room, self.count = room, 0
-        self.compiler, self.node = needs.c_compiler(), needs.node()
+        self.room, self.compiler, self.node = room, needs.c_compiler(), needs.node()
 
     def program(self, module, flags, machine=MACHINE):
         """The program that makes calls of the translation."""
-        self.count += 1
-        place = os.path.join(self.room, f"by-c-{self.count}")
-        os.mkdir(place)
-        declared = [f"{IN_C[gives]} machine_{name}({', '.join(IN_C[parameter] for parameter in parameters)});" for name, parameters, gives, *_ in module.functions]
-        cases = [f"        case {at}: {'' if gives == 'none' else 'made = '}machine_{name}("
-                 f"{', '.join('base' if kind == 'base' else given for given, kind in zip('abc', parameters))}); break;"
-                 for at, (name, parameters, gives, *_) in enumerate(module.functions)]
+        place, declared, cases = tempfile.mkdtemp(dir=self.room), [], []
+        for at, (name, parameters, gives, *_) in enumerate(module.functions):
+            declared.append(f"{IN_C[gives]} machine_{name}({', '.join(map(IN_C.get, parameters))});")
+            given = ", ".join("base" if kind == "base" else letter for letter, kind in zip("abc", parameters))
+            cases.append(f"        case {at}: {'' if gives == 'none' else 'made = '}machine_{name}({given}); break;")
         files = {"calls.c": wasm_to_c.translate(module.bytes(), module.names()), "machine.h": machine,
                  "runner.c": RUNNER % ("\n".join(declared), BUFFER_BYTES, "\n".join(cases))}
         sources = [write(place, name, words.encode()) for name, words in files.items()]
-        status, said = run([self.compiler, "-std=c99", "-w", *flags, "-I", place, "-o", f"{place}/run", sources[0], sources[2]])
-        if status:
-            raise needs.Missing(f"the translation does not compile: {said[:1500]}")
+        static_library.hold([self.compiler, "-std=c99", "-w", *flags, "-I", place, "-o", f"{place}/run", sources[0], sources[2]])
         return f"{place}/run"
 
     def in_c(self, program, calls):
-        return subprocess.run([program], input=calls, stdout=subprocess.PIPE, stderr=subprocess.DEVNULL, timeout=SECONDS)
+        return run_program([program], self.room, calls, SECONDS)
 
     def in_node(self, module, calls):
         """What Node answers to calls."""
         told = [[each[:2] for each in module.functions], wasm_to_c.STACK_POINTER, STACK_END, BUFFER, BUFFER_BYTES]
-        files = {"run.js": NODE.encode(), "module.wasm": module.bytes(), "told.json": json.dumps(told).encode()}
-        paths = [write(self.room, name, data) for name, data in files.items()]
-        ran = run_program([self.node, "--experimental-wasm-memory64", "--no-warnings", *paths], self.room, calls, SECONDS)
+        paths = [write(self.room, "module.wasm", module.bytes()), write(self.room, "told.json", json.dumps(told).encode())]
+        command = [self.node, "--experimental-wasm-memory64", "--no-warnings", f"{HERE}/translated.js", *paths]
+        ran = run_program(command, self.room, calls, SECONDS)
         if ran.status:
             raise needs.Missing(f"Node: {ran}")
         return ran.output
@@ -287,152 +262,106 @@ def add_places(module, _):
     data = module.add("data_read", ["i64"], "i64", "i64.const data local.get 0 i64.add i64.load8_u 0")
     followed = module.add("data_followed", ["i64"], "i64", f"i64.const data i64.load {POINTER_AT} i64.load8_u 2")
     below = module.add("frame_below", ["i64"], "i64", f"{FRAME} local.get 1 i64.load32_u 8 {LEAVE}", ["i64"])
-    above = module.add("frame_above", ["i64"], "i64", f"{FRAME} local.get 0 i64.const 77 i64.add call {below} local.get 1 i64.load 8 i64.xor "
-                                                      f"local.get 1 i64.const 15 i64.and i64.add {LEAVE}", ["i64"])
+    code = f"{FRAME} local.get 0 i64.const 77 i64.add call {below} local.get 1 i64.load 8 i64.xor local.get 1 i64.const 15 i64.and i64.add"
+    above = module.add("frame_above", ["i64"], "i64", f"{code} {LEAVE}", ["i64"])
     return [*(call(data, (at,)) for at in range(16)), call(followed, ()), *(call(at, (value,)) for value in EDGES for at in (below, above))]
 
 
 # ---- Functions at random ----
 
-BINARY = ["add", "sub", "mul", "and", "or", "xor", "shl", "shr_s", "shr_u", "rotl", "rotr"]
-COMPARED = ["eq", "ne", "lt_s", "lt_u", "gt_s", "gt_u", "le_s", "le_u", "ge_s", "ge_u"]
+
+def grammar():
+    """The texts of the grammar by their names, each as often as it counts."""
+    found = {f"{what} {kind}": [name for name in wasm_to_c.IN_C if name.startswith(f"{kind}.{what}")]
+             for what in ("load", "store") for kind in BITS}
+    for line in re.findall(r"(?m)^[^#\n].*", read(HERE, "translated_grammar.txt").decode()):
+        head, _, texts = line.partition(": ")
+        for kind in BITS if "K" in head else ("",):
+            name, _, times = head.replace("K", kind).partition(" x")
+            found.setdefault(name, []).extend(texts.replace("K", kind).split(" | ") * int(times or 1))
+    return {**found, "edge": [*map(str, EDGES)]}
+
+
+GRAMMAR = grammar()
 
 
 class Drawn:
-    """The code of a function at random: the buffer's address is the local 0, and no number is made of that."""
+    """The code of a function at random."""
 
     def __init__(self, drawn, callees):
         self.drawn, self.choice, self.callees = drawn, drawn.choice, callees
-        self.locals = ["base", "i64", "i32", *("i32" if drawn.random() < 0.5 else "i64" for _ in range(5))]
+        self.locals = ["base", "i64", "i32", *(drawn.choice([*BITS]) for _ in range(5))]
         self.counters, self.labels, self.left = [], [], 60
 
-    def often(self, one):
-        return self.drawn.random() < one
+    def write(self, text, deep=5):
+        """Code, of a text of the grammar (`translated_grammar.txt`), in whose expressions numbers may stand so deep."""
+        return re.sub(r"\{(\w+) ?(.*?)\}", lambda found: self.draw(found[1], found[2], deep), text)
 
-    def free(self, *kinds):
-        """A local of one of these kinds that no loop counts by."""
-        return self.choice([at for at, kind in enumerate(self.locals) if kind in kinds and at not in self.counters])
+    def draw(self, name, word, deep):
+        """What stands in braces."""
+        self.left -= name == "statement" or name in BITS
+        if name in BITS:
+            deep = int(word or deep - 1)
+            name = name if deep > 0 and self.left > 0 else f"end {name}"
+        elif name == "statement":
+            deep, name = 5, name if self.left >= 0 and len(self.labels) < 7 else "set"
+        elif word:
+            name = f"{name} {word}"
+        if name not in GRAMMAR:
+            name, *words = name.split()
+            return getattr(self, name)(*words)
+        return self.write(self.choice(GRAMMAR[name]), deep)
 
-    def below(self, most):
-        """A number of the bits of this one, and so up to it."""
-        return f"{self.value('i64', 1)} i64.const {most} i64.and"
+    def free(self, kind):
+        """A local of this kind that no loop counts by."""
+        return str(self.choice([at for at, one in enumerate(self.locals) if one == kind and at not in self.counters]))
 
-    def place(self):
-        """The address of one of the buffer's first 40 bytes."""
-        return f"local.get 0 {self.below(39)} i64.add"
+    def call(self, kind):
+        wrapped = "i32.wrap_i64" if kind == "i32" else ""
+        return self.write(f"local.get 0 {{i64}} {{i32}} call {self.choice(self.callees)} {wrapped}" if self.callees else f"{{{kind}}}", 3)
 
-    def value(self, kind, deep=4):
-        """Code that leaves a number of this kind."""
-        self.left -= 1
-
-        def another(of=kind):
-            return self.value(of, deep - 1)
-
-        ways = {
-            "constant": lambda: f"{kind}.const {self.choice(EDGES)}", "local": lambda: f"local.get {self.free(kind)}",
-            "binary": lambda: f"{another()} {another()} {kind}.{self.choice(BINARY)}",
-            "compared": lambda: self.compared(kind, another),
-            "load": lambda: f"{self.place()} {self.choice([load for load in LOADS if load.startswith(kind)])} {self.drawn.randrange(8)}",
-            "tee": lambda: f"{another()} local.tee {self.free(kind)}", "select": lambda: f"{another()} {another()} {another('i32')} select",
-            "convert": lambda: (f"{another('i64')} i32.wrap_i64" if kind == "i32" else
-                                f"{another('i32')} {self.choice(['i64.extend_i32_s', 'i64.extend_i32_u'])}"),
-            "block": lambda: self.block("block", kind), "if": lambda: f"{another('i32')} {self.block('if', kind)}",
-            "call": lambda: self.call(kind, another) if self.callees else another(),
-            # (a number that stands there while something else is done)
-            "before": lambda: f"{another()} {self.statement()}"}
-        often = ["constant", "local", "local"]
-        if deep > 0 and self.left > 0:
-            often += ["binary"] * 5 + ["compared", "load", "load", "tee", "select", "convert", "block", "if", "call", "before", "before"]
-        return ways[self.choice(often)]()
-
-    def compared(self, kind, another):
-        of = self.choice(["i32", "i64"])
-        code = f"{another(of)} {of}.eqz" if self.often(0.3) else f"{another(of)} {another(of)} {of}.{self.choice(COMPARED)}"
-        return f"{code} {'i32.eqz' if self.often(0.3) else ''} {'i64.extend_i32_u' if kind == 'i64' else ''}"
-
-    def call(self, kind, another):
-        return f"local.get 0 {another('i64')} {another('i32')} call {self.choice(self.callees)} {'i32.wrap_i64' if kind == 'i32' else ''}"
-
-    def given(self, gives):
-        """What a block or a branch gives, if anything."""
-        return "" if gives == "none" else self.value(gives, 2)
+    def within(self, label, text):
+        """Code of a text where one more label is around it."""
+        self.labels.append(label)
+        code = self.write(text)
+        self.labels.pop()
+        return code
 
     def block(self, how, gives):
         """A block, with its end; of `if` both ways where it gives something."""
-        self.labels.append((how, gives))
-        code = f"{self.statements()} {self.given(gives)}"
-        if how == "if" and (gives != "none" or self.often(0.5)):
-            code += f" else {self.statements()} {self.given(gives)}"
-        self.labels.pop()
-        return f"{how} {gives} {code} end"
+        part = "{statements} " + left_for(gives)
+        other = f" else {part}" if how == "if" and (gives != "none" or self.drawn.random() < 0.5) else ""
+        return f"{how} {gives} {self.within((how, gives), part + other)} end"
 
-    def statements(self):
-        return " ".join(self.statement() for _ in range(self.drawn.randrange(1, 4)))
-
-    def statement(self):
-        """Code that leaves nothing."""
-        self.left -= 1
-        ways = {
-            "set": self.set_local, "store": self.store, "drop": lambda: f"{self.value('i64')} drop", "block": lambda: self.block("block", "none"),
-            "if": lambda: f"{self.value('i32')} {self.block('if', 'none')}", "loop": self.loop, "branch_if": self.branch_if,
-            "branch": self.branch, "table": self.table, "copy": lambda: f"{self.place()} {self.place()} {self.below(15)} memory.copy",
-            "fill": lambda: f"{self.place()} {self.value('i32')} {self.below(15)} memory.fill",
-            "return": lambda: self.within_if(lambda: f"{self.value('i64', 2)} return")}
-        often = ["set"] * 4 + ["store"] * 3 + ["drop", "block", "if", "if", "loop", "branch_if", "branch", "table", "copy", "fill", "return"]
-        return ways["set" if self.left < 0 or len(self.labels) > 6 else self.choice(often)]()
-
-    def set_local(self):
-        at = self.free("i32", "i64")
-        return f"{self.value(self.locals[at])} local.set {at}"
-
-    def store(self):
-        name = self.choice(STORES)
-        return f"{self.place()} {self.value(name[:3])} {name} {self.drawn.randrange(8)}"
+    def inside(self):
+        """What goes on elsewhere if a number is not 0."""
+        return f"{self.write('{i32 1}')} if none {self.within(('inside', 'none'), '{leaving}')} end"
 
     def loop(self):
         """A loop that goes on for a few times at most."""
         free = [at for at, local in enumerate(self.locals) if local == "i32" and at > 2 and at not in self.counters]
         if len(free) < 2:
-            return self.set_local()
-        counter = free[0]
-        self.counters.append(counter)
-        self.labels.append(("loop", "none"))
-        again = f"local.get {counter} if none local.get {counter} i32.const 1 i32.sub local.set {counter} br 1 end"
-        body = f"{self.statements()} {again} {f'{self.statements()} {again}' if self.often(0.3) else ''}"
-        self.labels.pop()
-        self.counters.remove(counter)
-        return f"i32.const {self.drawn.randrange(4)} local.set {counter} loop none {body} end"
+            return self.write("{set}")
+        self.counters.append(free[0])
+        again = f"local.get {free[0]} if none local.get {free[0]} i32.const 1 i32.sub local.set {free[0]} br 1 end"
+        body = self.within(("loop", "none"), self.choice(["", "", f"{{statements}} {again} "]) + f"{{statements}} {again}")
+        self.counters.remove(free[0])
+        return f"i32.const {self.drawn.randrange(4)} local.set {free[0]} loop none {body} end"
 
-    def target(self):
-        """How far out a block that is no loop stands, and what it gives; the whole function where there is none."""
-        found = [(depth, gives) for depth, (how, gives) in enumerate(reversed(self.labels)) if how != "loop"]
-        return self.choice(found) if found else (len(self.labels), "i64")
+    def jump(self, how):
+        """A branch out of blocks, or to one of up to four, or out of the function; all of them give the same."""
+        labels = [*reversed(self.labels), ("function", "i64")]
+        found = [(depth, gives) for depth, (what, gives) in enumerate(labels) if what in ("block", "if", "function")]
+        gives = self.choice(found[:-1] or found)[1]
+        depths = [str(depth) for depth, one in found if one == gives]
+        drawn = [self.choice(depths) for _ in range(self.drawn.randrange(1, 5) if how == "br_table" else 1)]
+        rest = "drop" if how == "br_if" and gives != "none" else ""
+        return self.write(f"{left_for(gives)} {{asked {how}}} {how} {','.join(drawn)} {rest}")
 
-    def branch_if(self):
-        depth, gives = self.target()
-        return f"{self.given(gives)} {self.value('i32', 2)} br_if {depth} {'' if gives == 'none' else 'drop'}"
 
-    def within_if(self, make):
-        """What is done if a number is not 0."""
-        asked = self.value("i32", 1)
-        self.labels.append(("if", "none"))
-        code = make()
-        self.labels.pop()
-        return f"{asked} if none {code} end"
-
-    def branch(self):
-        depth, gives = self.target()
-        return self.within_if(lambda: f"{self.given(gives)} br {depth + 1} {self.statement() if self.often(0.5) else ''}")
-
-    def table(self):
-        depth, gives = self.target()
-        others = [at for at, (how, one) in enumerate(reversed(self.labels)) if how != "loop" and one == gives]
-        labels = [self.choice([depth] if depth == len(self.labels) else others) for _ in range(self.drawn.randrange(4))]
-        return self.within_if(lambda: f"{self.given(gives)} {self.value('i32', 2)} i32.const 3 i32.and "
-                                      f"br_table {','.join(str(label + 1) for label in [*labels, depth])}")
-
-    def code(self):
-        return f"{self.statements()} {self.statements()} {self.value('i64')}"
+def left_for(gives):
+    """What a block or a branch gives, if anything."""
+    return "" if gives == "none" else f"{{{gives} 2}}"
 
 
 def add_drawn(module, drawn, count):
@@ -440,7 +369,7 @@ def add_drawn(module, drawn, count):
     first = len(module.functions)
     for at in range(count):
         function = Drawn(drawn, [first + one for one in range(at)][-3:] if at % 4 == 3 else [])
-        module.add(f"drawn_{at}", ["base", "i64", "i32"], "i64", function.code(), function.locals[3:])
+        module.add(f"drawn_{at}", ["base", "i64", "i32"], "i64", function.write("{function}"), function.locals[3:])
         for _ in range(12):
             yield call(first + at, (0, drawn.choice(EDGES), drawn.choice(EDGES)), drawn.randbytes(BUFFER_BYTES))
 
@@ -452,26 +381,26 @@ class Case:
     """A module, and calls with what Node answers to them; apart those that end the program, by the names of the functions."""
 
     def __init__(self, runners, drawn, count):
-        self.module, self.ending = Module(), {}
-        calls = [one for add in (add_numbers, add_memory, add_places) for one in add(self.module, drawn)] + [*add_drawn(self.module, drawn, count)]
+        self.module, self.ending, self.answered = Module(), {}, []
+        calls = [one for add in (add_numbers, add_memory, add_places) for one in add(self.module, drawn)]
+        calls += add_drawn(self.module, drawn, count)
         answers = runners.in_node(self.module, b"".join(calls))
-        found = [(one, answers[at * ANSWER_BYTES:(at + 1) * ANSWER_BYTES]) for at, one in enumerate(calls)]
-        self.calls, self.wanted = (b"".join(each[part] for each in found if not each[1][0]) for part in (0, 1))
-        for asked, answer in found:
-            if answer[0]:
-                self.ending.setdefault(self.name_of(asked), []).append(asked)
+        for at, asked in enumerate(calls):
+            answer = answers[at * ANSWER_BYTES:(at + 1) * ANSWER_BYTES]
+            (self.ending.setdefault(self.asked(asked)[0], []) if answer[0] else self.answered).append((asked, answer))
+        self.calls, self.wanted = map(b"".join, zip(*self.answered))
 
-    def name_of(self, asked):
-        return self.module.names()[int.from_bytes(asked[:8], "little")]
+    def asked(self, call):
+        """The name of the function that is called, and the numbers."""
+        function, *numbers = struct.unpack_from("<4Q", call)
+        return self.module.names()[function], *map(hex, numbers)
 
     def first_difference(self, made):
         """Where an answer first differs: of which function, to which numbers."""
-        for at in range(len(self.wanted) // ANSWER_BYTES):
-            one, other = (each[at * ANSWER_BYTES:(at + 1) * ANSWER_BYTES] for each in (self.wanted, made))
-            if one != other:
-                asked = self.calls[at * CALL_BYTES:(at + 1) * CALL_BYTES]
-                numbers = [hex(int.from_bytes(asked[to:to + 8], "little")) for to in (8, 16, 24)]
-                return f"{self.name_of(asked)} of {numbers}: {one[1:9].hex()} and {other[1:9].hex()}"
+        for at, (asked, answer) in enumerate(self.answered):
+            other = made[at * ANSWER_BYTES:(at + 1) * ANSWER_BYTES]
+            if answer != other:
+                return f"{self.asked(asked)}: {answer[1:9].hex()} and {other[1:9].hex()}"
         return "the lengths"
 
 
@@ -480,28 +409,18 @@ def check_answers(checks, case, runners):
     for flags in (["-O0"], ["-O2"], ["-O1", "-DIS_COPIED=0"], SANITIZED):
         program = runners.program(case.module, flags)
         made = runners.in_c(program, case.calls)
-        checks.check(made.returncode == 0 and made.stdout == case.wanted, f"{flags}: status {made.returncode}, {case.first_difference(made.stdout)}")
-    print(f"{len(case.calls) // CALL_BYTES} calls of {len(NUMBERS) + len(LOADS) + len(STORES)} instructions and more, and of {DRAWN_FUNCTIONS} functions at random")
-    checks.check({*case.ending} == {name.replace('.', '_') for name in NUMBERS if re.search(r"div_|rem_", name)}, f"these end the program: {sorted(case.ending)}")
+        is_same = made.status == 0 and made.output == case.wanted
+        checks.check(is_same, f"{flags}: status {made.status}, {case.first_difference(made.output)}")
+    print(f"{len(case.answered)} calls of {len(wasm_to_c.IN_C)} instructions and more, and of {DRAWN_FUNCTIONS} functions at random")
+    wanted = {name.replace(".", "_") for name in NUMBERS if re.search(r"div_|rem_", name)}
+    checks.check({*case.ending} == wanted, f"these end the program: {sorted(case.ending)}")
     for name, calls in case.ending.items():
-        for one in (calls[0], calls[-1]):
-            checks.check(runners.in_c(program, one).returncode == -6, f"{name} does not end the program")
+        for asked, _ in (calls[0], calls[-1]):
+            checks.check(runners.in_c(program, asked).status == -6, f"{name} does not end the program")
 
 
 # Bugs of machine.h, by what stands there and what stands in its place.
-MACHINE_BUGS = {
-    "memmove(": "memcpy_forwards(", "value & 0xff)": "value & 0x7f)", "load8(a + 1) << 8": "load8(a + 1) << 7",
-    "store8(a + 1, value >> 8)": "store8(a + 1, value >> 9)", "^ 0x80) - 0x80": "^ 0x80) - 0x81", "^ 0x8000) - 0x8000": "^ 0x4000) - 0x8000",
-    "- UINT64_C(0x80000000)": "- UINT64_C(0x80000001)", "value ^ UINT32_C(0x80000000)": "value", "value ^ UINT64_C(0x8000000000000000)": "value",
-    "(value ^ signs) >> (by & 63) ^ signs": "value >> (by & 63) ^ signs", "sign32(value), by & 31": "value, by & 31",
-    "value << (by & 31) | value >> ((0 - by) & 31)": "value << (by & 31) | value >> (31 - (by & 31))",
-    "value << (by & 63) | value >> ((0 - by) & 63)": "value << (by & 31) | value >> ((0 - by) & 31)",
-    "value >> (by & 31) | value << ((0 - by) & 31)": "value >> (by & 31)", "value >> (by & 63) | value << ((0 - by) & 63)": "rotl64(value, by + 64)",
-    "0x0f0f0f0f0f0f0f0f": "0x0f0f0f0f0f0f0f07", "x |= x >> 32;": "", "popcnt64(~x & (x - 1))": "popcnt64(x - 1)", "(u32) clz64(x) - 32": "(u32) clz64(x)",
-    "ctz64(x | UINT64_C(0x100000000))": "ctz64(x)", "has_sign ? 0 - quotient : quotient": "quotient", "a >> 63 ? 0 - rest : rest": "rest",
-    "(u32) div_u64(a, b)": "(u32) div_u64(a, b | 1)", "(u32) rem_u64(a, b)": "(u32) rem_u64(a, b + 1)",
-    "((u64) (uintptr_t) stack_ + 15) / 16 * 16 + (bytes)": "(u64) (uintptr_t) stack_ + (bytes) + 8", "sign32(a), sign32(b)": "sign32(a), b",
-}
+MACHINE_BUGS = re.findall(r"(?m)^([^#\n].*) => ?(.*)$", read(HERE, "translated_bugs.txt").decode())
 FORWARDS = "static inline void memcpy_forwards(u8 *to, const u8 *from, size_t len) { while (len-- > 0) { *to++ = *from++; } }\n"
 # Rows of the table, with what stands in their place.
 TABLE_BUGS = {"i64.load8_u": "load8(a) + 1", "i64.load32_u": "sign32(load32(a))", "i32.shl": "a << b % 31", "i64.lt_s": "a < b",
@@ -528,14 +447,14 @@ def is_noticed(case, runners, **more):
     """Whether a translation gives something else, or does not compile, or does not end well."""
     try:
         made = runners.in_c(runners.program(case.module, ["-O0"], **more), case.calls)
-    except needs.Missing:
+    except static_library.NotBuilt:
         return True
-    return made.returncode != 0 or made.stdout != case.wanted
+    return made.status != 0 or made.output != case.wanted
 
 
 def check_bugs(checks, case, little, runners):
     """Each bug is noticed, those of a single instruction where there is no more."""
-    for old, new in MACHINE_BUGS.items():
+    for old, new in MACHINE_BUGS:
         checks.check(old in MACHINE, f"machine.h has no {old}")
         changed = MACHINE.replace(old, new).replace("/* ---- Memory ---- */", FORWARDS)
         changed = changed.replace("#define IS_COPIED 1", "#define IS_COPIED 0") if "load8" in old or "store8" in old else changed
@@ -553,25 +472,25 @@ REJECTED = {
     "a float": ("0x4300000000", "f32.const"), "a float that is compared": ("0x5b", "f32.eq"), "a root": ("0x9f", "f64.sqrt"),
     "a call by table": ("0x110000", "call_indirect"), "more memory": ("0x4000", "memory.grow"), "a vector": ("0xfd", "0xfd"),
     "a load of a float": ("f32.load 0", "f32.load"), "a conversion": ("i32.trunc_f32_s", "i32.trunc_f32_s"),
-    "another variable": ("global.get 1", "how much of the stack it takes"), "a number that nobody put there": ("drop", "the stack is empty"),
-    "a call of itself": ("i64.const 0 call 0", "calls itself"), "other instructions": ("0x0640", "0x6"),
+    "another variable": ("global.get 1", "how much of the stack it takes"), "other instructions": ("0x0640", "0x6"),
+    "a number that nobody put there": ("drop", "the stack is empty"), "a call of itself": ("i64.const 0 call 0", "calls itself"),
     "a block of two": ("0x0200", "a block that takes values"),
 }
 
 
 def check_rejected(checks):
     """What is not known is an error that says what it is."""
-    modules = {"no module": (b"\x7fELF", [], ""), "another section": (Module().bytes() + section(13, b""), [], "")}
+    modules = [("no module", b"\x7fELF", [], ""), ("another section", Module().bytes() + section(13, b""), [], "")]
     for what, (code, words) in REJECTED.items():
         module = Module()
         module.add("it", ["i64"], "i64", f"{code} i64.const 0")
-        modules[what] = (module.bytes(), ["it"], words)
-    for what, (module, names, words) in modules.items():
+        modules.append((what, module.bytes(), ["it"], words))
+    for what, module, names, words in modules:
         try:
             wasm_to_c.translate(module, names)
             checks.check(False, f"{what} is translated")
         except wasm_object.Unread as why:
-            checks.check(words in str(why) and all(name in str(why) for name in names), f"{what}: {why}")
+            checks.check(all(each in str(why) for each in (words, *names)), f"{what}: {why}")
 
 
 def run_all(checks, room):

@@ -2,12 +2,9 @@
  * Wrong uses of calls: a signature with another text than its own, keys that were not read or opened, short buffers,
  * comments that Minisign would not read back, and more work than is allowed. Each is an error number, and changes
  * nothing. Right calls stand beside them, which shows that it is the use that is rejected. random_calls.c has calls
- * in the wrong order.
+ * in the wrong order. And for each pointer of each call, NULL with length 0 acts as a pointer to no bytes.
  */
 #include "texts_for_tests.h"
-
-/* The data. */
-static const uint8_t ABC[] = { 'a', 'b', 'c' };
 
 static minisign_questions questions;
 static uint8_t message[1024];
@@ -121,6 +118,11 @@ static minisign_secret_key key;
 static uint32_t words[256 * (1024 + 3)];
 static uint8_t parts[1024 * MOST_PARTS];
 
+static size_t length_of(const char *password)
+{
+    return password == NULL ? 0 : strlen(password);
+}
+
 /* Opens in so much of that memory, which holds something: all of it is zeros then. */
 static enum minisign_error open_in_place(const minisign_unopened_key *from, const char *password, uint64_t keep_every,
                                          uint64_t most_rows, uint64_t words_len, uint64_t bytes_len, minisign_secret_key *to)
@@ -129,7 +131,7 @@ static enum minisign_error open_in_place(const minisign_unopened_key *from, cons
 
     memset(words, 0xa5, sizeof words);
     memset(parts, 0xa5, sizeof parts);
-    error = minisign_open_sealed_key_in_place(from, bytes_of(password), strlen(password), keep_every, most_rows, words,
+    error = minisign_open_sealed_key_in_place(from, bytes_of(password), length_of(password), keep_every, most_rows, words,
                                               (size_t) words_len, parts, (size_t) bytes_len, to);
     CHECK(is_zeros(words, (size_t) words_len * sizeof *words) && is_zeros(parts, (size_t) bytes_len));
     CHECK(words_len == LENGTH(words) || words[words_len] == 0xa5a5a5a5);
@@ -225,36 +227,35 @@ static enum minisign_error make_key(uint32_t with_password, uint64_t memory_limi
 {
     const minisign_sealing sealing = { .operations_limit = 4 * 32768, .memory_limit = memory_limit };
 
-    return minisign_secret_key_text(&of_zeros, with_password, ABC, sizeof ABC, &sealing, MINISIGN_KEEP_FEW_ROWS,
+    return minisign_secret_key_text(&of_zeros, with_password, bytes_of("abc"), 3, &sealing, MINISIGN_KEEP_FEW_ROWS,
                                     bytes_of(comment), strlen(comment), text, room, &text_len);
 }
 
-/* Opens the sealed key: it is that of zeros, or an error, which leaves what was there. */
-static void opens(const char *password, uint64_t keep_every, uint64_t most_rows, enum minisign_error wanted)
+/* Opens the sealed key, with memory of malloc or in so many words and bytes: it is that of zeros, or an error, which leaves
+ * what was there. */
+static void opens(const char *password, uint64_t keep_every, uint64_t most_rows, uint64_t words_len, uint64_t bytes_len,
+                  enum minisign_error wanted)
 {
     minisign_secret_key opened, before;
 
     memset(&before, 0xaa, sizeof before);
     opened = before;
-    CHECK(minisign_open_sealed_key(&unopened, bytes_of(password), strlen(password), keep_every, most_rows, &opened) == wanted);
-    CHECK(memcmp(&opened, wanted == MINISIGN_OK ? &of_zeros : &before, sizeof opened) == 0);
-}
-
-/* The same in memory of the caller's, of so many words and bytes. */
-static void opens_in_place(const char *password, uint64_t keep_every, uint64_t most_rows, uint64_t words_len, uint64_t bytes_len,
-                           enum minisign_error wanted)
-{
-    minisign_secret_key opened, before;
-
-    memset(&before, 0xaa, sizeof before);
-    opened = before;
-    CHECK(open_in_place(&unopened, password, keep_every, most_rows, words_len, bytes_len, &opened) == wanted);
+    CHECK((words_len != 0 ? open_in_place(&unopened, password, keep_every, most_rows, words_len, bytes_len, &opened)
+                          : minisign_open_sealed_key(&unopened, bytes_of(password), length_of(password), keep_every,
+                                                     most_rows, &opened)) == wanted);
     CHECK(memcmp(&opened, wanted == MINISIGN_OK ? &of_zeros : &before, sizeof opened) == 0);
 }
 
 /* Keys that are made, and how opening them is bounded. */
 static void keys_made(void)
 {
+    static char too_long[1005];
+    static const struct {
+        const char *comment;
+        enum minisign_error error;
+    } rejected[] = { { "\n\xff", MINISIGN_NOT_UTF8 }, { "\n\r", MINISIGN_BAD_COMMENT }, { "a\nb", MINISIGN_BAD_COMMENT },
+                     { "\r", MINISIGN_UNREADABLE_COMMENT }, { "a\rb", MINISIGN_UNREADABLE_COMMENT },
+                     { too_long, MINISIGN_UNREADABLE_COMMENT } };
     static const uint64_t little = 1 << 20;
     static const minisign_sealing none;
     const size_t room = MINISIGN_SECRET_KEY_BYTES(1);
@@ -262,32 +263,41 @@ static void keys_made(void)
 
     memset(text, 0, sizeof text);
     text_len = 0;
+    memset(too_long, 'c', sizeof too_long - 1);
     CHECK(make_key(2, UINT64_MAX, "\xff", 0) == MINISIGN_BAD_PASSWORD_FLAG);
     CHECK(make_key(UINT32_MAX, little, "c", room) == MINISIGN_BAD_PASSWORD_FLAG);
-    CHECK(make_key(1, UINT64_MAX, "\n\xff", 0) == MINISIGN_NOT_UTF8);
-    CHECK(make_key(1, UINT64_MAX, "\n\r", 0) == MINISIGN_BAD_COMMENT);
-    CHECK(make_key(1, UINT64_MAX, "\r", 0) == MINISIGN_UNREADABLE_COMMENT);
+    for (size_t i = 0; i < LENGTH(rejected); i++) {
+        const uint8_t *comment = bytes_of(rejected[i].comment);
+
+        CHECK(make_key(1, UINT64_MAX, rejected[i].comment, 0) == rejected[i].error);
+        CHECK(minisign_public_key_text(&of_zeros, comment, strlen(rejected[i].comment), text, 0, &text_len) == rejected[i].error);
+    }
+    CHECK(minisign_secret_key_text(&of_zeros, 1, bytes_of("\xff"), 1, &none, 1, bytes_of("\n"), 1, text, 0, &text_len)
+          == MINISIGN_NOT_UTF8);
     CHECK(minisign_secret_key_text(&of_zeros, 0, NULL, 0, &none, 1, bytes_of("\0"), 1, text, sizeof text, &text_len)
           == MINISIGN_UNREADABLE_COMMENT);
     CHECK(minisign_public_key_text(&of_zeros, bytes_of("\0"), 1, text, sizeof text, &text_len)
           == MINISIGN_UNREADABLE_COMMENT);
     CHECK(make_key(1, UINT64_MAX, "c", room - 1) == MINISIGN_NO_ROOM);
     CHECK(make_key(1, UINT64_MAX, "c", room) == MINISIGN_PARAMETERS_TOO_HIGH);
+    CHECK(make_key(1, MINISIGN_MEMORY_LIMIT + 1, "c", room) == MINISIGN_PARAMETERS_TOO_HIGH);
+    CHECK(seal(&of_zeros, "abc", 1 << 20, 1 << 29, text, room, &text_len) == MINISIGN_INVALID_PARAMETERS);
     CHECK(minisign_public_key_text(&of_zeros, bytes_of("c"), 1, text, 77, &text_len) == MINISIGN_NO_ROOM);
-    CHECK(text_len == 0 && text[0] == 0);
+    CHECK(text_len == 0 && is_zeros(text, sizeof text));
     CHECK(minisign_public_key_text(&of_zeros, bytes_of("c"), 1, text, 78, &text_len) == MINISIGN_OK);
     CHECK(text_len == MINISIGN_PUBLIC_KEY_BYTES(1));
+    CHECK(make_key(0, UINT64_MAX, "c", room) == MINISIGN_OK && text_len == room);
     CHECK(make_key(1, little, "c", room) == MINISIGN_OK && text_len == room);
     CHECK(minisign_read_secret_key(text, text_len, &unopened) == MINISIGN_OK);
     CHECK(unopened.is_sealed == 1 && unopened.log2_rows == 10 && unopened.work == 4 && unopened.reserved == 0);
     CHECK(minisign_open_unsealed_key(&unopened, &opened) == MINISIGN_KEY_SEALED && is_zeros(&opened, sizeof opened));
-    opens("\xff", 0, 0, MINISIGN_NOT_UTF8);
-    opens("abc", 0, 4 * 1024 - 1, MINISIGN_WORK_TOO_HIGH);
-    opens("ab", 1, 4 * 1024, MINISIGN_WRONG_PASSWORD);
-    opens("ab", 16, MINISIGN_ANY_ROWS, MINISIGN_WRONG_PASSWORD);
+    opens("\xff", 0, 0, 0, 0, MINISIGN_NOT_UTF8);
+    opens("abc", 0, 4 * 1024 - 1, 0, 0, MINISIGN_WORK_TOO_HIGH);
+    opens("ab", 1, 4 * 1024, 0, 0, MINISIGN_WRONG_PASSWORD);
+    opens("ab", 16, MINISIGN_ANY_ROWS, 0, 0, MINISIGN_WRONG_PASSWORD);
     unopened.is_sealed = unopened.log2_rows = 0;
     unopened.work = 1;
-    opens("abc", FEWEST_KEPT, 4 * 1024, MINISIGN_OK);
+    opens("abc", FEWEST_KEPT, 4 * 1024, 0, 0, MINISIGN_OK);
 }
 
 /* How the rows of a key are bounded, and what opening in place takes and answers. What it holds of rows is 1 KiB each. */
@@ -298,11 +308,11 @@ static void rows_bounded(uint64_t p)
 
     CHECK(seal(&of_zeros, "abc", 1 << 20, p, text, sizeof text, &text_len) == MINISIGN_OK);
     CHECK(minisign_read_secret_key(text, text_len, &unopened) == MINISIGN_OK && unopened.work == p);
-    opens("abc", 1, rows - 1, MINISIGN_WORK_TOO_HIGH);
-    opens("abc", 1, 0, MINISIGN_WORK_TOO_HIGH);
-    opens("abc", 1, rows, MINISIGN_OK);
-    opens("abc", 16, MINISIGN_USUAL_ROWS, MINISIGN_OK);
-    opens("abc", 16, MINISIGN_ANY_ROWS, MINISIGN_OK);
+    opens("abc", 1, rows - 1, 0, 0, MINISIGN_WORK_TOO_HIGH);
+    opens("abc", 1, 0, 0, 0, MINISIGN_WORK_TOO_HIGH);
+    opens("abc", 1, rows, 0, 0, MINISIGN_OK);
+    opens("abc", 16, MINISIGN_USUAL_ROWS, 0, 0, MINISIGN_OK);
+    opens("abc", 16, MINISIGN_ANY_ROWS, 0, 0, MINISIGN_OK);
     /* (few rows of many parts take long) */
     for (size_t i = 0; i < (p == 1 ? LENGTH(kept) : 1); i++) {
         const uint64_t every = kept[i] > 1 ? kept[i] : 1, held = 1024 / every + (1024 % every != 0);
@@ -310,14 +320,14 @@ static void rows_bounded(uint64_t p)
 
         minisign_opening_memory(&unopened, kept[i], &words_len, &bytes_len);
         CHECK(256 * held <= words_len && words_len <= 256 * (held + 3) && bytes_len == 1024 * p);
-        opens_in_place("abc", kept[i], rows, words_len - 1, bytes_len, MINISIGN_NO_ROOM);
-        opens_in_place("\xff", kept[i], 0, words_len, bytes_len - 1, MINISIGN_NO_ROOM);
-        opens_in_place("\xff", kept[i], 0, words_len, bytes_len, MINISIGN_NOT_UTF8);
-        opens_in_place("abc", kept[i], rows - 1, words_len, bytes_len, MINISIGN_WORK_TOO_HIGH);
-        opens_in_place("ab", kept[i], rows, words_len, bytes_len, MINISIGN_WRONG_PASSWORD);
-        opens_in_place("abc", kept[i], rows, words_len, bytes_len, MINISIGN_OK);
+        opens("abc", kept[i], rows, words_len - 1, bytes_len, MINISIGN_NO_ROOM);
+        opens("\xff", kept[i], 0, words_len, bytes_len - 1, MINISIGN_NO_ROOM);
+        opens("\xff", kept[i], 0, words_len, bytes_len, MINISIGN_NOT_UTF8);
+        opens("abc", kept[i], rows - 1, words_len, bytes_len, MINISIGN_WORK_TOO_HIGH);
+        opens("ab", kept[i], rows, words_len, bytes_len, MINISIGN_WRONG_PASSWORD);
+        opens("abc", kept[i], rows, words_len, bytes_len, MINISIGN_OK);
     }
-    opens_in_place("abc", 1, MINISIGN_USUAL_ROWS, LENGTH(words), sizeof parts, MINISIGN_OK);
+    opens("abc", 1, MINISIGN_USUAL_ROWS, LENGTH(words), sizeof parts, MINISIGN_OK);
 }
 
 /* A key that wants no password takes no memory, and none is needed to reject it. */
@@ -330,31 +340,24 @@ static void no_memory_wanted(void)
     CHECK(words_len == 0 && bytes_len == 0);
 }
 
-/* The base64 of the record of a prehashed signature, RFC 4648. */
-static void write_record(char base64[100], const uint8_t key_id[8], const uint8_t signature[64])
-{
-    static const char letters[] = "ABCDEFGHIJKLMNOPQRSTUVWXYZabcdefghijklmnopqrstuvwxyz0123456789+/";
-    uint8_t record[75] = { 'E', 'D' };
-
-    memcpy(record + 2, key_id, 8);
-    memcpy(record + 10, signature, 64);
-    for (size_t i = 0; i < 25; i++) {
-        uint32_t three = (uint32_t) record[3 * i] << 16 | (uint32_t) record[3 * i + 1] << 8 | record[3 * i + 2];
-
-        for (int k = 0; k < 4; k++) {
-            base64[4 * i + (size_t) k] = letters[three >> (18 - 6 * k) & 63];
-        }
-    }
-    base64[99] = '=';
-}
-
-/* The signatures of a text make that text again under the key ID of the key, where it has room. */
+/* The signatures of a text make that text again under the key ID of the key, where it has room. The base64 of its second line is
+ * that of Python. And no text is made that minisign -V would not read back. */
 static void texts_of_signatures(void)
 {
-    static const char *const rejected[][2] = { { "t\n", "u" }, { "t ", "u" }, { "\tt", "u" }, { "t", "u\r" }, { "t", "\n" } };
     static const char untrusted[] = "signature from minisign secret key";
-    static char expected[sizeof SIGNATURE + 1];
-    const size_t second_line = strlen("untrusted comment: ") + sizeof untrusted;
+    static const char expected[] =
+        SIGNATURE_COMMENT "RUS7zYB67+U+q59r3g7V1qNyJDApGip8MfqcadIgT9CuhV3EMhHoN1mGTkUidF/z7SrlQgXdy8ofjb7bNJJylDOocrCo8KLzZwo="
+        "\ntrusted comment: " COMMENT "\n" COMMENT_RECORD "\n";
+    static const struct {
+        const char *trusted, *untrusted;
+        enum minisign_error error;
+    } rejected[] = {
+        { "t\n", "u", MINISIGN_BAD_COMMENT }, { "t ", "u", MINISIGN_BAD_COMMENT }, { "\tt", "u", MINISIGN_BAD_COMMENT },
+        { "t", "u\r", MINISIGN_BAD_COMMENT }, { "t", "\n", MINISIGN_BAD_COMMENT }, { "\xff", "u\r", MINISIGN_NOT_UTF8 },
+        { "t\n", "\xff", MINISIGN_NOT_UTF8 }, { "a\rb", "u", MINISIGN_UNREADABLE_COMMENT },
+        { "t", "a\rb", MINISIGN_UNREADABLE_COMMENT }, { "t", "\ru", MINISIGN_UNREADABLE_COMMENT },
+    };
+    static char letters[10000];
     const minisign_signature signature = signature_of(SIGNATURE);
     minisign_secret_key before = key;
     minisign_state state = fed_with("abc");
@@ -364,44 +367,78 @@ static void texts_of_signatures(void)
         CHECK(make_short_text(COMMENT, untrusted, room) == MINISIGN_NO_ROOM);
     }
     for (size_t i = 0; i < LENGTH(rejected); i++) {
-        CHECK(make_short_text(rejected[i][0], rejected[i][1], 0) == MINISIGN_BAD_COMMENT);
+        CHECK(make_short_text(rejected[i].trusted, rejected[i].untrusted, 0) == rejected[i].error);
     }
-    CHECK(make_short_text("\xff", "u\r", 0) == MINISIGN_NOT_UTF8);
-    CHECK(make_short_text("t\n", "\xff", 0) == MINISIGN_NOT_UTF8);
-    CHECK(text_len == 0 && text[0] == 0);
-    CHECK(make_short_text(COMMENT, untrusted, sizeof SIGNATURE) == MINISIGN_OK);
-    memcpy(expected, SIGNATURE, sizeof SIGNATURE - 1);
-    expected[sizeof SIGNATURE - 1] = '\n';
-    write_record(expected + second_line, key.key_id, questions.signature);
-    CHECK(text_len == sizeof SIGNATURE && memcmp(text, expected, text_len) == 0);
-    CHECK(memcmp(&before, &key, sizeof before) == 0);
-    for (size_t room = 0; room < MESSAGE_LEN; room++) {
-        CHECK(minisign_comment_message(questions.signature, bytes_of(COMMENT), sizeof COMMENT - 1, text, room)
-              == MINISIGN_NO_ROOM);
-    }
-    CHECK(minisign_comment_message(questions.signature, bytes_of(COMMENT), sizeof COMMENT - 1, text,
-                                   MESSAGE_LEN) == MINISIGN_OK);
-    CHECK(memcmp(text, message, MESSAGE_LEN) == 0);
-}
-
-/* What minisign -V would not read back: too long a comment, a zero byte, a carriage return. */
-static void texts_for_minisign(void)
-{
-    static const char *const rejected[][2] = { { "a\rb", "u" }, { "t", "a\rb" }, { "t", "\ru" } };
-    static char letters[10000];
-
     memset(letters, 'a', sizeof letters);
-    CHECK(make_text("t", 1, letters, 1003, sizeof text) == MINISIGN_OK);
     CHECK(make_text("t", 1, letters, 1004, sizeof text) == MINISIGN_UNREADABLE_COMMENT);
     CHECK(make_text("t", 1, letters, 10000, 0) == MINISIGN_UNREADABLE_COMMENT);
-    CHECK(make_text(letters, 8173, "u", 1, sizeof text) == MINISIGN_OK);
     CHECK(make_text(letters, 8174, "u", 1, sizeof text) == MINISIGN_UNREADABLE_COMMENT);
     CHECK(make_text("a\0b", 3, "u", 1, sizeof text) == MINISIGN_UNREADABLE_COMMENT);
     CHECK(make_text("t", 1, "a\0b", 3, sizeof text) == MINISIGN_UNREADABLE_COMMENT);
     CHECK(make_text("t", 1, "\0", 1, sizeof text) == MINISIGN_UNREADABLE_COMMENT);
-    for (size_t i = 0; i < LENGTH(rejected); i++) {
-        CHECK(make_short_text(rejected[i][0], rejected[i][1], sizeof text) == MINISIGN_UNREADABLE_COMMENT);
+    CHECK(text_len == 0 && is_zeros(text, sizeof text));
+    CHECK(make_text("t", 1, letters, 1003, sizeof text) == MINISIGN_OK);
+    CHECK(make_text(letters, 8173, "u", 1, sizeof text) == MINISIGN_OK);
+    CHECK(make_short_text(COMMENT, untrusted, sizeof SIGNATURE) == MINISIGN_OK);
+    CHECK(text_len == sizeof SIGNATURE && memcmp(text, expected, text_len) == 0);
+    CHECK(memcmp(&before, &key, sizeof before) == 0);
+    for (size_t room = 0; room <= MESSAGE_LEN; room++) {
+        CHECK(minisign_comment_message(questions.signature, bytes_of(COMMENT), sizeof COMMENT - 1, text, room)
+              == (room < MESSAGE_LEN ? MINISIGN_NO_ROOM : MINISIGN_OK));
     }
+    CHECK(memcmp(text, message, MESSAGE_LEN) == 0);
+}
+
+/* NULL of no bytes where data is fed and asked about. */
+static void nothing_fed(void)
+{
+    minisign_state empty = fed_with(""), fed = fed_with("abc"), state, never;
+    minisign_public_key public_key = key_of(KEY);
+    minisign_signature none = { 0 }, read = signature_of(SIGNATURE);
+
+    minisign_init(&state);
+    CHECK(minisign_update(&state, NULL, 0) == MINISIGN_OK && memcmp(&state, &empty, sizeof state) == 0);
+    CHECK(minisign_update(&state, bytes_of("abc"), 3) == MINISIGN_OK);
+    CHECK(minisign_update(&state, NULL, 0) == MINISIGN_OK && memcmp(&state, &fed, sizeof state) == 0);
+    memset(&never, 0, sizeof never);
+    CHECK(minisign_update(&never, NULL, 0) == MINISIGN_NOT_BEGUN);
+    CHECK(minisign_read_public_key(NULL, 0, &public_key) == MINISIGN_MISSING_PUBLIC_KEY_COMMENT);
+    CHECK(minisign_read_bare_public_key(NULL, 0, &public_key) == MINISIGN_BARE_PUBLIC_KEY_LENGTH);
+    CHECK(minisign_read_signature(NULL, 0, &none) == MINISIGN_MISSING_UNTRUSTED_COMMENT);
+    CHECK(minisign_ask(&empty, &public_key, &none, NULL, 0, 0, &questions, NULL, 0) == MINISIGN_SIGNATURE_NOT_READ);
+    CHECK(minisign_ask(&empty, &public_key, &read, NULL, 0, 0, &questions, NULL, 0) == MINISIGN_OTHER_SIGNATURE_TEXT);
+    CHECK(minisign_ask(&empty, &public_key, &read, bytes_of(SIGNATURE), sizeof SIGNATURE - 1, 0, &questions, NULL, 0)
+          == MINISIGN_NO_ROOM);
+    CHECK(minisign_error_text(MINISIGN_OK, NULL, 0) == strlen("no error"));
+}
+
+/* And where a key is read, opened and signed with, also under the password of no bytes, which is one. */
+static void nothing_signed(void)
+{
+    static const uint8_t first[64], second[64];
+    static uint8_t empty[1024];
+    static const minisign_sealing none, little = { .operations_limit = 32768, .memory_limit = 1 << 20 };
+    size_t empty_len = 0;
+
+    CHECK(minisign_read_secret_key(NULL, 0, &unopened) == MINISIGN_MISSING_SECRET_KEY_COMMENT);
+    CHECK(read_and_open(SECRET_KEY, NULL, &unopened, &key) == MINISIGN_OK);
+    CHECK(minisign_open_sealed_key(&unopened, NULL, 0, 1, 1, &key) == MINISIGN_KEY_NOT_SEALED);
+    CHECK(minisign_open_sealed_key_in_place(&unopened, NULL, 0, 1, 1, NULL, 0, NULL, 0, &key) == MINISIGN_KEY_NOT_SEALED);
+    CHECK(minisign_public_key_text(&key, NULL, 0, NULL, 0, &text_len) == MINISIGN_NO_ROOM);
+    CHECK(minisign_secret_key_text(&key, 0, NULL, 0, &none, 1, NULL, 0, NULL, 0, &text_len) == MINISIGN_NO_ROOM);
+    CHECK(minisign_comment_message(first, NULL, 0, message, sizeof message) == MINISIGN_OK);
+    CHECK(minisign_comment_message(first, NULL, 0, NULL, 0) == MINISIGN_NO_ROOM);
+    CHECK(make_signed_text(&key, first, second, NULL, 0, NULL, 0, NULL, 0, &text_len) == MINISIGN_NO_ROOM);
+    CHECK(make_signed_text(&key, first, second, NULL, 0, NULL, 0, text, sizeof text, &text_len) == MINISIGN_OK);
+    CHECK(make_signed_text(&key, first, second, bytes_of(""), 0, bytes_of(""), 0, empty, sizeof empty, &empty_len)
+          == MINISIGN_OK);
+    CHECK(text_len == empty_len && text_len <= MINISIGN_TEXT_BYTES(0, 0) && memcmp(text, empty, text_len) == 0);
+    CHECK(minisign_secret_key_text(&of_zeros, 1, NULL, 0, &little, 16, NULL, 0, text, sizeof text, &text_len) == MINISIGN_OK);
+    CHECK(minisign_read_secret_key(text, text_len, &unopened) == MINISIGN_OK);
+    opens(NULL, 16, MINISIGN_USUAL_ROWS, 0, 0, MINISIGN_OK);
+    opens(NULL, 16, MINISIGN_USUAL_ROWS, LENGTH(words), sizeof parts, MINISIGN_OK);
+    CHECK(minisign_open_sealed_key_in_place(&unopened, NULL, 0, 16, MINISIGN_USUAL_ROWS, NULL, 0, NULL, 0, &key)
+          == MINISIGN_NO_ROOM);
 }
 
 /* The numbers themselves, which other languages write out. */
@@ -421,11 +458,12 @@ int main(void)
     keys_of_no_text();
     taken_in();
     texts_of_signatures();
-    texts_for_minisign();
     keys_made();
     rows_bounded(1);
     rows_bounded(MOST_PARTS);
     no_memory_wanted();
+    nothing_fed();
+    nothing_signed();
     numbers();
     return ended();
 }

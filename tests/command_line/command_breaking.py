@@ -6,51 +6,54 @@ After each run every file is the older one or a new one, whole, and a secret key
 import base64
 import errno
 import os
-import resource
+import re
 import signal
 import stat
-from dataclasses import dataclass
+from collections import namedtuple
 from functools import partial
 
-from disturbed import in_turn, run_at_once, small_disk, without_room
-from permissions import COMMON, WITH_LISTS, permission_cases
+from disturbed import OverTasks, run_at_once
+from permissions import KEPT, permission_cases
 from running import Skip, expect, read
-from command_running import OPEN, OTHER, Programs, files_in, put_files, record_of
+from texts import record_of
+from command_running import DATA, OPEN, OTHER, PUBLIC, Programs, files_in, put_files
 
 STAGE = ".minisign-"
+# The calls that bring a file to the disk, or to its place.
+BRINGING = "fsync linkat rename renameat renameat2"
+# What is said where an allocation failed: the library's words, or the system's of a file.
+OUT_OF_MEMORY = re.compile(rb"out of memory\n|[\w.]+: Cannot allocate memory\n")
 
 
-@dataclass(frozen=True)
-class Task:
+class Task(namedtuple("Task", "name arguments files targets before_failing by_path", defaults=(0, False))):
     """A run that replaces files: what stands in its directory before it, a judge of each file that it writes, and how many may be
-    new where it fails, which is none where they belong together."""
-
-    name: str
-    arguments: tuple
-    files: dict
-    judges: dict
-    before_failing: int = 0
+    new where it fails, which is none where they belong together. The files are named by their paths, which begin with /dev/ where they
+    are in memory, or by their names."""
 
     @property
     def belong_together(self):
-        return len(self.judges) == 2
+        return len(self.targets) == 2
+
+    def make(self, directory):
+        put_files(directory, self.files)
+        names = {*self.files, *self.targets} if self.by_path else ()
+        return [os.path.join(directory, word) if word in names else word for word in self.arguments]
 
     def check(self, directory, killed=False):
-        """How many files are new."""
         found = {name: held for name, held in files_in(directory).items() if held[1] is not None}
         expect(found.keys() >= self.files.keys(), f"{sorted(self.files.keys() - found.keys())} are gone")
-        new = 0
+        new = set()
         for name, (mode, data) in found.items():
             is_a_secret = name.endswith(".key") or data.startswith(b"untrusted comment: minisign encrypted")
             expect(not is_a_secret or mode == 0o600, f"{name} has the mode {mode:o}")
             is_stage = killed and os.path.basename(name).startswith(STAGE)
-            expect(name in self.judges or name in self.files or is_stage, f"it left {name}")
-            if name in self.judges and data != self.files.get(name):
-                self.judges[name](data)
-                new += 1
+            expect(name in self.targets or name in self.files or is_stage, f"it left {name}")
+            if name in self.targets and data != self.files.get(name):
+                self.targets[name](data)
+                new.add(name)
             elif name in self.files:
                 expect(data == self.files[name], f"{name} was changed")
-        return new
+        return [name in new for name in self.targets]
 
 
 def whole(begin, *lengths):
@@ -89,135 +92,69 @@ def tasks(keys):
     ]
 
 
-class Breaking(Programs):
-    """Runs the program in fresh directories that hold what stands there before a task."""
+class Breaking(OverTasks, Programs):
+    def expect_unwritten(self, ran, number):
+        """A run said this error of the system."""
+        expect(ran.status == 2 and os.strerror(number).encode() in ran.said, ran)
 
-    def run_task(self, task, directory=None, environment=None, **how):
-        """Runs a task, in a fresh directory if in none: how it ended, and its directory."""
-        directory = directory or self.fresh(task.files)
-        return self.run(directory, task.arguments, environment, **how), directory
-
-    def break_task(self, task, judge, by_path=False, **how):
-        """Breaks each call of a task in turn, and hands to `judge` how each run ended and its directory: how many calls there were.
-        The files are named by their paths, which begin with /dev/ where they are in memory, or by their names."""
-
-        def attempt(number, directory):
-            put_files(directory, task.files)
-            names = {*task.files, *task.judges} if by_path else ()
-            arguments = [os.path.join(directory, word) if word in names else word for word in task.arguments]
-            ran = self.run_broken(directory, arguments, {"AT": number, **how})
-            judge(ran, directory)
-            return ran.came
-
-        return in_turn(self.place, attempt)
-
-    # ---- Kills and failures ----
-
-    def killed(self, task, **how):
-        """A run that is killed before each of its calls leaves each number of new files, the public key before the
-        secret one."""
-        seen = set()
-
-        def judge(ran, directory):
-            expect(ran.status == (-signal.SIGKILL if ran.came else 0), ran)
-            new = task.check(directory, killed=ran.came)
-            seen.add(new)
-            expect(new != 1 or not task.belong_together or read(directory, "a.pub") != task.files.get("a.pub"),
-                   "the secret key is new, and the public one is not")
-
-        self.break_task(task, judge, **how)
-        expect(seen == set(range(len(task.judges) + 1)), f"the kills left {sorted(seen)} new files")
+    # ---- Failures ----
 
     def failing(self, task, number):
         """A run in which each call fails in turn: it exits with status 2 and says why, or does all that it has to."""
 
         def judge(ran, directory):
-            new = expect_all_or_told(ran, task, directory)
+            new = sum(task.check(directory))
+            expect((ran.status, new) == (0, len(task.targets)) or ran.status == 2 and ran.said and ran.came, ran, f"{new} new files")
             expect(not task.belong_together or new in (0, 2), f"{new} of 2 files are new")
 
-        expect(self.break_task(task, judge, ERRNO=number) >= 3, "it made hardly any call")
+        expect(self.break_each(task.make, judge, ERRNO=number) >= 3, "it made hardly any call")
 
-    def failing_writes(self, task, number, **how):
-        """A run in which a write fails: nothing is new but what was written before."""
+    def refused_allocations(self, task, status, by_library):
+        """A run with each of its allocations failing in turn does all that it has to, or exits with status 2 and says that and nothing
+        else. The library makes some of them, or none."""
+        said, answers = set(), set()
 
         def judge(ran, directory):
-            if ran.came:
-                expect_told(ran, number, task, directory, task.before_failing)
+            new = task.check(directory)
+            if ran.status == status and all(new):
+                answers.add((ran.output, ran.said))
             else:
-                task.check(directory)
+                expect(ran.status == 2 and ran.came and OUT_OF_MEMORY.fullmatch(ran.said) and (task.targets or not ran.output), ran)
+                said.add(ran.said)
 
-        expect(self.break_task(task, judge, ERRNO=number, CALLS="write", **how), "it writes nothing")
-
-    def refused_allocations(self, task):
-        """A run with each of its allocations failing in turn exits with status 2 and says why, or does all that it has to."""
-
-        def attempt(number, directory):
-            put_files(directory, task.files)
-            ran = self.run_refused(directory, task.arguments, number)
-            expect_all_or_told(ran, task, directory)
-            return ran.came
-
-        in_turn(self.place, attempt)
-
-    def on_full_disk(self, task):
-        """A run on a file system without room: nothing is new, and it says so."""
-        directory = self.fresh({})
-        with small_disk(directory):
-            put_files(directory, task.files)
-            with without_room(directory):
-                ran, _ = self.run_task(task, directory)
-            expect_told(ran, errno.ENOSPC, task, directory)
-
-    def within_file_size(self, task):
-        """A run with a bound on the size of files."""
-        ran, directory = self.run_task(task, preexec_fn=lambda: resource.setrlimit(resource.RLIMIT_FSIZE, (50, 50)))
-        expect_told(ran, errno.EFBIG, task, directory)
-
-    def ended_by_signal(self, task, number):
-        """A run gets a signal when it brings its file to the disk or puts it in its place: nothing is left beside it."""
-        directory = self.fresh(task.files)
-        calls = "fsync linkat rename renameat renameat2"
-        ran = self.run_broken(directory, task.arguments, {"AT": 1, "CALLS": calls, "SIGNAL": int(number)})
-        expect(ran.status == -number and task.check(directory) == 0, ran)
+        expect(self.break_each(task.make, judge, CALLS="memory", ERRNO=errno.ENOMEM), "it asks for no memory")
+        expect(len(answers) == 1 or task.targets and answers, f"it answers {answers}")
+        expect((b"out of memory\n" in said) == by_library, f"it said {said}")
 
     def keeps_permissions(self, task, mode):
         """A run over a file with these permissions, of another owner where that can be had, keeps both."""
         directory = self.fresh(task.files)
-        path = os.path.join(directory, *task.judges)
+        path = os.path.join(directory, *task.targets)
         os.chmod(path, mode)
         owner = (12345, 54321) if os.geteuid() == 0 else (os.geteuid(), os.stat(path).st_gid)
         os.chown(path, *owner)
-        (ran, _), found = self.run_task(task, directory), os.stat(path)
+        ran, found = self.run(directory, task.arguments), os.stat(path)
         expect(ran.status == 0 and (found.st_uid, found.st_gid, stat.S_IMODE(found.st_mode)) == (*owner, mode),
                ran, f"it left {found.st_uid}, {found.st_gid}, {found.st_mode:o}")
 
     def through_links(self, task):
         """A run over files that are reached by links, of which the last may lead to nothing yet, keeps the links."""
         directory = self.fresh({"kept": None, **task.files})
-        for name in task.judges:
+        for name in task.targets:
             path = os.path.join(directory, name)
             if name in task.files:
                 os.rename(path, os.path.join(directory, "kept", name))
             os.symlink(f"./kept/{name}", f"{path}.link")
             os.symlink(f"{name}.link", path)
-        ran, _ = self.run_task(task, directory)
-        expect(ran.status == 0 and all(os.path.islink(os.path.join(directory, name)) for name in task.judges), ran)
-        for name, judge in task.judges.items():
+        ran = self.run(directory, task.arguments)
+        expect(ran.status == 0 and all(os.path.islink(os.path.join(directory, name)) for name in task.targets), ran)
+        for name, judge in task.targets.items():
             judge(read(directory, "kept", name))
 
     def into_pipe(self, task):
-        """A signature that goes into a pipe."""
         ran = self.run(self.fresh(task.files), [*task.arguments, "-x", "/dev/stdout"])
         expect(ran.status == 0, ran)
         is_signature(ran.output)
-
-    def at_once(self, task, environment=None, times=1, runs=8):
-        """Runs that write the same files at once: all end well, and each file is whole."""
-        directory = self.fresh(task.files)
-        for _ in range(times):
-            ended = run_at_once([self.program, *task.arguments], directory, environment, runs)
-            expect(not any(status for status, _ in ended), f"they ended with {ended}")
-        expect(task.check(directory) == len(task.judges), "not all files are new")
 
     def first_alone(self, task):
         """Runs that make the same new pair at once: it is the pair of one of them."""
@@ -230,17 +167,21 @@ class Breaking(Programs):
     # ---- Stages ----
 
     def leaves_no_secret(self, task, number):
-        """A signal at each call: no stage is left. A kill of a new pair leaves none either, where files may have no name."""
+        """A signal at each call ends it: no stage is left, and where nothing is synced yet, nothing new. A kill of a new pair leaves none either, where files may have no name."""
         is_kill = number == signal.SIGKILL
         if is_kill and not has_unnamed(self.place):
             raise Skip("each file has a name here")
 
         def judge(ran, directory):
-            expect(not stages_in(directory), f"it left {stages_in(directory)}")
-            new = task.check(directory, killed=is_kill)
+            expect(ran.status == (-number if ran.came else 0) and not stages_in(directory), ran, f"it left {stages_in(directory)}")
+            new = sum(task.check(directory, killed=is_kill))
             expect(is_kill or not task.belong_together or new in (0, 2), f"{new} files are new")
 
-        self.break_task(task, judge, SIGNAL=int(number))
+        self.break_each(task.make, judge, SIGNAL=int(number))
+        if not is_kill:
+            directory = self.fresh(task.files)
+            ran = self.run_broken(directory, task.arguments, {"AT": 1, "CALLS": BRINGING, "SIGNAL": int(number)})
+            expect(ran.status == -number and not any(task.check(directory)), ran, "a file is new before it is synced")
 
     def next_run_clears(self, task, **how):
         """A kill at each call, and a next run, of another command, in the same directory: no stage is left."""
@@ -252,34 +193,41 @@ class Breaking(Programs):
             after = self.run(directory, ("-Sm", "other", "-s", "b.key"))
             expect(after.status == 0 and not stages_in(directory), "the next run", after, f"{stages_in(directory)} are left")
 
-        self.break_task(task, judge, **how)
+        self.break_each(task.make, judge, **how)
         expect(seen, "no kill left a stage")
 
-    # ---- The cases ----
+    def without_libsodium(self):
+        """Where libsodium cannot be started, a run says so and makes nothing."""
+        directory = self.fresh({})
+        ran = self.run_broken(directory, ("-GW", "-p", "a.pub", "-s", "a.key"), {"AT": 1, "CALLS": "sodium_init", "ERRNO": errno.EIO})
+        expect((ran.status, ran.said) == (2, b"libsodium could not be started\n") and not os.listdir(directory), ran)
 
     def cases(self):
-        """The names of all cases, and what runs each."""
         pair, replaced, changed, _, new, over, several = found = tasks(self.keys)
-        older, some = (replaced, changed, over, several), (pair, replaced, changed, over)
+        files = {**DATA, PUBLIC: self.keys[PUBLIC], "data.minisig": read(self.signed(), "data.minisig")}
+        right, wrong = (Task(f"verifying {name}", f"-Vm {name} -x data.minisig -p {PUBLIC}".split(), files, {})
+                        for name in ("data", "more"))
+        older, half_way = (replaced, changed, over, several), partial(self.failing_writes, SHORT=1)
+        by_path = [task._replace(by_path=True) for task in found]
         unnamed = {"LD_PRELOAD": self.preload, "BREAK_UNNAMED": "1"}
-        half_way, ends = partial(self.failing_writes, SHORT=1), (signal.SIGTERM, signal.SIGINT, signal.SIGHUP)
         for what, which, run, *given in (
-            ("killed", found, self.killed), ("killed, and named by its path", found, partial(self.killed, by_path=True)),
+            ("killed", found, self.killed), ("killed, and named by its path", by_path, self.killed),
             ("and a call fails", found, self.failing, errno.EIO),
             ("and a write fails by ENOSPC", found, self.failing_writes, errno.ENOSPC),
             ("and a write fails by EDQUOT", found, self.failing_writes, errno.EDQUOT),
             ("and a write fails half way", found, half_way, errno.ENOSPC),
-            ("named by its path, and a write fails half way", found, partial(half_way, by_path=True), errno.ENOSPC),
-            ("and an allocation fails", found, self.refused_allocations),
+            ("named by its path, and a write fails half way", by_path, half_way, errno.ENOSPC),
+            ("and an allocation fails", (task for task in found if task != changed), self.refused_allocations, 0, True),
+            ("and an allocation fails", (changed, right), self.refused_allocations, 0, False),
+            ("and an allocation fails", [wrong], self.refused_allocations, 1, False),
             ("on a full disk", found, self.on_full_disk), ("with a bound on files", found, self.within_file_size),
             ("through links", found, self.through_links),
-            *((f"and {number.name}", found, self.ended_by_signal, number) for number in ends),
             ("at once", older, self.at_once), ("at once", [pair], self.first_alone),
             ("keeping its permissions", [over], self.keeps_permissions, 0o640),
             ("keeping its permissions", [changed], self.keeps_permissions, 0o400 if os.geteuid() == 0 else 0o600),
             ("into a pipe", [new], self.into_pipe),
-            *((f"and signal {int(number)} at each call", some, self.leaves_no_secret, number)
-              for number in (signal.SIGUSR1, signal.SIGTERM, signal.SIGRTMIN)),
+            *((f"and signal {int(number)} at each call", found, self.leaves_no_secret, number)
+              for number in (signal.SIGUSR1, signal.SIGRTMIN, signal.SIGTERM, signal.SIGINT, signal.SIGHUP)),
             ("killed: no stage", [pair], self.leaves_no_secret, signal.SIGKILL),
             ("killed, and the next run", [changed], self.next_run_clears),
             ("killed where each file has a name, and the next run", (pair, changed, new), partial(self.next_run_clears, UNNAMED=1)),
@@ -289,7 +237,14 @@ class Breaking(Programs):
         ):
             for task in which:
                 yield f"{task.name}, {what}", run, task, *given
-        yield from permission_cases(ReplacingBySigning(self, over), (COMMON, WITH_LISTS))
+
+        yield "libsodium cannot be started", self.without_libsodium
+
+        def prepare(directory):
+            put_files(directory, over.files)
+            return os.path.join(directory, *over.targets)
+
+        yield from permission_cases(self, prepare, lambda _: over.arguments, KEPT)
 
 
 def stages_in(directory):
@@ -303,32 +258,3 @@ def has_unnamed(directory):
     except OSError:
         return False
     return True
-
-
-def expect_told(ran, number, task, directory, before_failing=0):
-    """A run said this error of the system, and no more than so many files are new."""
-    new = task.check(directory)
-    expect(ran.status == 2 and os.strerror(number).encode() in ran.said and new <= before_failing, ran, f"{new} new files")
-
-
-def expect_all_or_told(ran, task, directory):
-    """A run did all that it has to, or was broken and said so: how many files are new."""
-    new = task.check(directory)
-    expect((ran.status, new) == (0, len(task.judges)) or ran.status == 2 and ran.said and ran.came, ran, f"{new} new files")
-    return new
-
-
-class ReplacingBySigning:
-    """The runs of `permissions.py`: a signature over an older one."""
-
-    def __init__(self, breaking, task):
-        self.breaking, self.task, self.place = breaking, task, breaking.place
-
-    def prepare(self, directory):
-        put_files(directory, self.task.files)
-        return os.path.join(directory, *self.task.judges)
-
-    def run(self, directory, asked, breaking, user):
-        environment = {"LD_PRELOAD": self.breaking.preload, **breaking} if breaking else {}
-        ran, _ = self.breaking.run_task(self.task, directory, environment, **user)
-        return ran.status, ran.said

@@ -2,56 +2,42 @@
 the same random bytes and at the same time, over pipes or at a terminal.
 """
 
-import base64
-import hashlib
 import os
 import re
 import shutil
 import stat
 import sys
 import tempfile
-import time
-from dataclasses import dataclass, field
+from collections import namedtuple
 
-from at_terminal import SECONDS, AtTerminal, type_at_terminal
+import texts
+from at_terminal import AtTerminal, type_at_terminal
 from disturbed import Disturbing
 from process import Ran, run_program
-from running import Link, expect, read, run_cases, write
+from running import Link, expect, read, run_cases, wait_until, write
+from texts import record_of
 
 HOME = "home"
 # The keys that both make of the fixed random bytes, once Minisign has made them, and data.
 OPEN, PUBLIC, CLOSED, OTHER = "first.key", "first.pub", "closed.key", "other.pub"
 PASSWORD = b"correct horse"
 DATA = {"data": b"some data\n", "more": b"more data\n", "empty": b""}
-# The program was built with -DPOSIX_ONLY: directories have to be readable then.
-POSIX_ONLY = "--posix-only" in sys.argv
-PASSED_THROUGH = 0o755 if POSIX_ONLY else 0o711
+# Of a program that was built with -DPOSIX_ONLY directories have to be readable.
+PASSED_THROUGH = 0o755 if "--posix-only" in sys.argv else 0o711
 # What is shown at a terminal while a key is derived, a dot each second, and while a large file is read.
 DOTS = re.compile(rb"(secret key\.\.\. )\.+(?=done)")
 PROGRESS = re.compile(rb"\r[^\r\n]*\r\x1b\[K|\r\x1b\[K")
 
 
-@dataclass(frozen=True)
-class Step:
-    """One run of a program: its arguments, what is typed, its variables besides HOME, and whether it is at a terminal."""
-
-    arguments: tuple
-    typed: bytes = b""
-    variables: dict = field(default_factory=dict)
-    at_terminal: bool = False
-
-
-@dataclass(frozen=True)
-class Whole:
-    """The two programs, and what is preloaded into them."""
-
-    theirs: str
-    ours: str
-    preload: str
+# One run of a program: its arguments, what is typed, its variables besides HOME, and whether it is at a terminal.
+Step = namedtuple("Step", "arguments typed variables at_terminal", defaults=(b"", {}, False))
+# The two programs, and what is preloaded into them.
+Whole = namedtuple("Whole", "theirs ours preload")
+# How the runs of a program ended, and what files are there: their modes and bytes.
+Left = namedtuple("Left", "ran files")
 
 
 def run_step(program, preload, directory, step):
-    """Runs one step in a directory."""
     environment = {"HOME": HOME, "PATH": os.environ.get("PATH", ""), "LD_PRELOAD": preload or None, **step.variables}
     environment = {name: value for name, value in environment.items() if value is not None}
     command = ["minisign", *step.arguments]
@@ -86,11 +72,10 @@ def files_in(directory):
 
 
 def run_steps(program, preload, files, steps):
-    """Runs steps in a fresh directory: how each ended, and the files afterwards."""
     with tempfile.TemporaryDirectory(prefix="whole-") as directory:
         put_files(directory, {HOME: None, **files})
         ran = [run_step(program, preload, directory, step) for step in steps]
-        return ran, files_in(directory)
+        return Left(ran, files_in(directory))
 
 
 def case(name, *rows):
@@ -147,8 +132,13 @@ class Programs(Disturbing):
         return self.run(directory, arguments, {"HOME": HOME}, self.whole.theirs, **how)
 
     def sign(self, directory, *flags, **how):
-        """Signs the data there."""
         return self.ours(directory, "-Sm", "data", "-s", OPEN, *flags, **how)
+
+    def expect_accepted(self, directory, public):
+        """Both accept the signature of the data."""
+        for run in (self.theirs, self.ours):
+            ran = run(directory, "-Vm", "data", "-p", public)
+            expect(ran.status == 0, run.__name__, ran)
 
     def expect_rejected(self, said, *arguments, files=None, status=2, **how):
         """A run in a directory with these files ends so, says this at its end, and leaves all as it was."""
@@ -158,7 +148,6 @@ class Programs(Disturbing):
         expect(ran.status == status and ran.said.endswith(said) and files_in(directory) == before, ran)
 
     def at_terminal(self, directory, *arguments, **environment):
-        """A run at a terminal."""
         return AtTerminal(["minisign", *arguments], self.program, directory, {"HOME": HOME, **environment})
 
     def asked(self, directory, *arguments, **environment):
@@ -180,50 +169,14 @@ def expect_end(at, status, shown, typed=b""):
     expect(ended == status and re.search(shown, at.shown), f"it ended with {ended}, and showed {at.shown!r}")
 
 
-def wait_until(holds, otherwise):
-    end = time.monotonic() + SECONDS / 10
-    while not holds():
-        expect(time.monotonic() <= end, otherwise)
-        time.sleep(0.01)
-
-
-# ---- Texts of keys ----
-
-
-def record_of(text):
-    """The bytes of a text of two lines."""
-    return base64.b64decode(text.split(b"\n")[1])
-
-
-def text_of(record, comment=b"minisign encrypted secret key"):
-    """The text of a secret key."""
-    return b"untrusted comment: " + comment + b"\n" + base64.b64encode(record) + b"\n"
-
-
-def turned(record, at):
-    """A record with a bit of this byte turned."""
-    return record[:at] + bytes([record[at] ^ 1]) + record[at + 1:]
-
-
-def checksum_of(record):
-    return hashlib.blake2b(record[:2] + record[54:126], digest_size=32).digest()
-
-
-def with_checksum(record):
-    return record[:126] + checksum_of(record)
-
-
 # So few rows take so little work that they may be made often. They are the least that Minisign takes.
 FEW_ROWS = 1024
-# More work than a test does: such a key has zeros in place of its stream, and opens under no password.
+# More work than a test does: such a key opens under no password.
 MUCH_WORK = 1 << 22
 
 
 def sealed(text, password, memory=1 << 24, rows=FEW_ROWS, times=1):
     """The key of an open text, sealed with limits that lead to this N and this p of scrypt: so few operations decide N, whatever the
     memory, but where the memory is that of N rows it decides N, and the operations p."""
-    record, salt, stream = with_checksum(record_of(text)), bytes(range(32)), bytes(104)
-    if times * rows < MUCH_WORK:
-        stream = hashlib.scrypt(password, salt=salt, n=rows, r=8, p=times, maxmem=(1 << 31) - 1, dklen=104)
-    limits = (times * 8 * 4 * rows).to_bytes(8, "little") + memory.to_bytes(8, "little")
-    return text_of(b"EdScB2" + salt + limits + bytes(a ^ b for a, b in zip(record[54:158], stream)))
+    limits = texts.Limits(memory, times * 8 * 4 * rows, rows, times)
+    return texts.text_of(texts.sealed(record_of(text), password if times * rows < MUCH_WORK else None, limits))

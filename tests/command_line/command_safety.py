@@ -1,6 +1,6 @@
 """What `c/minisign` does better than Minisign's own program: what you type stays hidden and the terminal shows again
-after a signal, secrets are locked in memory, comments cannot talk to a terminal, only verified data is copied out,
-and a key opens in little memory.
+after a signal, in the background and with -q and -Q it leaves terminals and timers alone, secrets are locked in
+memory, comments cannot talk to a terminal, only verified data is copied out, and a key opens in little memory.
 """
 
 import concurrent.futures
@@ -13,17 +13,17 @@ import subprocess
 import sys
 import time
 
+import needles
 import needs
 import static_library
-from process import run_program
-from running import build_preload, expect, feed, read, write
+from at_terminal import SECONDS, AtTerminal
+from process import run_measured, run_program
+from running import expect, feed, read, wait_until, write
+from texts import record_of, text_of
 from command_breaking import is_signature
-from command_running import (CLOSED, DATA, HOME, OPEN, PASSWORD, PUBLIC, SECONDS, AtTerminal, Programs, Step, case, expect_end,
-                             expect_question, record_of, run_steps, text_of, wait_until)
+from command_running import CLOSED, DATA, HOME, OPEN, PASSWORD, PUBLIC, Programs, Step, case, expect_end, expect_question, run_steps
 
 HERE = os.path.dirname(os.path.realpath(__file__))
-# A key of Minisign's limits takes 1 GiB; with one of 16 rows it has to open within so many MiB, all of the program's.
-ROWS, MEBIBYTES = "16", 68
 # The length of data that changes between two readings: its last piece and its last block are not full.
 LARGE, BLOCK = 2000003, 4096
 NEW_PAIR, SEALED = ("-G", "-p", "a.pub", "-s", "a.key"), ("-Sm", "data", "-s", CLOSED)
@@ -52,56 +52,28 @@ if os.WIFSTOPPED(status):
 sys.exit(os.waitstatus_to_exitcode(status) & 255)
 """
 
+# Sets a timer and becomes the program.
+ALARMED = """
+import os, signal, sys
+signal.setitimer(signal.ITIMER_REAL, 0.4)
+os.execv(sys.argv[1], ["minisign", *sys.argv[2:]])
+"""
+
 
 def block(number):
     """Another block for each number."""
     return number.to_bytes(4, "little") * (BLOCK // 4)
 
 
-class Terminals(Programs):
-    """Runs at terminals."""
-
+class Safety(Programs):
     def costly(self):
         """The sealed key with the limits of a usual one: it takes seconds to find out that a password is wrong."""
         record = record_of(self.keys[CLOSED])
-        return text_of(record[:38] + (33554432).to_bytes(8, "little") + (1 << 30).to_bytes(8, "little") + record[54:])
-
-    def deriving(self, *flags):
-        """A run that has asked for the password of a key that takes long to open."""
-        return self.asked(self.directory(**{"costly.key": self.costly()}), "-Sm", "data", "-s", "costly.key", "-k", "2", *flags)
-
-    def expect_accepted(self, directory, public):
-        for run in (self.theirs, self.ours):
-            ran = run(directory, "-Vm", "data", "-p", public)
-            expect(ran.status == 0, run.__name__, ran)
+        return text_of(record[:38] + struct.pack("<QQ", 33554432, 1 << 30) + record[54:])
 
     def run_by(self, script, directory, *words):
         """Runs a script in Python at a terminal, which runs the program."""
         return AtTerminal(["python", "-c", script, *words], sys.executable, directory, {"HOME": HOME})
-
-    def read_slowly(self, name, *flags):
-        """Verifies the data at a terminal while it comes slowly through a pipe of this name: the exit status, and what was shown."""
-        directory = self.signed()
-        path = os.path.join(directory, name)
-        os.mkfifo(path)
-
-        def write_slowly():
-            with open(path, "wb", buffering=0) as pipe:
-                time.sleep(2.1)
-                pipe.write(DATA["data"])
-                time.sleep(2.1)
-
-        with concurrent.futures.ThreadPoolExecutor() as pool:
-            pool.submit(write_slowly)
-            at = self.at_terminal(directory, "-Vm", name, "-x", "data.minisig", "-p", PUBLIC, *flags)
-            status = at.finish()
-            # (a program that never opens the pipe leaves the writer waiting)
-            os.close(os.open(path, os.O_RDONLY | os.O_NONBLOCK))
-            return status, at.shown
-
-
-class Safety(Terminals):
-    """The programs, the keys, and what is tried."""
 
     # ---- Passwords ----
 
@@ -131,6 +103,27 @@ class Safety(Terminals):
         expect_end(at, 0, b"", PASSWORD + b"\n")
         is_signature(read(directory, "data.minisig"))
 
+    @case("in the background")
+    def in_background(self):
+        """There it is stopped, and the terminal shows what is typed; in the foreground it asks."""
+        at = self.run_by(SHELL, self.directory(), "background", self.program, *SEALED)
+        expect(at.read_until(rb"stopped by SIGTTOU and it shows"), f"it showed {at.shown!r}")
+        expect_question(at)
+        expect_end(at, 0, rb"secret key\.\.\. done\r\n\r\n", PASSWORD + b"\n")
+
+    @case("a timer that was set before, at a terminal {0}", False, True)
+    def alarm_before(self, at_terminal):
+        """It ends a derivation of a key, and nothing is written into a stream that is no terminal."""
+        directory = self.directory(**{"costly.key": self.costly()})
+        arguments = ("-Sm", "data", "-s", "costly.key", "-k", "64")
+        if at_terminal:
+            at = self.run_by(ALARMED, directory, self.program, *arguments)
+            expect_question(at)
+            expect_end(at, -signal.SIGALRM, b"", b"wrong\n")
+        else:
+            ran = run_program([sys.executable, "-c", ALARMED, self.program, *arguments], directory, b"wrong\n")
+            expect(ran.status == -signal.SIGALRM and b"." not in ran.said, ran)
+
     @case("while it asks, its secrets are locked in memory, and no core file would be written")
     def locked(self):
         at = self.asked(self.directory(), *SEALED)
@@ -145,22 +138,20 @@ class Safety(Terminals):
     def cleared_by_signal(self, number):
         """A signal at the second question of a new pair: the password that was typed, and the secret key that was drawn, were in
         memory and are not there when the program ends."""
-        finder = build_preload(self.room, "find_bytes")
         # The first key was made of the same random bytes.
-        seed = record_of(self.keys[OPEN])[62:94]
-        for secret, draws in ((b"a long password", ""), (seed, self.whole.preload)):
-            directory = self.directory()
-            says = os.path.join(directory, "found")
-            inverted = bytes(byte ^ 0xff for byte in secret).hex()
-            at = self.asked(directory, *NEW_PAIR, LD_PRELOAD=f"{finder} {draws}", FIND=inverted, FIND_SAYS=says)
-            at.type(b"a long password\n")
-            expect_question(at, 2)
-            at.type(b"a long p")
-            at.process.send_signal(number)
-            at.process.wait(SECONDS)
-            status, found = at.end(), read(says)
-            expect(status == -number and re.search(rb"\+!\+!-$", found),
-                   f"it ended with {status}, and {secret!r} was found so: {found[-20:]}")
+        secrets = {"password": b"a long password", "seed": record_of(self.keys[OPEN])[62:94]}
+        finder, directory = needles.build_finder(self.room, secrets), self.directory()
+        at = self.asked(directory, *NEW_PAIR, LD_PRELOAD=f"{finder} {self.whole.preload}", SEARCH_SAYS=f"{directory}/found")
+        at.type(b"a long password\n")
+        expect_question(at, 2)
+        at.type(b"a long p")
+        at.process.send_signal(number)
+        at.process.wait(SECONDS)
+        status, lines = at.end(), needles.found_by(directory)
+        for secret in secrets:
+            found = [(doing, any(counts)) for (doing, needle), counts in lines if needle == secret and doing in ("wait", "raise")]
+            expect(status == -number and found[-3:] == [("wait", True), ("raise", True), ("raise", False)],
+                   f"it ended with {status}, and the {secret} was found so: {found}")
 
     @case("what is after the line of a password is left on the pipe")
     def passwords_apart(self):
@@ -174,13 +165,14 @@ class Safety(Terminals):
 
     @case("a key of default limits in little memory")
     def opens_in_little_memory(self):
-        """With -k it opens, signs the same and is changed."""
+        """Where it takes 1 GiB, with -k 16 it opens within 68 MiB, all of the program's, and signs the same and is changed."""
         ran, files = run_steps(self.whole.theirs, self.whole.preload, {}, [Step(NEW_PAIR, b"p\np\n")])
         expect(ran[0].status == 0, "Minisign makes no key", *ran)
         directory = self.directory(**{"default.key": files["a.key"][1], "default.pub": files["a.pub"][1]})
         for arguments, typed in ((("-Sm", "data"), b"p\n"), (("-C",), b"p\nq\nq\n")):
-            status, kibibytes, said = with_memory([self.program, *arguments, "-s", "default.key", "-k", ROWS], directory, typed)
-            expect(status == 0 and kibibytes <= 1024 * MEBIBYTES, arguments, f"it ended with {status} and took {kibibytes} KiB: {said!r}")
+            command = [self.program, *arguments, "-s", "default.key", "-k", "16"]
+            status, said, kibibytes = run_measured(command, directory, typed, stderr=subprocess.STDOUT)
+            expect(status == 0 and kibibytes <= 68 << 10, arguments, f"it ended with {status} and took {kibibytes} KiB: {said!r}")
         self.expect_accepted(directory, "default.pub")
         ran = self.theirs(directory, "-Sm", "more", "-s", "default.key", typed=b"q\n")
         expect(ran.status == 0, "Minisign does not open what was changed", ran)
@@ -191,16 +183,38 @@ class Safety(Terminals):
         self.expect_rejected(b"Wrong password for that key\n", "-Sm", "data", "-s", "costly.key", files={"costly.key": self.costly()},
                              typed=b"wrong\n", preexec_fn=lambda: resource.setrlimit(resource.RLIMIT_AS, (300 << 20, 300 << 20)))
 
-    @case("at a terminal a long derivation shows a dot each second")
-    def shows_derivation(self):
-        expect_end(self.deriving(), 2, rb"secret key\.\.\. \.+done\r\n\r\nWrong password", b"wrong\n")
-
-    @case("at a terminal it shows how much of a slow file was read, and takes that away at the end")
-    def shows_reading(self):
-        status, shown = self.read_slowly("slow")
-        expect(status == 0 and re.search(rb"\rslow 0 MiB\r\x1b\[KSignature and", shown), f"it showed {shown!r}")
-
     # ---- What is shown and copied ----
+
+    @case("at a terminal a long derivation and the reading of a slow file are {0}", ("shown",), ("not shown with -q", "-q"),
+          ("not shown with -Q", "-Q"))
+    def shown_meanwhile(self, _, *flags):
+        """A dot each second, and how much was read, with control characters of the name made visible, which is taken away at the end."""
+        directory, name = self.signed(**{"costly.key": self.costly()}), "s\x1blow"
+        at = self.asked(directory, "-Sm", "data", "-s", "costly.key", "-k", "2", *flags)
+        dots = b"" if flags else rb"\.+"
+        expect_end(at, 2, rb"secret key\.\.\. " + dots + rb"done\r\n\r\nWrong password", b"wrong\n")
+        path = os.path.join(directory, name)
+        os.mkfifo(path)
+
+        def write_slowly():
+            with open(path, "wb", buffering=0) as pipe:
+                time.sleep(2.1)
+                pipe.write(DATA["data"])
+                time.sleep(2.1)
+
+        with concurrent.futures.ThreadPoolExecutor() as pool:
+            pool.submit(write_slowly)
+            at = self.at_terminal(directory, "-Vm", name, "-x", "data.minisig", "-p", PUBLIC, *flags)
+            status = at.finish()
+            # (a program that never opens the pipe leaves the writer waiting)
+            os.close(os.open(path, os.O_RDONLY | os.O_NONBLOCK))
+        is_right = not re.search(rb"MiB|\x1b", at.shown) if flags else re.search(rb"\rs\\u\{1b\}low 0 MiB\r\x1b\[KSignature and", at.shown)
+        expect(status == 0 and is_right, f"it showed {at.shown!r}")
+
+    @case("at a terminal, where nothing is shown, {0}", ("-Vm", "data", "-p", PUBLIC), ("-Sm", "data", "-s", OPEN))
+    def nothing_at_terminal(self, *arguments):
+        """No control sequence is written."""
+        expect_end(self.at_terminal(self.signed(), *arguments), 0, rb"\A[^\x1b]*\Z")
 
     @case("control characters of comments, and those that turn the direction, at a terminal and elsewhere")
     def comments_at_terminal(self):
@@ -278,13 +292,6 @@ class Safety(Terminals):
                 ran = run_program([program], self.room, key + piece)
                 expect(ran.status == 0 and int(ran.output, 16) == tag_of(key, piece), flags, f"the tag of {length} bytes is {ran.output}")
 
-    @case("data of {0} bytes is copied whole", 4096, 4097, 131071, 131072, 131073, 262144, 1048576, 1500001)
-    def copies_large_files(self, length):
-        directory = self.directory(large=os.urandom(length))
-        self.ours(directory, "-Sm", "large", "-s", OPEN)
-        ran = self.ours(directory, "-Vom", "large", "-p", PUBLIC)
-        expect(ran.status == 0 and ran.output == read(directory, "large"), f"{ran.status}, {len(ran.output)} bytes")
-
     @case("a full output")
     def full_output(self):
         directory, verifying = self.signed(), ("-Vm", "data", "-p", PUBLIC)
@@ -307,18 +314,6 @@ def tag_of(key, piece):
     """NH of NH of each block."""
     blocks = [piece[at:at + BLOCK] for at in range(0, len(piece), BLOCK)]
     return nh(key[BLOCK:], b"".join(nh(key, block).to_bytes(16, "little") for block in blocks))
-
-
-def with_memory(command, directory, typed):
-    """Runs a command: its status, the most memory that it took in KiB, and what it said."""
-    process = subprocess.Popen(command, cwd=directory, stdin=subprocess.PIPE, stdout=subprocess.PIPE, stderr=subprocess.STDOUT)
-    with process.stdin, process.stdout:
-        process.stdin.write(typed)
-        process.stdin.close()
-        said = process.stdout.read()
-    _, status, used = os.wait4(process.pid, 0)
-    process.returncode = os.waitstatus_to_exitcode(status)
-    return process.returncode, used.ru_maxrss, said
 
 
 def full_pipe():

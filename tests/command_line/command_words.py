@@ -1,19 +1,15 @@
-"""The words of `c/minisign`: of texts of a wrong kind the second line names the file and what it is, control
-characters in names of files are made visible, and in the background, without a terminal and with -q and -Q it leaves
-terminals and timers alone.
+"""The words of `c/minisign`: of texts of a wrong kind the second line names the file and what it is, and control
+characters in names of files are made visible. Where nobody can be asked, a command that needs a password fails.
 """
 
 import base64
 import os
-import signal
-import sys
+import struct
 
-from process import run_program
 from remedies import BY_FLAG
 from running import expect, read, write
-from command_running import (CLOSED, FEW_ROWS, OPEN, OTHER, PASSWORD, PUBLIC, case, expect_end, expect_question, record_of, sealed, text_of,
-                             turned, with_checksum)
-from command_safety import SHELL, Terminals
+from texts import record_of, text_of, turned, with_checksum
+from command_running import CLOSED, FEW_ROWS, OPEN, OTHER, PASSWORD, PUBLIC, Programs, case, files_in, sealed
 
 # Texts of others: as their programs write them.
 SSH = b"ssh-ed25519 AAAAC3NzaC1lZDI1NTE5AAAAIK0wmN/Cr3JXqmLW7u+g9pTh+wyqDHpSQEIQczXkVx9q me@home\n"
@@ -41,113 +37,56 @@ ODD, SHOWN = "a\x1b[31m\u202e\u0085\tb.key", rb"a\u{1b}[31m\u{202e}\u{85}\u{9}b.
 
 # A key of more than so much work, N times p of scrypt, is rejected.
 MAX_WORK = 16 << 20
-# A rejection comes within so many seconds, where such work takes twenty and more.
-AT_ONCE = 10
-
-# Sets a timer and becomes the program.
-ALARMED = """
-import os, signal, sys
-signal.setitimer(signal.ITIMER_REAL, 0.4)
-os.execv(sys.argv[1], ["minisign", *sys.argv[2:]])
-"""
 
 
-class Words(Terminals):
-    """The programs, the keys, and what is tried."""
-
+class Words(Programs):
     def cases(self):
-        for number, (text, *said) in enumerate(damaged_keys(self.keys[OPEN])):
-            yield f"a damaged secret key {number}: {said!r}", self.damaged, text, *said
-        signature = read(self.signed(), "data.minisig")
-        for number, (flag, text, said) in enumerate(wrong_texts(self.keys, signature)):
-            yield f"a wrong text {number} for {flag}: {said.decode()}", self.wrong_text, flag, text, said
+        texts = (*wrong_texts(self.keys, read(self.signed(), "data.minisig")), *damaged_keys(self.keys[OPEN]))
+        for number, (flag, text, said, *first) in enumerate(texts):
+            yield f"a wrong text {number} for {flag}: {said.decode()}", self.wrong_text, flag, text, said, *first
         yield from super().cases()
 
-    # ---- Texts of a wrong kind ----
-
-    def wrong_text(self, flag, text, words):
-        """A text in place of a public key, of a signature or of a secret key: Minisign's own first line, and after it one that
-        names the file and says these words."""
+    def wrong_text(self, flag, text, words, known=None):
+        """A text in place of a public key, of a signature or of a secret key: Minisign's own first line, or this one, and after it one
+        that names the file and says these words. Nothing is written."""
         directory = self.signed(wrong=text)
         arguments = {"-p": ("-Vm", "data", "-p", "wrong"), "-x": ("-Vm", "data", "-p", PUBLIC, "-x", "wrong"),
                      "-s": ("-Sm", "data", "-s", "wrong", "-x", "made")}[flag]
-        ours, theirs = (run(directory, *arguments) for run in (self.ours, self.theirs))
-        lines, first = ours.said.split(b"\n"), theirs.said.split(b"\n")[0]
-        expect(ours.status == 2 and len(lines) == 3 and lines[1] == b"wrong: " + words and "made" not in os.listdir(directory), ours)
+        before = files_in(directory)
+        ours = self.ours(directory, *arguments, typed=b"x\n")
+        lines = ours.said.removeprefix(b"Password: \n").split(b"\n")
+        expect(ours.status == 2 and lines[1:] == [b"wrong: " + words, b""] and files_in(directory) == before, ours)
+        if known:
+            expect(lines[0] == known, ours)
+            return
+        theirs = self.theirs(directory, *arguments)
+        first = theirs.said.split(b"\n")[0]
         expect(theirs.status != 2 or first == lines[0] or lines[0] in ROWS_OF_FIRST_LINES.get(first, (NOT_UTF8,)),
                f"Minisign {theirs}, ours {ours}")
 
-    def damaged(self, text, *said):
-        """A secret key that signs nothing, and what is said of it."""
-        self.expect_rejected(b"\ndamaged.key: ".join(said) + b"\n", "-Sm", "data", "-s", "damaged.key", files={"damaged.key": text}, typed=b"x\n")
-
     @case("a signature that is cut at its end")
     def cut_at_its_end(self):
-        """Where its last line is base64 still it is told as cut; whole ones of other data are not."""
+        """Where its last line is base64 still it is told as cut."""
         text = read(self.signed(), "data.minisig")
         said = b"Comment signature verification failed\ncut: this signature is cut: its fourth line is too short\n"
         for end in (-41, -5):
             self.expect_rejected(said, "-Vm", "data", "-p", PUBLIC, "-x", "cut", files={"cut": text[:end]}, status=1)
-        self.expect_rejected(b"Signature verification failed\n", "-Vm", "more", "-p", PUBLIC, "-x", "whole", files={"whole": text}, status=1)
-
-    @case("the two halves of {0}", ("broken.key", "broken.key: this secret key is damaged: its two halves do not belong together"),
-          (OPEN, f"{OTHER}: this is not the public key of {OPEN}", "-p", OTHER))
-    def halves_apart(self, name, said, *flags):
-        """A key of which one half is another's is told as damaged, and a wrong public key is told as that."""
-        broken = turned(record_of(self.keys[OPEN]), 94)[:126] + bytes(32)
-        self.expect_rejected(f"\n{said}\n".encode(), "-Sm", "data", "-s", name, *flags, files={"broken.key": text_of(broken)})
-
-    # ---- Work ----
 
     @case("a key of {0} rows and the p {1}, {2}", (FEW_ROWS, 32, None), (FEW_ROWS, MAX_WORK // FEW_ROWS + 1, 17), (1 << 20, 17, 17),
           (1 << 15, 513, 17), (FEW_ROWS, 1100, 2, "-K", "1"), (FEW_ROWS, 1100, None, "-K", "2"))
     def work(self, rows, times, needed, *flags):
-        """A key of so much work, N times p of scrypt, opens; or it is rejected at once, and the words say what allows it."""
+        """A key of so much work, N times p of scrypt, opens; or it is rejected at once, where it takes twenty seconds and more, and
+        the words say what allows it."""
         files = {"some.key": sealed(self.keys[OPEN], PASSWORD, rows << 10, rows, times)}
         signing, typed = ("-Sm", "data", "-s", "some.key", *flags), PASSWORD + b"\n"
         if needed:
             said = f"\nsome.key: opening this key takes {needed} times the work of a usual one: -K {needed} allows that\n"
-            self.expect_rejected(said.encode(), *signing, files=files, typed=typed, seconds=AT_ONCE)
+            self.expect_rejected(said.encode(), *signing, files=files, typed=typed, seconds=10)
         else:
             directory = self.directory(**files)
             ran = self.ours(directory, *signing, typed=typed)
             expect(ran.status == 0, ran)
             self.expect_accepted(directory, PUBLIC)
-
-    # ---- Terminals and timers ----
-
-    @case("in the background")
-    def in_background(self):
-        """There it is stopped, and the terminal shows what is typed; in the foreground it asks."""
-        at = self.run_by(SHELL, self.directory(), "background", self.program, "-Sm", "data", "-s", CLOSED)
-        expect(at.read_until(rb"stopped by SIGTTOU and it shows"), f"it showed {at.shown!r}")
-        expect_question(at)
-        expect_end(at, 0, rb"secret key\.\.\. done\r\n\r\n", PASSWORD + b"\n")
-
-    @case("a timer that was set before, at a terminal {0}", False, True)
-    def alarm_before(self, at_terminal):
-        """It ends a derivation of a key, and nothing is written into a stream that is no terminal."""
-        directory = self.directory(**{"costly.key": self.costly()})
-        arguments = ("-Sm", "data", "-s", "costly.key", "-k", "64")
-        if at_terminal:
-            at = self.run_by(ALARMED, directory, self.program, *arguments)
-            expect_question(at)
-            expect_end(at, -signal.SIGALRM, b"", b"wrong\n")
-        else:
-            ran = run_program([sys.executable, "-c", ALARMED, self.program, *arguments], directory, b"wrong\n")
-            expect(ran.status == -signal.SIGALRM and b"." not in ran.said, ran)
-
-    @case("at a terminal with {0}", "-q", "-Q")
-    def quiet(self, flag):
-        """Neither dots nor how far it is are shown."""
-        expect_end(self.deriving(flag), 2, rb"secret key\.\.\. done", b"wrong\n")
-        status, shown = self.read_slowly("slow", flag)
-        expect(status == 0 and b"MiB" not in shown and b"\x1b" not in shown, f"it showed {shown!r}")
-
-    @case("at a terminal, where nothing is shown, {0}", ("-Vm", "data", "-p", PUBLIC), ("-Sm", "data", "-s", OPEN))
-    def nothing_at_terminal(self, *arguments):
-        """No control sequence is written."""
-        expect_end(self.at_terminal(self.signed(), *arguments), 0, rb"\A[^\x1b]*\Z")
 
     @case("no error stream with {0}", ("-C", "-s", CLOSED), ("-CW", "-s", CLOSED), ("-R", "-p", "made.pub", "-s", CLOSED),
           ("-Sm", "data", "-s", CLOSED), ("-G", "-p", "made.pub", "-s", "made.key"))
@@ -157,24 +96,6 @@ class Words(Terminals):
         self.expect_rejected(b"", *arguments, **how)
         theirs = self.theirs(self.directory(), *arguments, **how)
         expect(theirs.status == 2, f"Minisign {theirs}")
-
-    # ---- What to type ----
-
-    @case("what to type: {0}",
-          (BY_FLAG["-s"], 2, "-Sm", "data", "-s", "none.key"),
-          (BY_FLAG["-p"], 2, "-Vm", "data", "-p", "none.pub"),
-          (BY_FLAG["-x"], 2, "-Vm", "more", "-p", PUBLIC),
-          (b"-p or -P has to give the public key of the signer", 1, "-Vm", "data", "-p", OTHER),
-          (b"Without -H it is accepted", 1, "-VHm", "data", "-x", "legacy.minisig", "-p", PUBLIC))
-    def advice(self, words, status, *arguments):
-        """It comes after Minisign's own last line, and nothing else."""
-        directory = self.signed()
-        self.sign(directory, "-l", "-x", "legacy.minisig")
-        ours, theirs = (run(directory, *arguments) for run in (self.ours, self.theirs))
-        expect((ours.status, ours.said) == (status, theirs.said + words + b"\n") and theirs.status == status and theirs.said,
-               ours, f"Minisign {theirs}")
-
-    # ---- Names ----
 
     @case("a name with control characters, {0!r} {1} {2!r}", (None, "-Sm", "data", "-s", ODD), (None, "-Sm", ODD, "-s", OPEN),
           (None, "-Sm", "data", "-s", OPEN, "-x", f"none/{ODD}"), (None, "-Vm", "data", "-p", ODD),
@@ -195,16 +116,6 @@ class Words(Terminals):
                 ran = self.ours(directory, *arguments)
                 said = ran.output + ran.said
             expect(SHOWN in said and b"\x1b" not in said and "\u202e".encode() not in said, f"at a terminal {at_terminal}: {said!r}")
-
-    @case("a name in Latin-1")
-    def name_in_latin(self):
-        ran = self.ours(self.directory(), "-Sm", b"caf\xe9", "-s", OPEN)
-        expect(ran.said.startswith(b"caf\\xe9: No such file or directory\n"), ran)
-
-    @case("a name with control characters while it is read")
-    def name_while_reading(self):
-        status, shown = self.read_slowly("s\x1blow")
-        expect(status == 0 and rb"s\u{1b}low 0 MiB" in shown, f"it showed {shown!r}")
 
 
 def wrong_texts(keys, signature):
@@ -258,22 +169,23 @@ def wrong_texts(keys, signature):
 
 
 def damaged_keys(text):
-    """Texts that read as no key, and the two lines that are said of each."""
+    """The same of texts that read as no secret key, with the first line."""
     record, loading = with_checksum(record_of(text)), b"Error while loading the secret key file"
-    text, damage = text_of(record), b"this secret key is damaged: "
-    closed, number = record_of(sealed(text, PASSWORD)), lambda value: value.to_bytes(8, "little")
-    limited = lambda operations, memory: text_of(closed[:38] + number(operations) + number(memory) + closed[54:])
+    text, damage, closed = text_of(record), b"this secret key is damaged: ", record_of(sealed(text, PASSWORD))
+    limited = lambda *limits: text_of(closed[:38] + struct.pack("<QQ", *limits) + closed[54:])
     no_base64 = b"base64 conversion failed - was an actual secret key given?"
-    return [
-        (b"", loading, b"this is empty"),
-        (text.split(b"\n")[0] + b"\n", loading, b"this secret key is cut: it has 1 of 2 lines"),
-        (text[:-3] + b"!=\n", no_base64, damage + b"its second line is not base64"),
-        (text.replace(b"\n", b"\n ", 1), no_base64, damage + b"its second line is not base64"),
-        (text_of(record[:-1]), no_base64, damage + b"its second line is too short"),
-        (b"\xff" + text, NOT_UTF8, damage + b"it is not UTF-8"),
-        *((text_of(turned(record, at)), b"Corrupted key", damage + b"its checksum is wrong")
-          for at in (0, 1, 54, 61, 62, 93, 94, 125, 126, 157)),
-        (text_of(record[:2] + b"XX" + record[4:]), b"Unsupported key derivation function", damage + b"its second line names another key derivation"),
-        (limited(1 << 15, (1 << 30) + 1), b"scrypt parameters too high", b"opening it takes more than 1 GiB of memory"),
-        (limited(1 << 40, 0), b"invalid scrypt parameters", damage + b"there is no key derivation of its limits"),
-    ]
+    for words, first, *texts in (
+        (b"this is empty", loading, b""),
+        (b"this secret key is cut: it has 1 of 2 lines", loading, text.split(b"\n")[0] + b"\n"),
+        (damage + b"its second line is not base64", no_base64, text[:-3] + b"!=\n", text.replace(b"\n", b"\n ", 1)),
+        (damage + b"its second line is too short", no_base64, text_of(record[:-1])),
+        (damage + b"it is not UTF-8", NOT_UTF8, b"\xff" + text),
+        (damage + b"its checksum is wrong", b"Corrupted key",
+         *(text_of(turned(record, at)) for at in (0, 1, 54, 61, 62, 93, 94, 125, 126, 157))),
+        (damage + b"its second line names another key derivation", b"Unsupported key derivation function",
+         text_of(record[:2] + b"XX" + record[4:])),
+        (b"opening it takes more than 1 GiB of memory", b"scrypt parameters too high", limited(1 << 15, (1 << 30) + 1)),
+        (damage + b"there is no key derivation of its limits", b"invalid scrypt parameters", limited(1 << 40, 0)),
+    ):
+        for wrong in texts:
+            yield "-s", wrong, words, first

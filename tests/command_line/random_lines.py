@@ -22,6 +22,8 @@ import subprocess
 import sys
 import tempfile
 import time
+from collections import namedtuple
+from functools import partial
 
 HERE = os.path.dirname(os.path.realpath(__file__))
 sys.path += [os.path.join(HERE, "..", name) for name in ("shared", "verdicts", "tool")]
@@ -30,6 +32,7 @@ import ending
 import needs
 from process import run_program
 from running import Failure, Link, build_preload, expect
+from texts import record_of, text_of, turned
 from command_breaking import STAGE, is_secret
 from command_cases import keys_of
 from command_line import build_program, heed_signals
@@ -45,7 +48,7 @@ ENVIRONMENT = {"HOME": HOME, "ASAN_OPTIONS": "detect_leaks=0:exitcode=99", "UBSA
 REPORTS = (b"Sanitizer", b"runtime error")
 
 NAMES = ["data", "more", "empty", "directory", "none", "none/none", "", "link", "dangling", "/dev/null", "x" * 300,
-         "data/x", ".", "..", "./data", "odd\x1b\u202ename", b"caf\xe9", "end ", "text", "page", "archive", "wide"]
+         "data/x", ".", "..", "./data", "odd\x1b\u202ename", os.fsdecode(b"caf\xe9"), "end ", "text", "page", "archive", "wide"]
 # (what is read from these would never come)
 STREAMS = ["/dev/stdout", "/proc/self/fd/1", "/dev/full", "/dev/stderr"]
 SECRETS = [OPEN, CLOSED, "link.key", "cut.key", "turned.key"]
@@ -68,32 +71,28 @@ FILES = {
 }
 BY_DEFAULT = {"G": {"minisign.pub", "home/.minisign/minisign.key"}, "R": {"minisign.pub"},
               "C": {"home/.minisign/minisign.key"}}
-# Lines that seal a key take seconds each: so few of them have both passwords.
-SEALING = 0.002
 
 
-class Directory:
-    """What stands in the directory of a line before it."""
+# What stands in the directory of a line before it, and of it a public key as a text, and the secret keys.
+Before = namedtuple("Before", "files inline secrets")
 
-    def __init__(self, whole):
-        self.whole, keys = whole, keys_of(whole)
-        self.inline = keys[PUBLIC].split()[-1].decode()
-        signing = (("-Sm", "data", "more", "-s", OPEN), ("-Slm", "data", "-s", OPEN, "-x", "legacy.minisig"))
-        _, signed = run_steps(whole.theirs, "", {**keys, **DATA}, map(Step, signing))
-        made = {name: signed[name][1] for name in ("data.minisig", "more.minisig", "legacy.minisig")}
-        self.files = {**keys, **DATA, **made, "directory/kept": b"kept", "cut.minisig": made["data.minisig"][:150], "cut.pub": keys[PUBLIC][:60],
-                      "cut.key": keys[OPEN][:100], "turned.key": keys[OPEN][:-30] + bytes([keys[OPEN][-30] ^ 2]) + keys[OPEN][-29:],
-                      "text": b"a text\nof\nfour\nlines\n", "page": b"<!DOCTYPE html>\n<html>\n", "archive": bytes.fromhex("1f8b0800") + bytes(40),
-                      "wide": keys[PUBLIC].decode().encode("utf-16"), "end ": b"end", "odd\x1b\u202ename": b"odd", os.fsdecode(b"caf\xe9"): b"latin",
-                      "home/.minisign/minisign.key": keys[OPEN], "minisign.pub": keys[PUBLIC]}
-        self.secrets = [keys[OPEN], keys[CLOSED]]
+
+def stands_before(whole):
+    keys = keys_of(whole)
+    signing = (("-Sm", "data", "more", "-s", OPEN), ("-Slm", "data", "-s", OPEN, "-x", "legacy.minisig"))
+    signed = run_steps(whole.theirs, "", {**keys, **DATA}, map(Step, signing)).files
+    made = {name: signed[name][1] for name in SIGNATURES[:3]}
+    files = {**keys, **DATA, **made, "directory/kept": b"kept", "cut.minisig": made["data.minisig"][:150], "cut.pub": keys[PUBLIC][:60],
+             "cut.key": keys[OPEN][:100], "turned.key": text_of(turned(record_of(keys[OPEN]))), "text": b"a text\nof\nfour\nlines\n",
+             "page": b"<!DOCTYPE html>\n<html>\n", "archive": bytes.fromhex("1f8b0800") + bytes(40),
+             "wide": keys[PUBLIC].decode().encode("utf-16"), "end ": b"end", "odd\x1b\u202ename": b"odd", os.fsdecode(b"caf\xe9"): b"latin",
+             "home/.minisign/minisign.key": keys[OPEN], "minisign.pub": keys[PUBLIC]}
+    return Before(files, keys[PUBLIC].split()[-1].decode(), [keys[OPEN], keys[CLOSED]])
 
 
 class Line:
-    """A random command line."""
-
-    def __init__(self, directory, source):
-        self.directory, self.source = directory, source
+    def __init__(self, inline, source):
+        self.inline, self.source = inline, source
         self.command = source.choice("GGRCSSSVVVV")
         self.arguments, self.outputs = [f"-{self.command}"], {*BY_DEFAULT.get(self.command, ())}
         self.typed = b"".join(source.choice(TYPED) for _ in range(source.randint(0, 3)))
@@ -117,17 +116,16 @@ class Line:
             if use == WRITTEN and self.command in "GS" and self.source.random() < 0.05:
                 name = self.source.choice(STREAMS)
             self.arguments += [flag, name]
-            self.outputs |= {name} if use == WRITTEN else {beside(name)} if use == SIGNED else set()
+            self.outputs |= {name} if use == WRITTEN else {f"{name}.minisig"} if use == SIGNED else set()
         for _ in range(self.source.choice([0, 0, 0, 1, 3, 40]) if self.command == "S" else 0):
             self.arguments.append(self.name_of(["data", "more", "empty", "text"]))
-            self.outputs.add(beside(self.arguments[-1]))
+            self.outputs.add(f"{self.arguments[-1]}.minisig")
         if self.command in "SV" and self.source.random() < 0.12:
-            inline = self.directory.inline
-            self.arguments += ["-P", self.source.choice([inline, "", "x", "-" * 56, inline[:-1]])]
+            self.arguments += ["-P", self.source.choice([self.inline, "", "x", "-" * 56, self.inline[:-1]])]
 
     def add_sealing(self):
-        """Whether the key gets a password, which takes long."""
-        if self.source.random() < SEALING:
+        """Whether the key gets a password, which takes seconds."""
+        if self.source.random() < 0.002:
             self.typed = (PASSWORD + b"\n") * 3
         elif self.source.random() < 0.9:
             self.arguments.append("-W")
@@ -152,21 +150,15 @@ class Line:
     def may_be_tested_in_another_order(self, directory):
         """Whether more than one thing may be wrong of which each program names another first: a directory is among its names, or a
         signature of the older kind is rejected (the row on the order of the tests in docs/DIFFERENCES.md)."""
-        names = (os.path.join(os.fsencode(directory), os.fsencode(name)) for name in self.arguments[1:])
-        return self.has("-H") or any(map(os.path.isdir, names))
+        return self.has("-H") or any(os.path.isdir(os.path.join(directory, os.fsdecode(word))) for word in self.arguments[1:])
 
     def run(self, program, directory):
         return run_program([program, *self.arguments], directory, self.typed, SECONDS_OF_LINE, env=ENVIRONMENT)
 
 
-def beside(name):
-    """The signature's name by default."""
-    return name + (b".minisig" if isinstance(name, bytes) else ".minisig")
-
-
 def check_files(before, directory, line):
     """What the line may not do to the files."""
-    outputs = {os.path.realpath(os.path.join(directory, os.fsdecode(name))) for name in line.outputs}
+    outputs = {os.path.realpath(os.path.join(directory, name)) for name in line.outputs}
     found = {name: held for name, held in files_in(directory).items() if isinstance(held[1], bytes)}
     for name, data in before.files.items():
         expect(name in found, f"{name!r} is gone")
@@ -181,54 +173,47 @@ def check_files(before, directory, line):
         expect(data != b"" or older == b"", f"{name!r} is empty")
 
 
-def check_line(before, line):
+def check_line(whole, before, line):
     """Raises a `Failure` where a line does something that it may not."""
     with tempfile.TemporaryDirectory(prefix="random-line-") as directory:
         put_files(directory, {**before.files, **LINKS})
-        ran = line.run(before.whole.ours, directory)
+        ran = line.run(whole.ours, directory)
         expect(ran.status in (0, 1, 2) and not any(word in ran.said for word in REPORTS),
                f"it ended with {ran.status}, and said {ran.said[-1500:].decode(errors='replace')}")
         check_files(before, directory, line)
         data = line.value_of("-m")
         # (a signature may be signed, and then replaced by another)
         if line.command == "S" and ran.status == 0 and not line.has("-v", "-p", "-P", "-x") and data not in (None, *line.outputs):
-            theirs = run_program([before.whole.theirs, "-Vm", data, "-P", before.inline], directory, seconds=SECONDS_OF_LINE)
+            theirs = run_program([whole.theirs, "-Vm", data, "-P", before.inline], directory, seconds=SECONDS_OF_LINE)
             expect(theirs.status == 0, "Minisign does not verify what was signed", theirs)
         # (Minisign has the same flags, and takes no name more than ours)
         if line.command == "V" and line.arguments.count("-V") == 1 and not line.has("-k", "-K", "-G", "-S", "-Z", "-v", "-h", "--", "-"):
-            theirs = line.run(before.whole.theirs, directory)
+            theirs = line.run(whole.theirs, directory)
             is_same_verdict = (theirs.status == 0) == (ran.status == 0)
             expect(theirs.status == ran.status or is_same_verdict and line.may_be_tested_in_another_order(directory),
                    ran, f"Minisign {theirs}")
 
 
-def check_lines(before, seed, numbers, end):
-    """Tries lines until this time: the failures, and how many were tried."""
-    failures, count = [], 0
-    for number in numbers:
-        if time.time() > end:
-            break
-        count += 1
-        line = Line(before, random.Random(f"{seed} {number}"))
-        try:
-            check_line(before, line)
-        except (Failure, subprocess.SubprocessError, OSError) as why:
-            failures.append(f"line {number} of seed {seed}: {line.arguments!r}, typed {line.typed[:80]!r}: {why}")
-    return failures, count
+def wrong_of_line(whole, before, seed, end, number):
+    """What is wrong with a line, or nothing; None where this time is over."""
+    if time.time() > end:
+        return None
+    line = Line(before.inline, random.Random(f"{seed} {number}"))
+    try:
+        check_line(whole, before, line)
+    except (Failure, subprocess.SubprocessError, OSError) as why:
+        return f"line {number} of seed {seed}: {line.arguments!r}, typed {line.typed[:80]!r}: {why}"
+    return ""
 
 
 def run_all(seed, numbers, room):
     """Tries the lines, several at a time: the failures, and how many were tried."""
-    ours = build_program(room, f"CFLAGS={SANITIZED}", "C_CALLS=")
-    before = Directory(Whole(needs.minisign(), ours, build_preload(room, "fixed_sources")))
-    workers, end = os.cpu_count() or 1, time.time() + SECONDS
-    with concurrent.futures.ProcessPoolExecutor(workers) as pool:
-        jobs = [pool.submit(check_lines, before, seed, numbers[start::workers], end) for start in range(workers)]
-        results = [job.result() for job in jobs]
-    failures, count = [failure for some, _ in results for failure in some], sum(tried for _, tried in results)
-    if count < min(FEWEST, len(numbers)):
-        failures.append(f"only {count} lines were tried in {SECONDS} seconds")
-    return failures, count
+    whole = Whole(needs.minisign(), build_program(room, f"CFLAGS={SANITIZED}", "C_CALLS="), build_preload(room, "fixed_sources"))
+    wrong_of = partial(wrong_of_line, whole, stands_before(whole), seed, time.time() + SECONDS)
+    with concurrent.futures.ProcessPoolExecutor() as pool:
+        tried = [wrong for wrong in pool.map(wrong_of, numbers) if wrong is not None]
+    are_few = [f"only {len(tried)} lines were tried in {SECONDS} seconds"] if len(tried) < min(FEWEST, len(numbers)) else []
+    return [*filter(None, tried), *are_few], len(tried)
 
 
 def main(words):

@@ -8,36 +8,32 @@ from installers import (CHECK, EXPIRED, FAILED, LATER, NEW, NO_DIRECTORY, OLD, O
 from process import run_program
 import proved
 from running import expect, read
-from runs import Cases, repeating
+from runs import Cases, repeating, unfed_pipe
 
 check_cases = Cases()
 
 
-@check_cases.case("what a check shows")
-def shows_checked(directory):
-    """The number and the signed comment, a line each, and no control character as it is: where the key has signed it."""
-    shown = b"6\ntimestamp:6\tfile:place\tnote:\\u{1b}[31m\\u{9b}\tprehashed\n"
-    directory.offer(more="\tnote:\x1b[31m\x9b")
-    directory.put("bad.sig", directory.holds("new.sig").replace(b"timestamp:6", b"timestamp:7"))
-    for place, record, name, *wanted in ((OLD, b"5", "new", 0, shown), (OLD, b"5", "bad", REJECTED, b""), (NEW, b"6", "new", THERE, shown)):
-        directory.put_older(place, record)
-        ran = directory.run(["--check", PK, name + ".sig", PLACE])
-        expect([ran.status, ran.output, bool(ran.said)] == [*wanted, name == "bad"], ran)
+@check_cases.table("what a check shows")
+def shows(directory):
+    """The number and the signed comment, a line each, and no control character as it is, also of an update that is rejected for what the
+    comment says; and nothing that the key has not signed."""
+    for status, number, name, more, place in (
+            (0, 6, PLACE, "\tnote:\x1b[31m\x9b", OLD), (THERE, 6, PLACE, "", NEW), (OLDER, 4, PLACE, "", OLD), (SAME, 5, PLACE, "", OLD),
+            (EXPIRED, 6, PLACE, PAST, OLD), (REJECTED, 6, "other", "", OLD), (REJECTED, 6, PLACE, "\tsize:x", OLD)):
+        directory.put_older(place, b"6" if status == THERE else b"5")
+        directory.offer(number=number, names=name, more=more)
+        shown = f"{number}\ntimestamp:{number}\tfile:{name}{more}\tprehashed\n".replace("\x1b", "\\u{1b}").replace("\x9b", "\\u{9b}")
+        for signed, ended in ((f"timestamp:{number}", (status, shown.encode())), ("timestamp:7", (REJECTED, b""))):
+            directory.put("new.sig", directory.holds("new.sig").replace(b"timestamp:%d" % number, signed.encode()))
+            ran = directory.run(CHECK)
+            is_silent = ran.status in (0, THERE, OLDER)
+            expect((ran.status, ran.output) == ended and bool(ran.said) != is_silent, ran, f"in place of {ended}")
+    directory.offer()
     with open("/dev/full", "wb") as full:
         directory.ends(directory.run(CHECK, stdout=full), FAILED)
 
 
-@check_cases.case("what a check shows of what it rejects")
-def shows_rejected(directory):
-    """The number and the comment, where the update is rejected for what the comment says."""
-    for status, number, name, more in ((OLDER, 4, PLACE, ""), (EXPIRED, 6, PLACE, PAST), (REJECTED, 6, "other", ""),
-                                       (REJECTED, 6, PLACE, "\tsize:x"), (SAME, 5, PLACE, "")):
-        directory.offer(number=number, names=name, more=more)
-        ran, wanted = directory.run(CHECK), f"{number}\ntimestamp:{number}\tfile:{name}{more}\tprehashed\n"
-        expect((ran.status, ran.output) == (status, wanted.encode()), ran, f"in place of {status}")
-
-
-@check_cases.case("a mode that is asked for, of what is there already")
+@check_cases.table("a mode that is asked for, of what is there already")
 def tells_of_mode(directory):
     """What is there already keeps its permissions, and where others were asked for this is said."""
     directory.check("new", 0, "--mode", "640")
@@ -47,19 +43,21 @@ def tells_of_mode(directory):
 
 
 @check_cases.table(
-    ("a check: no directory", (PK, "new.sig", "none/place"), FAILED, NO_DIRECTORY),
-    ("a check: no signature", (PK, "none.sig", PLACE), FAILED, error("none.sig", "No such file or directory (os error 2)")),
-    ("a check: a text that is no signature", (PK, PK, PLACE), REJECTED, None),
+    ("a check: no directory", ("--check", PK, "new.sig", "none/place"), FAILED, NO_DIRECTORY),
+    ("a pipe, and no directory", (PK, "/dev/stdin", "new.sig", "none/place"), FAILED, NO_DIRECTORY),
+    ("a check: no signature", ("--check", PK, "none.sig", PLACE), FAILED, error("none.sig", "No such file or directory (os error 2)")),
+    ("a check: a text that is no signature", ("--check", PK, PK, PLACE), REJECTED, None),
 )
-def cannot_be_made(directory, paths, status, said):
-    """A check of these paths ends so, and writes nothing."""
+def cannot_be_made(directory, words, status, said):
+    """A run by these words ends so, waits for no data, and writes nothing."""
     before = directory.everything()
-    ran = directory.run(["--check", *paths])
+    with unfed_pipe() as pipe:
+        ran = directory.run(words, stdin=pipe)
     expect(ran.status == status and said in (None, ran.said), ran, f"in place of {status}", said)
     expect(directory.everything() == before, f"the directory has {os.listdir(directory.path)}")
 
 
-@check_cases.case("a check: beside installations")
+@check_cases.table("a check: beside installations")
 def checks_beside_installations(directory):
     """While installations rename new records into their place, a slow check reads an older one or a newer one, whole."""
 
@@ -98,7 +96,7 @@ def offer_app(directory, name, data, number, signed=None):
     os.replace(directory.at(f"{name}.sig"), directory.at(f"{name}.minisig"))
 
 
-@check_cases.case("the script of the document")
+@check_cases.table("the script of the document")
 def runs_script(directory):
     """Over a directory in place of what curl fetches, it ends well where there is nothing newer and where there is, and with the
     status of what was rejected otherwise."""
@@ -113,7 +111,7 @@ def runs_script(directory):
         expect((ran.status, ran.output, directory.holds("there/app")) == (status, b"", left), f"of version {number}", ran)
 
 
-@check_cases.case("the unit of the document")
+@check_cases.table("the unit of the document")
 def runs_unit(directory):
     """Its command installs an update, and ends with the unit's status of success once that is there. Where `systemd-analyze` is here,
     it says nothing against a line."""

@@ -17,38 +17,19 @@ HERE = os.path.dirname(os.path.realpath(__file__))
 sys.path.append(os.path.join(HERE, "..", "shared"))
 
 from checking import check_cases
-from crashing import crash_cases
 from cut_off import cut_off_cases
-from disturbing import disturbing_cases
-from installers import PERMISSIONS, PLACE
+from installers import PK, PLACE
 from meanwhile import meanwhile_cases
 from owners import owner_cases
-from permissions import permission_cases
-from runs import Directory
-from there import there_cases
+from permissions import ASKED, KEPT, permission_cases
 from updates import update_cases
 from words import word_cases
 
 
-class ReplacingByUpdates:
-    """The runs of `permissions.py`: an update replaces the place."""
-
-    def __init__(self, installing):
-        self.installing, self.place = installing, installing.place
-
-    def prepare(self, path):
-        return self.installing.offered(path).at(PLACE)
-
-    def run(self, path, asked, breaking, user):
-        directory = Directory(path, self.installing)
-        environment = directory.preloading(**breaking) if breaking else {}
-        ran = directory.install("new", *(["--mode", asked] if asked else []), environment=environment, **user)
-        return ran.status, ran.said
-
-
 def cases(installing):
     """The names of all cases, and what runs each."""
-    for some in (update_cases, there_cases, owner_cases, meanwhile_cases, disturbing_cases, cut_off_cases, crash_cases, check_cases, word_cases):
-        for name, case, *given in some(installing):
+    for some in (update_cases, owner_cases, meanwhile_cases, cut_off_cases, check_cases, word_cases):
+        for name, case, *given in some:
             yield name, installing.run_case, case, *given
-    yield from permission_cases(ReplacingByUpdates(installing), PERMISSIONS)
+    yield from permission_cases(installing, lambda path: installing.offered(path).at(PLACE),
+                                lambda asked: [*(["--mode", asked] if asked else []), PK, "new", "new.sig", PLACE], KEPT + ASKED)

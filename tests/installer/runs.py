@@ -1,9 +1,5 @@
-"""Runs an installer in fresh directories, each with a target and an offered update, and compares what comes of it.
+"""Runs an installer in fresh directories, each with a target and an offered update, and compares what comes of it."""
 
-Needs Python 3.9 or later and a C compiler, which it installs if it may.
-"""
-
-import array
 import concurrent.futures
 import contextlib
 import fcntl
@@ -14,51 +10,34 @@ import signal
 import stat
 import subprocess
 import tempfile
-import termios
 import threading
-import time
 
 from disturbed import Disturbing, content, while_stopped
 from installers import CALLED, LOCK, NEW, OLD, PK, PLACE, RECORD, STAGE, THERE
 from process import Ran
-from running import NOBODY, SECONDS, Failure, Skip, expect, read, write
+from running import NOBODY, SECONDS, expect, only_root, read, write
 
 
-class Cases:
+class Cases(list):
     """The cases of a file: of each its name, its function, and what that is given beside a directory, at the end by names."""
 
-    def __init__(self):
-        self.rows = []
-
     def table(self, *rows):
-        """Makes a function a case for each row."""
+        """Makes a function a case for each row, which is a name, or one with what is given."""
 
         def add(function):
-            self.rows += [(name, function, *given) for name, *given in rows]
+            for name, *given in ([row] if isinstance(row, str) else row for row in rows):
+                self.append((name, function, *given))
             return function
 
         return add
 
-    def case(self, name):
-        return self.table((name,))
 
-    def __call__(self, _):
-        return self.rows
-
-
-def only_root(what):
-    """Skips a case where this is not root."""
-    if os.geteuid() != 0:
-        raise Skip(f"only root may {what}")
-
-
-def wait_until_read(pipe):
-    """Waits until all was taken that was written into a pipe."""
-    for _ in range(1000):
-        if array.array("i", fcntl.ioctl(pipe, termios.FIONREAD, bytes(4)))[0] == 0:
-            return
-        time.sleep(0.01)
-    raise Failure("what came through the pipe was not read")
+@contextlib.contextmanager
+def unfed_pipe():
+    """A pipe that nobody feeds."""
+    reader, writer = map(os.fdopen, os.pipe(), "rw")
+    with reader, writer:
+        yield reader
 
 
 @contextlib.contextmanager
@@ -156,8 +135,8 @@ class Directory:
 
     def everything(self):
         """What the directory has, and when each file was changed."""
-        found = {each.name: (each.is_file() and read(each.path), each.stat().st_mtime_ns, each.stat().st_ino) for each in os.scandir(self.path)}
-        return found, os.stat(self.path).st_mtime_ns
+        return os.stat(self.path).st_mtime_ns, {
+            each.name: (each.is_file() and read(each.path), each.stat().st_mtime_ns, each.stat().st_ino) for each in os.scandir(self.path)}
 
     # == Runs ==
 
@@ -177,25 +156,6 @@ class Directory:
         return subprocess.Popen([self.installing.program, *words], cwd=self.path, env=environment or {},
                                 **{"stdin": subprocess.DEVNULL, "stdout": subprocess.DEVNULL, "stderr": subprocess.PIPE, **how})
 
-    def waiting(self, words, data=b""):
-        """A run that waits for the lock, which another holds, and is fed with data."""
-        process = self.start(["--wait", "20", *words], stdin=subprocess.PIPE)
-        process.stdin.write(data)
-        process.stdin.close()
-        process.stdin = None
-        time.sleep(0.5)
-        expect(process.poll() is None and self.holds() == OLD, "it did not wait")
-        return process
-
-    def run_unfed(self, words):
-        """A run whose standard input is a pipe that nobody feeds."""
-        reader, writer = os.pipe()
-        try:
-            return self.run(words, stdin=reader)
-        finally:
-            os.close(reader)
-            os.close(writer)
-
     def broken(self, *options, **how):
         """A run for the update with a call broken, as `disturbed_calls.c` is told."""
         return self.installing.run_broken(self.path, self.arguments("new", *options), how)
@@ -209,20 +169,14 @@ class Directory:
         broken = {f"BREAK_{name}": str(value) for name, value in how.items()}
         return self.preloading(BREAK_SIGNAL=str(int(number)), BREAK_GOES_ON="1", **broken)
 
-    def run_traced(self, words, **environment):
+    def run_traced(self, words, how=None, **environment):
         """A run and the lines of its calls, as `disturbed_calls.c` tells them."""
-        reader, says = os.pipe()
-        try:
-            ran = self.run(words, self.preloading(TRACE_TO=str(says), **environment), pass_fds=[says])
-        finally:
-            os.close(says)
-        with os.fdopen(reader) as pipe:
-            return ran, pipe.read().splitlines()
-
-    def made_by_run(self, words, **environment):
-        """How a run ended, and the names of the stages that it has made."""
-        ran, calls = self.run_traced(words, **environment)
-        return ran, {call.split(" ")[1] for call in calls if call.startswith(f"make {STAGE}")}
+        reader, writer = map(os.fdopen, os.pipe(), "rw")
+        with reader:
+            with writer:
+                says = writer.fileno()
+                ran = self.run(words, self.preloading(TRACE_TO=str(says), **environment), pass_fds=[says], **(how or {}))
+            return ran, reader.read().splitlines()
 
     def while_stopped(self, calls, number, meanwhile, where="."):
         """A run over the target in a directory of this directory: before its call of this number among these, or all, it stops,

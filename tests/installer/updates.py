@@ -1,28 +1,44 @@
-"""Good, bad and older updates, each over a record and beside a file at the target, which a check judges and an
-installation: numbers, names, expiry, sizes, keys, clocks; and what else stands beside the target.
-
-Needs Python 3.9 or later.
+"""Good, bad and older updates, each over a record and beside a file at the target, which a check judges and two
+installations, of a file and through a pipe: numbers, names, expiry, sizes, keys, clocks. And updates that are installed
+already, what else stands beside the target, and data and keys without an end.
 """
 
 import base64
+import errno
+import itertools
 import os
 import time
 
-from installers import (AGED, AT_WORK, BY_VERSION, CHECK, DAMAGED_RECORD, EXPIRED, FAILED, FIRST, HAS_EXPIRED, IN_USE, IS_LEGACY, IS_LINK,
-                        KEPT_BY_TIMESTAMP, KEPT_BY_VERSION, LATER, LOCK, NEW, NO_RECORD, OLD, OLDER, OTHER_COMMENT, OTHER_DATA, OTHER_NAME,
-                        OTHER_SIGNED, PAST, PK, PLACE, RECORD, REJECTED, SAME, SOON, STAGE, THERE, THROUGH_PIPE, TOO_LONG, UNRECORDED, error)
+from installers import (CHECK, EXPIRED, FAILED, FIRST, LATER, LOCK, NEW, OLD, OLDER, OTHER_SIGNED, PAST, PK, PLACE, RECORD, REJECTED,
+                        SAME, STAGE, THERE, UNRECORDED, error)
+from permissions import INHERITED, list_of, make_older
 from running import SECONDS, expect
-from runs import Cases
+from runs import Cases, unfed_pipe
 
 update_cases = Cases()
 
+BY_VERSION = ("--numbering", "version")
+AGED = error("new", "the update is older than what was installed")
+HAS_EXPIRED, IS_LEGACY = error("new.sig", "the update has expired"), error("new.sig", "Legacy signatures are not accepted")
+OTHER_COMMENT = error("new.sig", "Comment signature verification failed")
+OTHER_DATA = error(PLACE, "an update of this number was installed, and other data stands at the target", "--again installs all the same")
+NO_RECORD = error(PLACE, "no number is kept beside the target", "./.place.number is missing: --first installs all the same")
+DAMAGED_RECORD = error(PLACE, "what is kept beside the target is no number", "./.place.number is damaged: --first installs all the same")
+OTHER_NAME = error("new.sig", "the signed comment does not name this file", "place is wanted: --name gives another name")
+KEPT_BY_VERSION, KEPT_BY_TIMESTAMP = (
+    error(PLACE, f"the number that is kept beside the target is a {field}, and no {other}",
+          f"it was installed by {field}: add --numbering {field}")
+    for field, other in (("version", "timestamp"), ("timestamp", "version")))
+TOO_LONG = "it is longer than it may be"
+# What says in a signed comment when an update expires.
+SOON = "\texpires:99999999999"
 # When a record was written, later than any clock shows, and how that is said.
 WRITTEN = 4000000000
 CLOCK_BEHIND = HAS_EXPIRED + error("./.place.number", "it was written at 2096-10-02 07:06:40 UTC, and the clock shows less: set it")
 BAD_EXPIRY = error("new.sig", "the signed comment does not say once, in a number, when it expires")
 NO_EXPIRY = error("new.sig", "the signed comment does not say when it expires")
-NO_TIMESTAMP = error("new.sig", "the signed comment has no such number") + b"--numbering version takes the number from its version\n"
-NO_VERSION = error("new.sig", "the signed comment has no such number") + b"without --numbering version the number is its timestamp\n"
+NO_TIMESTAMP, NO_VERSION = (error("new.sig", "the signed comment has no such number", remedy) for remedy in (
+    "--numbering version takes the number from its version", "without --numbering version the number is its timestamp"))
 OTHER_SIZE = error("new", "the data has another size than the signed comment says")
 BAD_SIZE = error("new.sig", "the signed comment does not say once, in a number, how long the data is")
 SIZED = f"\tsize:{len(NEW)}"
@@ -32,36 +48,92 @@ LONG = b"long" * 300000
 OTHER_KEY = bytes(range(32))
 
 
-def kept(data, number, label="timestamp"):
-    """The record of such an update, which names the key."""
-    return lambda directory: directory.kind.record(data, number, label)
+def key_records(directory):
+    """The key that has signed, another one, and one that has its key ID."""
+    own = directory.kind.public_record()
+    return {"own": own, "other": b"Ed" + bytes(8) + OTHER_KEY, "twin": own[:10] + OTHER_KEY}
 
 
-def judged(directory, status, said=b"", options=(), keys=(PK,), record=b"5", place=OLD, forge=lambda text: text, written=None, clock=None,
+def key_words(directory, names):
+    """Words for the keys of these names, or for a key of these letters."""
+    records = {name: base64.b64encode(record).decode() for name, record in key_records(directory).items()}
+    return [word for name in names for word in ("--key", records.get(name, name))] or [PK]
+
+
+def kept(data, number, label="timestamp", change=lambda record: record):
+    """The record of such an update, which names the key, or what is made of that."""
+    return lambda directory: change(directory.kind.record(data, number, label))
+
+
+def kept_by(name):
+    """The record of an update of the greatest number, for which this key has vouched."""
+    return lambda directory: f"timestamp:{2 ** 64 - 1}\n{key_records(directory)[name][10:].hex()}\n{'0' * 128}".encode()
+
+
+def date(directory, written):
+    os.utime(directory.at(RECORD), (written, written))
+
+
+# The calls of an installation that finds the update there, which alone may come besides reading.
+LOOKING = ["open .", f"open {LOCK}", f"lock {LOCK}", f"open {RECORD}", f"open {PLACE}", f"sync {PLACE}", "sync ."]
+LEFT = STAGE + "0" * 32
+
+
+def judged(directory, status, said=b"", options=(), keys=(), record=b"5", place=OLD, forge=lambda text: text, written=None, clock=None,
            checked=None, data=NEW, **offered):
     """An update over this record and beside this file at the target, whose text of a signature may be forged; the record was written
     at a moment, and the clock shows one. A check says how an installation would end, but for what the data decides, where it ends
-    with `checked`; it needs no data and changes nothing. An installation keeps permissions and makes a stage for that data alone."""
+    with `checked`; it needs no data and changes nothing. So end an installation of a file, and one through a pipe; where the check says
+    enough, whatever DATA holds, nobody feeds the pipe, and nothing is changed. They keep permissions and make stages for data alone that
+    may be installed, of names that differ. What is there already is synced, and so is the directory, and no leftover is removed. Other data
+    of the kept number is installed where that is asked for. Answers the calls of the last installation."""
     record = record(directory) if callable(record) else record
-    directory.put_older(place, record)
+    words, checked = [*options, *key_words(directory, keys)], status if checked is None else checked
+    shown, names = {} if clock is None else {"SHOWN_TIME": str(clock)}, set()
+
+    def put_older():
+        directory.put_older(place, record)
+        if written is not None:
+            date(directory, written)
+
+    put_older()
+    directory.put(LOCK, b"")
     directory.offer(data=data, **offered)
     directory.put("new.sig", forge(directory.holds("new.sig")))
     os.remove(directory.at("new"))
-    if written is not None:
-        date(directory, written)
-    shown, checked = {} if clock is None else {"SHOWN_TIME": str(clock)}, status if checked is None else checked
     before = directory.everything()
-    directory.check_words([*options, "--check", *keys, "new.sig", PLACE], checked, b"" if checked in (0, OLDER) else said,
+    directory.check_words([*words, "--check", "new.sig", PLACE], checked, b"" if checked in (0, OLDER) else said,
                           environment=directory.preloading(**shown))
     expect(directory.everything() == before, f"a check left {os.listdir(directory.path)}")
-    directory.put("new", data)
-    ran, made = directory.made_by_run([*options, *keys, "new", "new.sig", PLACE], **shown)
-    expect((ran.status, ran.said) == (status, said), ran, f"in place of {status}", said)
-    expect(bool(made) == (checked == 0), f"it made {made}")
-    if status == 0:
-        record = directory.kind.record(data, offered.get("number", 6), offered.get("label", "timestamp"))
-        directory.has_mode(0o600 if place is None else 0o751)
-    directory.is_kept(data if status == 0 else place, record)
+    asked_again = {SAME: [(("--again",), 0)], THERE: [(("--again",), THERE)]}.get(status, [])
+    with unfed_pipe() as pipe:
+        for (more, ended), at in itertools.product([((), status), *asked_again], ("new", "/dev/stdin")):
+            is_needed = 0 in (checked, ended)
+            directory.put("new", data if is_needed else b"anything")
+            if ended == THERE:
+                directory.put(LEFT, b"left")
+            put_older()
+            before = directory.everything()
+            how = {"typed": data} if is_needed else {"stdin": pipe}
+            ran, calls = directory.run_traced([*words, *more, at, "new.sig", PLACE], how, **shown)
+            wanted = said.replace(b" new:", f" {at}:".encode()) if ended else b""
+            expect((ran.status, ran.said) == (ended, wanted), at, *more, ran, f"in place of {ended}", wanted)
+            expect(is_needed or directory.everything() == before, "something was changed")
+            if ended == THERE:
+                # (the record is read once more for a second key)
+                is_synced = [call for call, _ in itertools.groupby(call for call in calls if call in LOOKING)] == LOOKING
+                kinds = {call.split(" ")[0] for call in calls}
+                expect(is_synced and kinds <= {"open", "lock", "read-back", "sync"}, f"its calls were {calls}")
+                os.remove(directory.at(LEFT))
+            made = {call for call in calls if call.startswith(f"make {STAGE}")}
+            expect(bool(made) == is_needed and not made & names, f"it made {made}, and before that {names}")
+            names |= made
+            if ended == 0:
+                directory.has_mode(0o600 if place is None else 0o751)
+                directory.is_kept(data, directory.kind.record(data, offered.get("number", 6), offered.get("label", "timestamp")))
+            else:
+                directory.is_kept(place, record)
+    return calls
 
 
 # What stands there already: the update of the number 6.
@@ -82,8 +154,20 @@ JUDGED = (
     ("the same, and nothing there", 0, dict(number=5, place=None)),
     ("a file that was removed", 0, dict(record=kept(NEW, 6), place=None)),
     ("a release that was signed anew, over a changed file", 0, dict(record=kept(NEW, 6), more=SOON)),
+    *((f"{what}{more}", 0, dict(options=options, place=data, record=kept(NEW, 6)))
+      for more, options in (("", ()), (" at a first installation", FIRST))
+      for what, data in (("an older file", OLD), ("a changed file", NEW[:-1] + b"x"), ("a file that was cut short", NEW[:-1]),
+                         ("a file that was emptied", b""))),
+    ("there already", THERE, HAS_NEW),
+    ("there already, at a first installation", THERE, dict(HAS_NEW, options=FIRST)),
+    ("there already, of another update of the kept number", THERE, dict(data=LATER, place=LATER, record=kept(NEW, 6))),
     ("a release that was signed anew", THERE, dict(HAS_NEW, more=SOON)),
     ("the same, which is there", THERE, dict(number=5, place=NEW)),
+    ("other data of the kept number", SAME, OTHER_DATA, dict(record=b"timestamp:6")),
+    ("other data of a number alone", SAME, OTHER_DATA, dict(record=b"6")),
+    ("other data at a first installation", SAME, OTHER_DATA, dict(record=b"timestamp:6\n", options=FIRST)),
+    ("another update of the kept number", SAME, OTHER_DATA, dict(record=kept(NEW, 6), data=LATER)),
+    ("another update of the kept number, which is there", SAME, OTHER_DATA, dict(HAS_NEW, data=LATER)),
     ("the same", SAME, OTHER_DATA, dict(number=5)),
     ("the same at a first installation", SAME, OTHER_DATA, dict(number=5, options=FIRST)),
     ("an older update", OLDER, AGED, dict(number=4)),
@@ -95,10 +179,11 @@ JUDGED = (
     ("no record, and nothing there", UNRECORDED, NO_RECORD, dict(record=None, place=None)),
     ("a record of the other field", UNRECORDED, KEPT_BY_VERSION, dict(record=b"version:5\n")),
     ("a record of the greatest version", UNRECORDED, KEPT_BY_VERSION, dict(record=kept(NEW, 2 ** 64 - 1, "version"), number=1700000000)),
-    ("a version over a record of the other field", UNRECORDED, KEPT_BY_TIMESTAMP, dict(options=BY_VERSION, record=b"timestamp:5", label="version")),
+    ("a version over a record of the other field", UNRECORDED, KEPT_BY_TIMESTAMP,
+     dict(options=BY_VERSION, record=b"timestamp:5", label="version")),
     ("a version over a timestamp", UNRECORDED, KEPT_BY_TIMESTAMP, dict(options=BY_VERSION, record=kept(OLD, 1700000000), label="version")),
     ("other data", REJECTED, OTHER_SIGNED, dict(signed=LATER, checked=0)),
-    ("no data", REJECTED, OTHER_SIGNED, dict(data=b"", signed=LATER, checked=0)),
+    ("data that is empty", REJECTED, OTHER_SIGNED, dict(data=b"", signed=LATER, checked=0)),
     ("another file", REJECTED, OTHER_NAME, dict(names="other")),
     ("there already, for another file", REJECTED, OTHER_NAME, dict(HAS_NEW, names="other")),
     ("no number", REJECTED, NO_TIMESTAMP, dict(label="version")),
@@ -113,7 +198,8 @@ JUDGED = (
      dict(names="other", forge=lambda text: text.replace(b"file:other", b"file:place"))),
     ("a signature that does not read", REJECTED, error("new.sig", "Missing trusted comment"),
      dict(forge=lambda text: b"".join(text.splitlines(True)[:2]))),
-    ("a signature that does not read, and a damaged record", UNRECORDED, DAMAGED_RECORD, dict(record=b"five", forge=lambda text: text[:40])),
+    ("a signature that does not read, and a damaged record", UNRECORDED, DAMAGED_RECORD,
+     dict(record=b"five", forge=lambda text: text[:40])),
     # Expiry, and the clock.
     ("an update that has expired", EXPIRED, HAS_EXPIRED, dict(more=PAST)),
     ("an older one that has expired", EXPIRED, HAS_EXPIRED, dict(number=4, more=PAST)),
@@ -131,11 +217,41 @@ JUDGED = (
     ("a clock at the record", 0, dict(written=WRITTEN, clock=WRITTEN, more=SOON)),
     ("a clock behind the record, and what does not expire", 0, dict(written=WRITTEN, clock=WRITTEN - 1)),
     ("a clock behind the record, at a first installation", 0, dict(written=WRITTEN, clock=WRITTEN - 1, more=SOON, options=FIRST)),
+    *(row for what, more, *ended in (
+        ("says so", SOON, 0),
+        ("does not", "", REJECTED, NO_EXPIRY),
+        ("says so in capitals", SOON.replace("expires", "Expires"), REJECTED, BAD_EXPIRY),
+        ("says so after a blank", SOON.replace("expires", " expires"), REJECTED, BAD_EXPIRY),
+        ("says so before a blank", SOON.replace("expires", "expires "), REJECTED, BAD_EXPIRY),
+        ("says so once more in capitals", SOON + SOON.upper(), REJECTED, BAD_EXPIRY))
+      for row in ((f"an update that must expire, and {what}", *ended, dict(options=("--must-expire",), more=more)),
+                  (f"an update that may expire, and {what}", 0, dict(more=more)))),
     # The size of the data.
     ("a size that is signed twice", REJECTED, BAD_SIZE, dict(more=SIZED + SIZED)),
-    ("a size that is signed by a word", REJECTED, BAD_SIZE, dict(more="\tsize:long")),
-    ("a size that is signed by a plus", REJECTED, BAD_SIZE, dict(more=f"\tsize:+{len(NEW)}")),
-    ("a size that is signed by nothing", REJECTED, BAD_SIZE, dict(more="\tsize:")),
+    *((f"a size that is signed by {what}", REJECTED, BAD_SIZE, dict(more=f"\tsize:{size}"))
+      for what, size in (("a word", "long"), ("a plus", f"+{len(NEW)}"), ("nothing", ""))),
+    *((f"data of {what}", *ended, dict(data=data, more=f"\tsize:{size}", checked=0)) for what, data, size, *ended in (
+        ("the signed size", NEW, len(NEW), 0),
+        ("the signed size, in pieces", LONG, len(LONG), 0),
+        ("no bytes", b"", 0, 0),
+        ("a byte more than was signed", NEW, len(NEW) - 1, REJECTED, OTHER_SIZE),
+        ("a byte less than was signed", NEW, len(NEW) + 1, REJECTED, OTHER_SIZE),
+        ("more than was signed, in pieces", LONG, 1, REJECTED, OTHER_SIZE))),
+    # Keys that are named themselves, of which one has signed, or none.
+    *((f"the keys {' and '.join(keys)}{what}", status, dict(before, keys=keys))
+      for keys in (["own"], ["own", "other"], ["other", "own"], ["own", "twin"], ["twin", "own"])
+      for what, status, before in (("", 0, {}), (", there already", THERE, HAS_NEW))),
+    ("the keys twin and twin", REJECTED, OTHER_COMMENT, dict(keys=["twin", "twin"])),
+    ("the keys other", REJECTED, error("new.sig", "Signature key id is different from public key"), dict(keys=["other"])),
+    # A record that names a key, with the greatest number: only `--first` takes an update of another key over it.
+    *(row for what, keys, record, *ended in (
+        ("a record of a stolen key", [], kept_by("other"), 0),
+        ("a record of the key itself", [], kept_by("own"), OLDER, AGED),
+        ("a record of the other key", ["other", "own"], kept_by("other"), OLDER, AGED),
+        ("a record of the other key of one key ID", ["twin", "own"], kept_by("twin"), OLDER, AGED),
+        ("a record of no key", [], b"timestamp:7", OLDER, AGED))
+      for row in ((what, OLDER, AGED, dict(keys=keys, record=record)),
+                  (f"{what}, at a first installation", *ended, dict(options=FIRST, keys=keys, record=record)))),
     # The record.
     ("a record that is too long", FAILED, error("./.place.number", "it is too long for a record"), dict(record=b"5".rjust(259, b"0"))),
     ("a record of too many digits", UNRECORDED, DAMAGED_RECORD, dict(record=b"5".rjust(258, b"0"))),
@@ -143,98 +259,23 @@ JUDGED = (
       for record in (b"", b"\n", b"six", b"5\n5\n", b"+5", b"timestamp:", b"timestamp:+5", b"timestamp: 5", b"Timestamp:5", b"time:5",
                      b"5timestamp:", b"timestamp:version:5", b"timestamp:5\tversion:5", b"timestamp:18446744073709551616", b"version:",
                      b"version:x")),
+    # A number alone, or with its field, or with a digest that does not read: it is compared, and says nothing of data.
+    *((f"{what}, and the update {number}{' is there' * (place == NEW)}", *ended, dict(number=number, place=place, record=record))
+      for what, record in (("a record with a line feed", b"5\n"), ("a record of 64 digits", b"5".rjust(64, b"0")),
+                           ("a record with its field", b"timestamp:5"), ("a record with its field and a line feed", b"timestamp:5\n"),
+                           ("a record whose digest is none", kept(OLD, 5, change=lambda record: record[:-1] + b"g")))
+      for number, place, *ended in ((4, OLD, OLDER, AGED), (5, OLD, SAME, OTHER_DATA), (5, NEW, THERE), (6, OLD, 0))),
+    # A record whose key or digest is none is damaged: no number is kept by it, and a first installation passes over it.
+    *((f"a record with {what}{more}", *ended, dict(options=options, record=kept(OLD, 5, change=change)))
+      for more, options, *ended in (("", (), UNRECORDED, DAMAGED_RECORD), (", at a first installation", FIRST, 0))
+      for what, change in (("a digit less", lambda record: record[:-1]),
+                           ("a digit more", lambda record: record + b"0"),
+                           ("a line feed at its end", lambda record: record + b"\n"),
+                           ("a key alone", lambda record: record.rpartition(b"\n")[0]),
+                           ("a blank", lambda record: record.replace(b"\n", b" \n")),
+                           ("a word alone", lambda _: b"six"))),
 )
 update_cases.table(*JUDGED)(judged)
-
-
-@update_cases.table(
-    ("a record with a line feed", lambda _: b"5\n"),
-    ("a record of 64 digits", lambda _: b"5".rjust(64, b"0")),
-    ("a record with its field", lambda _: b"timestamp:5"),
-    ("a record with its field and a line feed", lambda _: b"timestamp:5\n"),
-    ("a record whose digest is none", lambda record: record[:-1] + b"g"),
-)
-def compared(directory, change):
-    """A number alone, or with its field, or with a digest that does not read: it is compared, and says nothing of data."""
-    record = change(directory.kind.record(OLD, 5))
-    for number, place, *ended in ((4, OLD, OLDER, AGED), (5, OLD, SAME, OTHER_DATA), (5, NEW, THERE), (6, OLD, 0)):
-        judged(directory, *ended, number=number, place=place, record=record)
-
-
-@update_cases.table(
-    ("a record with a digit less", lambda record: record[:-1]),
-    ("a record with a digit more", lambda record: record + b"0"),
-    ("a record with a line feed at its end", lambda record: record + b"\n"),
-    ("a record with a key alone", lambda record: record.rpartition(b"\n")[0]),
-    ("a record with a blank", lambda record: record.replace(b"\n", b" \n")),
-    ("a record of a word", lambda _: b"six"),
-)
-def damaged(directory, change):
-    """A record whose key or digest is none is damaged: no number is kept by it, and a first installation passes over it."""
-    for status, said, options in ((UNRECORDED, DAMAGED_RECORD, ()), (0, b"", FIRST)):
-        judged(directory, status, said, options, record=change(directory.kind.record(OLD, 5)))
-
-
-@update_cases.table(*((f"an update that must expire, and {what}", *ended, more) for what, more, *ended in (
-    ("says so", SOON, 0, b""),
-    ("does not", "", REJECTED, NO_EXPIRY),
-    ("says so in capitals", SOON.replace("expires", "Expires"), REJECTED, BAD_EXPIRY),
-    ("says so after a blank", SOON.replace("expires", " expires"), REJECTED, BAD_EXPIRY),
-    ("says so before a blank", SOON.replace("expires", "expires "), REJECTED, BAD_EXPIRY),
-    ("says so once more in capitals", SOON + SOON.upper(), REJECTED, BAD_EXPIRY))))
-def must_expire(directory, status, said, more):
-    """Without that flag it is installed."""
-    judged(directory, status, said, ("--must-expire",), more=more)
-    judged(directory, 0, more=more)
-
-
-@update_cases.table(
-    ("data of the signed size", NEW, len(NEW)),
-    ("data of the signed size, in pieces", LONG, len(LONG)),
-    ("data of no bytes", b"", 0),
-    ("data of a byte more than was signed", NEW, len(NEW) - 1, REJECTED),
-    ("data of a byte less than was signed", NEW, len(NEW) + 1, REJECTED),
-    ("data of more than was signed, in pieces", LONG, 1, REJECTED),
-)
-def sized(directory, data, size, status=0):
-    """Data of which the signed comment says that it has so many bytes, as a file and through a pipe."""
-    judged(directory, status, OTHER_SIZE if status else b"", data=data, more=f"\tsize:{size}", checked=0)
-    directory.put_older()
-    directory.check_words(THROUGH_PIPE, status, OTHER_SIZE.replace(b"new", b"/dev/stdin") if status else b"", typed=data)
-    directory.expect(*((OLD, b"5") if status else (data, b"6")))
-
-
-@update_cases.case("data without an end, whose size was signed")
-def endless(directory):
-    directory.offer(more=SIZED)
-    directory.replace("new", os.symlink, "/dev/zero")
-    directory.leaves(directory.install(), REJECTED, OTHER_SIZE)
-
-
-@update_cases.case("a bound on the data")
-def bounded(directory):
-    """Data of as many bytes as are allowed is taken; one more is rejected, and data or a key without end too."""
-    for bound, status in ((str(len(NEW) - 1), REJECTED), (f"{len(NEW) // 1024}K", REJECTED), (f"{len(NEW) // 1024 + 1}K", 0), (str(len(NEW)), 0)):
-        directory.put_older()
-        directory.leaves(directory.install("new", "--most", bound), status, error("new", TOO_LONG) if status else b"")
-    directory.offer(number=7)
-    directory.replace("new", os.symlink, "/dev/zero")
-    directory.check("new", REJECTED, "--most", "1000000", said=error("new", TOO_LONG))
-    directory.replace(PK, os.symlink, "/dev/zero")
-    directory.check("new", REJECTED, said=error(PK, TOO_LONG))
-    directory.expect(NEW, b"6")
-
-
-# == Keys ==
-
-def key_records(directory):
-    """The key that has signed, another one, and one that has its key ID."""
-    own = directory.kind.public_record()
-    return {"own": own, "other": b"Ed" + bytes(8) + OTHER_KEY, "twin": own[:10] + OTHER_KEY}
-
-
-def key_words(directory, *names):
-    return [word for name in names for word in ("--key", base64.b64encode(key_records(directory)[name]).decode())] or [PK]
 
 
 @update_cases.table(
@@ -243,71 +284,43 @@ def key_words(directory, *names):
 )
 def rejects_key(directory, key, more):
     """A key on the command line that does not read is rejected before the directory is touched."""
-    judged(directory, REJECTED, error(key, f"base64 conversion failed - was an actual public key given?{more}"), keys=("--key", key))
-    expect(directory.holds(LOCK) is None, "the directory was touched")
+    calls = judged(directory, REJECTED, error(key, f"base64 conversion failed - was an actual public key given?{more}"), keys=[key])
+    expect("open ." not in calls, f"its calls were {calls}")
 
 
 @update_cases.table(
-    ("keys that are named themselves", (["other"], REJECTED, error("new.sig", "Signature key id is different from public key")),
-     (["own"], 0), (["own", "other"], 0), (["other", "own"], 0)),
-    ("two keys of one key ID", (["own", "twin"], 0), (["twin", "own"], 0), (["twin", "twin"], REJECTED, OTHER_COMMENT)),
+    ("data without an end, whose size was signed", "new", OTHER_SIZE, dict(more=SIZED)),
+    ("data without an end, and a bound", "new", error("new", TOO_LONG), "--most", "1000000"),
+    ("a key without an end", PK, error(PK, TOO_LONG)),
 )
-def named(directory, *rows):
-    """Keys on the command line, of which one has signed, or none."""
-    for names, *ended in rows:
-        judged(directory, *ended, keys=key_words(directory, *names))
-        if not ended[0]:
-            judged(directory, THERE, keys=key_words(directory, *names), **HAS_NEW)
+def endless(directory, name, said, *options, **offered):
+    """What has no end is rejected."""
+    directory.offer(**offered)
+    directory.replace(name, os.symlink, "/dev/zero")
+    directory.leaves(directory.install("new", *options), REJECTED, said)
 
 
-@update_cases.table(
-    ("a record of a stolen key", [], "other", 0),
-    ("a record of the key itself", [], "own", OLDER),
-    ("a record of the other key", ["other", "own"], "other", OLDER),
-    ("a record of the other key of one key ID", ["twin", "own"], "twin", OLDER),
-    ("a record of no key", [], None, OLDER),
-)
-def over_key(directory, keys, key, status):
-    """The first installation over a record that names a key, with the greatest number: without `--first` it is older."""
-    record = f"timestamp:{2 ** 64 - 1}\n{key_records(directory)[key][10:].hex()}\n{'0' * 128}".encode() if key else b"timestamp:7"
-    words = key_words(directory, *keys)
-    judged(directory, OLDER, AGED, keys=words, record=record)
-    judged(directory, status, AGED if status else b"", FIRST, words, record)
+@update_cases.table(*((f"a bound of {bound}", bound, status) for bound, status in (
+    (f"{len(NEW) - 1}", REJECTED), (f"{len(NEW) // 1024}K", REJECTED), (f"{len(NEW) // 1024 + 1}K", 0), (f"{len(NEW)}", 0))))
+def bounded(directory, bound, status):
+    """Data of as many bytes as are allowed is taken, of a file and through a pipe; one more is rejected."""
+    for at in ("new", "/dev/stdin"):
+        directory.put_older()
+        ran = directory.run(["--most", bound, PK, at, "new.sig", PLACE], typed=NEW)
+        directory.leaves(ran, status, error(at, TOO_LONG) if status else b"")
 
 
-# == While another holds the lock ==
-
-@update_cases.table(
-    ("while another holds the lock", (PK, "new", "new.sig", PLACE), IN_USE, AT_WORK),
-    ("a check, while another holds the lock", CHECK, 0, b""),
-)
-def while_locked(directory, words, status, said):
-    """Another run is told so, and a check needs no lock."""
-    with directory.locked():
-        directory.check_words(words, status, said)
-        directory.expect(OLD, b"5")
+@update_cases.table("a place that cannot be read")
+def fails_to_look(directory):
+    """That is said, and nothing is installed."""
     directory.check("new", 0)
-
-
-@update_cases.table(
-    ("data whose size was signed, while another holds the lock", NEW, 0, dict(more=SIZED)),
-    ("data of another size, while another holds the lock", NEW + b"x", REJECTED, dict(more=SIZED)),
-    ("two keys of one key ID, while another holds the lock", NEW, 0, ["twin", "own"]),
-)
-def received_while_locked(directory, data, status, keys=(), **offered):
-    """What comes through a pipe while another holds the lock, so that its comment is judged later."""
-    directory.offer(data=data, **offered)
-    with directory.locked():
-        process = directory.waiting([*key_words(directory, *keys), *THROUGH_PIPE[1:]], data)
-    directory.ends_later(process, status)
-    directory.expect(*((OLD, b"5") if status else (data, b"6")))
+    before = directory.everything()
+    ran = directory.broken(CALLS="pread", AT=1, ERRNO=errno.EIO)
+    directory.ends(ran, FAILED, error(PLACE, "Input/output error (os error 5)"))
+    expect(directory.everything() == before, "something was changed")
 
 
 # == The date of the record ==
-
-def date(directory, written):
-    os.utime(directory.at(RECORD), (written, written))
-
 
 def expect_written(directory, first, last=None):
     """Raises a `Failure` where the record was not written between two moments."""
@@ -315,7 +328,7 @@ def expect_written(directory, first, last=None):
     expect(first <= found <= (last or first), f"the record was written at {found}, and not at {first}")
 
 
-@update_cases.case("the date of the record")
+@update_cases.table("the date of the record")
 def keeps_date(directory):
     """A run by a clock that shows less than when the record was written dates no record back, nor does one that finds the update there."""
     date(directory, WRITTEN)
@@ -331,7 +344,7 @@ def keeps_date(directory):
     expect_written(directory, began - 1000)
 
 
-@update_cases.case("the date of a record that a run by root makes anew")
+@update_cases.table("the date of a record that a run by root makes anew")
 def renews_dated(directory):
     """The record for a new owner was written when the older one was."""
     directory.put(RECORD, b"timestamp:7")
@@ -344,41 +357,23 @@ def renews_dated(directory):
 
 # == What else stands beside the target ==
 
-@update_cases.case("names that are drawn")
-def draws_names(directory):
-    """The stages of two runs over the same files have four names."""
-    names = set()
-    for _ in range(2):
-        directory.begin()
-        names |= directory.made_by_run(directory.arguments("new"))[1]
-    expect(len(names) == 4, f"the names are {sorted(names)}")
-
-
-@update_cases.case("leftovers")
+@update_cases.table("leftovers")
 def removes_leftovers(directory):
-    """Stages of killed runs go, and files that only look alike stay."""
+    """Stages of killed runs go. What only looks like one, or cannot be removed, stays, and stops no update."""
     left = {STAGE + "0" * 32, STAGE + "0123456789abcdef" * 2}
-    alike = {STAGE + "0" * 31, STAGE + "A" * 32, ".other.stage-" + "0" * 32, STAGE + "0" * 33}
+    alike = {STAGE + "0" * 31, STAGE + "A" * 32, ".other.stage-" + "0" * 32, STAGE + "0" * 33, os.fsdecode(b".place.stage-\xe9")}
+    directories = {STAGE + "1" * 32, os.fsdecode(b"caf\xe9")}
     for name in left | alike:
         directory.put(name, b"left")
+    for name in directories:
+        os.mkdir(directory.at(name))
     directory.check("new", 0)
-    found = set(os.listdir(directory.path))
-    expect(not found & left and found >= alike, f"the directory has {sorted(found)}")
-
-
-@update_cases.table(
-    ("a directory with a name that is not UTF-8", os.mkdir, b"caf\xe9"),
-    ("a file with a name that is not UTF-8", lambda at: open(at, "wb").close(), b".place.stage-\xe9"),
-    ("a directory with a stage's name", os.mkdir, os.fsencode(STAGE + "0" * 32)),
-)
-def passes_over(directory, make, name):
-    """What is no leftover, or cannot be removed, stays, and stops no update."""
-    make(os.path.join(os.fsencode(directory.path), name))
-    directory.check("new", 0)
-    expect(name in os.listdir(os.fsencode(directory.path)) and directory.state() == (NEW, b"6"), f"{name} was removed, or the update is not there")
+    found = {*os.listdir(directory.path)}
+    expect(not found & left and found >= alike | directories and directory.state() == (NEW, b"6"), f"the directory has {sorted(found)}")
 
 
 # What is put in the place of a file, and what is said of it.
+IS_LINK = "a link stands there, which is not followed"
 OTHERS = {"pipe": (os.mkfifo, "what stands there is no regular file"), "link": (lambda at: os.symlink("behind", at), IS_LINK),
           "link to nothing": (lambda at: os.symlink("nothing", at), IS_LINK), "directory": (os.mkdir, "a directory stands there")}
 
@@ -403,16 +398,23 @@ def rejects_made(directory, kind, name, behind, is_kept=False):
         directory.check_words(CHECK, FAILED, said)
     directory.check("new", FAILED, said=said)
     after = os.lstat(at)
-    expect((before.st_ino, before.st_mode, behind) == (after.st_ino, after.st_mode, directory.holds("behind")), f"{name} or what it leads to was changed")
+    is_same = (before.st_ino, before.st_mode, behind) == (after.st_ino, after.st_mode, directory.holds("behind"))
+    expect(is_same, f"{name} or what it leads to was changed")
     expect(name == PLACE or directory.holds() == OLD, "the update was installed")
     expect({*os.listdir(directory.path)} <= names, f"it left {os.listdir(directory.path)}")
 
 
-@update_cases.case("a first installation with a mode")
-def first_mode(directory):
-    """A first installation has the permissions that are asked for, whatever the mask."""
+@update_cases.table(
+    ("a first installation with a mode", 0o775, ["--mode", "0775"]),
+    ("a list that the directory gives to a first file", 0o600, [], INHERITED),
+    ("a list that the directory gives to a first file with a mode", 0o640, ["--mode", "640"], INHERITED),
+)
+def first_mode(directory, mode, options, inherited=""):
+    """A first file has the permissions that are asked for, whatever the mask, or is for its owner alone; and it has no list that its
+    directory gives to new files."""
     directory.put_older(None, None)
-    directory.check("new", 0, "--first", "--mode", "0775")
-    directory.expect(NEW, b"6")
-    directory.has_mode(0o775)
+    make_older(directory.path, directory.path, 0o711, inherited=inherited)
+    directory.leaves(directory.install("new", "--first", *options), 0)
+    directory.has_mode(mode)
     directory.has_mode(0o600, RECORD)
+    expect(list_of(directory.at(PLACE)) is None, f"the file has the list {list_of(directory.at(PLACE))}")

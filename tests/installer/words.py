@@ -1,15 +1,16 @@
 """The words that a person gives an installer, and those that it says."""
 
+import errno
 import os
-import pty
 
-from installers import (CHECK, FAILED, FIRST, LOCK, MISUSED, NAME, NEW, NO_DIRECTORY, OLD, PK, PLACE, RECORD, REJECTED,
-                        UNRECORDED, USAGE, VERSION, error)
-from running import SECONDS, expect
+from at_terminal import AtTerminal
+from installers import CHECK, FAILED, FIRST, LOCK, MISUSED, NAME, NEW, NO_DIRECTORY, OLD, PK, PLACE, RECORD, REJECTED, UNRECORDED, error
+from running import expect
 from runs import Cases
 
 word_cases = Cases()
 
+USAGE = b"usage: minisign-install [OPTION ..] PK DATA SIG TARGET (--help shows the options)\n"
 PATHS = (PK, "new", "new.sig", PLACE)
 # A key that has signed nothing here.
 OTHER_KEY = ("--key", "RWQf6LRCGA9i53mlYecO4IzT51TGPpvWucNSCh1CBM0QTaLn73Y7GFO3")
@@ -21,7 +22,8 @@ def says(directory, words, status, said, shown=b""):
     directory.put("bytes", b"\xff\n")
     before, ran = os.listdir(directory.path), directory.run(words)
     expect(ran.status == status and said in ran.said and bool(said) == bool(ran.said) and ran.output.startswith(shown), ran)
-    expect({*os.listdir(directory.path)} - {LOCK} == {*before} and directory.holds() == OLD, f"the directory has {os.listdir(directory.path)}")
+    after = os.listdir(directory.path)
+    expect({*after} - {LOCK} == {*before} and directory.holds() == OLD, f"the directory has {after}")
 
 
 def misuse(name, words, at, why):
@@ -59,12 +61,11 @@ SAYING = (
     *((what, [*PATHS[:3], place], MISUSED, error(place, "it does not end with the name of a file")) for what, place in (
         ("a directory as place", "place/"), ("the directory itself as place", "."), ("the directory above as place", ".."))),
     ("a name with a control character", ["none\x1b[31m", *PATHS[1:]], FAILED, error("none\\u{1b}[31m", NO_FILE)),
-    ("no key", ["none.pub", *PATHS[1:]], FAILED, error("none.pub", NO_FILE)),
-    ("no data", [PK, "none", *PATHS[2:]], FAILED, error("none", NO_FILE)),
-    ("no signature", [PK, "new", "none.sig", PLACE], FAILED, error("none.sig", NO_FILE)),
+    *((f"no {what}", [*PATHS[:at], "none", *PATHS[at + 1:]], FAILED, error("none", NO_FILE))
+      for at, what in enumerate(("key", "data", "signature"))),
     ("no directory", [*PATHS[:3], "none/place"], FAILED, NO_DIRECTORY),
     ("a place in the root directory", ["--name", PLACE, "--check", PK, "new.sig", "/no-such-place"], UNRECORDED,
-     error("/no-such-place", "no number is kept beside the target") + b"//.no-such-place.number is missing: --first installs all the same\n"),
+     error("/no-such-place", "no number is kept beside the target", "//.no-such-place.number is missing: --first installs all the same")),
     ("a directory as key", [".", *PATHS[1:]], FAILED, error(".", "Is a directory (os error 21)")),
     ("a key that is no text", ["new.sig", *PATHS[1:]], REJECTED, b"error: new.sig: "),
     ("a signature that is none", [PK, "new", PK, PLACE], REJECTED, b"error: key.pub: "),
@@ -75,7 +76,7 @@ SAYING = (
     ("a signature in the other's place", ["new.sig", *PATHS[1:]], REJECTED,
      b"\nnew.sig: this is a signature, not a public key\nthe order is PK DATA SIG TARGET\n"),
     *((f"help by {word}", [word], 0, b"", USAGE.replace(b" (--help shows the options)", b"")) for word in ("--help", "-h")),
-    ("the version", ["--version"], 0, b"", NAME.encode() + b" " + VERSION + b"\n"),
+    ("the version", ["--version"], 0, b"", b"minisign-install 0.3.0\n"),
 )
 word_cases.table(*SAYING)(says)
 
@@ -102,21 +103,19 @@ def takes(directory, words, mode=0o751, name=PLACE, names=PLACE):
     directory.has_mode(mode, name)
 
 
-@word_cases.case("progress at a terminal")
+@word_cases.table("libsodium that cannot be started")
+def without_libsodium(directory):
+    ran = directory.broken(AT=1, CALLS="sodium_init", ERRNO=errno.EIO)
+    expect((ran.status, ran.said) == (FAILED, error(PLACE, "libsodium could not be started")) and directory.holds() == OLD, ran)
+
+
+@word_cases.table("progress at a terminal")
 def at_terminal(directory):
     """Where the error stream is a terminal, it shows how far the installation is."""
     data = b"large" * 1000000
     directory.offer(data=data)
-    ours, theirs = pty.openpty()
-    with open(ours, "rb", buffering=0) as screen:
-        process = directory.start(PATHS, stderr=theirs)
-        os.close(theirs)
-        shown = b""
-        try:
-            while piece := screen.read(1000):
-                shown += piece
-        except OSError:
-            pass
-        status = process.wait(timeout=SECONDS)
-    expect(not status and b"copied 4 of 4 MiB\r" in shown and b"verified 4 MiB\r" in shown, f"it ended with status {status}, and showed {shown}")
+    at = AtTerminal([NAME, *PATHS], directory.installing.program, directory.path, {})
+    status = at.finish()
+    expect(not status and b"copied 4 of 4 MiB\r" in at.shown and b"verified 4 MiB\r" in at.shown,
+           f"it ended with status {status}, and showed {at.shown}")
     directory.expect(data, b"6")

@@ -1,9 +1,9 @@
 #!/usr/bin/env python3
 """Compares the names in the documents with the sources: functions and clauses, the calls that a CALLING.md quotes,
-the errors of docs/FORMATS.md, blocks of code, links, paths, and the old texts of the must-fail edits. It does the
-same with names and paths in the comments of all code, of makefiles and of manual pages. No file may name a directory
-of one machine, and no crate the proofs of another one. The documents have no more bytes than they may, few of their
-sentences are long, and a script runs each block of commands and each example.
+the errors of docs/FORMATS.md, links, paths, and the old texts of the must-fail edits. It does the same with names and
+paths in the comments of all code, of makefiles and of manual pages. No file may name a directory of one machine, and
+no crate the proofs of another one. The documents have no more bytes than they may, few of their sentences are long,
+and a script runs each block of commands and each example.
 
 It prints a line for each name that is missing; the last line is `N passed, M failed`. Needs Python 3.9 or later.
 """
@@ -54,7 +54,7 @@ RUN_BY = {
 # How blocks that are set in begin: the usage, what a check shows, and the unit and the script that
 # tests/installer/checking.py runs.
 SET_IN = {"docs/INSTALLING.md": ["minisign-install [OPTION ..] PK DATA SIG TARGET", "2", "[Service]", "#!/bin/sh"]}
-DIRECTORIES = ("tests/", "crates/", "bench/", ".ci/", "docs/", "tools/", "examples/", "c/")
+IN_COMMANDS = re.compile(r"(?<![\w./-])(?:\.ci|bench|c|crates|docs|examples|tests|tools)/[\w./*-]+")
 QUOTED = re.compile(r"`([^`]+)`")
 # Quoted names of functions, parted by commas.
 NAMES = r"((?:`[\w:]+`(?:, | and )?)+)"
@@ -107,17 +107,14 @@ class Index:
 
     def __init__(self):
         self.library = sources.Library()
-        self.sources = {name: self.library.crate_sources(name) for name in self.library.crates}
-        self.all_sources = [source for read_all in self.sources.values() for source in read_all]
-        self.items = [item for source in self.all_sources for item in source.items]
+        self.sources = [source for crate in self.library.crates for source in self.library.crate_sources(crate)]
+        self.items = [item for source in self.sources for item in source.items]
         self.types = {item.name for item in self.items if item.what in ("struct", "enum", "trait", "type")}
         specs = [file for directory in self.library.crates.values() for file in sources.files_below(f"{directory}/specs", ".antt")]
         self.definitions = [definition for file in specs for definition in sources.read_module(file).definitions.values()]
-        # Items, clauses, parameters, fields, variants, definitions, and all names in code: those of the crates and of C alone,
-        # which a comment in a crate may name, and all; comments in Python name what that has.
-        self.of_crates = {*self.library.crates, *(item.name for item in self.items if item.what == "mod"),
-                          *(definition.name for definition in self.definitions),
-                          *(os.path.basename(file).partition(".")[0] for file in FILES)}
+        # All names in code: those of the crates and of C alone, which a comment in a crate may name, and all; comments in Python
+        # name what that has.
+        self.of_crates = {*self.library.crates, *(os.path.basename(file).partition(".")[0] for file in FILES)}
         self.known = {*self.of_crates, *dir(builtins)}
         for file in (file for file in FILES if file.endswith(CODE)):
             text = read(file)
@@ -146,27 +143,6 @@ def without_blocks(text):
 def places(document, text):
     """The lines, each with its place."""
     return ((f"{document}:{number}", line) for number, line in enumerate(text.split("\n"), 1))
-
-
-def squeezed(text):
-    """The text with each white space as one."""
-    return re.sub(r"\s+", " ", text).strip()
-
-
-def check_blocks(report, document, text, index):
-    """Each block of Rust stands in a file, with its comments where it has some; lines of crates.txt stand there."""
-    crates = read("crates.txt").split("\n")
-    for found in BLOCK.finditer(text):
-        where, (language, block) = f"{document}:{text.count(chr(10), 0, found.start()) + 1}", found.groups()
-        if language == "rust":
-            read_as = squeezed if "//" in block else lambda value: squeezed(re.sub(r"(?m)^\s*//.*$", "", value))
-            report.check(any(read_as(block) in read_as(source.text) for source in index.all_sources), where, "this block stands in no file")
-        elif not language and re.fullmatch(r"(?:\w+:[\w ]*\n)+", block):
-            for line in block.strip().split("\n"):
-                report.check("your" in line or line in crates, where, f"crates.txt has no line {line!r}")
-        elif language == "sh":
-            for name in re.findall(r"(?<![\w./-])(?:\.ci|tests|bench|tools|docs|crates)/[\w./-]+", block):
-                report.check("/out/" in name or os.path.exists(os.path.join(ROOT, name)), where, f"no file {name}")
 
 
 def shortened(text):
@@ -226,12 +202,26 @@ def is_path(text):
     return bool("/" in text and not re.fullmatch(r"\d+(?:/\d+)*", text) or re.search(r"\.(?:rt|antt|py|md|c|txt|edit)$", text))
 
 
+def squeezed(text):
+    """The text without lines of comments, and with each white space as one."""
+    return re.sub(r"\s+", " ", re.sub(r"(?m)^\s*//.*$", "", text)).strip()
+
+
+def check_blocks(report, document, text, index):
+    """Each block of Rust stands in a file, but for comments."""
+    for block in (block for language, block in BLOCK.findall(text) if language == "rust"):
+        is_there = any(squeezed(block) in squeezed(source.text) for source in index.sources)
+        report.check(is_there, document, f"this block stands in no file: {block[:100]!r}")
+
+
 def check_paths(report, document, text):
-    """Each quoted path, and names that are said to stand in a file."""
+    """Each path that is quoted or stands in a command, and names that are said to stand in a file."""
+    for path in (path for language, block in BLOCK.findall(text) if language == "sh" for path in IN_COMMANDS.findall(block)):
+        report.check(not is_path(path) or find(path), document, f"no file or directory {path}")
     for where, line in places(document, text):
         for name in QUOTED.findall(line):
-            for word in [name] if " " not in name else [word for word in name.split() if word.startswith(DIRECTORIES)]:
-                report.check(not is_path(word) or find(word), where, f"no file or directory {word}")
+            for path in [name] if " " not in name else IN_COMMANDS.findall(name):
+                report.check(not is_path(path) or find(path), where, f"no file or directory {path}")
         for names, path in re.findall(NAMES + r" of `([\w./]+)`", line):
             for name in QUOTED.findall(names) if is_path(path) else ():
                 there = {name for place in find(path) for name in names_of(place)}
@@ -300,7 +290,7 @@ def check_clauses(report, index, document, text):
 def check_texts(report, index):
     """Each quoted text of docs/FORMATS.md that has a space stands in a text of the sources, and each form of the
     usage that the program shows stands in docs/FORMATS.md."""
-    said = "\n".join({text for source in (*index.all_sources, *index.definitions) for text in TEXT.findall(source.text)})
+    said = "\n".join({text for source in (*index.sources, *index.definitions) for text in TEXT.findall(source.text)})
     formats = read(FORMATS)
     for usage in set(re.findall(r"usage: minisign_tool ([^\\\n]+)", said)):
         for form in usage.split(" | "):
@@ -314,36 +304,31 @@ def check_texts(report, index):
             report.check(not is_text or quoted in said, where, f"no source says {quoted!r}")
 
 
-def check_architecture(report, index):
+def check_architecture(report):
     """docs/ARCHITECTURE.md names each crate, each module of the library and of the program, and each file of the
     library's definitions."""
     text = read(ARCHITECTURE)
     named = {name for part in QUOTED.findall(without_blocks(text)) for name in NAME.findall(part)}
     for crate in re.findall(r"(?m)^\w+(?=:)", read("crates.txt")):
         report.check(re.search(rf"\b{crate}\b", text), ARCHITECTURE, f"it does not name the crate {crate}")
-    for crate in ("minisign", "minisign_tool"):
-        for item in (item for source in index.sources[crate] for item in source.items if item.what == "mod"):
-            is_file = item.text.rstrip().endswith(";") and "cfg(test)" not in item.comment
-            report.check(not is_file or item.name in named, ARCHITECTURE, f"it does not name the module {item.name} of {crate}")
-    for file in sources.files_below(os.path.join(index.library.crates["minisign"], "specs"), ".antt"):
-        name = os.path.basename(file).removesuffix(".antt")
-        report.check(name == "Lib" or name in named, ARCHITECTURE, f"it does not name specs/{name} of minisign")
+    for file in (file for file in FILES if re.match(r"crates/(?:minisign|minisign_tool)/src/|crates/minisign/specs/", file)):
+        name = os.path.splitext(os.path.basename(file))[0]
+        report.check(name in {"lib", "main", "Lib", *named}, ARCHITECTURE, f"it does not name {file}")
 
 
 def check_layers(report, index):
     """No crate names the proofs of another one, but for those that it has for its callers: what it knows of it is its
     contracts, its definitions and its laws."""
     for file in (file for file in FILES if file.startswith("crates/") and file.endswith((".antt", ".rt"))):
-        for where, line in places(file, read(file)) if "proofs" in read(file) else ():
-            for other in re.findall(r"\b(\w+)(?:\.|::)proofs\b(?!(?:\.|::)Laws\b)", line):
-                is_own = other == file.split("/")[1] or other not in index.library.crates
-                report.check(is_own, where, f"it names proofs of {other}")
+        named = {*re.findall(r"\b(\w+)(?:\.|::)proofs\b(?!(?:\.|::)Laws\b)", read(file))}
+        others = named & {*index.library.crates} - {file.split("/")[1]}
+        report.check(not others, file, f"it names proofs of {', '.join(others)}")
 
 
 def check_edit(report, shown):
     """A must-fail edit says first why it is wrong, and of which function it is; and each of its old texts stands exactly once in
     its file."""
-    edit = WrongBody(shown.split("/")[1], shown, 0)
+    edit = WrongBody(shown.split("/")[1], shown)
     file = f"crates/{edit.crate}/{edit.path}"
     if report.check(edit.why_not or os.path.isfile(os.path.join(ROOT, file)), shown, f"no file {file}") and not edit.why_not:
         edit.places(read(file))
@@ -390,37 +375,30 @@ def check_version(report, documents):
                 report.check(logic in ran.stdout.decode(), document, f"`rt version` does not say {logic}")
 
 
-def check_document(report, index, document, text):
-    check_links(report, document, text)
-    if document == MADE:
-        return
-    check_paths(report, document, text)
-    # (the packages, and what is a repository of its own, have blocks of their own, which their tests run)
-    is_apart = document.startswith(("bindings/", "examples/rattle/"))
-    check_names(report, document, text, index, set() if is_apart else index.types)
-    if is_apart:
-        return
-    if CALLS.match(document):
-        check_calls(report, index, document, text)
-    else:
-        check_blocks(report, document, text, index)
-    check_clauses(report, index, document, text)
-
-
 def main():
     report, index = Checks(), Index()
     documents = {path: read(path) for path in FILES if path.endswith(".md")}
     for document, text in documents.items():
-        check_document(report, index, document, text)
+        check_links(report, document, text)
+        if document != MADE:
+            check_paths(report, document, text)
+            check_clauses(report, index, document, text)
+            # (the packages, and what is a repository of its own, have types and examples of their own)
+            is_apart = document.startswith(("bindings/", "examples/rattle/"))
+            check_names(report, document, text, index, set() if is_apart else index.types)
+            if not is_apart and not CALLS.match(document):
+                check_blocks(report, document, text, index)
+        if CALLS.match(document):
+            check_calls(report, index, document, text)
     for path in (file for file in FILES if file.endswith((*COMMENTED, ".md")) and not file.startswith("dist/")):
         place = OF_ONE_MACHINE.search(read(path))
         report.check(place is None, path, f"it names a directory of one machine: {place and place[0]}")
         if not path.endswith(".md"):
             check_comments(report, path, index)
-    for edit in (file for file in FILES if re.match(r"crates/[^/]+/(?:must-fail|wrong-bodies)/.*\.edit$", file)):
-        check_edit(report, edit)
+        if re.match(r"crates/[^/]+/(?:must-fail|wrong-bodies)/", path):
+            check_edit(report, path)
     check_texts(report, index)
-    check_architecture(report, index)
+    check_architecture(report)
     check_layers(report, index)
     check_lengths(report, documents)
     for document in PLAIN:

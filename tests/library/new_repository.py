@@ -16,14 +16,14 @@ import os
 import re
 import shutil
 import sys
-import tempfile
 
 HERE = os.path.dirname(os.path.realpath(__file__))
 sys.path += [os.path.join(HERE, "..", "shared"), os.path.join(HERE, "..", "..", "tools")]
 
+import ending
 import proved
-from checks import Checks
-from sources import read
+from running import expect, run_cases, write
+from sources import files_below, read
 
 DOCUMENTS = ("README.md", "docs/GUIDE.md")
 # The crate whose example the documents show, and what of it the caller has beside that.
@@ -31,15 +31,6 @@ EXAMPLES = "minisign_examples"
 MODULE = "updating"
 PARTS = (f"src/{MODULE}.rt", "specs/Updating.antt", f"proofs/{MODULE}", "proofs/Refusals.antt")
 CALLER = "your_crate"
-
-
-class Wrong(Exception):
-    """Something that a document says and that is not so."""
-
-
-def expect(holds, why):
-    if not holds:
-        raise Wrong(why)
 
 
 def block_with(line):
@@ -50,15 +41,6 @@ def block_with(line):
     return found[0]
 
 
-def lines_of_crates():
-    """The names of the libraries whose lines of crates.txt a caller takes over, and the line of the caller's crate."""
-    lines = [line for line in block_with(f"{CALLER}:").splitlines() if ":" in line.partition("#")[0]]
-    libraries, (caller,) = ([line for line in lines if line.startswith(f"{CALLER}:") == is_caller] for is_caller in (False, True))
-    for line in libraries:
-        expect(line in read("crates.txt").splitlines(), f"crates.txt has no line {line!r}")
-    return [line.partition(":")[0] for line in libraries], caller
-
-
 def fill(directory):
     """Puts the caller's crate into a directory: the example of the documents after the imports of the same in its crate."""
     example = block_with("pub fn check_update")
@@ -67,65 +49,52 @@ def fill(directory):
         came, goes = os.path.join(proved.ROOT, "crates", EXAMPLES, part), os.path.join(directory, part)
         os.makedirs(os.path.dirname(goes), exist_ok=True)
         (shutil.copytree if os.path.isdir(came) else shutil.copyfile)(came, goes)
-    write(directory, "src/lib.rt", f"//! An updater.\n\n#![tactic(auto)]\n\npub mod {MODULE};\n")
-    write(directory, "specs/Lib.antt", "pub mod Updating\n")
-    write(directory, "proofs/Lib.antt", "mod Refusals\n")
-    for path in (os.path.join(at, name) for at, _, names in os.walk(directory) for name in names):
-        write("", path, read(path).replace(f"Rattle.{EXAMPLES}.", f"Rattle.{CALLER}."))
+    write(directory, "src/lib.rt", f"//! An updater.\n\n#![tactic(auto)]\n\npub mod {MODULE};\n".encode())
+    write(directory, "specs/Lib.antt", b"pub mod Updating\n")
+    write(directory, "proofs/Lib.antt", b"mod Refusals\n")
+    for path in files_below(directory):
+        write("", path, read(path).replace(f"Rattle.{EXAMPLES}.", f"Rattle.{CALLER}.").encode())
 
 
-def write(directory, name, text):
-    with open(os.path.join(directory, name), "w", encoding="utf-8") as file:
-        file.write(text)
-
-
-def prove(line, crates, fill_in):
-    """What a check says of the caller's crate, which has this line of crates.txt among these crates, and the crate."""
-    crate = proved.Crate(line, crates)
+def prove(directory, crate, *functions):
+    """Proves the caller's crate in a directory, with these functions."""
     why = proved.supply(crate.below)
     expect(not why, why)
-    with tempfile.TemporaryDirectory(prefix="minisign-caller-") as directory:
-        fill_in(directory)
-        return proved.rattle("check", CALLER, directory, crate=crate), crate
+    ran = proved.rattle("check", CALLER, directory, crate=crate)
+    is_proved = not ran.returncode and "logic=proved" in ran.stdout
+    expect(is_proved and {*functions} <= {*proved.functions_of(CALLER, ran.stdout)},
+           f"the caller is not proved: {proved.first_of(ran.stdout)}")
 
 
-def check_documents():
-    """Proves the caller over the libraries that its line of crates.txt lists."""
-    names, line = lines_of_crates()
-    ran, crate = prove(line, {name: proved.crates()[name] for name in names}, fill)
-    expect({*crate.below} == {*names}, f"the libraries below {CALLER} are {crate.below}, and the lines have {names}")
-    expect(not ran.returncode and f"{MODULE}::check_update" in proved.functions_of(CALLER, ran.stdout),
-           f"the example is not proved: {proved.first_of(ran.stdout)}")
+def check_documents(directory):
+    """Proves the caller over the libraries whose lines of crates.txt it takes over, and which its own line lists."""
+    lines = [line for line in block_with(f"{CALLER}:").splitlines() if ":" in line.partition("#")[0]]
+    (own,) = [line for line in lines if line.startswith(f"{CALLER}:")]
+    taken = {line.partition(":")[0]: line for line in lines if line != own}
+    for line in taken.values():
+        expect(line in read("crates.txt").splitlines(), f"crates.txt has no line {line!r}")
+    crate = proved.Crate(own, {name: proved.crates()[name] for name in taken})
+    expect({*crate.below} == {*taken}, f"the libraries below {CALLER} are {crate.below}, and the lines have {[*taken]}")
+    fill(directory)
+    prove(directory, crate, f"{MODULE}::check_update")
 
 
-def check_page(page):
+def check_page(directory, page):
     """Proves the caller that a page shows."""
     blocks = re.findall(r"(?ms)^```rust\n(.*?)^```$", read(page))
     expect(len(blocks) == 1, f"{page} has {len(blocks)} blocks of Rattle, and not one")
     own = page.split("/")[1]
     named = [crate for crate in proved.crates() if crate == own or re.search(rf"\b{crate}(?:::|\.)", blocks[0])]
-
-    def fill_in(directory):
-        os.makedirs(f"{directory}/src")
-        write(directory, "src/lib.rt", f"//! A caller.\n\n{blocks[0]}")
-
-    words = prove(f"{CALLER}: {' '.join(named)}", proved.crates(), fill_in)[0].stdout
-    functions = re.findall(r"\bfn (\w+)", blocks[0])
-    expect("logic=proved" in words and {*functions} <= {*proved.functions_of(CALLER, words)},
-           f"the caller of {page} is not proved: {proved.first_of(words)}")
+    os.makedirs(f"{directory}/src")
+    write(directory, "src/lib.rt", f"//! A caller.\n\n{blocks[0]}".encode())
+    prove(directory, proved.Crate(f"{CALLER}: {' '.join(named)}", proved.crates()), *re.findall(r"\bfn (\w+)", blocks[0]))
 
 
-def main():
+def run_all(room):
     pages = [page for crate in proved.crates() for page in [f"crates/{crate}/CALLING.md"] if os.path.exists(f"{proved.ROOT}/{page}")]
-    checks = Checks()
-    for check, *given in ((check_documents,), *((check_page, page) for page in pages)):
-        try:
-            check(*given)
-            checks.check(True)
-        except Wrong as why:
-            checks.check(False, why)
-    return checks.end()
+    return run_cases([("the documents", check_documents, f"{room}/documents"),
+                      *((page, check_page, f"{room}/{number}", page) for number, page in enumerate(pages))])
 
 
 if __name__ == "__main__":
-    sys.exit(main())
+    sys.exit(ending.main("minisign-caller", run_all))

@@ -26,12 +26,11 @@ sys.path += [os.path.join(TOP, *directory) for directory in (("tests", "shared")
 
 import check
 import ending
+from process import run_apart, run_program
 from running import write
 from sources import read
 
 SECONDS = 60
-# What is not listed, as a script of the list runs it.
-NOT_LISTED = {"tests/bindings/python_user.py"}
 COMMAND = "make -C c check"
 # Debian's packages, one a line.
 PACKAGES = "tests/packages.txt"
@@ -68,11 +67,6 @@ ASKED = [
 ]
 
 
-def is_counting(path):
-    """Whether a script is begun by itself and ends by counting what it checked."""
-    return re.search(r"(?m)^if __name__ == \"__main__\":$", read(path)) and " passed, " in read(path)
-
-
 def check_list(checks):
     """What is listed is there, and what is there is listed."""
     groups = check.groups_of(check.LIST)
@@ -85,18 +79,20 @@ def check_list(checks):
     for words in (script.words for script in scripts):
         # (a script of tools/ compares what it makes with what stands there where `--check` is said)
         checks.check(("--check" in words) == words[0].startswith("tools/"), f"{' '.join(words)}: it would make something anew")
-    for name in filter(is_counting, sorted(glob.glob("tests/*/*.py") + glob.glob("tools/*.py"))):
-        checks.check((name in names) != (name in NOT_LISTED), f"{name} is not listed, and should be, or the reverse")
+    for name in sorted(glob.glob("tests/*/*.py") + glob.glob("tools/*.py")):
+        # (what is begun by itself and ends by counting what it checked)
+        if re.search(r"(?m)^if __name__ == \"__main__\":$", read(name)) and " passed, " in read(name):
+            checks.check(name in names, f"{name} is not listed, and should be")
     checks.check(FRESH in names or all(script.needs != "debian" for script in scripts),
                  f"nothing in the gate runs what is marked by debian: {FRESH} is not listed")
     checks.check(check.IN_BROWSERS in names, f"{check.IN_BROWSERS} is not listed")
 
 
 def run_over(room, text, *words):
-    """Runs what is listed in this text."""
-    path = write(room, "list", text.encode())
-    return subprocess.run([sys.executable, check.__file__, "--list", path, *words], stdout=subprocess.PIPE, text=True,
-                          stderr=subprocess.PIPE, timeout=SECONDS, env=dict(os.environ, MAKEFLAGS="s", MAKELEVEL="1"))
+    """Runs what is listed in this text: the exit status, the lines that come, and what is said of errors."""
+    command = [sys.executable, check.__file__, "--list", write(room, "list", text.encode()), *words]
+    status, said, errors = run_apart(command, seconds=SECONDS, MAKEFLAGS="s", MAKELEVEL="1")
+    return status, said.splitlines(), errors
 
 
 def check_adding(checks, room):
@@ -105,14 +101,13 @@ def check_adding(checks, room):
         write(room, name, text.encode())
     for number, (lines, words, last, status) in enumerate(ASKED):
         listed = "".join("    {} {room}/{}\n".format(*line.split(), room=room) for line in lines)
-        ran = run_over(room, f"one:  # a group\n{listed}", *(word.replace("ROOM", room) for word in words))
-        said = ran.stdout.splitlines()
+        came, said, _ = run_over(room, f"one:  # a group\n{listed}", *(word.replace("ROOM", room) for word in words))
         took = [line for line in said if re.fullmatch(r"== \S+: \d+ s, \d+ of the processor", line)]
         checks.check(len(took) == sum(line.startswith("== ") for line in said) / 2, f"list {number}: a script does not say what it took: {said}")
-        checks.check(said[-1:] == [last] and ran.returncode == status, f"list {number}: status {ran.returncode}, it ends with {said[-1:]}")
+        checks.check(said[-1:] == [last] and came == status, f"list {number}: status {came}, it ends with {said[-1:]}")
     for text in ("any good.py\n", "one:\n    good.py\n", "one:\n    all good.py\n"):
-        ran = run_over(room, text, "--groups")
-        checks.check(ran.returncode != 0 and not ran.stdout and "neither a group nor a script" in ran.stderr, f"the list {text!r} is taken")
+        came, said, errors = run_over(room, text, "--groups")
+        checks.check(came != 0 and not said and "neither a group nor a script" in errors, f"the list {text!r} is taken")
 
 
 def packages_asked_for(path):
@@ -152,11 +147,10 @@ def check_gate(checks, room):
         os.symlink(shutil.which(name), os.path.join(place, name))
     for name in ("python3", "apt-get", "nice", "mktemp"):
         os.chmod(write(place, name, f"#!{shutil.which('sh')}\necho {name} >> {room}/begun\n".encode()), 0o755)
-    ran = subprocess.run(["bash", os.path.join(TOP, ".ci", "run")], env={"PATH": place, "CI": "1"}, stdin=subprocess.DEVNULL,
-                         stdout=subprocess.PIPE, stderr=subprocess.STDOUT, timeout=SECONDS)
-    said = ran.stdout.decode().splitlines()
-    checks.check(ran.returncode != 0 and len(said) == 1 and "there is no rt" in said[0] and f"`{COMMAND}`" in said[0],
-                 f"the gate without the kit: status {ran.returncode}: {said}")
+    ran = run_program(["bash", os.path.join(TOP, ".ci", "run")], None, env={"PATH": place, "CI": "1"}, stderr=subprocess.STDOUT)
+    said = ran.output.decode().splitlines()
+    checks.check(ran.status != 0 and len(said) == 1 and "there is no rt" in said[0] and f"`{COMMAND}`" in said[0],
+                 f"the gate without the kit: status {ran.status}: {said}")
     checks.check(not os.path.exists(f"{room}/begun"), "the gate without the kit begins something")
 
 

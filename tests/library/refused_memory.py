@@ -2,28 +2,26 @@
 """Runs built tests again and again, each time with one more of their requests for memory refused, until a run meets
 no refusal; and those that promise to take little memory, within a bound on it.
 
-    tests/library/refused_memory.py [TESTS [WORD]]
-
-TESTS is a program of tests as `rt test` and `rt ci` leave it; without it, those of each crate whose sources have the
-word WORD, `crates/NAME/out/NAME_tests`. It runs the tests whose names hold WORD, by default `refused_allocations`. A
-test passes where its call is right or is refused with `out of memory`. A missing test or program counts as failed. The
-last line is `N passed, M failed`.
+The tests are those whose names hold `refused_allocations`, of the programs that `rt test` and `rt ci` leave. A test
+passes where its call is right or is refused with `out of memory`. A missing test or program counts as failed. The last
+line is `N passed, M failed`.
 
 Needs Python 3.9 or later and a C compiler, which it installs as root on Debian.
 """
 
 import glob
 import os
+import re
 import resource
-import subprocess
 import sys
 
 HERE = os.path.dirname(os.path.realpath(__file__))
 sys.path.append(os.path.join(HERE, "..", "shared"))
 
 import ending
-from process import told
-from running import Skip, build_preload
+from disturbed import Disturbing, in_turn
+from process import run_program
+from running import Failure, expect, read, run_cases
 
 CRATES = os.path.join(HERE, "..", "..", "crates")
 WORD = "refused_allocations"
@@ -40,89 +38,55 @@ WITHIN = [
 # second one.
 RESERVES, REQUESTS = "rows_are_reserved_in_one_request", 2
 
-# How long a run may take, in seconds, and how many requests a test may make.
-SECONDS = 60
-MOST = 1000
 
-
-def programs_of(words):
-    """The programs of tests of all crates that have one of these words in their sources."""
-    crates = set()
+def listed_tests():
+    """Each test, by its program and its name, of the crates that name one of those that are wanted in their sources."""
+    wanted, crates = [WORD, *(function for function, *_ in WITHIN)], set()
     for path in glob.glob(os.path.join(CRATES, "*", "src", "**", "*.rt"), recursive=True):
-        with open(path, encoding="utf-8") as source:
-            text = source.read()
-        if any(word in text for word in words):
+        text = read(path).decode()
+        if any(word in text for word in wanted):
             crates.add(os.path.relpath(path, CRATES).split(os.sep)[0])
-    return [os.path.join(CRATES, crate, "out", f"{crate}_tests") for crate in sorted(crates)]
+    for tests in [os.path.join(CRATES, crate, "out", f"{crate}_tests") for crate in sorted(crates)]:
+        ran = run_program([tests, "--list"], None)
+        expect(ran.status == 0, f"{tests} does not list its tests: {ran}")
+        yield from ((tests, name) for name in re.findall(r"(?m)^(.*): test$", ran.output.decode()))
 
 
-def listed_tests(programs, checks):
-    """Each test by its program and its name; a program that cannot list its tests has failed."""
-    for tests in programs:
-        try:
-            listed = subprocess.run([tests, "--list"], stdout=subprocess.PIPE, check=True, timeout=SECONDS).stdout
-            names = [line.removesuffix(": test") for line in listed.decode().splitlines() if line.endswith(": test")]
-            yield from ((tests, name) for name in names)
-        except (OSError, subprocess.SubprocessError) as error:
-            checks.check(False, tests, f"it does not list its tests: {error}")
-
-
-def passes(tests, name, **options):
-    """Whether a test passes, in time."""
-    try:
-        ran = subprocess.run([tests, name], stdin=subprocess.DEVNULL, stdout=subprocess.PIPE, stderr=subprocess.STDOUT,
-                             timeout=SECONDS, **options)
-    except subprocess.TimeoutExpired:
-        return False
-    return ran.returncode == 0
-
-
-def passes_within(tests, name, mebibytes):
-    """Whether a test passes within so much memory, the program's own included."""
-    bound = mebibytes * 1024 * 1024
-    return passes(tests, name, preexec_fn=lambda: resource.setrlimit(resource.RLIMIT_AS, (bound, bound)))
-
-
-def passes_refusing(tests, name, preload, number):
-    """Whether a test passes with one request refused, and whether it came to that request."""
-    environment = {"LD_PRELOAD": preload, "REFUSE_AT": str(number)}
-    return told(lambda says: passes(tests, name, env={**environment, "REFUSE_SAYS": str(says)}, pass_fds=[says]))
-
-
-def refuse_each(checks, tests, name, preload):
-    """Refuses each request of a test in turn, until it makes no more."""
-    for number in range(1, MOST):
-        passed, came = passes_refusing(tests, name, preload, number)
-        if not passed or not came:
-            break
-    is_reserving = name.split("::")[-1] == RESERVES
-    checks.check(passed and not came and number > 1 and (not is_reserving or number - 1 == REQUESTS), name,
-                 f"passed: {passed}, with request {number} refused, to which it came: {came}")
-
-
-def bound(checks, listed, function, enough, too_little):
-    """Runs a test that promises to take little memory within its bound, and with less than its rows take."""
+def named(listed, function):
+    """The test whose function has this name."""
     found = [test for test in listed if test[1].split("::")[-1] == function]
-    checks.check(len(found) == 1, function, f"{len(found)} tests have this name")
-    for tests, name in found:
-        checks.check(passes_within(tests, name, enough), name, f"not within {enough} MiB")
-        if too_little:
-            checks.check(not passes_within(tests, name, too_little), name, f"within {too_little} MiB")
+    expect(len(found) == 1, f"{len(found)} tests have this name")
+    return found[0]
 
 
-def check(checks, room):
-    given, word = sys.argv[1:2], (sys.argv[2:] or [WORD])[0]
-    listed = list(listed_tests(given or programs_of([word, *(function for function, *_ in WITHIN)]), checks))
-    wanted = [test for test in listed if word in test[1]]
-    checks.check(wanted, word, "no test has a name that holds this")
-    preload = build_preload(room)
-    for tests, name in wanted:
-        refuse_each(checks, tests, name, preload)
-    for function, enough, too_little in () if given else WITHIN:
-        bound(checks, listed, function, enough, too_little)
-    is_there = any(name.split("::")[-1] == RESERVES for _, name in listed)
-    checks.check(given or is_there, RESERVES, "no test has this name")
+def refuse_each(room, tests, name):
+    """Refuses each request of a test in turn, until it makes no more."""
+    program = Disturbing(tests, room)
+
+    def attempt(number, directory):
+        ran = program.run_refused(directory, [name], number)
+        expect(ran.status == 0, ran)
+        return ran.came
+
+    count = in_turn(program.place, attempt)
+    expect(count == REQUESTS if name.split("::")[-1] == RESERVES else count, f"it makes {count} requests")
+
+
+def bound(room, listed, function, enough, too_little):
+    """Runs a test that promises to take little memory within its bound, and with less than its rows take."""
+    for mebibytes in filter(None, (enough, too_little)):
+        limits = (mebibytes * 1024 * 1024,) * 2
+        ran = run_program([*named(listed, function)], room, preexec_fn=lambda: resource.setrlimit(resource.RLIMIT_AS, limits))
+        expect((ran.status == 0) == (mebibytes == enough), f"within {mebibytes} MiB: {ran}")
+
+
+def run_all(room):
+    listed = [*listed_tests()]
+    expect(any(WORD in name for _, name in listed), f"no test has a name that holds {WORD}")
+    return run_cases([("a test reserves its rows", named, listed, RESERVES),
+                      *((name, refuse_each, room, tests, name) for tests, name in listed if WORD in name),
+                      *((function, bound, room, listed, function, *bounds) for function, *bounds in WITHIN)])
 
 
 if __name__ == "__main__":
-    sys.exit(ending.check("refused-memory", check, Skip))
+    sys.exit(ending.main("refused-memory", run_all, Failure))

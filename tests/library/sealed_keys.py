@@ -1,11 +1,8 @@
 #!/usr/bin/env python3
 """Seals key A by Python's hashlib alone, and compares with the constants of `minisign_fixtures` in `src/texts.rt`,
-which were made so.
+which were made so. The last line is `N passed, M failed`.
 
-    tests/library/sealed_keys.py [NAME]
-
-With a NAME it prints that text. Without one it makes each again, and its last line is `N passed, M failed`. The one
-with the greatest limits takes a gibibyte and some seconds.
+The one with the greatest limits takes a gibibyte and some seconds.
 """
 
 import base64
@@ -22,32 +19,19 @@ from toy import KEY_A, SMALL, USUAL, Limits
 
 TEXTS = "crates/minisign_fixtures/src/texts.rt"
 SALT = bytes(range(0x20, 0x40))
-# The limits of Minisign's own program, with which scrypt takes a gibibyte.
-MINISIGN = Limits(1073741824, 33554432, 1048576, 1)
-# Each text: the password, and the limits, with N and p of scrypt that they lead to.
+# Each text: the password, and the limits, with N and p of scrypt that they lead to. The last ones are those of Minisign's own
+# program, with which scrypt takes a gibibyte.
 SEALED = {
     "SEALED": (b"password", SMALL),
     "SEALED_WITH_NOTHING": (b"", SMALL),
     "SEALED_AS_USUAL": (b"password", USUAL),
-    "SEALED_AS_MINISIGN": (b"password", MINISIGN),
+    "SEALED_AS_MINISIGN": (b"password", Limits(1073741824, 33554432, 1048576, 1)),
 }
 
-
-def text_of(name):
-    """The text of key A, sealed."""
-    return f"c\n{base64.b64encode(KEY_A.sealed(*SEALED[name], SALT)).decode()}\n"
-
-
-def main(names):
-    if names:
-        sys.stdout.write(text_of(*names))
-        return 0
+if __name__ == "__main__":
     checks = Checks()
     kept = dict(re.findall(r'pub const (\w+): &str =\s*"((?:[^"\\]|\\.)*)";', read(TEXTS)))
-    for name in SEALED:
-        checks.check(kept.get(name, "").replace("\\n", "\n") == text_of(name), name, "another text")
-    return checks.end()
-
-
-if __name__ == "__main__":
-    sys.exit(main(sys.argv[1:]))
+    for name, sealed in SEALED.items():
+        text = f"c\\n{base64.b64encode(KEY_A.sealed(*sealed, SALT)).decode()}\\n"
+        checks.check(kept.get(name) == text, name, f"the text is {text}")
+    sys.exit(checks.end())

@@ -2,50 +2,51 @@
 key.
 """
 
+import itertools
 import random
 
 ACTS = 150
-# Names of files, and data of them. A key is named by its pair of Minisign's own program.
-NAMES, DATA = ("a.zip", "b.zip"), (b"one", b"two")
-# The verdict on a signature that fits, by how the key came.
-FITS = {"typed": "good", "chosen": "good", "files": "unchecked"}
+# Names of files, data of them, the names of keys, and what is signed by which.
+NAMES, DATA, KEYS = ("a.zip", "b.zip"), (b"one", b"two"), ("first", "second")
+SIGNED = tuple(itertools.product(KEYS, DATA))
 
 
 class Model:
     """What the page has to have: the key and how it came, and of each name the data and the signature, in their order."""
 
     def __init__(self):
-        self.key, self.source, self.downloads = None, None, {}
+        self.key, self.is_given, self.downloads = None, False, {}
 
     def take_files(self, files):
         """Files of one drop: (name, kind, what), where a key is of kind "key", and a signature is (signer, data)."""
-        of = lambda kind: [(name, what) for name, each, what in files if each == kind]
-        is_pair = len(of("data")) == 1 and len(of("signature")) == 1
+        names = {kind: [name for name, each, _ in files if each == kind] for kind in ("data", "signature")}
+        is_pair = all(len(of) == 1 for of in names.values())
         for name, kind, what in files:
             if kind != "key":
-                self.downloads.setdefault(of("data")[0][0] if is_pair else name, {})[kind] = what
-        alone = [[name for name, parts in self.downloads.items() if part not in parts] for part in ("signature", "data")]
-        if all(len(names) == 1 for names in alone):
-            self.downloads[alone[0][0]]["signature"] = self.downloads.pop(alone[1][0])["signature"]
-        if of("key") and self.key is None:
-            self.key, self.source = of("key")[0][1], "files"
+                self.downloads.setdefault(names["data"][0] if is_pair else name, {})[kind] = what
+            elif self.key is None:
+                self.key, self.is_given = what, False
+        files, signatures = ([name for name, parts in self.downloads.items() if lacking not in parts] for lacking in ("signature", "data"))
+        if len(files) == len(signatures) == 1:
+            self.downloads[files[0]] |= self.downloads.pop(signatures[0])
 
     def verdict(self, data=None, signature=None):
         if data is None or signature is None or self.key is None:
             return "waiting", None
         signer, signed = signature
         number = 29 if signer != self.key else 0 if signed == data else 31
-        return FITS[self.source] if number == 0 else "bad", number
+        return "bad" if number else "good" if self.is_given else "unchecked", number
 
 
 def check_acts(person):
     """After each act, or a few of them, the rows, the key and what is beside the verdicts are those of the model."""
     chance, model, said = random.Random(20), Model(), []
     keys = {"first": person.first, "second": person.second}
-    signatures = {(key, data): person.sign(data, key, trusted="t") for key in keys for data in DATA}
+    texts = {what: person.sign(what[1], what[0], trusted="t") for what in SIGNED} | {data: data for data in DATA}
+    texts |= {name: key.text for name, key in keys.items()}
     person.open()
     for count in range(ACTS):
-        said.append(act(person, model, chance, keys, signatures))
+        said.append(act(person, model, chance, keys, texts))
         if chance.random() < 0.4:
             continue
         what = f"act {count}, after {said[-4:]}"
@@ -55,43 +56,28 @@ def check_acts(person):
         person.same(person.text_of("key-whole") if person.is_shown("key-whole") else "", whole, f"{what}: the key")
 
 
-def act(person, model, chance, keys, signatures):
+def act(person, model, chance, keys, texts):
     """Does something, in the page and in the model; what it was."""
-    kind = chance.choice(("type", "choose", "remove", "clear", "files", "files", "files", "files"))
-    key = chance.choice(tuple(keys))
-    if kind == "type":
-        person.type_key(chance.choice((keys[key].text.decode(), keys[key].line)))
-        model.key, model.source = key, "typed"
-    elif kind == "choose":
-        person.choose_key(person.put("some.pub", keys[key].text))
-        model.key, model.source = key, "chosen"
-    elif kind == "remove":
-        person.click("key-remove")
-        model.key = None
-    elif kind == "clear":
-        person.clear()
-        model.downloads.clear()
-    else:
-        files, paths = [], [person.put("unused", b"")]
-        for name, kind, what, path, data in some_files(chance, keys, signatures):
-            files.append((name, kind, what))
-            paths.append(person.put(path, data, paths[0]))
+    kind, name = chance.choice(("type", "choose", "remove", "clear", "files", "files", "files", "files")), chance.choice(KEYS)
+    key = keys[name]
+    if kind == "files":
+        files = [(of, each, chance.choice(parts)) for of in NAMES for each, parts in (("data", DATA), ("signature", SIGNED))
+                 if chance.random() < 0.6]
+        files += [("some.pub", "key", of) for of in KEYS if chance.random() < 0.15][:1]
+        beside = person.put("unused", b"")
+        paths = [person.put(f"{of}.minisig" if each == "signature" else of, texts[what], beside) for of, each, what in files]
         if files:
-            person.drop("downloads", *paths[1:])
+            person.drop("downloads", *paths)
             model.take_files(files)
         return files
-    return kind, key
-
-
-def some_files(chance, keys, signatures):
-    """Some files of one drop, each as the model takes it, and with its own name and data."""
-    for name in NAMES:
-        if chance.random() < 0.6:
-            data = chance.choice(DATA)
-            yield name, "data", data, name, data
-        if chance.random() < 0.6:
-            signed = chance.choice(tuple(signatures))
-            yield name, "signature", signed, f"{name}.minisig", signatures[signed]
-    if chance.random() < 0.3:
-        key = chance.choice(tuple(keys))
-        yield "some.pub", "key", key, "some.pub", keys[key].text
+    if kind == "type":
+        person.type_key(chance.choice((key.text.decode(), key.line)))
+    elif kind == "choose":
+        person.choose_key(person.put("some.pub", key.text))
+    else:
+        person.click("key-remove" if kind == "remove" else "clear")
+    if kind == "clear":
+        model.downloads.clear()
+    else:
+        model.key, model.is_given = None if kind == "remove" else name, True
+    return kind, name

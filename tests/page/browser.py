@@ -12,28 +12,22 @@ FLAGS = ("--headless=new", "--no-sandbox", "--disable-gpu", "--disable-dev-shm-u
          "--disable-component-update", "--no-first-run", "--force-prefers-reduced-motion", "--window-size=800,1000",
          f"--host-resolver-rules=MAP {ELSEWHERE} 127.0.0.1")
 # Where the driver takes each command.
-PATHS = {"ExecuteScript": "execute/sync", "ExecuteAsyncScript": "execute/async", "Navigate": "url", "FindElement": "element",
+PATHS = {"ExecuteScript": "execute/sync", "Navigate": "url", "FindElement": "element",
          "ElementSendKeys": "element/{id}/value", "PerformActions": "actions", "SetTimeouts": "timeouts", "Log": "se/log",
          "Protocol": "goog/cdp/execute"}
 # Texts that differ from their ground by less than this are hard to read (WCAG 2, level AA).
 MIN_CONTRAST = 4.5
-# What the system may ask of the page.
-MEDIA = {"light": ("prefers-color-scheme", "light"), "dark": ("prefers-color-scheme", "dark"), "forced": ("forced-colors", "active")}
-IS_ASKED = "return matchMedia(`(${arguments[0]}: ${arguments[1]})`).matches"
-GROUND = "return getComputedStyle(document.body).backgroundColor"
-BORDERS = "return Array.from(document.querySelectorAll('#verdicts > li, .caution'), part => getComputedStyle(part).borderLeftWidth)"
 
 
 class Chromium(Person):
-    """A person with Debian's Chromium, whose profile is in this directory."""
-
     name = "Chromium"
     is_chromium = True
-    SHOWS_PAGE = b"--type=renderer"
+    SHOWS_PAGE = "--type=renderer"
 
     def __init__(self, chromium, chromedriver, directory):
         flags = [*FLAGS, f"--user-data-dir={os.path.join(directory, 'profile')}"]
-        self.wanted = {"goog:chromeOptions": {"binary": chromium, "args": flags}, "goog:loggingPrefs": {"browser": "ALL", "performance": "ALL"}}
+        self.wanted = {"goog:chromeOptions": {"binary": chromium, "args": flags},
+                       "goog:loggingPrefs": {"browser": "ALL", "performance": "ALL"}}
         with socket.create_server(("127.0.0.1", 0)) as free:
             self.port = free.getsockname()[1]
         super().__init__([chromedriver, f"--port={self.port}"])
@@ -110,12 +104,13 @@ class Chromium(Person):
     def wrong_looks(self):
         """The texts that are hard to read, in light, in dark and in colours that the system forces on the page, and what has no border."""
         wrong = []
-        for what, asked in MEDIA.items():
+        for *asked, wants_white in (
+                ("prefers-color-scheme", "light", True), ("prefers-color-scheme", "dark", False), ("forced-colors", "active", None)):
             self.set_media(*asked)
-            found, is_asked, is_white = self.see("contrasts"), self.run(IS_ASKED, *asked), self.run(GROUND) == "rgb(255, 255, 255)"
-            wrong += [f"{what}: {text!r} has contrast {contrast:.1f}" for contrast, text in found if contrast < MIN_CONTRAST]
-            wrong += [f"{what}: a border is {width} wide" for width in self.run(BORDERS) if width == "0px"]
-            if not found or not is_asked or is_white != (what == "light") and what != "forced":
-                wrong.append(f"{what}: it is asked for: {is_asked}, the ground is white: {is_white}, and there are {len(found)} texts")
+            texts, borders, is_asked, is_white = self.see("contrasts"), *self.see("ground", *asked)
+            wrong += [f"{asked}: {text!r} has contrast {contrast:.1f}" for contrast, text in texts if contrast < MIN_CONTRAST]
+            wrong += [f"{asked}: a border is {width} wide" for width in borders if width == "0px"]
+            if not texts or not is_asked or wants_white not in (None, is_white):
+                wrong.append(f"{asked}: it is asked for: {is_asked}, the ground is white: {is_white}, and there are {len(texts)} texts")
         self.set_media()
         return wrong

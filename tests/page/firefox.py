@@ -4,35 +4,22 @@ JSON, each after its length and a colon.
 
 import json
 import os
+import shutil
 import socket
 
-from person import ELSEWHERE, SECONDS, Person
+from person import SECONDS, Person
 
-# What keeps it from asking for anything from outside, and from showing anything but the page.
-PREFERENCES = {
-    "marionette.port": 0, "browser.shell.checkDefaultBrowser": False, "datareporting.policy.dataSubmissionEnabled": False,
-    "toolkit.telemetry.enabled": False, "app.update.enabled": False, "browser.startup.homepage": "about:blank",
-    "startup.homepage_welcome_url": "about:blank", "network.captive-portal-service.enabled": False,
-    "network.connectivity-service.enabled": False, "app.normandy.enabled": False,
-    "services.settings.server": "http://127.0.0.1:1/", "extensions.update.enabled": False,
-    "browser.safebrowsing.update.enabled": False, "browser.safebrowsing.malware.enabled": False, "network.dns.localDomains": ELSEWHERE,
-    "browser.safebrowsing.phishing.enabled": False, "network.proxy.type": 0,
-}
 WIDTH, HEIGHT = "800", "1000"
 
 
 class Firefox(Person):
-    """A person with Debian's Firefox, whose profile is in this directory."""
-
     name = "Firefox"
-    SHOWS_PAGE = b" tab\0"
+    SHOWS_PAGE = " tab\0"
 
     def __init__(self, program, directory):
         profile = os.path.join(directory, "firefox")
         os.makedirs(profile, exist_ok=True)
-        with open(os.path.join(profile, "user.js"), "w", encoding="utf-8") as file:
-            for name, value in PREFERENCES.items():
-                file.write(f"user_pref({json.dumps(name)}, {json.dumps(value)});\n")
+        shutil.copyfile(os.path.join(os.path.dirname(os.path.realpath(__file__)), "firefox_user.js"), os.path.join(profile, "user.js"))
         self.port_file = os.path.join(profile, "MarionetteActivePort")
         super().__init__([program, "--headless", "--marionette", "--remote-allow-system-access", "--no-remote", "--profile", profile,
                           f"--width={WIDTH}", f"--height={HEIGHT}", "about:blank"],
@@ -71,39 +58,30 @@ class Firefox(Person):
             raise RuntimeError(f"{name}: {error.get('error')}: {error.get('message')}")
         return result["value"] if isinstance(result, dict) and list(result) == ["value"] else result
 
-    def run_in_window(self, script, *arguments):
-        """Runs a script in the browser's own window, around the page."""
+    def see_in_window(self, what, *arguments):
+        """What a function of in_page.js answers in the browser's own window, around the page."""
         self.order("Marionette:SetContext", value="chrome")
         try:
-            return self.run(script, *arguments)
+            return self.see(what, *arguments)
         finally:
             self.order("Marionette:SetContext", value="content")
 
     def resize(self, width=None, height=None):
         # (the window itself is 500 wide at least)
-        self.run_in_window("""const {style} = gBrowser.selectedBrowser, [width, height] = arguments;
-          style.cssText = width === null ? "" : `min-width: 0; flex: none; align-self: flex-start; width: ${width}px; height: ${height}px`;""",
-                           width, height)
+        self.see_in_window("resizeIn", width, height)
         self.wait(lambda: (self.run("return [innerWidth, innerHeight]") == [width, height]) == (width is not None))
 
     def force_colours(self, is_forced):
-        self.run_in_window("""Services.prefs.setIntPref("browser.display.document_color_use", arguments[0] ? 2 : 0)""", is_forced)
+        self.see_in_window("forceColours", is_forced)
         self.wait(lambda: self.run("return matchMedia('(forced-colors: active)').matches") == is_forced)
 
     def drop(self, place, *paths):
         # (an event with files that another place was given)
-        self.run("document.body.append(Object.assign(document.createElement('input'), {type: 'file', multiple: true, id: 'dropped'}))")
+        self.see("addPlace", "dropped")
         self.send("dropped", "\n".join(map(os.path.realpath, paths)))
-        self.drop_data(place, """const input = document.getElementById("dropped");
-          for (const file of input.files) data.items.add(file);
-          input.remove();""")
+        self.see("dropFrom", place, "dropped")
+        self.taken()
 
     def drop_text(self, place, text):
-        self.drop_data(place, "data.setData('text/plain', arguments[1]);", text)
-
-    def drop_data(self, place, fill, *arguments):
-        self.run(f"""const data = new DataTransfer();
-          {fill}
-          document.getElementById(arguments[0]).dispatchEvent(new DragEvent("drop", {{dataTransfer: data, bubbles: true, cancelable: true}}));""",
-                 place, *arguments)
+        self.see("dropText", place, text)
         self.taken()

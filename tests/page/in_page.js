@@ -1,4 +1,4 @@
-// What the tests see of the page, break in it, and ask of its script: `Person.see` of person.py runs one of these functions in it.
+// What the tests do and see in the page, break in it, and ask of its script: `Person.see` of person.py runs one of these functions in it.
 
 const all = (parts, of = document) => Array.from(of.querySelectorAll(parts));
 const allRows = () => all("#verdicts > li");
@@ -22,8 +22,28 @@ function band() {
   return band?.checkVisibility() ? [band.dataset.verdict, ...Array.from(band.children, line => line.innerText)] : null;
 }
 
+// The rows, the band, and whether the page is a project's own, which has no field for a key.
 function state() {
-  return [rows(), band()];
+  return [rows(), band(), !document.getElementById("key-text").checkVisibility()];
+}
+
+// The number of why what was given as a key is none, which is 0 of a key; nothing where nothing was given.
+function numberOfKey() {
+  const {number} = document.getElementById("key-said").dataset;
+  return number === undefined ? null : Number(number);
+}
+
+// Whether one part of the page stands before another one.
+function isBefore(...names) {
+  const [first, second] = names.map(name => document.getElementById(name));
+  return (first.compareDocumentPosition(second) & Node.DOCUMENT_POSITION_FOLLOWING) !== 0;
+}
+
+// Has the field of this name hold this text.
+function typeText(name, text) {
+  const field = document.getElementById(name);
+  field.value = text;
+  field.dispatchEvent(new Event("input", {bubbles: true}));
 }
 
 // Whether the page has taken in what a person did.
@@ -40,18 +60,15 @@ function work() {
   return isTaken() && waiting === 0 && !reading || [document.documentElement.dataset.pending, rows.length, waiting, reading?.innerText];
 }
 
-// Hands on what a function answers, once that is true, or after a second.
-function until(look, done) {
+// What a function answers, once that is true, or after a second.
+async function until(look) {
   const end = performance.now() + 1000;
-  const ask = () => {
-    const seen = look();
-    if (seen === true || performance.now() > end) {
-      done(seen);
-    } else {
-      setTimeout(ask, 10);
-    }
-  };
-  ask();
+  let seen = look();
+  while (seen !== true && performance.now() <= end) {
+    await new Promise(resolve => setTimeout(resolve, 10));
+    seen = look();
+  }
+  return seen;
 }
 
 // Whether the verdict of the row of this name, and all of its warnings, are in the window below the band.
@@ -131,6 +148,17 @@ function translated(words) {
     .filter(text => text.parentElement.translate && words.some(word => text.data.includes(word))).map(text => text.data);
 }
 
+// The title of the window, and the heading of the page.
+function titles() {
+  return [document.title, document.querySelector("h1").innerText];
+}
+
+// The page's title, how much became markup of the rows, and the classes of what stands in a stranger's text.
+function markup() {
+  const classes = all(".comment *, .name *").map(part => part.className);
+  return [document.title, all("#verdicts :is(img, script, a, iframe, style, b)").length, classes.filter(name => name !== "unseeable")];
+}
+
 // The contrast of each text that is seen to what is behind it (WCAG 2), with the text.
 function contrasts() {
   const channel = value => value <= 0.04045 ? value / 12.92 : ((value + 0.055) / 1.055) ** 2.4;
@@ -151,12 +179,54 @@ function contrasts() {
   });
 }
 
+// How wide the borders of rows and warnings are, whether the system asks so for how the page looks, and whether its ground is white.
+function ground(feature, value) {
+  return [all("#verdicts > li, .caution").map(part => getComputedStyle(part).borderLeftWidth), matchMedia(`(${feature}: ${value})`).matches,
+    getComputedStyle(document.body).backgroundColor === "rgb(255, 255, 255)"];
+}
+
 // The middle of a part of the page, as far as it is in the window once it is scrolled there.
 function middleOf(name) {
   const part = document.getElementById(name);
   part.scrollIntoView();
   const {left, top, width, height} = boxOf(part);
   return [left + width / 2, top + Math.min(height, innerHeight) / 2];
+}
+
+// ---- What Firefox has no command for ----
+
+// Gives the page so much room in the browser's window, or all of it where no width is named.
+function resizeIn(width, height) {
+  gBrowser.selectedBrowser.style.cssText = width === null ? ""
+    : `min-width: 0; flex: none; align-self: flex-start; width: ${width}px; height: ${height}px`;
+}
+
+function forceColours(isForced) {
+  Services.prefs.setIntPref("browser.display.document_color_use", isForced ? 2 : 0);
+}
+
+// Adds a place for files, from which they are dropped on another one.
+function addPlace(name) {
+  document.body.append(Object.assign(document.createElement("input"), {type: "file", multiple: true, id: name}));
+}
+
+function dropFrom(place, name) {
+  const input = document.getElementById(name), data = new DataTransfer();
+  for (const file of input.files) {
+    data.items.add(file);
+  }
+  input.remove();
+  dropData(place, data);
+}
+
+function dropText(place, text) {
+  const data = new DataTransfer();
+  data.setData("text/plain", text);
+  dropData(place, data);
+}
+
+function dropData(place, dataTransfer) {
+  document.getElementById(place).dispatchEvent(new DragEvent("drop", {dataTransfer, bubbles: true, cancelable: true}));
 }
 
 // ---- What a test breaks ----
@@ -223,18 +293,15 @@ function verifyMany(count, text, data) {
 }
 
 // Which of two things comes that are fetched from an address.
-function fetchFrom(address, done) {
+async function fetchFrom(address) {
   const came = [], picture = new Image();
-  picture.onload = picture.onerror = ({type}) => done(type === "load" ? [...came, "picture"] : came);
-  fetch(`${address}?fetched`).then(() => came.push("fetch"), () => {}).then(() => {
+  await fetch(`${address}?fetched`).then(() => came.push("fetch"), () => {});
+  await new Promise(resolve => {
+    picture.onload = () => resolve(came.push("picture"));
+    picture.onerror = resolve;
     picture.src = `${address}?picture`;
   });
-}
-
-// What the page answers to vectors of Ed25519.
-function askVectors(vectors, done) {
-  const bytes = digits => digits === "" ? new Uint8Array(0) : bytesOf(digits);
-  Promise.all(vectors.map(({A, sig, msg}) => accepts(...[A, sig, msg].map(bytes)))).then(done, why => done(String(why)));
+  return came;
 }
 
 // Has the module ask with any number as `allow_legacy`, where the page passes 0 or 1: what it says, and if the state stays.

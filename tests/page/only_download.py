@@ -11,20 +11,19 @@ import tempfile
 import urllib.parse
 
 import build
-from keys import BY_LINK, OTHER_NAME, check_unchecked
-from minisign_cases import lines, pattern, with_line, with_record
-from person import STANDS
+from keys import OTHER_NAME
+from minisign_cases import pattern
 from process import run_apart
-from views import NEXT, WARNED, WINDOWS
+from running import read
+from texts import lines, record_of, with_line, with_record
+from views import WINDOWS
 
 TITLE = "Verify a download of <b>Example & \"others\"</b>"
 # What may be asked of a person, or told of keys, where a download alone is wanted.
 ASKED = ("signature-text", "key-text", "key-remove", "of-the-key")
 TOLD = ("publishes", "website", "documentation", "minisign.pub", ".minisig", "paste", "1.", "2.", "3.")
-OWN_NEXT = {"good": "You can use the file, if this page is the project's own.", "bad": "Do not use the file: get it again from the project."}
-NO_SIGNATURE = "The link to this page has no whole signature after sig="
+BY_LINK = "The key came with the link to this page: who made the link chose it."
 OTHER_KEY = "The link to this page names another key, or something else, which is not taken."
-TITLES = "return [document.title, document.querySelector('h1').innerText]"
 ZIP, TAR = "app-1.0.zip", "app-1.0.tar.gz"
 
 
@@ -46,13 +45,8 @@ class Release:
         self.out = os.path.join(tempfile.mkdtemp(dir=self.person.room), "example.html")
         status, said, why = run_apart([sys.executable, os.path.join(build.HERE, "build.py"), self.out, *words], **environment)
         if status == 0:
-            self.person.same(said.split()[-1], hashlib.sha256(self.page()).hexdigest(), "the sum that build.py says of what it wrote")
+            self.person.same(said.split()[-1], hashlib.sha256(read(self.out)).hexdigest(), "the sum that build.py says of what it wrote")
         return status, why
-
-    def page(self):
-        """The page that was built last."""
-        with open(self.out, "rb") as file:
-            return file.read()
 
     def build_own(self, *signatures):
         """Builds the project's page; its address."""
@@ -61,19 +55,18 @@ class Release:
         self.person.same(ran, (0, ""), "build.py --key --signature")
         return f"file://{self.out}"
 
-    def drop(self, name, data, what, **wanted):
-        """Drops one file on the page, of the release where there are no data: its row once all is settled."""
+    def drop(self, name, data, what, at=None, **wanted):
+        """Drops one file on the page, once it is opened at this address, if any; of the release where there are no data: its row once all
+        is settled, whose verdict is in view."""
+        if at:
+            self.person.open(at)
         self.person.drop("downloads", self.person.put(name, self.files[name] if data is None else data))
-        return self.person.named(name, what, **wanted)
-
-
-def linked(text):
-    """A signature as a link has it."""
-    return base64.b64encode(text).decode()
+        row = self.person.named(name, what, **wanted)
+        self.person.check(row.verdict == "waiting" or self.person.see("isInView", name), f"{what}: the verdict is out of view")
+        return row
 
 
 def check_only_download(person):
-    """All of it."""
     release = Release(person)
     for check in (check_asked, check_names, check_given, check_links, check_links_of_own, check_key_alone, check_hostile,
                   *((check_slow, check_builder) if person.is_chromium else ())):
@@ -93,11 +86,10 @@ def check_asked(person, release):
             person.same([part for part in ASKED if person.is_shown(part)], [], f"{what}: what is asked")
             shown = person.run("return document.body.innerText").partition("What this page does not show")[0]
             person.same([part for part in TOLD if part in shown], [], f"{what}: what is told")
-            person.same((person.run(TITLES), person.see("band")), ([TITLE, TITLE], None), f"{what}: the project's page")
+            person.same(person.see("titles"), [TITLE, TITLE], f"{what}: the project's page")
+            person.expect_each("verdict", {}, f"{what}: before it is there")
             person.uses(person.first, what)
-            release.drop(ZIP, data, what, number=number, cautions=[], lacks=["with the signature"])
-            person.same(person.see("band"), [verdict, STANDS[verdict], OWN_NEXT[verdict]], f"{what}: the band")
-            person.check(person.see("isInView", ZIP), f"{what}: the verdict is out of view")
+            release.drop(ZIP, data, what, verdict=verdict, number=number, cautions=[], lacks=["with the signature"])
             person.check(person.see("fits"), f"{what}: something stands outside of its place")
 
 
@@ -108,21 +100,20 @@ def check_names(person, release):
             (TAR, tarred, 0, False, ""), ("app-1.0 (1).zip", zipped, 0, True, ""), ("APP-1.0.ZIP", zipped, 0, True, ""),
             ("new.pub", None, 0, False, ""), (ZIP, tarred, 31, False, ""), ("APP-1.0.ZIP", tarred, 31, False, ""),
             ("download", tarred, 0, False, TAR), ("app-0.9.zip", zipped, 0, False, ZIP), ("download", b"x", None, False, "")):
-        what, verdict = f"{name} alone, number {number}", "good" if number == 0 else "bad"
-        person.open(release.own)
-        row = release.drop(name, data, what, verdict=verdict, number=number)
-        person.check("The signer's name of this file is " in row.text if is_mild or other else OTHER_NAME not in row.text, f"{what}: {row.text!r}")
-        person.same([caution.partition(". It may")[0] for caution in row.cautions], [OTHER_NAME + other] if other else [], f"{what}: the warnings")
-        person.same(person.see("band")[2], WARNED if other else OWN_NEXT[verdict], f"{what}: what to do next")
-        if number is None:
-            person.expect(row, what, has=["none of those that the signatures here are of. Do not use the file."])
+        what = f"{name} alone, number {number}"
+        row = release.drop(name, data, what, release.own, verdict="good" if number == 0 else "bad", number=number,
+                           has=["none of those that the signatures here are of. Do not use the file."] if number is None else [])
+        told = "The signer's name of this file is "
+        person.expect(row, what, **{"has": [told]} if is_mild or other else {"lacks": [told]})
+        warned = [caution.partition(". It may")[0] for caution in row.cautions]
+        person.same(warned, [OTHER_NAME + other] if other else [], f"{what}: the warnings")
     # What stands in the way of any verdict is told, and not that no signature fits.
     person.open(release.own)
     person.see("breakFiles", "download")
     release.drop("download", zipped, "a file of no name here that cannot be read", has=["The file cannot be read"])
     tampered = with_line(release.signatures[ZIP], 2, b"trusted comment: file:other")
-    person.open(release.build_own(person.put(f"{ZIP}.minisig", tampered), release.paths[1]))
-    release.drop("download", zipped, "a file of no name here, and a changed comment", number=32, has=["trusted comment is not the one"])
+    of_tampered = release.build_own(person.put(f"{ZIP}.minisig", tampered), release.paths[1])
+    release.drop("download", zipped, "no name here, and a changed comment", of_tampered, number=32, has=["trusted comment is not the one"])
     # One after the other, and together.
     person.open(release.own)
     paths = [person.put(name, release.files[name]) for name in (ZIP, TAR)]
@@ -147,18 +138,15 @@ def check_given(person, release):
     person.only(what, verdict="good")
     person.uses(person.first, what)
     person.says("files-said", what, "second.pub came with the files and was not taken: the key below stays, ")
-    # (in Firefox the tests drop files that were chosen, and so no directory)
-    if person.is_chromium:
-        person.drop("downloads", os.path.dirname(paths[0]))
-        person.same(person.text_of("files-said"), "A directory cannot be verified: open it, and drop what is in it.",
-                    "a directory with the download: no signature is asked for")
 
 
 def check_links(person, release):
     """A link has a key and signatures: no verdict is the good one, whatever stands in it, until the key is pasted."""
     key, sig, data = release.line, release.signatures[ZIP], release.files[ZIP]
-    text, escaped, more = linked(sig), urllib.parse.quote(sig, safe=""), urllib.parse.quote(release.signatures[TAR], safe="")
+    escaped, more, escaped_key = (urllib.parse.quote(each, safe="") for each in (sig, release.signatures[TAR], key))
+    text = base64.b64encode(sig).decode()
     for at, link in enumerate((f"key={key}&sig={text}", f"key={key}&sig={escaped}", f"sig={text}&key={key}", f"{key}&sig={text}",
+                               f"{escaped_key}&sig={text}", f"later=more&key={escaped_key}&sig={text}",
                                f"key={key}&sig={text}&title=Verified&given=yes", f"key={key}&sig={more}&sig={text}",
                                f"key={key}&sig={text.rstrip('=')}")):
         what = f"#{link:.20}"
@@ -166,18 +154,17 @@ def check_links(person, release):
         person.open(f"{person.address}#{link}")
         person.same([person.is_shown(part) for part in ASKED], [False, True, True, True], f"{what}: what is asked")
         person.check(person.see("isPlaceSeen"), f"{what}: the place for the download is out of view")
-        check_unchecked(person, release.drop(ZIP, data, what, lacks=["with the signature"]), BY_LINK, what)
-        person.same(person.see("band"), ["unchecked", STANDS["unchecked"], NEXT["unchecked"]], f"{what}: the band")
-        person.check(person.see("isInView", ZIP), f"{what}: the verdict is out of view")
+        person.says("key-said", what, ends="which the link to this page had.")
+        person.uses(person.first, what)
+        release.drop(ZIP, data, what, verdict="unchecked", has=[BY_LINK], lacks=["with the signature"])
     person.resize()
     for typed, verdict, number in ((person.second.line, "bad", 29), (key, "good", 0)):
         person.type_key(typed)
         person.only("a key that is pasted where a link has one", verdict=verdict, number=number, cautions=[])
     told = [OTHER_NAME + ZIP, f"with the signature {ZIP}.minisig"]
-    person.open(f"{person.address}#key={key}&sig={text}")
-    release.drop("app-0.9.zip", data, "a link, and another name", verdict="unchecked", number=0, has=told)
-    person.open(f"{person.address}#key={key}&sig={text}")
-    release.drop(ZIP, b"x", "a link, and other data", verdict="bad", number=31, lacks=told)
+    for name, some, wanted in (("app-0.9.zip", data, {"verdict": "unchecked", "number": 0, "has": told}),
+                               (ZIP, b"x", {"verdict": "bad", "number": 31, "lacks": told})):
+        release.drop(name, some, f"a link, and {name} of {some}", f"{person.address}#key={key}&sig={text}", **wanted)
     # Without a key.
     what = "a link with a signature alone"
     person.open(f"{person.address}#sig={text}")
@@ -186,10 +173,10 @@ def check_links(person, release):
     person.type_key(key)
     person.only(f"{what}, and its key", verdict="good")
     # What is no signature, or was cut, is told, and asked for.
-    for wrong in (text[:40], "", "%", "x", linked(person.first.text), escaped[:-230]):
+    for wrong in (text[:40], "", "%", "x", base64.b64encode(person.first.text).decode(), escaped[:-230]):
         what = f"sig={wrong:.30}"
         person.open(f"{person.address}#key={key}&sig={wrong}")
-        person.says("files-said", what, NO_SIGNATURE)
+        person.says("files-said", what, "The link to this page has no whole signature after sig=")
         person.check(person.is_shown("signature-text"), f"{what}: no signature is asked for")
         release.drop(ZIP, data, what, has=["Its signature is missing"])
 
@@ -197,17 +184,16 @@ def check_links(person, release):
 def check_links_of_own(person, release):
     """The project's page takes the signatures of a link, and says that it does not take another key."""
     name, key, other = "app-2.0.zip", release.line, person.second.line
-    text, by_other = (linked(release.sign(name, b"later", by)) for by in ("first", "second"))
+    text, by_other = (base64.b64encode(release.sign(name, b"later", by)).decode() for by in ("first", "second"))
     for part, number, is_told in (
             (f"sig={text}", 0, False), (f"key={key}&sig={text}", 0, False), (f"{key}&sig={text}", 0, False),
             (f"key={other}&sig={text}", 0, True), (f"{other}&sig={text}", 0, True), (f"key=RW&sig={text}", 0, True),
             (f"key={key}&key={other}&sig={text}", 0, True), (f"key={other}&sig={by_other}", 29, True)):
         what = f"#{part:.20}"
         person.open(f"{release.own}#{part}")
-        said = person.text_of("key-said")
-        person.same(said.endswith(OTHER_KEY), is_told, f"{what}: {said!r}")
+        person.says("key-said", what, **{"ends": OTHER_KEY} if is_told else {"lacks": [OTHER_KEY]})
         person.uses(person.first, what)
-        release.drop(name, b"later", what, number=number, verdict="good" if number == 0 else "bad")
+        release.drop(name, b"later", what, number=number, verdict="bad" if number else "good")
         release.drop(ZIP, None, f"{what}, and a download whose signature is built in", verdict="good")
 
 
@@ -215,36 +201,31 @@ def check_key_alone(person, release):
     """A page with a key and no signature tells what a signature is, and nothing of keys; and it takes no other key."""
     what, address = "a page with a key alone", release.build_own()
     again = build.page(*build.taken_from(person.page), release.line, TITLE)
-    person.check(release.page().decode() == again, f"{what} has other bytes than at the first time")
+    person.check(read(release.out).decode() == again, f"{what} has other bytes than at the first time")
     for link in ("", f"#{person.second.line}"):
         person.open(address + link)
-        person.same((person.run(TITLES), *map(person.is_shown, ASKED)), ([TITLE, TITLE], True, False, False, False), f"{what}: what is asked")
+        seen = person.see("titles"), *map(person.is_shown, ASKED)
+        person.same(seen, ([TITLE, TITLE], True, False, False, False), f"{what}: what is asked")
         person.uses(person.first, what)
-        said = person.text_of("introduction")
-        person.check(said.startswith("A signature shows") and "publishes" not in said, f"{what}: {said!r}")
+        person.says("introduction", what, begins="A signature shows", lacks=["publishes"])
         person.drop("key", person.put(ZIP, release.files[ZIP]))
         person.only(what, has=["Its signature is missing"])
         person.drop("downloads", release.paths[0], person.put("second.pub", person.second.text))
         person.only(what, number=0, verdict="good", cautions=[], has=["which is built into this page"])
         person.says("files-said", f"{what}, and another one", "was not taken")
-    person.clear()
+    person.click("clear")
     release.drop(ZIP, None, what, verdict="waiting")
     person.type_text("signature-text", release.signatures[ZIP].decode())
     person.only(f"{what}, and a signature that is pasted", verdict="good")
-    for wrong in ("", release.line[:-1], f"{release.line}A", f"-{release.line[1:]}", base64.b64encode(b"ED" + bytes(40)).decode(), "x"):
-        try:
-            person.check(not build.checked_key(wrong) and False, f"{wrong!r} is built in as a key")
-        except build.NotPossible as why:
-            person.check("56 letters and digits" in str(why), f"{wrong!r}: {why}")
 
 
 def check_hostile(person, release):
     """What a signature says that is built in stays a text."""
     comment = "</script><script>document.title='owned'</script><!-- \u2028 ${1} \\ \" const MODULE = \"\";"
     text = with_line(person.sign(b"x", trusted=comment), 0, b"untrusted comment: </ScRiPt><b>owned</b>\r")
-    person.open(release.build_own(person.put("x.minisig", text)))
-    release.drop("x", b"x", "a hostile comment that is built in", verdict="good", comment=comment.replace("\u2028", "U+2028"))
-    person.same(person.run(TITLES), [TITLE, TITLE], "the titles of a page with a hostile comment")
+    release.drop("x", b"x", "a hostile comment that is built in", release.build_own(person.put("x.minisig", text)), verdict="good",
+                 comment=comment.replace("\u2028", "U+2028"))
+    person.same(person.see("titles"), [TITLE, TITLE], "the titles of a page with a hostile comment")
     person.same(build.taken_from(release.out), build.taken_from(person.page), "the module of a page with a hostile comment")
 
 
@@ -261,13 +242,14 @@ def check_slow(person, release):
 
 def check_builder(person, release):
     """What build.py does not build in, and why."""
-    path, sig, page = release.paths[0], release.signatures[ZIP], ["--from", person.page]
+    path, sig, line, page = release.paths[0], release.signatures[ZIP], release.line, ["--from", person.page]
     put = lambda text, name="a.minisig": person.put(name, text)
-    with_key = lambda *words: [*page, "--key", release.line, "--signature", *words]
-    unknown_kind = with_record(sig, 1, b"XX" + base64.b64decode(lines(sig)[1])[2:])
+    with_key = lambda *words: [*page, "--key", line, "--signature", *words]
+    unknown_kind = with_record(sig, 1, b"XX" + record_of(sig)[2:])
     for words, why in (
-            ([], "the kit of Rattle"), ([*page, "--key", "RWQ"], "one line of 56 letters and digits"),
-            (["--from", os.path.join(build.HERE, "page.js")], "no page that page/build.py has built"),
+            ([], "the kit of Rattle"), (["--from", os.path.join(build.HERE, "page.js")], "no page that page/build.py has built"),
+            *(([*page, f"--key={key}"], "one line of 56 letters and digits") for key in (
+                "RWQ", "x", line[:-1], f"{line}A", f"-{line[1:]}", base64.b64encode(b"ED" + bytes(40)).decode())),
             (["--from", f"{path}.absent.html"], "cannot be read"), ([*page, "--signature", path], "has a key, too"),
             ([*page, "--key", person.second.line, "--signature", path], "was made with another key"),
             (with_key(path, put(sig, f"{ZIP}.minisig")), "two signatures are named"),
@@ -278,10 +260,14 @@ def check_builder(person, release):
                 b"\n".join(lines(sig)[:3]), with_line(sig, 3, b"RWQ="), with_line(sig, 3, b"-"), person.first.text, unknown_kind))):
         # (without the kit in PATH)
         status, said = release.build(*words, PATH="")
-        person.check(status == 1 and why in said and said.count("\n") == 1 and not os.path.exists(release.out), f"build.py {words}: {status}, {said!r}")
+        is_told = status == 1 and why in said and said.count("\n") == 1
+        person.check(is_told and not os.path.exists(release.out), f"build.py {words}: {status}, {said!r}")
+    try:
+        person.check(not build.checked_key("") and False, "no letters are a key")
+    except build.NotPossible as why:
+        person.check("one line of 56 letters and digits" in str(why), f"no letters: {why}")
     release.build_own(*release.paths)
-    found = re.search(rb"^const BUILT_IN_SIGNATURES = (.*);$", release.page(), re.M)[1]
+    found = re.search(rb"^const BUILT_IN_SIGNATURES = (.*);$", read(release.out), re.M)[1]
     person.same(found.count(b".minisig"), 3, "the signatures that are built in")
     person.same(release.build(*page), (0, ""), "a page that is made of a page")
-    with open(person.page, "rb") as file:
-        person.check(release.page() == file.read(), "a page that is made of a page has other bytes")
+    person.check(read(release.out) == read(person.page), "a page that is made of a page has other bytes")

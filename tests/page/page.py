@@ -1,16 +1,17 @@
 #!/usr/bin/env python3
 """Tries the page that verifies a download in Debian's Firefox and Chromium, without a window.
 
-    tests/page/page.py [PAGE [MODULE]]
+    tests/page/page.py [PAGE]
 
-PAGE is by default the one of `dist/`; `tools/dist.py --check` compares that with what `page/build.py` builds. MODULE is the proved
-module, for a memory of 64 bits; without a PAGE it is proved and built, if the kit is there. What is tried stands at the head of
-each module that this imports. It prints a line for each failure; the last line is `N passed, M failed`.
+PAGE is by default the one of `dist/`; `tools/dist.py --check` compares that with what `page/build.py` builds. Without a PAGE the
+proved module, for a memory of 64 bits, is built too, if the kit is there. What is tried stands at the head of each module beside
+this. It prints a line for each failure; the last line is `N passed, M failed`.
 
-Needs Python 3.9 or later, chromium, chromium-driver, firefox-esr, nodejs, binaryen, a C compiler, make, libsodium with its header and
-minisign 0.11. It installs what is missing if it may.
+Needs Python 3.9 or later, chromium, chromium-driver, firefox-esr, binaryen, a C compiler, make, libsodium with its header and minisign
+0.11. It installs what is missing if it may.
 """
 
+import importlib
 import os
 import sys
 import tempfile
@@ -18,46 +19,34 @@ import time
 import traceback
 
 HERE = os.path.dirname(os.path.realpath(__file__))
-sys.path += [os.path.join(HERE, "..", *directory) for directory in (("shared",), ("verdicts",), ("..", "page"))]
+sys.path += [os.path.join(HERE, "..", directory) for directory in ("shared", "verdicts", os.path.join("..", "page"))]
 
-import acts
-import beside_c
 import build
 import ending
-import helps
-import hostile
-import keys
-import modules
 import needs
-import only_download
 import page_sources
-import standing
 import static_library
-import surroundings
 import verdicts
-import views
 from browser import Chromium
 from firefox import Firefox
 from minisign_cases import Minisign
 
 # What is tried in each browser, in this order: what a person sees there. And in Chromium what its own protocol shows besides.
-IN_BOTH = (verdicts, keys, views, acts, only_download, helps, hostile, beside_c, standing)
-IN_CHROMIUM = (surroundings, modules)
+IN_BOTH = ("verdicts", "keys", "views", "acts", "only_download", "helps", "hostile", "standing")
+IN_CHROMIUM = ("surroundings", "modules")
 
 
 def steps_in(person):
     """The steps in a browser: what has a name that begins with `check_` and takes a person alone."""
     for module in IN_BOTH + IN_CHROMIUM if person.is_chromium else IN_BOTH:
-        for name, step in vars(module).items():
-            if name.startswith("check_") and step.__code__.co_varnames[:step.__code__.co_argcount] == ("person",):
-                yield f"{module.__name__}, {name[len('check_'):]}", step
+        for name, step in vars(importlib.import_module(module)).items():
+            if name.startswith("check_") and step.__code__.co_argcount == 1:
+                yield f"{module}, {name[len('check_'):]}", step
 
 
 def run_step(person, step, begin):
-    """
-    Runs a step in the whole window: who goes on after it. A machine without memory ends the process that shows the page before any
-    other: then the step is run once more, in a new browser. (A page that ends it ends it again.)
-    """
+    """Runs a step in the whole window: who goes on after it. A machine without memory ends the process that shows the page before any
+    other: then the step is run once more, in a new browser. (A page that ends it ends it again.)"""
     try:
         person.resize()
         step(person)
@@ -69,8 +58,7 @@ def run_step(person, step, begin):
         person = begin()
         step(person)
     if person.is_chromium:
-        errors = [line for line in person.said() if "Uncaught" in line]
-        person.check(not errors, f"the page's console has {errors}")
+        person.same([line for line in person.said() if "Uncaught" in line], [], "the errors of the page's console")
     return person
 
 
@@ -91,7 +79,6 @@ def run_in(begin):
 
 
 def run_all(checks, room):
-    """Runs everything."""
     page = os.path.realpath(sys.argv[1]) if len(sys.argv) > 1 else os.path.join(static_library.DIST, "minisign.html")
     page_sources.check_contracts(checks)
     page_sources.check_file(checks, page)
@@ -99,7 +86,7 @@ def run_all(checks, room):
     minisign = Minisign(needs.minisign(), tempfile.mkdtemp(dir=room))
     for name in ("first", "second"):
         minisign.make_pair(name)
-    given = page, room, checks, minisign, beside_c.Programs(room)
+    given = page, room, checks, minisign, verdicts.Programs(room)
     run_in(lambda: Firefox(needs.firefox(), room).use(*given))
     run_in(lambda: Chromium(*needs.chromium(), room).use(*given))
 

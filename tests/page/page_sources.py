@@ -6,6 +6,7 @@ import re
 
 import build
 from process import run_apart
+from running import read
 
 # How many bytes the built page may have with no signature in it, and how many lines its sources that are not this program's.
 MAX_PAGE_BYTES, MAX_LINES = 106_000, 1500
@@ -13,10 +14,8 @@ PROOF = "proved as it was built for 64-bit WebAssembly"
 
 
 def check_contracts(checks):
-    """
-    Each export of the page has the signature and the clauses of the one for C, word for word, but for what a number means:
-    the page installs nothing, and the library for C has the numbers of the errors of installing too.
-    """
+    """Each export of the page has the signature and the clauses of the one for C, word for word, but for what a number means:
+    the page installs nothing, and the library for C has the numbers of the errors of installing too."""
     texts = {}
     for crate, prefix in (("minisign_page", "page_"), ("minisign_c", "minisign_")):
         source = build.read(f"crates/{crate}/src/lib.rt")
@@ -31,8 +30,7 @@ def check_contracts(checks):
 def check_file(checks, page):
     """The page is one file that names nothing else, under a policy that allows nothing else; the same module and sources give the
     same bytes, which name the version and the licence."""
-    with open(page, encoding="utf-8", newline="") as file:
-        text = file.read()
+    text = read(page).decode()
     checks.check(not re.search(r"https?:|\ssrc=|@import|url\(|<link (?!rel=\"icon\" href=\"data:,\")|\{\{", text),
                  "the page names something outside of it")
     policy = re.search(r'http-equiv="Content-Security-Policy" content="([^"]*)"', text)[1]
@@ -45,7 +43,8 @@ def check_file(checks, page):
     checks.check(len(text.encode()) <= MAX_PAGE_BYTES, f"the page has {len(text.encode())} bytes, and may have {MAX_PAGE_BYTES}")
     names = [name for name in os.listdir(build.HERE) if name.endswith((".js", ".css")) or name == "page.html"]
     lengths = {name: build.read(f"page/{name}").count("\n") for name in names}
-    checks.check(len(lengths) == 8 and sum(lengths.values()) <= MAX_LINES, f"the page's sources have {sum(lengths.values())} lines: {lengths}")
+    count = sum(lengths.values())
+    checks.check(len(lengths) == 8 and count <= MAX_LINES, f"the page's sources have {count} lines: {lengths}")
 
 
 def sums_on(text):
@@ -54,22 +53,18 @@ def sums_on(text):
 
 
 def check_sums(checks, path):
-    """
-    A page names one sum, that of tools/sources.sh, which dist/PROVED names with the page's module; and over another module, or of
-    other sources, none, and no proof.
-    """
+    """A page names one sum, that of tools/sources.sh, which dist/PROVED names with the page's module; and over another module, or of
+    other sources, none, and no proof."""
     module, by = build.taken_from(path)
     ours, digest = run_apart(["sh", "tools/sources.sh", "page"], build.TOP)[1].strip(), hashlib.sha256(module).hexdigest()
     page = build.page(module, by, sums=(digest, ours))
     checks.check(sums_on(page) == [ours] and PROOF in page, f"over what dist/PROVED names the page has the sums {sums_on(page)}")
-    for what, taken, sums in (("another module", module + b"\0", (digest, ours)), ("another module in dist/PROVED", module, ("0" * 64, ours)),
-                              ("other sources", module, (digest, "0" * 64)), ("another order", module, (ours, digest))):
-        page = build.page(taken, by, sums=sums)
+    for taken, *sums in ((module + b"\0", digest, ours), (module, "0" * 64, ours), (module, digest, "0" * 64), (module, ours, digest)):
+        page = build.page(taken, by, sums=tuple(sums))
         checks.check(sums_on(page) == [] and PROOF not in page and "not those that dist/PROVED" in page,
-                     f"{what}: the page has the sums {sums_on(page)}")
+                     f"a module of {len(taken)} bytes, where dist/PROVED names {sums}: the page has the sums {sums_on(page)}")
     # What dist/PROVED names is what stands in dist/.
-    said = dict(line.split(": ", 1) for line in build.read("dist/PROVED").partition("\n\n")[2].splitlines())
     kept = os.path.join(build.TOP, "dist", "minisign.html")
-    named = hashlib.sha256(build.taken_from(kept)[0]).hexdigest(), said["sources of the page"]
-    checks.same(build.named_sums(), named, "what dist/PROVED names")
-    checks.same(sums_on(build.read("dist/minisign.html")), [named[1]], "the sums that the page of dist/ names")
+    of_module, of_sources = build.named_sums()
+    checks.same(of_module, hashlib.sha256(build.taken_from(kept)[0]).hexdigest(), "the sum of the module that dist/PROVED names")
+    checks.same(sums_on(build.read(kept)), [of_sources], "the sums that the page of dist/ names")

@@ -3,8 +3,8 @@ A subclass drives a browser without a window: `Chromium` of browser.py, or `Fire
 """
 
 import contextlib
+import operator
 import os
-import re
 import signal
 import subprocess
 import tempfile
@@ -12,41 +12,64 @@ import time
 from collections import namedtuple
 from types import SimpleNamespace
 
+from running import read, write
+
 SECONDS = 120
 # A name of this machine that browsers do not know as one: what it serves without TLS is not secure for them.
 ELSEWHERE = "page.test"
-with open(os.path.join(os.path.dirname(os.path.realpath(__file__)), "in_page.js"), encoding="utf-8") as file_of_functions:
-    IN_PAGE = file_of_functions.read()
-# The head of each row.
-VERIFIED, UNCHECKED, NOT_VERIFIED = "\u2713 Verified", "? Signed, by a key that you have not checked", "\u2717 NOT verified"
-STANDS = {"good": VERIFIED, "unchecked": UNCHECKED, "bad": NOT_VERIFIED, "waiting": "\u2026 Not verified yet",
-          "reading": "\u2026 Not verified yet", "stopped": "\u2013 Stopped: nothing is known of this file"}
-WORST_FIRST = ("bad", "unchecked", "stopped", "waiting", "reading", "good")
-# How the sentence on the key begins that stands beside a signature that fits: under a key that was given, and under another one.
-ON_KEY = {"good": ("This page cannot know whose key it is.", "The key is built into this page:"), "unchecked": ("The key came with ",)}
+IN_PAGE = read(os.path.dirname(os.path.realpath(__file__)), "in_page.js").decode()
+# The head of each row, by what stands in the place of a verdict, the worst first.
+STANDS = {"bad": "\u2717 NOT verified", "unchecked": "? Signed, by a key that you have not checked",
+          "stopped": "\u2013 Stopped: nothing is known of this file", "waiting": "\u2026 Not verified yet",
+          "reading": "\u2026 Not verified yet", "good": "\u2713 Verified"}
+# What to do next, by the same; on a project's own page; and where a file is verified under another name than the signer's.
+PASTE = "Before you use the file, get the key from where the project publishes it, and paste it into its field."
+NEXT = {"bad": "Do not use the file: get it, its signature and the key again from the project.", "unchecked": PASTE,
+        "stopped": "Have it verified again, below.", "waiting": "Add what is missing, below.",
+        "good": "You can use the file, if the key is the project's own."}
+OWN_NEXT = {**NEXT, "bad": "Do not use the file: get it again from the project.",
+            "good": "You can use the file, if this page is the project's own."}
+WARNED = "Before you use the file, read the warning below."
+# How the sentence begins that a row has of its key: of one that nobody gave, and beside a good verdict.
+CAME, GIVEN = "The key came with ", ("This page cannot know whose key it is.", "The key is built into this page:")
 
 # A public key: its text, and the line of 56 letters and digits in it.
 Key = namedtuple("Key", "text line")
 
 
-def band_of(rows):
-    """What has to stand at the top of the window: the worst verdict, and of how many files it is."""
+def band_of(rows, is_own):
+    """What has to stand at the top of the window: the worst verdict, of how many files it is, and what to do next."""
     verdicts = [row.verdict for row in rows]
-    worst = next((verdict for verdict in WORST_FIRST if verdict in verdicts), None)
+    worst = next((verdict for verdict in STANDS if verdict in verdicts), None)
     of = f": {verdicts.count(worst)} of {len(rows)} files" if len(rows) > 1 else ""
-    return worst and [worst, STANDS[worst] + of]
+    is_warned = worst == "good" and any(row.cautions for row in rows)
+    return worst and [worst, STANDS[worst] + of, WARNED if is_warned else (OWN_NEXT if is_own else NEXT).get(worst)]
 
 
 def is_right(row):
-    """
-    Whether a row says what its verdict is, and of a signature that fits whose key it is: as a warning exactly where nobody gave the
-    key. Nothing of it is bold but its verdict and its warnings.
-    """
-    is_fit, said = row.number == 0, row.text.split("\n")
-    on_key = [line for line in said if line.startswith(ON_KEY.get(row.verdict, "-"))]
-    return (row.head == said[0] == STANDS[row.verdict] and is_fit == (row.verdict in ON_KEY) == (len(on_key) == 1)
-            and (not is_fit or (on_key[0] in row.cautions) == (row.verdict == "unchecked"))
-            and (row.comment is None or is_fit) and row.bold == [row.head, *row.cautions])
+    """Whether a row says what its verdict is, and of a signature that fits whose key it is. That nobody gave the key is a warning
+    right after the verdict and the name, and where the signature fits with what to do, and with no word of a good verdict.
+    Nothing is bold but the verdict and the warnings."""
+    said = [line for line in row.text.split("\n") if line]
+    came = [line for line in said if line.startswith(CAME)]
+    is_good, is_unchecked = row.verdict == "good", row.verdict == "unchecked"
+    return (row.head == said[0] == STANDS[row.verdict] and row.bold == [row.head, *row.cautions]
+            and (row.number == 0) == (is_good or is_unchecked) and (row.comment is None or row.number == 0)
+            and sum(line.startswith(GIVEN) and line not in row.cautions for line in said) == is_good
+            and (not came or came == said[2:3] == row.cautions[:1] and not is_good)
+            and (not is_unchecked or PASTE in "".join(came) and "Verified" not in row.text))
+
+
+def has_words(text, has, lacks):
+    """Whether a text has these words, and not those."""
+    return all(words in text for words in has) and not any(words in text for words in lacks)
+
+
+def told(number, name):
+    """What the system tells of a process in its file of this name; nothing where the process has ended."""
+    with contextlib.suppress(OSError), open(f"/proc/{number}/{name}", encoding="ascii", errors="replace") as file:
+        return file.read()
+    return ""
 
 
 class Person:
@@ -98,10 +121,7 @@ class Person:
 
     def put(self, name, data, beside=None):
         """Writes a file of this name into a directory of its own, or beside another file; its path."""
-        path = os.path.join(os.path.dirname(beside) if beside else tempfile.mkdtemp(dir=self.room), name)
-        with open(path, "wb") as file:
-            file.write(data)
-        return path
+        return write(os.path.dirname(beside) if beside else tempfile.mkdtemp(dir=self.room), name, data)
 
     def pair(self, name, data, sig):
         """Writes a file and its signature into a directory of their own; their paths."""
@@ -115,14 +135,18 @@ class Person:
         """Writes a file and a signature of it that is made now; their paths."""
         return self.pair(name, data, self.sign(data, **how))
 
+    def sparse(self, name, length, *flags):
+        """Writes a file of so many zeros, and a signature of it; their paths."""
+        path = self.put(name, b"")
+        os.truncate(path, length)
+        self.minisign.run("-S", "-s", "first.key", "-m", path, "-x", f"{path}.minisig", "-t", f"{length} bytes", *flags)
+        return path, f"{path}.minisig"
+
     # How it is driven.
 
     def run(self, script, *arguments):
+        """What a script answers, or, where that is a promise, what it comes to."""
         return self.order("ExecuteScript", script=script, args=arguments)
-
-    def run_later(self, script, *arguments):
-        """Runs a script that calls its last argument with what it answers."""
-        return self.order("ExecuteAsyncScript", script=script, args=arguments)
 
     def go(self, address):
         self.order("Navigate", url=address)
@@ -162,7 +186,8 @@ class Person:
             if now != before:
                 before, since = now, time.monotonic()
             elif time.monotonic() > since + seconds:
-                raise TimeoutError(f"the page stands still for {seconds} s at {now!r:.300}: {self.run('return document.body.innerText')[:300]}")
+                shown = self.run("return document.body.innerText")
+                raise TimeoutError(f"the page stands still for {seconds} s at {now!r:.300}: {shown[:300]}")
             time.sleep(pause)
 
     def taken(self):
@@ -171,7 +196,7 @@ class Person:
 
     def wait_seen(self, what):
         """Waits until a function of in_page.js answers true, as long as that answers something else than before."""
-        self.wait(lambda: self.run_later(f"{IN_PAGE}until({what}, arguments[0]);"), pause=0)
+        self.wait(lambda: self.run(f"{IN_PAGE}return until({what});"), pause=0)
 
     def begin(self, key, *paths, address=None):
         """Opens the page anew, pastes this text as the key, if it is one, and chooses files together."""
@@ -183,8 +208,7 @@ class Person:
 
     def type_text(self, name, text):
         """Has the field of this name hold this text, as if it were pasted."""
-        self.run("""const field = document.getElementById(arguments[0]); field.value = arguments[1];
-          field.dispatchEvent(new Event("input", {bubbles: true}));""", name, text)
+        self.see("typeText", name, text)
         self.taken()
 
     def type_key(self, text):
@@ -196,16 +220,12 @@ class Person:
         self.wait(lambda: self.text_of("key-said") != "")
 
     def choose(self, *paths):
-        """Chooses files together."""
         self.send("files", "\n".join(map(os.path.realpath, paths)))
         self.taken()
 
     def click(self, name):
         self.run("document.getElementById(arguments[0]).click()", name)
         self.taken()
-
-    def clear(self):
-        self.click("clear")
 
     def tab(self, held=""):
         """Moves the focus on by the keyboard: what has it then."""
@@ -217,10 +237,6 @@ class Person:
     def see(self, what, *arguments):
         """What a function of in_page.js answers."""
         return self.run(f"{IN_PAGE}return {what}(...arguments);", *arguments)
-
-    def see_later(self, what, *arguments):
-        """What a function of in_page.js hands to its last argument."""
-        return self.run_later(f"{IN_PAGE}{what}(...arguments);", *arguments)
 
     def text_of(self, name, part="innerText"):
         """The text of a part of the page, or what stands in a field."""
@@ -236,7 +252,6 @@ class Person:
         return next(row for row in self.rows() if row.name == name)
 
     def focus(self):
-        """What has the focus."""
         return self.run("const active = document.activeElement; return active.id || active.className || active.textContent")
 
     def log(self):
@@ -251,10 +266,10 @@ class Person:
 
     # What has to be seen.
 
-    def says(self, name, what, *has, lacks=()):
-        """A part of the page has these words, and not those."""
+    def says(self, name, what, *has, lacks=(), begins="", ends=""):
+        """A part of the page has these words, and not those, and begins and ends so."""
         said = self.text_of(name)
-        self.check(all(words in said for words in has) and not any(words in said for words in lacks), f"{what}: {said!r}")
+        self.check(has_words(said, has, lacks) and said.startswith(begins) and said.endswith(ends), f"{what}: {said!r}")
 
     def uses(self, key, what):
         """The page shows a key as the one in use."""
@@ -263,13 +278,11 @@ class Person:
     def settled(self, what):
         """The rows when nothing is verified any more. Each says what its verdict is, and nothing good that is not."""
         self.wait_seen("work")
-        rows, band = self.see("state")
-        rows = [SimpleNamespace(**row) for row in rows]
+        seen, band, is_own = self.see("state")
+        rows = [SimpleNamespace(**row) for row in seen]
         for row in rows:
             self.check(is_right(row), f"{what}: a row stands for {row}")
-        self.same(band and band[:2], band_of(rows), f"{what}: what stands at the top of the window")
-        if band:
-            self.check(len(band) == 3 and re.fullmatch(r"[^.]+\.", band[2]), f"{what}: what to do next is not one sentence: {band[2:]}")
+        self.same(band, band_of(rows, is_own), f"{what}: what stands at the top of the window")
         return rows
 
     def only(self, what, **wanted):
@@ -287,39 +300,29 @@ class Person:
         for name, wanted in parts.items():
             self.same(getattr(row, name), wanted, f"{what}: its {name}")
         if has or lacks:
-            self.check(all(words in row.text for words in has) and not any(words in row.text for words in lacks), f"{what}: {row.text!r}")
+            self.check(has_words(row.text, has, lacks), f"{what}: {row.text!r}")
         return row
 
-    def expect_each(self, part, wanted, what):
-        """The rows have these verdicts, or numbers, by their names, when nothing is verified any more."""
-        rows = self.settled(what)
-        self.same((len(rows), {row.name: getattr(row, part) for row in rows}), (len(wanted), wanted), what)
+    def expect_each(self, parts, wanted, what):
+        """The rows have this part, or these, by their names, when nothing is verified any more."""
+        rows, of = self.settled(what), operator.attrgetter(*parts.split())
+        self.same(sorted(row.name for row in rows), sorted(wanted), f"{what}: the rows")
+        for row in rows:
+            self.same(of(row), wanted.get(row.name), f"{what}: {parts} of {row.name}")
 
     # What the browser takes.
 
     def processes(self):
-        """The numbers of the processes of the browser."""
-        children = {}
-        for number in filter(str.isdigit, os.listdir("/proc")):
-            with contextlib.suppress(OSError), open(f"/proc/{number}/stat", encoding="ascii", errors="replace") as file:
-                children.setdefault(file.read().rpartition(")")[2].split()[1], []).append(number)
-        found = [str(self.process.pid)]
-        for number in found:
-            found += children.get(number, [])
-        return found[1:]
+        """The numbers of the processes in the session of the one that was begun, but for that itself."""
+        own, numbers = str(self.process.pid), [number for number in os.listdir("/proc") if number.isdigit()]
+        return [number for number in numbers if number != own and told(number, "stat").rpartition(")")[2].split()[3:4] == [own]]
 
     def page_processes(self):
         """The numbers of the processes that may show the page."""
-        found = []
-        for number in self.processes():
-            with contextlib.suppress(OSError), open(f"/proc/{number}/cmdline", "rb") as file:
-                found += [number] if self.SHOWS_PAGE in file.read() else []
-        return found
+        return [number for number in self.processes() if self.SHOWS_PAGE in told(number, "cmdline")]
 
     def memory(self, processes=None):
         """The resident memory in MiB of the greatest of these processes, or of those that may show the page."""
-        sizes = [0]
-        for number in self.page_processes() if processes is None else processes:
-            with contextlib.suppress(OSError), open(f"/proc/{number}/statm", encoding="ascii") as file:
-                sizes.append(int(file.read().split()[1]) * os.sysconf("SC_PAGE_SIZE") / 1048576)
-        return max(sizes)
+        processes = self.page_processes() if processes is None else processes
+        pages = [int(parts[1]) for number in processes if (parts := told(number, "statm").split())]
+        return max(pages, default=0) * os.sysconf("SC_PAGE_SIZE") / 1048576

@@ -2,18 +2,16 @@
 few, long ones are stopped and begun again and take no memory, and the page says that a file changed where the browser tells it.
 """
 
-import contextlib
 import os
 import re
 
-from person import STANDS
+from person import STANDS, told
 
 FEW, MANY = 500, 10_000
 # So many times as much of the processor each of many files may take as each of a few. (It is time of the processes that show the
 # page, which a machine that does much else does not lengthen as it does the clock's. So nothing here asks the page often, or for
 # much, as that would count by the clock.)
 MOST_TIMES = 2
-ASKED_EACH_SECONDS = 2
 LONG_BYTES, BIG_BYTES = 300_000_000, 2_000_000_000
 # What the memory of the page may grow by, in MiB, while a file of BIG_BYTES is read.
 GROWTH = 32
@@ -25,36 +23,30 @@ return ["good", "bad"].includes(verdict) || document.querySelector("progress")?.
 
 # Clicks on the first button of the rows.
 CLICK = "document.querySelector('#verdicts button').click()"
-# How a file comes to a stop: what of the page is broken once it is chosen, before there is a key.
-STOPS = {"threads that end": ["endThreads"], "a read that hangs": ["hangOnce", "answerOf"],
-         "a signature whose read hangs": ["hangOnce", "textOfFile"]}
-IS_BROKEN = "return window.isBroken === true"
+# How a file comes to a stop: what of the page is broken once it is chosen, before there is a key; and the next file.
+STOPS = {"threads that end": ("small", "endThreads"), "a read that hangs": ("small", "hangOnce", "answerOf"),
+         "a signature whose read hangs": ("small", "hangOnce", "textOfFile"),
+         "a text that comes once the next file is read": ("long", "waitOnce")}
 
 
 def check_stops(person):
-    """What comes to a stop is stopped by hand, and the next file is verified, and the same one if it is asked for again."""
-    paths = [path for name, data in (("a", bytes(4_000_000)), ("b", b"b")) for path in person.signed(name, data)]
-    for what, broken in STOPS.items():
-        person.begin("", *paths)
+    """What comes to a stop is stopped by hand, and the next file is verified, and the same one if it is asked for again. What a file
+    that was stopped still waited for disturbs no other one when it comes."""
+    def is_broken():
+        return person.run("return window.isBroken === true")
+
+    first = person.signed("a", bytes(4_000_000))
+    paths = {"small": person.signed("small", b"b"), "long": person.sparse("long", LONG_BYTES)}
+    for what, (other, *broken) in STOPS.items():
+        person.begin("", *first, *paths[other])
         person.see(*broken)
         person.type_key(person.first.line)
-        person.wait(lambda: person.row("a").verdict == "reading" and person.run(IS_BROKEN))
+        person.wait(lambda: person.row("a").verdict == "reading" and (other == "long" or is_broken()))
         person.run(CLICK)
-        person.wait(lambda: person.row("b").verdict != "waiting")
-        person.expect_each("verdict", {"a": "stopped", "b": "good"}, what)
+        person.wait(is_broken)
+        person.expect_each("verdict", {"a": "stopped", other: "good"}, what)
         person.run(CLICK)
-        person.expect_each("verdict", {"a": "good", "b": "good"}, f"{what}, and once more")
-
-
-def check_late(person):
-    """What a file that was stopped still waited for disturbs no other one when it comes."""
-    person.begin("", *person.signed("a", b"a"), *sparse(person, "long", LONG_BYTES))
-    person.see("waitOnce")
-    person.type_key(person.first.line)
-    person.wait(lambda: person.row("a").verdict == "reading")
-    person.run(CLICK)
-    person.wait(lambda: person.run(IS_BROKEN))
-    person.expect_each("verdict", {"a": "stopped", "long": "good"}, "a text that comes late, of a file that was stopped")
+        person.expect_each("verdict", {"a": "good", other: "good"}, f"{what}, and once more")
 
 
 def check_hangs(person):
@@ -82,11 +74,8 @@ def check_changed(person):
 
 def processor_seconds(person):
     """How many seconds of the processor the processes that show the page have taken so far."""
-    found = 0
-    for number in person.page_processes():
-        with contextlib.suppress(OSError), open(f"/proc/{number}/stat", encoding="ascii", errors="replace") as file:
-            found += sum(map(int, file.read().rpartition(")")[2].split()[11:13])) / os.sysconf("SC_CLK_TCK")
-    return found
+    times = [told(number, "stat").rpartition(")")[2].split()[11:13] for number in person.page_processes()]
+    return sum(int(ticks) for both in times for ticks in both) / os.sysconf("SC_CLK_TCK")
 
 
 def check_many(person):
@@ -96,26 +85,18 @@ def check_many(person):
         person.begin(person.first.line)
         before = processor_seconds(person)
         person.see("verifyMany", count, text, "x")
-        person.wait(lambda: person.run("return window.verified >= arguments[0] || window.verified", count), pause=ASKED_EACH_SECONDS)
+        person.wait(lambda: person.run("return window.verified >= arguments[0] || window.verified", count), pause=2)
         took.append((processor_seconds(person) - before) / count)
-    said = f"each of {FEW} and of {MANY} files takes so many milliseconds of the processor: {[f'{1000 * seconds:.1f}' for seconds in took]}"
+    said = f"each of {FEW} and of {MANY} files takes so many seconds of the processor: {took}"
     person.check(took[1] < MOST_TIMES * took[0], said)
     print(f"page: {person.name}, {said}", flush=True)
     person.same(person.see("band")[1], f"{STANDS['good']}: {MANY} of {MANY} files", "the band of many files")
 
 
-def sparse(person, name, length):
-    """Writes a file of so many zeros, and a signature of it; their paths."""
-    path = person.put(name, b"")
-    os.truncate(path, length)
-    person.minisign.run("-S", "-s", "first.key", "-m", path, "-x", f"{path}.minisig", "-t", f"{length} bytes")
-    return path, f"{path}.minisig"
-
-
 def check_long(person):
     """A file of 2 GB is stopped by hand; what was stopped looks like nothing else. Begun again it is read in pieces: the memory of
     the page does not grow, and it answers meanwhile."""
-    paths = sparse(person, "big", BIG_BYTES)
+    paths = person.sparse("big", BIG_BYTES)
     person.begin(person.first.line, *paths, *person.signed("small", b"small"))
     person.wait(lambda: person.run("return (document.querySelector('progress')?.value ?? 0) > 0"))
     share = person.row("big").text
@@ -126,8 +107,9 @@ def check_long(person):
     person.press(person.ENTER)
     person.expect_each("verdict", {"big": "stopped", "small": "good"}, "one that was stopped, and the next")
     person.same(person.focus(), "Verify it again", "where the focus is after a stop")
-    person.check(any(line.startswith("Stopped, ") and line.endswith(" big") for line in person.log()), "a screen reader is not told of a stop")
-    person.clear()
+    log = person.log()
+    person.check(any(line.startswith("Stopped, ") and line.endswith(" big") for line in log), f"a screen reader is told of no stop: {log}")
+    person.click("clear")
     before, sizes = person.memory(), []
 
     def look():

@@ -3,54 +3,46 @@ and directories that are dropped.
 """
 
 import os
+import re
 
-from helps import served
+from helps import STATES, served
 from views import NARROW
 
 
 def check_alone(person):
     """Without a network the page works, and with one it asks for nothing."""
-    set_offline = lambda is_offline: person.command(
-        "Network.emulateNetworkConditions", offline=is_offline, latency=0, downloadThroughput=-1, uploadThroughput=-1)
     paths = person.signed("data", b"data", trusted="t")
     person.command("Network.enable")
-    set_offline(True)
+    network = {"latency": 0, "downloadThroughput": -1, "uploadThroughput": -1}
+    person.command("Network.emulateNetworkConditions", offline=True, **network)
     person.requests()
     person.begin(person.first.line, *paths)
     person.only("offline", number=0, comment="t")
-    set_offline(False)
+    person.command("Network.emulateNetworkConditions", offline=False, **network)
     asked = [address for address in person.requests() if not address.startswith(("about:", "blob:", "data:"))]
     person.same(asked, [person.address], "what the page asks for, from disk")
     with served(person.page) as (address, _, asked):
         person.begin(person.first.line, *paths, address=address)
         person.only("served", number=0, comment="t")
-        person.same(person.see_later("fetchFrom", address), [], "what the policy lets through")
+        person.same(person.see("fetchFrom", address), [], "what the policy lets through")
         person.same(asked, ["/minisign.html"], "what the page asks for, served")
     rejections = [line for line in person.said() if "Content Security Policy" in line or "Refused" in line]
     person.check(len(rejections) >= 2, f"the browser tells of {rejections} that the policy rejected")
 
 
-# What a browser may lack, how it is taken away, what the page has to say, and what it may not.
-LACKING = (
-    ("WebAssembly.validate = () => false;", "WebAssembly", "Ed25519"),
-    ("delete globalThis.WebAssembly;", "WebAssembly", "Ed25519"),
-    ("crypto.subtle.importKey = async () => { throw new DOMException('no', 'NotSupportedError'); };", "Ed25519", "WebAssembly"),
-    ("Object.defineProperty(globalThis, 'isSecureContext', {value: false}); crypto.subtle.verify = async () => false;",
-     "open it from disk, or open it by https", "newer browser"),
-    ("crypto.subtle.verify = async () => true;", "Ed25519", "WebAssembly"),
-    ("WebAssembly.validate = () => false; crypto.subtle.verify = async () => false;", "WebAssembly, and Ed25519", "does not run"),
-    ("WebAssembly.instantiate = async () => { throw new RangeError('memory'); };", "does not run the proved library", "lacks"),
-)
-
-
 def check_lacking(person):
-    """Where the browser lacks something the page says what, and takes nothing."""
-    for script, wanted, unwanted in LACKING:
+    """Where the browser lacks something the page says what, and takes nothing. (helps.py has what a server keeps from it.)"""
+    for script, wanted, unwanted in (
+            ("WebAssembly.validate = () => false;", "WebAssembly", "Ed25519"),
+            ("delete globalThis.WebAssembly;", "WebAssembly", "Ed25519"),
+            ("crypto.subtle.importKey = async () => { throw new DOMException('no', 'NotSupportedError'); };", "Ed25519", "WebAssembly"),
+            ("crypto.subtle.verify = async () => true;", "Ed25519", "WebAssembly"),
+            ("WebAssembly.validate = () => false; crypto.subtle.verify = async () => false;", "WebAssembly, and Ed25519", "does not run"),
+            ("WebAssembly.instantiate = async () => { throw new RangeError('memory'); };", "does not run the proved library", "lacks")):
         number = person.command("Page.addScriptToEvaluateOnNewDocument", source=script)["identifier"]
         person.open()
         person.says("lacking", f"after {script}", wanted, lacks=[unwanted])
-        person.check(not person.is_shown("controls") and person.is_shown("lacking") and not person.rows(),
-                     f"after {script}: the page can be used")
+        person.same((*map(person.is_shown, STATES), person.rows()), (True, False, []), f"after {script}: what is shown")
         person.command("Page.removeScriptToEvaluateOnNewDocument", identifier=number)
 
 
@@ -65,15 +57,16 @@ def check_looks(person):
         person.run("document.documentElement.style.fontSize = arguments[0]", letters)
         for size in ((), NARROW):
             person.resize(*size)
-            person.check(person.see("fits"), f"letters of {letters or '100%'} at {size}: something stands outside of its place")
-            person.same(person.see("cut"), [], f"letters of {letters or '100%'} at {size}: what is cut")
+            what = f"letters of {letters or '100%'} at {size}"
+            person.same((person.see("fits"), person.see("cut")), (True, []), f"{what}: all is in its place, and what is cut")
     person.resize()
     person.run("document.documentElement.style.fontSize = ''")
     person.same(person.wrong_looks(), [], "what is hard to see")
 
 
 def check_use(person):
-    """The page by the keyboard alone, and for a screen reader; and its two sentences of what it does not show."""
+    """The page by the keyboard, and for a screen reader; and its two sentences of what it does not show. (views.py has the order of
+    what the keyboard comes to.)"""
     person.open()
     for name, wanted in (("of-the-key", "that the key is the right one"), ("of-the-page", "that the page itself is genuine")):
         text = person.text_of(name)
@@ -81,32 +74,28 @@ def check_use(person):
     person.run("document.body.focus()")
     person.same(person.tab(), "key-text", "the first for the keyboard")
     person.press(person.first.line)
-    person.check(person.text_of("key-said").startswith("Key "), "a key that is typed is not taken")
+    person.says("key-said", "a key that is typed", begins="Key ")
     person.same(person.tab(), "key-file", "the second for the keyboard")
-    person.same(person.run("return getComputedStyle(document.querySelector('#key-file + label')).outlineStyle"), "solid", "the focus is seen")
-    person.same([person.tab(), person.tab()], ["key-remove", "files"], "the third and the fourth for the keyboard")
+    outline = person.run("return getComputedStyle(document.querySelector('#key-file + label')).outlineStyle")
+    person.same(outline, "solid", "the focus is seen")
     person.choose(*person.signed("data", b"data", trusted="t"), *person.pair("bad", b"bad", person.sign(b"data", trusted="t")))
     person.settled("the keyboard")
-    person.run("document.getElementById('files').focus()")
-    person.same([person.tab(), person.tab(), person.tab()], ["signature-text", "comment", "clear"], "the last three for the keyboard")
     found = person.nodes()
-    named = {(role, name) for role, name, _ in found}
-    for told in (("textbox", "Paste its text, or its line of 56 letters and digits"), ("button", "Clear the list"),
-                 ("heading", "3. The verdicts"), ("heading", "Verified data"), ("heading", "NOT verified bad"), ("main", "")):
-        person.check(told in named, f"a screen reader is not told of {told}: {sorted(named)!r:.400}")
+    wanted = {("textbox", "Paste its text, or its line of 56 letters and digits", None), ("button", "Clear the list", None),
+              ("main", "", None), ("heading", "3. The verdicts", 2), ("heading", "Verified data", 3), ("heading", "NOT verified bad", 3)}
+    told = {(role, name, properties.get("level")) for role, name, properties in found}
+    person.same(wanted - told, set(), "what a screen reader is not told of")
+    focusable = [(role, name.strip()) for role, name, properties in found if properties.get("focusable")]
     for part in ("minisign.pub", ".minisig"):
-        person.check(any(part in name and properties.get("focusable") for _, name, properties in found),
-                     f"a screen reader is told of no place for {part}")
+        person.check(any(part in name for _, name in focusable), f"a screen reader is told of no place for {part}: {focusable}")
+    person.same({role for role, name in focusable if not name} - {"RootWebArea", "StaticText", "InlineTextBox"}, set(),
+                "what has no name for a screen reader")
     live = {properties.get("live") for role, _, properties in found if role in ("log", "status")}
     person.same(live, {"polite"}, "what a screen reader is told as it changes")
-    nameless = [role for role, name, properties in found if properties.get("focusable") and not name.strip()]
-    person.same(set(nameless) - {"RootWebArea", "StaticText", "InlineTextBox"}, set(), "what has no name for a screen reader")
-    log = person.log()
-    person.check(len(log) == 2 and log[0].startswith("Verified. The key is ") and log[0].endswith(" The file's name: data")
-                 and log[1].startswith("NOT verified. This file is not the one") and log[1].endswith(" The file's name: bad"),
-                 f"a screen reader is told {log}")
-    heads = person.run("return Array.from(document.querySelectorAll('#verdicts > li'), row => row.firstElementChild.tagName)")
-    person.same(heads, ["H3", "H3"], "what the rows begin with")
+    log = "\n".join(person.log())
+    form = r"Verified\. The key is .* The file's name: data\nNOT verified\. This file is not the one.* The file's name: bad"
+    person.check(re.fullmatch(form, log), f"a screen reader is told {log}")
+    person.run("document.getElementById('clear').focus()")
     person.press(person.ENTER)
     person.same((person.rows(), person.focus()), ([], "files"), "a list that was cleared by the keyboard, and the focus after that")
 
@@ -117,8 +106,7 @@ def check_directories(person):
     person.open()
     for place in ("downloads", "downloads", "key"):
         person.drop(place, os.path.dirname(path))
-        said = person.text_of("files-said")
-        person.check("A directory cannot be verified" in said and said.count("directory") == 1 and not person.rows(),
-                     f"a directory that is dropped on {place}: {said!r}")
+        person.same((person.text_of("files-said"), person.rows()), ("A directory cannot be verified: open it, and drop what is in it.", []),
+                    f"a directory that is dropped on {place}")
     person.drop("downloads", path)
     person.same((person.text_of("files-said"), len(person.rows())), ("", 1), "what is said for the next files")

@@ -1,50 +1,88 @@
-"""Good, damaged and foreign signatures, of the kept corpus and of new keys, and the vectors of Ed25519 that implementations
-differ in; each error and its words; several files at once.
+"""Good, damaged and foreign signatures: the kept corpus and changed texts of it, whose verdicts and reasons are compared with those of
+`c/minisign -V`, and those of new keys; each error and its words; several files at once.
 """
 
 import os
+import re
 
-import cases
+import build
 import edges
 import minisign_differences as differences
+import needs
+import static_library
+from cases import kept_cases, key_errors, signature_errors, typed_key_errors
 from keys import under_identifier
-from minisign_cases import lines, pattern
+from minisign_cases import pattern, random_cases
+from process import run_program
+from texts import lines, turned
+
+TEXTS, TEXTS_IN_FIREFOX = 500, 150
 
 
-def check_corpus(person):
-    """The verdicts on the corpus are those of Minisign 0.11, but for its documented differences."""
-    rows = cases.kept_rows()
+class Programs:
+    """`c/minisign`, and what the library and the program say of each number of the header."""
+
+    def __init__(self, room):
+        self.program = f"{room}/c/minisign"
+        static_library.run_make(f"OUT={room}/c", f"CC={needs.libsodium()}", self.program)
+        numbers = {name: int(number) for name, number in re.findall(r"(MINISIGN_\w+) = (\d+)", build.read("include/minisign.h"))}
+        texts, rows = build.read("tests/c/error_texts.c"), build.read("c/minisign/messages.c")
+        self.meaning = {numbers[name]: text for name, text in re.findall(r'\[(\w+)\] = "(.*)",', texts) if name in numbers}
+        own = {numbers[name]: text.replace('\\"', '"') for name, text in re.findall(r'\{ (MINISIGN_\w+), "(.*)" \}', rows)}
+        self.words = {**self.meaning, **own}
+
+    def is_same_verdict(self, case, number, comment, ran):
+        """Whether the number and the comment of a row, and how the program ran, are one verdict for one reason."""
+        if number == 0:
+            return ran.status == 0 and ran.output.decode().replace("\r", "U+000D").endswith(f"\nTrusted comment: {comment}\n")
+        if number == 29:
+            return ran.status == 1 and ran.said.startswith(b"Signature key id in ")
+        # A key that reads is looked at before the signature, and by the program a text that is not UTF-8 before both. A second line
+        # may say which text is meant.
+        line, _, more = ran.said.decode().partition("\n")
+        is_line = re.fullmatch(r"([^\n]+\.(pub|minisig): [^\n]+\n)?", more) is not None
+        numbers = [number] if differences.is_utf8(case.sig) else [number, 8]
+        return ran.status in (1, 2) and is_line and line in [self.words[each] for each in numbers]
+
+
+def check_texts(person):
+    """The corpus, and changed texts of it, have the verdicts of the C program, for its reasons. (tests/verdicts/real_minisign.py
+    compares the C program with Minisign's own on the same texts.)"""
+    kept, by_key, counted = kept_cases(), {}, {True: 0, False: 0}
+    for case in kept + random_cases(kept, TEXTS if person.is_chromium else TEXTS_IN_FIREFOX):
+        by_key.setdefault(case.pk, []).append(case)
     person.open()
-    for key in dict.fromkeys(row.key for row in rows):
-        person.choose_key(os.path.join(cases.CORPUS, key))
-        for row in (row for row in rows if row.key == key):
-            what = f"corpus: {row.signature} of {row.data} with {row.key}"
-            person.clear()
-            person.choose(*person.pair(row.data, cases.read_kept(row.data), cases.read_kept(row.signature)))
-            found = person.only(what)
-            is_good, was_good = found.verdict == "good", row.status == 0
-            if is_good and was_good:
-                comment = row.output.encode("latin-1").decode().partition("Trusted comment: ")[2][:-1]
-                person.same(found.comment, comment, f"{what}: the trusted comment")
-            else:
-                texts, difference = differences.Texts(*map(cases.read_kept, (row.key, row.signature))), differences.kind(was_good, is_good)
-                person.check(is_good == was_good or differences.explains(difference, texts), f"{what}: {difference}")
+    for text, some in by_key.items():
+        key = person.put("some.pub", text)
+        pairs = [(person.put(str(at), case.data, key), person.put(f"{at}.minisig", case.sig, key)) for at, case in enumerate(some)]
+        person.click("clear")
+        person.type_key("")
+        person.choose_key(key)
+        rejection = person.see("numberOfKey")
+        if rejection == 0:
+            person.choose(*(path for pair in pairs for path in pair))
+            rows = {row.name: row for row in person.settled("texts")}
+        for at, (case, pair) in enumerate(zip(some, pairs)):
+            ours = (rows[str(at)].number, rows[str(at)].comment) if rejection == 0 else (rejection, None)
+            counted[ours[0] == 0] += case not in kept
+            ran = run_program([person.programs.program, "-V", "-p", key, "-m", pair[0], "-x", pair[1]], None)
+            person.check(person.programs.is_same_verdict(case, *ours, ran), f"{case.name}: the page says {ours}, and of the program: {ran}")
+    person.check(min(counted.values()) >= sum(counted.values()) // 25, f"the changed texts, by being good: {counted}")
 
 
 def check_made(person):
-    """Keys and signatures that are made now, with the key as a file, as text, as a line, and in the address."""
+    """Keys and signatures that are made now, with the key as a file, as text and as a line; and what would fit every file."""
     first, data = person.first, pattern(3_000_001)
     sig, foreign = person.sign(data, trusted="version 2"), person.sign(data, key="second")
     key_id = lines(first.text)[0].rpartition(b" ")[2].decode().rjust(16, "0")
     paths, key_path, anything = person.pair("update.zip", data, sig), person.put("my.pub", first.text), person.put("anything", first.text)
-    for how, take in (("as text", lambda: person.type_key(first.text.decode())), ("as a line", lambda: person.type_key(f"  {first.line}\n")),
-                      ("as a file", lambda: person.choose_key(key_path)), ("dropped on the key", lambda: person.drop("key", anything)),
-                      ("dropped among the files", lambda: person.drop("downloads", key_path))):
+    for how, take, given in (("as text", person.type_key, [first.text.decode()]), ("as a line", person.type_key, [f"  {first.line}\n"]),
+                             ("as a file", person.choose_key, [key_path]), ("dropped on the key", person.drop, ["key", anything]),
+                             ("dropped among the files", person.drop, ["downloads", key_path])):
         what = f"a key {how}"
         person.begin("", *paths)
         person.only(f"before {what}", verdict="waiting")
-        take()
-        person.wait(lambda: person.row("update.zip").verdict not in ("waiting", "reading"))
+        take(*given)
         person.only(what, number=0, comment="version 2", has=[key_id])
         person.says("key-said", what, f"Key {key_id}")
         person.uses(first, what)
@@ -52,77 +90,54 @@ def check_made(person):
     person.choose_key(person.put("second.pub", person.second.text))
     person.only("another key", number=29, has=[key_id, "made with another key"])
     person.type_key("")
-    person.expect(person.row("update.zip"), "no key", verdict="waiting")
+    person.only("no key", verdict="waiting")
     for what, number, changed, text in (
-            ("a bit of the data", 31, bytes([data[0] ^ 1]) + data[1:], sig), ("a byte less", 31, data[:-1], sig),
+            ("a bit of the data", 31, turned(data, 0), sig), ("a byte less", 31, data[:-1], sig),
             ("a byte more", 31, data + b"x", sig), ("no data", 31, b"", sig), ("a foreign signature", 29, data, foreign),
             ("a foreign signature under this identifier", 31, data, under_identifier(sig, foreign)),
-            ("the signature of other data", 31, data, person.sign(b"other")), ("a legacy signature", 0, data, person.sign(data, legacy=True)),
+            ("the signature of other data", 31, data, person.sign(b"other")),
+            ("a legacy signature", 0, data, person.sign(data, legacy=True)),
             ("a legacy signature of other data", 31, data, person.sign(b"other", legacy=True))):
         person.begin(first.line, *person.pair("update.zip", changed, text))
         person.only(what, number=number)
+    key, text = edges.texts_for_every_file()
+    for some in (b"", b"data", data):
+        person.begin(key.decode(), *person.pair("data", some, text))
+        person.only("a signature that would fit every file", number=31)
 
 
 def check_errors(person):
     """Each error has its number, its words and the library's."""
-    key, data = person.first, b"hello, world\n"
+    data, meaning, said = b"hello, world\n", person.programs.meaning, {}
     sig = person.sign(data, trusted="a trusted comment")
     person.open()
-    for how, take, errors in (
-            ("as a file", lambda text: person.choose_key(person.put("faulty.pub", text)), cases.key_errors(key.text)),
-            ("typed", lambda text: person.type_key(text.decode()), cases.typed_key_errors(key.text))):
-        for error in errors:
-            person.type_key("")
-            take(error.text)
-            person.says("key-said", f"a key {how}, rejected by {error.number}", "No public key: ", error.words)
-            number = person.run("return document.getElementById('key-said').dataset.number")
-            person.same(number, str(error.number), f"a key {how}: the number")
-    person.type_key(key.line)
-    errors, said = cases.signature_errors(sig, person.sign(data, key="second")), set()
-    for error in errors:
-        what = f"the error {error.number}"
-        person.clear()
-        person.choose(*person.pair("data", data, error.text))
-        row = person.only(what, number=error.number, has=[f"In the library's words: {person.programs.meaning(error.number)}."])
-        person.check(error.words in row.why, f"{what}: {row.why!r}")
-        said.add(row.why)
-    person.same(len(said), len(errors), "the number of different words")
+    for is_typed, errors in ((False, key_errors(person.first.text)), (True, typed_key_errors(person.first.text))):
+        for number, words, text in errors:
+            person.type_key(text.decode() if is_typed else "")
+            if not is_typed:
+                person.choose_key(person.put("faulty.pub", text))
+            person.says("key-said", f"a key, typed: {is_typed}, rejected by {number}", words, begins="No public key: ")
+            person.same(person.see("numberOfKey"), number, f"a key, typed: {is_typed}: the number")
+    person.type_key(person.first.line)
+    for number, words, text in signature_errors(sig, person.sign(data, key="second")):
+        person.click("clear")
+        person.choose(*person.pair("data", data, text))
+        row = person.only(f"the error {number}", number=number, has=[words, f"In the library's words: {meaning[number]}."])
+        said[number] = row.why
+    person.same(len(set(said.values())), len(said), f"the number of different words: {said}")
     # A legacy signature of more than the page holds.
-    large = person.put("large", b"")
-    os.truncate(large, cases.MAX_LEGACY_BYTES + 1)
-    person.minisign.run("-S", "-l", "-s", "first.key", "-m", large, "-x", f"{large}.minisig")
-    person.begin(key.line, large, f"{large}.minisig")
-    person.only("a large legacy file", number=30, has=["older kind", person.programs.meaning(30)])
+    person.begin(person.first.line, *person.sparse("large", 64 * 1048576 + 1, "-l"))
+    person.only("a large legacy file", number=30, has=["older kind", meaning[30]])
     # What is wrong with a file, and not with its texts.
-    path, sig_path = person.pair("data", data, sig)
+    path, sig_path = person.signed("data", b"data")
     person.begin("", path)
     person.settled("a file alone")
     os.remove(path)
     person.choose(sig_path)
-    person.type_key(key.line)
+    person.type_key(person.first.line)
     person.only("a file that is gone", verdict="bad", has=["cannot be read"])
-    person.begin(key.line, *person.pair("data", data, sig + b"x" * 65536))
+    person.begin(person.first.line, *person.pair("data", b"data", person.sign(b"data") + b"x" * 65536))
     person.only("a long signature", verdict="bad", has=["longer than a signature"])
-
-
-def check_several(person):
-    """Files that come together, with a key; the last one; and several keys."""
-    key, names = person.put("key.pub", person.first.text), ("a", "b", "c", "d.pub")
-    for name in names:
-        person.put(name, name.encode(), key)
-        person.put(f"{name}.minisig", person.sign(name.encode(), trusted=name), key)
-    at = lambda names: [os.path.join(os.path.dirname(key), name) for name in names.split()]
-    person.open()
-    person.drop("downloads", *at("b.minisig a c a.minisig b d.pub.minisig d.pub key.pub"))
-    rows = {row.name: row for row in person.settled("several files")}
-    wanted = {"a": ("unchecked", "a"), "b": ("unchecked", "b"), "c": ("waiting", None), "d.pub": ("unchecked", "d.pub")}
-    person.same({name: (row.verdict, row.comment) for name, row in rows.items()}, wanted, "several files")
-    person.expect(rows["c"], "a file alone", has=["c.minisig", "signature is missing"])
-    person.drop("downloads", *at("c.minisig"))
-    person.named("c", "the last one", number=0, comment="c")
-    person.click("key-remove")
-    person.drop("downloads", key, person.put("other.pub", person.second.text))
-    person.says("key-said", "two keys at once are not rejected", "several keys")
 
 
 def check_matched(person):
@@ -130,14 +145,13 @@ def check_matched(person):
     its text, and a file by having a signature."""
     sign = lambda data: person.sign(data, trusted="t")
     a, b = sign(b"a"), sign(b"b")
-    two = {"b": b"b", "b.minisig": b}
-    person.begin(person.first.line, person.put("a.minisig", a))
-    person.only("a signature alone", has=["file itself is missing"])
-    person.clear()
-    person.same(person.rows(), [], "a list that was cleared")
-    person.choose(person.put("a", b"a"), person.put("b.minisig", b))
-    person.only("two of other names", number=31, has=["with the signature b.minisig"])
-    for what, given, wanted in (
+    two, parts_of = {"b": b"b", "b.minisig": b}, {0: ("good", 0, "t"), None: ("waiting", None, None)}
+    person.begin(person.first.line)
+    for what, given, wanted, *has in (
+            ("a signature alone", [{"a.minisig": a}], {"a": None}, "file itself is missing"),
+            ("two of other names", [{"a": b"a", "b.minisig": b}], {"a": 31}, "with the signature b.minisig"),
+            ("several together, and one alone", [{"b.minisig": b, "a": b"a", "c": b"c", "a.minisig": a, "b": b"b"}],
+             {"b": 0, "a": 0, "c": None}, "Its signature is missing: choose or drop c.minisig"),
             ("a renamed file", [{"renamed": b"a", "a.minisig": a}], {"renamed": 0}),
             ("a renamed file, and then its signature", [two, {"renamed": b"a"}, {"a.minisig": a}], {"b": 0, "renamed": 0}),
             ("a signature, and then its renamed file", [two, {"a.minisig": a}, {"renamed": b"a"}], {"b": 0, "renamed": 0}),
@@ -146,31 +160,19 @@ def check_matched(person):
             *((f"the signature {name}", [{"a.zip": b"a", name: a}], {"a.zip": 0}) for name in (
                 "a.zip.sig", "a.zip.minisig.txt", "signature", "a.zip.minisig (1)")),
             ("names that are alike, beside one that stands alone",
-             [{"a (1).zip": b"a"}, {"B.ZIP": b"b"}, {"c": b"c"}, {"b.zip.minisig": b}, {"a.zip.minisig": a}], {"a (1).zip": 0, "B.ZIP": 0, "c": None}),
+             [{"a (1).zip": b"a"}, {"B.ZIP": b"b"}, {"c": b"c"}, {"b.zip.minisig": b}, {"a.zip.minisig": a}],
+             {"a (1).zip": 0, "B.ZIP": 0, "c": None}),
             ("several signatures that are known by their texts",
              [{"a.zip": b"a", "a.zip.sig": a, "b.zip": b"b", "b.zip.minisig.txt": b}], {"a.zip": 0, "b.zip": 0}),
             # (what is itself a signature or a key, and has been signed, is a file like another)
             *((f"{name}, which was signed", [{name: data, f"{name}.minisig": sign(data)}], {name: 0}) for name, data in (
                 ("list.txt", a), ("new.pub", person.second.text), ("old.key", person.minisign.read("second.key"))))):
-        person.clear()
+        person.click("clear")
+        person.same(person.rows(), [], f"a list that was cleared, before {what}")
         for files in given:
             first = person.put("unused", b"")
             person.choose(*(person.put(name, data, first) for name, data in files.items()))
-        person.expect_each("number", wanted, what)
-        parts = {0: ("good", "t"), None: ("waiting", None)}
-        found = {row.name: (row.verdict, row.comment) for row in person.rows()}
-        person.same(found, {name: parts.get(number, ("bad", None)) for name, number in wanted.items()}, what)
-
-
-def check_vectors(person):
-    """In each browser the page answers to all vectors as libsodium does, and to a key and a signature that would fit every file."""
-    vectors = edges.vectors()
-    person.open()
-    answers = person.see_later("askVectors", vectors)
-    person.same(len(answers), len(vectors), "the number of answers")
-    for vector, answer in zip(vectors, answers):
-        person.same(answer, vector["sodium"], f"the vector {vector['name']}: what the page answers, beside libsodium")
-    key, signature = edges.texts_for_every_file()
-    for data in (b"", b"data", pattern(3_000_001)):
-        person.begin(key.decode(), *person.pair("data", data, signature))
-        person.only("a signature that would fit every file", number=31)
+        parts = {name: parts_of.get(number, ("bad", number, None)) for name, number in wanted.items()}
+        person.expect_each("verdict number comment", parts, what)
+        for words in has:
+            person.says("verdicts", what, words)

@@ -2,67 +2,53 @@
 the system forces its colours.
 """
 
-from minisign_cases import lines
-from person import STANDS
+from texts import lines
 
-# The windows of two telephones, of which the first is small, and of a computer.
-WINDOWS = ((360, 640), (390, 844), (1366, 657))
-# A narrow screen.
-NARROW = (320, 640)
-MANY = 12
-# What to do next where a file is verified under another name than the signer's, and else by the verdict.
-WARNED = "Before you use the file, read the warning below."
-NEXT = {"good": "You can use the file, if the key is the project's own.",
-        "unchecked": "Before you use the file, get the key from where the project publishes it, and paste it into its field.",
-        "bad": "Do not use the file: get it, its signature and the key again from the project.", "waiting": "Add what is missing, below."}
+# The windows of two telephones, of which the first is small, and of a computer; and a narrow screen.
+WINDOWS, NARROW = ((360, 640), (390, 844), (1366, 657)), (320, 640)
 # The rows and the band, and the side of each that has a line of its own.
 PLACES = (("#verdicts > li", "Left"), ("#band", "Bottom"))
-# What the keyboard comes to, backwards from the end of the list: at most so often.
-MOST_BACK = 20
 
 
 def check_view(person):
     """The first verdict that an act brings is in view when it comes, on a small screen, and later ones move nothing."""
-    pair = lambda name: person.signed(name, name.encode(), trusted="t")
-    key = person.put("minisign.pub", person.first.text)
-    nothing, type_key = lambda: None, lambda: person.type_key(person.first.line)
-    choose = lambda *more: person.choose(*pair("a"), *(path for name in more for path in pair(name)))
+    files, later, *others = (person.signed(name, name.encode(), trusted="t") for name in ("a", "later", *map(str, range(12))))
+    line, key = person.first.line, person.put("minisign.pub", person.first.text)
     person.resize(*WINDOWS[0])
-    for what, link, first, then in (
-            ("the key first", "", type_key, choose), ("the files first", "", choose, type_key),
-            ("all at once", "", nothing, lambda: person.choose(*pair("a"), key)), ("by a link", f"#{person.first.line}", nothing, choose),
-            ("many files", "", type_key, lambda: choose(*map(str, range(MANY))))):
-        person.open(person.address + link)
-        first()
+    for what, link, typed, first, then in (
+            ("the key first", "", line, (), files), ("the files first", "", "", files, ()), ("all at once", "", "", (), (*files, key)),
+            ("by a link", f"#{line}", "", (), files), ("many files", "", line, (), sum(others, files))):
+        person.begin(typed, *first, address=person.address + link)
         person.run("scrollTo(0, 0)")
-        then()
+        if then:
+            person.choose(*then)
+        else:
+            person.type_key(line)
         person.settled(what)
         person.check(person.see("isInView", "a"), f"{what}: the first verdict is out of view")
     # A later file, whose row is far below.
     person.run("scrollTo(0, 0)")
-    person.choose(*pair("later"))
+    person.choose(*later)
     person.settled("a later file")
     person.check(person.see("isInView", "later"), "a later file: its verdict is out of view")
 
 
 def check_band(person):
-    """The worst verdict stands at the top of the window, wherever that is scrolled to, with what to do next. The three verdicts have
-    other colours, and other words, signs and lines where colours are forced on the page."""
+    """The worst verdict stands at the top of the window, wherever that is scrolled to. The three verdicts have other colours, and
+    other words, signs and lines where colours are forced on the page."""
     key, fits = person.first.line, person.signed("fits", b"x", trusted="t")
     fails = person.pair("fails", b"y", person.sign(b"x", trusted="t"))
     seen = {(place, is_forced): {} for place in PLACES for is_forced in (False, True)}
     person.open()
-    person.same(person.see("band"), None, "the band before there is a file")
+    person.expect_each("verdict", {}, "the band before there is a file")
     person.choose(*fits)
-    person.same(person.see("band"), ["waiting", STANDS["waiting"], NEXT["waiting"]], "the band without a key")
-    person.clear()
-    person.same(person.see("band"), None, "the band of a list that was cleared")
-    for link, typed, paths, verdict, of in ((f"#{key}", "", fits, "unchecked", ""), ("", key, fits, "good", ""),
-                                            ("", key, (*fits, *fails), "bad", ": 1 of 2 files")):
+    person.expect_each("verdict", {"fits": "waiting"}, "the band without a key")
+    person.click("clear")
+    person.expect_each("verdict", {}, "the band of a list that was cleared")
+    for link, typed, paths, verdict in ((f"#{key}", "", fits, "unchecked"), ("", key, fits, "good"), ("", key, (*fits, *fails), "bad")):
         person.resize()
         person.begin(typed, *paths, address=person.address + link)
         person.settled(verdict)
-        person.same(person.see("band"), [verdict, STANDS[verdict] + of, NEXT[verdict]], f"the band that is {verdict}")
         for (place, is_forced), looks in seen.items():
             person.force_colours(is_forced)
             looks.update(person.see("looks", *place))
@@ -87,12 +73,9 @@ def check_focus(person):
         person.begin(person.first.line, *paths)
         person.settled("the focus")
         person.run("document.getElementById('clear').focus()")
-        found = []
-        while len(found) < MOST_BACK and "key-text" not in found:
-            found.append(person.tab(held=person.SHIFT))
-            person.check(not person.see("isFocusBehind"), f"the focus at {size}, after {found}: it is behind the band")
-        person.same([name for name in found if name != "comment"], ["signature-text", "files", "key-remove", "key-file", "key-text"],
-                    f"the keyboard backwards at {size}")
+        for name in ("comment",) * 4 + ("signature-text", "files", "key-remove", "key-file", "key-text"):
+            found = person.tab(held=person.SHIFT), person.see("isFocusBehind")
+            person.same(found, (name, False), f"the keyboard backwards at {size}: what has the focus, and that the band hides it")
 
 
 def check_words(person):
@@ -101,12 +84,12 @@ def check_words(person):
     person.begin(person.first.line, *person.signed("namewise", b"x", trusted="commentwise"), person.put("otherwise.pub", person.first.text))
     person.choose(*person.signed("badwise", b"xy", key="second"))
     person.choose(person.put("alonewise", b""))
-    rows = {row.name: row.text for row in person.settled("words")}
-    person.same(rows["badwise"].count(other_id), 1, "the row names the signature's key")
-    words = ["namewise", "badwise", "alonewise", "otherwise", "commentwise", key_id, other_id, person.first.line, "minisign.pub", ".minisig"]
-    person.same(person.see("translated", words), [], "what a browser may translate")
-    person.check("\n1 byte\n" in rows["namewise"] and "\n2 bytes\n" in rows["badwise"] and "\n0 bytes\n" in rows["alonewise"],
-                 f"the lengths of files: {rows}")
+    rows = {row.name: row for row in person.settled("words")}
+    person.same(rows["badwise"].text.count(other_id), 1, "the row names the signature's key")
+    words = ["namewise", "badwise", "alonewise", "otherwise", "commentwise", "minisign.pub", ".minisig", key_id, other_id]
+    person.same(person.see("translated", [*words, person.first.line]), [], "what a browser may translate")
+    for name, length in (("namewise", "1 byte"), ("badwise", "2 bytes"), ("alonewise", "0 bytes")):
+        person.expect(rows[name], "the lengths of files", has=[f"\n{length}\n"])
     buttons = person.see("buttons")
     person.check(len(buttons) == 3 and len({*buttons}) == 1, f"the looks of buttons: {buttons}")
     shown = person.run("return document.body.innerText")

@@ -24,7 +24,6 @@ usage: wrong_bodies.py [--unchanged] [CRATE[/NAME]..]
 
 import glob
 import os
-import queue
 import re
 import shutil
 import sys
@@ -32,14 +31,15 @@ import tempfile
 import threading
 import time
 from collections import Counter
-from concurrent.futures import ThreadPoolExecutor
-from contextlib import contextmanager, suppress
+from concurrent.futures import FIRST_COMPLETED, ThreadPoolExecutor, wait
+from contextlib import contextmanager
 
 HERE = os.path.dirname(os.path.realpath(__file__))
 sys.path += [os.path.join(HERE, "..", "shared"), os.path.join(HERE, "..", "..", "tools")]
 
 import proved
-from sources import ROOT, read
+from running import write
+from sources import ROOT, files_below, read
 
 LIST = "tests/proofs/wrong_bodies.txt"
 # Where a crate has its edits: those that are tried here, and those that `rt ci` tries.
@@ -57,8 +57,6 @@ REJECTED, GAVE_UP, APART, FAILED, PROVED = ("rejected", "rejected by a search th
 GROUP = 40
 # What a check of a crate reads.
 PARTS = ("src", "specs", "proofs")
-# What stands after the name of a function in that of a copy with a wrong body, before the number of this.
-COPY = "_with_wrong_body_"
 # A body that is of each type and calls nothing, and a proof that is a hole: what calls such a function rests on its contract.
 LOOP = "\n{indent}    loop {{}}\n"
 HOLE = """use Rattle.{path}.Statement.{{statement}}
@@ -77,26 +75,25 @@ FALSE = re.compile(r"`(\w+)` is false")
 # The form of an edit, and what it says in its lines.
 FORM = re.compile(r"why: .+\n(?:(?:file|fn|by): .+\n|old: .+\nnew:.*\n)+")
 SAID, CHANGE = re.compile(r"(?m)^(why|file|fn|by): (.*)$"), re.compile(r"(?m)^old: (.*)\nnew: ?(.*)$")
-# A goal of the function for which a search found no proof.
+# A goal of the function for which a search found no proof; what is said where it is what a clause says, and where the search did
+# not come to its end.
 SEARCHED = re.compile(r"did not prove `|it is not proved that")
-# Such a goal is what a clause says.
-ENSURED = "what the function ensures"
-# A search for a proof did not come to its end.
-AT_LIMIT = re.compile(r"gave up at one of its limits")
+ENSURED, AT_LIMIT = "what the function ensures", "gave up at one of its limits"
 # The prover stopped, so that the goal may hold.
 STOPPED = re.compile(r"may hold\b|could not tell|stopped at its own limit|step limit|memory limit")
 
 
 class WrongBody:
-    """A wrong body: its name, its file, the function to be rejected, and what stands in place of what."""
+    """A wrong body: its name, its file, the function to be rejected, and what stands in place of what; or, unchanged, the same
+    text in place of each."""
 
-    def __init__(self, crate, file, number):
+    def __init__(self, crate, file, number=0, is_unchanged=False):
         self.crate, self.label, text = crate, f"{crate}/{os.path.basename(file).removesuffix('.edit')}", read(file)
         self.is_for_kit = os.path.basename(os.path.dirname(file)) == KIT_TRIED
-        self.is_unchanged = False
         # Where its function begins and ends in the file, if it is written into a copy of it, and what the name gets.
-        self.copied, self.suffix = None, f"{COPY}{number}"
-        said, self.changes = dict(SAID.findall(text)), CHANGE.findall(text)
+        self.copied, self.suffix = None, f"_with_wrong_body_{number}"
+        said, self.is_unchanged = dict(SAID.findall(text)), is_unchanged
+        self.changes = [(old, old if is_unchanged else new) for old, new in CHANGE.findall(text)]
         self.path, self.function, self.by = (said.get(key, "") for key in ("file", "fn", "by"))
         # The clause that is false, and the same where the copy ensures it alone.
         self.named = (FALSE.match(said.get("why", "")) or ["", ""])[1]
@@ -106,10 +103,6 @@ class WrongBody:
             self.why_not = "it is no file .edit with first a line `why:`, one line `fn:`, `file:`, and `old:` and `new:`"
         if self.by and f"rejected by {self.by}" not in (GAVE_UP, APART):
             self.why_not = "nothing is rejected by what its line `by:` names"
-
-    def leave_unchanged(self):
-        """Has its function stand as it is."""
-        self.changes, self.is_unchanged = [(old, old) for old, _ in self.changes], True
 
     def places(self, text):
         """Returns where in the text of its file each change begins and ends, with the new text."""
@@ -155,8 +148,8 @@ class WrongBody:
             return
         shutil.copytree(proof, copy)
         named = re.compile(rf"\b{re.escape(self.function.replace('::', '.'))}\b")
-        for path in [f"{at}/{each}" for at, _, files in os.walk(copy) for each in files]:
-            write(path, named.sub(self.checked.replace("::", "."), read(path)))
+        for path in files_below(copy):
+            write("", path, named.sub(self.checked.replace("::", "."), read(path)).encode())
 
 
 class Verdict:
@@ -166,18 +159,14 @@ class Verdict:
     def __init__(self, body, outcome, why):
         self.body, self.outcome = body, outcome
         self.is_well = outcome in (REJECTED, PROVED, f"rejected by {body.by}")
+        self.is_unclear = outcome == GAVE_UP and not self.is_well
         self.text = f"wrong body {body.label}: {outcome}: {why[:240]}"
 
 
-def bodies_of(crate):
+def bodies_of(crate, is_unchanged):
     """The wrong bodies of a crate."""
     files = [file for place in (HERE_TRIED, KIT_TRIED) for file in sorted(glob.glob(f"crates/{crate}/{place}/*"))]
-    return [WrongBody(crate, file, number) for number, file in enumerate(files)]
-
-
-def write(path, text):
-    with open(path, "w", encoding="utf-8") as file:
-        file.write(text)
+    return [WrongBody(crate, file, number, is_unchanged) for number, file in enumerate(files)]
 
 
 def free_memory():
@@ -197,7 +186,7 @@ def assume(directory, crate, functions):
         os.makedirs(proof, exist_ok=True)
         for file in [name for name in os.listdir(proof) if name.endswith(".antt")]:
             os.remove(f"{proof}/{file}")
-        write(f"{proof}/Proof.antt", HOLE.format(path=".".join([crate, "proofs", *path]), name=name))
+        write(proof, "Proof.antt", HOLE.format(path=".".join([crate, "proofs", *path]), name=name).encode())
 
 
 def body_of(text, header):
@@ -262,43 +251,40 @@ class Places:
     @contextmanager
     def place(self):
         """Waits until a check may begin: few run beside `rt ci`, and where they leave it its memory."""
-        while not self.is_taken():
-            time.sleep(1)
+        is_taken = False
+        while not is_taken:
+            with self.lock:
+                is_beside = proved.is_under_way()
+                is_room = not is_beside or free_memory() >= FREE + MEMORY * self.checks
+                is_taken = is_room and self.checks < (BESIDE if is_beside else self.most)
+                self.checks += is_taken
+            if not is_taken:
+                time.sleep(1)
         try:
             yield
         finally:
             with self.lock:
                 self.checks -= 1
 
-    def is_taken(self):
-        """Takes a place, where there is one."""
-        with self.lock:
-            is_beside = proved.is_under_way()
-            is_room = not is_beside or free_memory() >= FREE + MEMORY * self.checks
-            is_one = is_room and self.checks < (BESIDE if is_beside else self.most)
-            self.checks += is_one
-        return is_one
-
 
 class Trial:
     """The trial of a crate's wrong bodies, in copies of the crate."""
 
-    def __init__(self, crate, places, tell):
-        self.crate, self.places, self.tell = crate, places, tell
+    def __init__(self, crate, places=None):
+        self.crate, self.places = crate, places
         # The functions that are proved as they stand.
         self.proved = []
 
-    def begin(self, bodies, submit):
-        """Has the crate proved as it stands, and submits the groups. It tells of each body once, here or there."""
+    def begin(self, bodies, pool):
+        """Has the crate proved as it stands, and begins to try the groups: what there is to say already, and the works that say
+        the rest."""
         for body in (body for body in bodies if not body.why_not):
             body.places(read(f"crates/{self.crate}/{body.path}"))
         whole = [body for body in bodies if not body.why_not]
         why = proved.supply(proved.crates()[self.crate].below) or self.lacks_proof(whole)
-        for body in bodies:
-            if body.why_not or why:
-                self.tell(Verdict(body, FAILED, f"bad edit: {body.why_not}" if body.why_not else f"not tried: {why}"))
-        for group in [] if why else groups_of(whole):
-            submit(self.try_group, group)
+        said = [Verdict(body, FAILED, f"bad edit: {body.why_not}" if body.why_not else f"not tried: {why}")
+                for body in bodies if body.why_not or why]
+        return said, {pool.submit(self.try_group, group) for group in ([] if why else groups_of(whole))}
 
     def lacks_proof(self, bodies):
         """Waits until `rt ci` has proved the crate, or checks the functions that these bodies change as they stand, and what
@@ -318,14 +304,17 @@ class Trial:
         """Copies the crate into a directory, with the changes of a group in place, and loops in place of all other bodies."""
         for part in [part for part in PARTS if os.path.isdir(f"crates/{self.crate}/{part}")]:
             shutil.copytree(f"crates/{self.crate}/{part}", f"{directory}/{part}")
-        for path, text in self.changed(group).items():
-            write(f"{directory}/{path}", text)
+        for path in files_below(f"{directory}/src"):
+            text, name = read(path), os.path.relpath(path, directory)
+            pieces = [piece for body in group if body.path == name for piece in body.pieces(text)]
+            in_place = [begin for begin, end, _ in pieces if begin < end]
+            write("", path, replaced(text, [*pieces, *loops(text, in_place)]).encode())
 
     def try_group(self, group):
-        """Tries a group, and alone once more each of it that was not rejected, and tells of each."""
-        for body, was in zip(group, self.tried(group)):
-            is_final = was.outcome != FAILED or len(group) == 1
-            self.tell(was if is_final else self.tried([body])[0])
+        """Tries a group, and alone once more each of it that was not rejected: what there is to say, and no more works."""
+        said = [verdict if verdict.outcome != FAILED or len(group) == 1 else self.tried([verdict.body])[0]
+                for verdict in self.tried(group)]
+        return said, set()
 
     def tried(self, group):
         """Tries a group in a copy of the crate, and returns what there is to say of each body."""
@@ -346,41 +335,29 @@ class Trial:
             words += ["--allow-holes", "--incremental", kept]
             return proved.rattle("check", self.crate, directory, *words, before=("nice", "-n", "19")).stdout
 
-    def changed(self, group):
-        """Returns the texts of the crate's sources with the changes of a group in place, and loops in place of all other
-        bodies."""
-        texts = {}
-        for path in [f"{at}/{name}" for at, _, names in os.walk(f"crates/{self.crate}/src") for name in names]:
-            text, name = read(path), os.path.relpath(path, f"crates/{self.crate}")
-            pieces = [piece for body in group if body.path == name for piece in body.pieces(text)]
-            in_place = [begin for begin, end, _ in pieces if begin < end]
-            texts[name] = replaced(text, [*pieces, *loops(text, in_place)])
-        return texts
-
     def judged(self, body, said):
         """Judges a body by what a check said of its function: by its line, those above it that belong to it, and the
         errors in its written proof."""
-        lines = said.split("\n")
-        mine = f"fn {self.crate}::{body.checked}: "
-        at = next((at for at, line in enumerate(lines) if line.startswith(mine)), None)
-        if at is None or not re.search(r"(?m)^only=", said):
+        found = re.search(rf"(?m)^((?:(?!fn ).*\n)*)fn {re.escape(self.crate)}::{re.escape(body.checked)}: (.*)$", said)
+        if not found or not re.search(r"(?m)^only=", said):
             return Verdict(body, FAILED, f"bad edit: it did not reach the prover: {proved.first_of(said)}")
-        line = lines[at][len(mine):]
+        line = found[2]
         if line.startswith(WELL) or body.is_unchanged:
             is_well = line.startswith(WELL) and body.is_unchanged
             return Verdict(body, PROVED if is_well else FAILED, f"the function is {line}")
-        begin = next((number for number in range(at - 1, -1, -1) if lines[number].startswith("fn ")), -1) + 1
-        above = [line for line in lines[begin:at] if line.startswith("note: ") and SEARCHED.search(line)]
+        above = [note for note in re.findall(r"(?m)^note: .*", found[1]) if SEARCHED.search(note)]
         proof = f"./proofs/{body.checked.replace('::', '/')}/"
-        errors = [line for line in lines if line.startswith(proof) and ": error: " in line]
+        # (what belongs to an error stands set in after it)
+        of_proof = "\n".join(re.findall(rf"(?m)^{re.escape(proof)}.*(?:\n  .*)*", said)).split("\n")
+        errors = [line for line in of_proof if line.startswith(proof) and ": error: " in line]
         if body.clause:
             # (not for what a call requires, nor for an invariant)
             above = [line for line in above if ENSURED in line]
         is_searched = bool(above or not body.clause and SEARCHED.search(line))
-        ended = [line for line in above if not AT_LIMIT.search(line)]
+        ended = [line for line in above if AT_LIMIT not in line]
         if is_searched and (ended or not above) and "could not tell" not in line:
             return Verdict(body, REJECTED, (ended or [line])[0])
-        stopped = next((error for error in (line, *errors, *told_of(lines, proof)) if STOPPED.search(error)), "")
+        stopped = next((error for error in (line, *errors, *of_proof) if STOPPED.search(error)), "")
         if stopped:
             return Verdict(body, FAILED, f"the prover could not tell, or stopped at a limit: {stopped}")
         if is_searched:
@@ -388,15 +365,6 @@ class Trial:
         if errors or line.startswith("not proved") and "it calls `" not in line:
             return Verdict(body, APART, (errors or [line])[0])
         return Verdict(body, FAILED, f"it is not rejected for a goal of its own: {line}")
-
-
-def told_of(lines, proof):
-    """Returns the lines that belong to the errors in a written proof: those that follow them, set in."""
-    found, is_mine = [], False
-    for line in lines:
-        is_mine = line.startswith(proof) if not line.startswith("  ") else is_mine
-        found += [line] * is_mine
-    return found
 
 
 def function_at(text, at):
@@ -432,24 +400,17 @@ def groups_of(bodies):
 def try_all(tasks):
     """Tries the wrong bodies of each crate once it is proved as it stands, and yields what there is to say of each; at the end
     of those whose search gave up, by a trial alone."""
-    told, left, works, places = queue.SimpleQueue(), sum(len(bodies) for bodies in tasks.values()), [], Places()
-    trials, gave_up = {crate: Trial(crate, places, told.put) for crate in tasks}, []
-    with ThreadPoolExecutor(places.most) as pool, ThreadPoolExecutor(max(1, len(tasks))) as beginning:
-        submit = lambda call, *given: works.append(pool.submit(call, *given))
-        for crate, bodies in tasks.items():
-            works.append(beginning.submit(trials[crate].begin, bodies, submit))
-        while left:
-            with suppress(queue.Empty):
-                verdict = told.get(timeout=1)
-                left -= 1
-                if verdict.outcome != GAVE_UP or verdict.is_well:
-                    yield verdict
-                else:
-                    gave_up.append(verdict.body)
-            for work in [work for work in works if work.done()]:
-                # (a call that ended by an exception ends this run so)
-                work.result()
-                works.remove(work)
+    places, gave_up = Places(), []
+    trials = {crate: Trial(crate, places) for crate in tasks}
+    with ThreadPoolExecutor(len(tasks) + places.most) as pool:
+        works = {pool.submit(trials[crate].begin, bodies, pool) for crate, bodies in tasks.items()}
+        while works:
+            done, works = wait(works, return_when=FIRST_COMPLETED)
+            # (a call that ended by an exception ends this run so)
+            for said, more in [work.result() for work in done]:
+                works |= more
+                gave_up += [verdict.body for verdict in said if verdict.is_unclear]
+                yield from (verdict for verdict in said if not verdict.is_unclear)
     for body in gave_up:
         proved.wait_for_all_else()
         yield trials[body.crate].tried([body])[0]
@@ -466,14 +427,12 @@ def wrong_numbers(bodies, names):
 def main(words):
     is_unchanged, names = "--unchanged" in words, [word for word in words if word != "--unchanged"]
     os.chdir(ROOT)
-    bodies = {crate: found for crate in proved.crates() for found in [bodies_of(crate)] if found}
+    bodies = {crate: found for crate in proved.crates() for found in [bodies_of(crate, is_unchanged)] if found}
     found = {name for crate in bodies for name in (crate, *(body.label for body in bodies[crate]))}
     wrong = wrong_numbers(bodies, names) + [f"no wrong body is named {name}" for name in names if name not in found]
     is_tried = lambda crate, body: body.label in names or not body.is_for_kit and (not names or crate in names)
     tasks = {crate: [body for body in bodies[crate] if is_tried(crate, body)] for crate in bodies}
     tasks = {crate: tried for crate, tried in tasks.items() if tried}
-    for body in (body for crate in tasks for body in tasks[crate] if is_unchanged):
-        body.leave_unchanged()
     outcomes, passed = {crate: Counter() for crate in tasks}, 0
     for verdict in try_all(tasks):
         print(verdict.text, flush=True)

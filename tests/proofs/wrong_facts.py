@@ -22,8 +22,9 @@ sys.path += [os.path.join(HERE, "..", "shared"), os.path.join(HERE, "..", "..", 
 
 import proved
 from checks import Checks
-from sources import read, read_module
-from wrong_bodies import HOLE, Trial, write
+from running import write
+from sources import files_below, read, read_module
+from wrong_bodies import HOLE, Trial
 
 FACTS = "proofs/Facts.antt"
 # The type of a fact: what stands between its name and what it opens, or its proof.
@@ -91,32 +92,27 @@ class Facts:
         return text
 
 
-def said_of(crate, text):
-    """What a check says of the crate with these facts: it proves them alone, for a function whose proof is written and then
-    names them."""
-    path = next(os.path.relpath(at, f"crates/{crate}/proofs") for at, _, files in sorted(os.walk(f"crates/{crate}/proofs"))
-                if "Answers.antt" in files)
-    *_, name = names = path.split(os.sep)
-    with tempfile.TemporaryDirectory(prefix="wrong-facts-") as room:
-        Trial(crate, None, None).copy_into(room, [])
-        for file in [f"{at}/{file}" for at, _, files in os.walk(f"{room}/proofs/{path}") for file in files]:
-            os.remove(file)
-        hole = HOLE.format(path=".".join([crate, "proofs", *names]), name=name)
-        write(f"{room}/proofs/{path}/Proof.antt", f"use Rattle.{crate}.proofs.Facts\n{hole}")
-        write(f"{room}/{FACTS}", text)
-        words = ("--allow-holes", "--only", "::".join(names))
-        return proved.rattle("check", crate, room, *words, before=("nice", "-n", "19")).stdout
-
-
 def try_facts(report, crate):
-    """Tries each fact of a crate with a wrong value. (As they stand `rt ci` proves them.)"""
+    """Tries each fact of a crate with a wrong value. (As they stand `rt ci` proves them.) A check proves facts alone, for a
+    function whose proof is written and then names them."""
     facts = Facts(crate)
     if not facts.groups:
         return
     proved.wait_for([crate])
     why = proved.supply(proved.crates()[crate].below)
+    path = next(os.path.relpath(at, f"crates/{crate}/proofs") for at, _, files in sorted(os.walk(f"crates/{crate}/proofs"))
+                if "Answers.antt" in files)
+    *_, function = names = path.split(os.sep)
+    hole = HOLE.format(path=".".join([crate, "proofs", *names]), name=function)
     for group in facts.groups if report.check(not why, crate, why) else []:
-        said = said_of(crate, facts.written(group))
+        with tempfile.TemporaryDirectory(prefix="wrong-facts-") as room:
+            Trial(crate).copy_into(room, [])
+            for file in files_below(f"{room}/proofs/{path}"):
+                os.remove(file)
+            write(room, f"proofs/{path}/Proof.antt", f"use Rattle.{crate}.proofs.Facts\n{hole}".encode())
+            write(room, FACTS, facts.written(group).encode())
+            words = ("--allow-holes", "--only", "::".join(names))
+            said = proved.rattle("check", crate, room, *words, before=("nice", "-n", "19")).stdout
         for name in sorted(group):
             report.check(name in DIFFERS.findall(said), f"{crate}/{FACTS}", f"{name} is not rejected with a wrong value")
 

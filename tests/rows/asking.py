@@ -55,12 +55,18 @@ def ask(name, *words):
     return " ".join([name, *map(spelled, words)])
 
 
-# A request and its answer, by a name that says what is tried.
+# A request and its answer, by a name that says what is tried. The name of an error stands for an answer by which the call is
+# rejected with it, and says and leaves nothing.
 Row = namedtuple("Row", "name request answer")
 # What has to be answered: how it begins, and the values that are compared, also what the call wrote and left.
 Answer = namedtuple("Answer", "head values")
 # The kind and the text of each named error.
-BY_NAME = {name: (kind, text) for name, _, kind, text in ERRORS}
+BY_NAME = {error["name"]: (error["kind"], error["text"]) for error in ERRORS}
+
+
+def rows(what, request, *cases):
+    """A row for each case: its name, the words of its request, and its answer."""
+    return [Row(f"{what}: {name}", ask(request, *words), answer) for name, *words, answer in cases]
 
 
 def gives(head="ok", **values):

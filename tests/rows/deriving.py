@@ -3,7 +3,7 @@
 
 import hashlib
 
-from asking import Row, ask, gives, rejected
+from asking import gives, rows
 
 # Password, salt, the logarithm of N, r, p, and the key. (The fourth vector takes a gigabyte.)
 VECTORS = (
@@ -24,42 +24,37 @@ NO_PARAMETERS = (
 
 
 def derived(password, salt, n_log2, r, p, length=64, key=None):
-    """A row of a key of so many bytes."""
+    """The words of a request, and a key of so many bytes."""
     key = key or hashlib.scrypt(password, salt=salt, n=1 << n_log2, r=r, p=p, dklen=length, maxmem=1 << 26)
-    name = f"scrypt: {n_log2}, {r}, {p}, {length} bytes of {password[:12]} and {salt[:12]}"
-    return Row(name, ask("scrypt", n_log2, r, p, length, password, salt), gives(out=key))
-
-
-def not_derived(numbers, length, error):
-    """A row of a key of so many bytes that is rejected so."""
-    return Row(f"scrypt: {length} bytes by {numbers}", ask("scrypt", *numbers, length, b"pw", b"salt"), rejected(error))
-
-
-def limits(memory, operations, greatest, answer):
-    """A row of what the limits of memory and of operations lead to."""
-    return Row(f"limits: {memory} and {operations}", ask("raw_scrypt_params", memory, operations, greatest), answer)
+    name = f"{n_log2}, {r}, {p}, {length} bytes of {password[:12]} and {salt[:12]}"
+    return name, n_log2, r, p, length, password, salt, gives(out=key)
 
 
 ROWS = [
-    *(derived(*numbers, key=bytes.fromhex(key)) for *numbers, key in VECTORS),
-    # Each r and p with small N, each length of a key about the ends of its blocks, and passwords and salts about the
-    # length of a block of SHA-256.
-    *(derived(b"password", b"some salt", n_log2, r, p, 104)
-      for n_log2 in range(1, 7) for r in (1, 2, 3, 8) for p in (1, 2, 3)),
-    *(derived(b"password", b"some salt", 3, r, 1, 104) for r in range(1, 33)),
-    *(derived(b"pw", b"na", 1, 1, 1, length) for length in (1, 31, 32, 33, 63, 64, 65, 100)),
-    *(derived(b"k" * length, b"some salt", 2, 1, 1) for length in (0, 1, 63, 64, 65, 128, 200)),
-    *(derived(b"pw", b"s" * length, 2, 1, 1) for length in (0, 1, 63, 64, 65, 128, 200)),
-    derived(b"", b"", 15, 8, 1),
-    # A key of no bytes, and rows that no memory holds; from 2 to the 64th bytes of them on, that is no parameter.
-    *(not_derived(numbers, 0, "InvalidOutputLength") for numbers in ((4, 1, 1), (53, 8, 1))),
-    *(not_derived(numbers, 32, "OutOfMemory") for numbers in ((53, 8, 1), (54, 7, 1))),
-    *(not_derived(numbers, 32, "InvalidParameters") for numbers in NO_PARAMETERS),
-    # What limits lead to, worked out by hand; in the first that is rejected no parallelization is left of 32 bits.
-    *(limits(memory, operations, 20, gives(n_log2=n_log2, r=8, p=p)) for memory, operations, n_log2, p in (
-        (33554432, 1048576, 15, 1), (1073741824, 33554432, 20, 1), (2147483648, 0, 10, 1), (0, 0, 1, 512),
-        (33554432, 1048575, 14, 1), (0, (1 << 64) - 1, 1, 134217727))),
-    limits(0, 1 << 40, 20, rejected("InvalidParameters")),
-    limits(1 << 31, 1 << 40, 20, rejected("ParametersTooHigh")),
-    limits(33554432, 1048576, 14, rejected("ParametersTooHigh")),
+    *rows("scrypt", "scrypt",
+          *(derived(*numbers, key=bytes.fromhex(key)) for *numbers, key in VECTORS),
+          # Each r and p with small N, each length of a key about the ends of its blocks, and passwords and salts about the
+          # length of a block of SHA-256.
+          *(derived(b"password", b"some salt", n_log2, r, p, 104)
+            for n_log2 in range(1, 7) for r in (1, 2, 3, 8) for p in (1, 2, 3)),
+          *(derived(b"password", b"some salt", 3, r, 1, 104) for r in range(1, 33)),
+          *(derived(b"pw", b"na", 1, 1, 1, length) for length in (1, 31, 32, 33, 63, 64, 65, 100)),
+          *(derived(*words, 2, 1, 1) for length in (0, 1, 63, 64, 65, 128, 200)
+            for words in ((b"k" * length, b"some salt"), (b"pw", b"s" * length))),
+          derived(b"", b"", 15, 8, 1),
+          # A key of no bytes, and rows that no memory holds; from 2 to the 64th bytes of them on, that is no parameter.
+          *((f"{length} bytes by {numbers}", *numbers, length, b"pw", b"salt", error) for numbers, length, error in (
+              ((4, 1, 1), 0, "InvalidOutputLength"), ((53, 8, 1), 0, "InvalidOutputLength"),
+              ((53, 8, 1), 32, "OutOfMemory"), ((54, 7, 1), 32, "OutOfMemory"),
+              *((numbers, 32, "InvalidParameters") for numbers in NO_PARAMETERS)))),
+    # What limits of memory and of operations lead to, worked out by hand; in the first that is rejected no parallelization is
+    # left of 32 bits.
+    *rows("limits", "raw_scrypt_params",
+          *((f"{memory} and {operations}", memory, operations, 20, gives(n_log2=n_log2, r=8, p=p))
+            for memory, operations, n_log2, p in (
+                (33554432, 1048576, 15, 1), (1073741824, 33554432, 20, 1), (2147483648, 0, 10, 1), (0, 0, 1, 512),
+                (33554432, 1048575, 14, 1), (0, (1 << 64) - 1, 1, 134217727))),
+          ("no parts are left", 0, 1 << 40, 20, "InvalidParameters"),
+          ("too much memory", 1 << 31, 1 << 40, 20, "ParametersTooHigh"),
+          ("too many rows", 33554432, 1048576, 14, "ParametersTooHigh")),
 ]

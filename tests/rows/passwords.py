@@ -1,13 +1,14 @@
 """Typed passwords: one line without its end, of at most 1024 bytes."""
 
-from asking import NOTHING_TYPED, Row, ask, gives, rejected, typed
+from asking import NOTHING_TYPED, gives, rejected, rows, typed
 
 ASKED = b"Password: "
 EMPTY = ASKED + b"<empty>\n"
 
 # What is typed, and the password that it gives, the lines that are left and the prompt; or the error in its place. Of a
 # line that is too long the 1026th byte and what follows are left.
-ROWS = [Row(f"a password: {name}", ask("get_password", lines), answer) for name, lines, answer in (
+ROWS = rows(
+    "a password", "get_password",
     ("a line", typed("password"), gives(out="password", stdout=ASKED)),
     ("a line, and one more", typed("pppppppp", "more"), gives(out="pppppppp", stdout=ASKED, typed_left=1)),
     ("a blank at the end, and a carriage return", typed("pass word \r"), gives(out="pass word ", stdout=ASKED)),
@@ -22,4 +23,4 @@ ROWS = [Row(f"a password: {name}", ask("get_password", lines), answer) for name,
         ("1024 bytes, a carriage return, and more", "a" * 1024 + "\rb", 1), ("1025 bytes", "a" * 1025, 0),
         ("1025 bytes and a carriage return", "a" * 1025 + "\r", 1), ("1027 bytes", "a" * 1027, 1))),
     ("the end of the input", NOTHING_TYPED, rejected("EndOfInput", stdout=ASKED)),
-)]
+)

@@ -19,21 +19,13 @@ HERE = os.path.dirname(os.path.realpath(__file__))
 sys.path.append(os.path.join(HERE, "..", "shared"))
 
 import named_errors
-from asking import spelled
+from asking import rejected, spelled
 from checks import Checks
-from running import write
+from running import make_files
 
 PROGRAM = os.path.realpath(f"{HERE}/../../crates/minisign_compare/out/minisign_compare")
 SECONDS = 120
 MODULES = sorted({name[:-3] for name in os.listdir(HERE) if name.endswith(".py")} - {"asking", "named_errors", "rows"})
-
-
-def rows_of(module, directory):
-    """The rows of a module, whose files stand in this directory then."""
-    for name, content in getattr(module, "FILES", {}).items():
-        path = write(directory, name, content)
-        os.chmod(path, 0o200 if name in getattr(module, "CLOSED", ()) else 0o644)
-    return module.ROWS
 
 
 def answers_of(requests, directory):
@@ -63,11 +55,12 @@ def main(names):
     named_errors.compare(checks)
     for name in names or MODULES:
         with tempfile.TemporaryDirectory(prefix="minisign-rows-") as directory:
-            rows = rows_of(importlib.import_module(name), directory)
-            for row, line in zip(rows, answers_of([row.request for row in rows], directory)):
-                wrong = difference(row.answer, line)
+            module = importlib.import_module(name)
+            make_files(directory, getattr(module, "FILES", {}))
+            for row, line in zip(module.ROWS, answers_of([row.request for row in module.ROWS], directory)):
+                wrong = difference(rejected(row.answer) if isinstance(row.answer, str) else row.answer, line)
                 checks.check(not wrong, name, row.name, wrong)
-        print(f"{name}: {len(rows)} rows")
+        print(f"{name}: {len(module.ROWS)} rows")
     return checks.end()
 
 

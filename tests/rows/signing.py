@@ -7,13 +7,11 @@ byte a read.
 import toy
 from asking import Row, ask, data, rejected, signature
 from toy import DEFAULT_COMMENT, KEY_A, OTHER_RECORD, RECORD, SCRYPT, SECRET_RECORD
-from verifying import (ACCEPTED, BOTH, BY_BYTES, COMMENT_REJECTED, OTHER_KEY, REJECTED, UNREAD, in_pieces, judged,
-                       reads_of)
+from verifying import ACCEPTED, BOTH, BY_BYTES, in_pieces, judged, reads_of
 
 MOMENT = 1555779966
 # Key A, whose checksum does not match: without a key derivation, and with one.
 UNCHECKED, SEALED = KEY_A.record(other=bytes(32)), KEY_A.record(SCRYPT, other=bytes(32))
-IS_SEALED, UNDRAWN, OTHER_GIVEN = "EncryptedKeyRefused", "RandomSourceFailed", "RefusedByGivenKey"
 OTHER_GIVEN_SAYS = "Could not verify signature with the provided public key ID: E7620F1842B4E81F"
 
 
@@ -36,27 +34,13 @@ def signed(name, content=b"abc", trusted=b"t", untrusted=b"c", error=None, rando
     for chunk in chunks:
         request = ask("sign", public, key, data(content, chunk=chunk, fail=fail), trusted, untrusted, random, moment)
         deeds = {"drawn": len(random) // 64 * 64, "reads": reads_of(len(content), chunk), "pos": len(content)}
-        if error == IS_SEALED:
+        if error == "EncryptedKeyRefused":
             deeds = {"drawn": 0, "reads": 0, "pos": 0}
-        elif error == UNREAD:
+        elif error == "ReadingFailed":
             deeds = {"drawn": 0, "reads": fail, "pos": fail - 1}
         answer = signature(*made(content, says, below, random), says, below, **deeds) if not error else rejected(
-            error, OTHER_GIVEN_SAYS if error == OTHER_GIVEN else None, **deeds)
+            error, OTHER_GIVEN_SAYS if error == "RefusedByGivenKey" else None, **deeds)
         yield Row(in_pieces(name, chunk), request, answer)
-
-
-def worked_out(content, comment):
-    """A box has its comments, both signatures byte by byte, and is accepted for its data alone, with its comments and
-    without them. With another comment signature it is rejected."""
-    record, text = made(content, comment, comment)
-    name = f"worked out of {content!r}"
-    yield from signed(f"{name}: signed", content, comment, comment)
-    for what, both in (("judged", text), ("judged without comments", record)):
-        yield from judged(f"{name}: {what}", ACCEPTED, both, content, RECORD, comment)
-        yield from judged(f"{name}: {what}, other data", REJECTED, both, b"x", RECORD)
-    changed = toy.signature_text(content, record, comment, comment,
-                                 toy.changed(toy.signature_of(record[10:] + comment)))
-    yield from judged(f"{name}: another comment signature", COMMENT_REJECTED, changed, content, RECORD)
 
 
 SEVENS = bytes([7]) * 128
@@ -64,31 +48,26 @@ SEVENS = bytes([7]) * 128
 OTHER_95 = bytes(95) + b"\xf2" + bytes(32)
 
 ROWS = [row for rows in (
-    worked_out(b"abc", b"t"), worked_out(b"", b""),
     # Comments are kept as they are given, also empty ones, or made.
     *(signed(f"comments {trusted} and {untrusted}", b"abc", trusted, untrusted)
       for trusted, untrusted in ((b"t", b"c"), (b"", b""), (None, None), (b"t", None), (None, b"c"))),
+    signed("nothing, with empty comments: signed", b"", b"", b""),
+    *(judged("nothing, with empty comments: judged", outcome, made(b"", b"", b"")[1], content, RECORD, b"")
+      for content, outcome in ((b"", ACCEPTED), (b"x", "SignatureRefused"))),
     signed("random byte 95: signed", random=OTHER_95),
     judged("random byte 95: judged", ACCEPTED, made(b"abc", random=OTHER_95)[1], key=RECORD),
-    # What comes first: the key, how many reads pass, how many random bytes there are, and the error.
-    *(signed(f"order: {name}", b"abc", None, None, error, SEVENS[:length], key, chunks=BY_BYTES, fail=passing + 1)
-      for name, key, passing, length, error in (
-          ("a key that was never sealed needs no checksum", UNCHECKED, 4, 128, None),
-          ("a key that was opened", KEY_A.record(SCRYPT), 4, 128, None),
-          ("a sealed key", SEALED, 4, 128, IS_SEALED),
-          ("a sealed key comes before all devices", SEALED, 0, 0, IS_SEALED),
-          ("random bytes are one too few", SECRET_RECORD, 4, 127, UNDRAWN),
-          ("random bytes for one draw", SECRET_RECORD, 4, 64, UNDRAWN),
-          ("random bytes for no draw", SECRET_RECORD, 4, 63, UNDRAWN),
-          ("data fails at its second read", SECRET_RECORD, 1, 128, UNREAD),
-          ("data fails before random bytes do", SECRET_RECORD, 3, 0, UNREAD))),
-    signed("source: left by a sealed key", b"abc", None, None, IS_SEALED, b"", SEALED),
-    signed("source: read to its end without random bytes", b"abc", None, None, UNDRAWN, b"", UNCHECKED),
+    # A key that is not sealed signs whatever its checksum is; a sealed one comes before all devices. (`failing_devices` has the
+    # order of those.)
+    *(signed(f"key: {name}", b"abc", None, None, error, SEVENS[:length], key, chunks=BY_BYTES, fail=fail)
+      for name, key, length, fail, error in (
+          ("never sealed, with another checksum", UNCHECKED, 128, 5, None),
+          ("opened", KEY_A.record(SCRYPT), 128, 5, None),
+          ("sealed", SEALED, 128, 5, "EncryptedKeyRefused"),
+          ("sealed, no device works", SEALED, 0, 1, "EncryptedKeyRefused"))),
+    signed("source: left by a sealed key", b"abc", None, None, "EncryptedKeyRefused", b"", SEALED),
+    signed("source: read to its end without random bytes", b"abc", None, None, "RandomSourceFailed", b"", UNCHECKED),
     # The 32 bytes of a public key that is passed in are tested, never its identifier. The last one is of 32 times 01.
     *(signed(f"given public key: {name}", error=error, public=public) for name, public, error in (
         ("its own", RECORD, None), ("with another identifier", OTHER_RECORD, None),
-        ("another key", OTHER_RECORD[:10] + bytes([0x5B]) * 32, OTHER_GIVEN))),
-    # A signature is rejected under another identifier, once the data was read.
-    judged("another identifier", OTHER_KEY, key=OTHER_RECORD),
-    judged("another identifier: data fails at its second read", UNREAD, key=OTHER_RECORD, chunks=BY_BYTES, fail=2),
+        ("another key", OTHER_RECORD[:10] + bytes([0x5B]) * 32, "RefusedByGivenKey"))),
 ) for row in rows]

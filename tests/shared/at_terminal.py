@@ -24,8 +24,10 @@ class AtTerminal:
                                         preexec_fn=lambda: fcntl.ioctl(self.side, termios.TIOCSCTTY, 0))
 
     def read_until(self, pattern):
-        """Reads what is shown until it ends with a match, or until the program has ended: whether there was one."""
-        is_shown = lambda: pattern is not None and re.search(pattern, self.shown) is not None
+        """Reads what is shown until it has a match, or until the program has ended: whether there was one."""
+        def is_shown():
+            return pattern is not None and re.search(pattern, self.shown) is not None
+
         end = time.monotonic() + SECONDS
         while time.monotonic() < end and not is_shown():
             has_ended = self.process.poll() is not None
@@ -60,12 +62,11 @@ class AtTerminal:
 
     def end(self):
         """Lets go of the terminal: the exit status."""
-        if self.process.poll() is None:
-            try:
-                self.process.wait(SECONDS)
-            except subprocess.TimeoutExpired:
-                self.process.kill()
-                self.process.wait()
+        try:
+            self.process.wait(SECONDS)
+        except subprocess.TimeoutExpired:
+            self.process.kill()
+            self.process.wait()
         os.close(self.side)
         os.close(self.person)
         return self.process.returncode

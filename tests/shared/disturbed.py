@@ -6,6 +6,7 @@ import contextlib
 import errno
 import functools
 import os
+import resource
 import shutil
 import signal
 import subprocess
@@ -13,15 +14,9 @@ import tempfile
 from dataclasses import replace
 
 from process import Ran, run_program, told
-from running import SECONDS, Failure, Skip, build_preload, read
+from running import SECONDS, Failure, Skip, build_preload, expect, read
 
 MAX_CALLS = 500
-
-
-def place_for(room):
-    """Where fresh directories are made: in memory where that can be had, since each run brings its files to the disk, or else in
-    this one."""
-    return "/dev/shm" if os.access("/dev/shm", os.W_OK) else room
 
 
 def in_turn(place, attempt):
@@ -45,47 +40,102 @@ class Disturbing:
     seconds = 4 * SECONDS
 
     def __init__(self, program, room):
-        self.program, self.room, self.place = program, room, place_for(room)
+        self.program, self.room = program, room
+        # (in memory where that can be had, since each run brings its files to the disk)
+        self.place = "/dev/shm" if os.access("/dev/shm", os.W_OK) else room
 
     @functools.cached_property
     def preload(self):
         return build_preload(self.room, "disturbed_calls")
 
-    @functools.cached_property
-    def rejecting(self):
-        return build_preload(self.room, "refuse_memory")
-
     def run(self, directory, arguments, environment=None, program=None, **how):
-        """A run in a directory."""
         return run_program([program or self.program, *arguments], directory,
                            **{"seconds": self.seconds, "env": environment or {}, **how})
 
-    def run_told(self, directory, arguments, preload, word, told_of, **how):
-        """A run with a library preloaded that has a call or a request for memory fail: by names that begin with this word it is told
-        of that, and where to say that the run came to it."""
-        environment = {"LD_PRELOAD": preload, **{f"{word}_{name}": str(value) for name, value in told_of.items()}}
-        run = lambda says: self.run(directory, arguments, {**environment, f"{word}_SAYS": str(says)}, pass_fds=[says], **how)
+    def run_broken(self, directory, arguments, how, **more):
+        """A run with a call broken, as `disturbed_calls.c` is told: also whether it came to that."""
+        environment = {"LD_PRELOAD": self.preload, **{f"BREAK_{name}": str(value) for name, value in how.items()}}
+        run = lambda says: self.run(directory, arguments, {**environment, "BREAK_SAYS": str(says)}, pass_fds=[says], **more)
         ran, came = told(run)
         return replace(ran, came=came)
 
-    def run_broken(self, directory, arguments, how, **more):
-        """A run with a call broken, as `disturbed_calls.c` is told."""
-        return self.run_told(directory, arguments, self.preload, "BREAK", how, **more)
-
     def run_refused(self, directory, arguments, number):
         """A run whose request for memory of this number is refused."""
-        return self.run_told(directory, arguments, self.rejecting, "REFUSE", {"AT": number})
+        return self.run_broken(directory, arguments, {"AT": number, "CALLS": "memory", "ERRNO": errno.ENOMEM})
 
-    def break_each(self, prepare, arguments, judge, **how):
-        """Breaks each of the calls of a run in turn, in a fresh directory that is prepared, and hands to `judge` how each ended and its
-        directory: how many calls there were."""
+    def break_each(self, prepare, judge, **how):
+        """Breaks each of the calls of a run in turn, in a fresh directory, which is prepared by what answers the run's arguments, and hands
+        to `judge` how each ended and its directory: how many calls there were."""
         def attempt(number, directory):
-            prepare(directory)
-            ran = self.run_broken(directory, arguments, {"AT": number, **how})
+            ran = self.run_broken(directory, prepare(directory), {"AT": number, **how})
             judge(ran, directory)
             return ran.came
 
         return in_turn(self.place, attempt)
+
+
+class OverTasks(Disturbing):
+    """A program that does tasks, each of which replaces files, and says by `expect_unwritten` how it ends by a failed write. A task makes
+    what stands in a directory before a run, and answers the run's arguments; its `targets` are the files that are written, in the order
+    in which they are replaced; and its `check` answers of each whether it is new, and raises a `Failure` where a file is neither the old
+    nor a new one. Where a write fails so many files may be new as it has `before_failing`."""
+
+    def killed(self, task):
+        """A run that is killed before each of its calls leaves each number of new files, those first that are replaced first."""
+        seen = set()
+
+        def judge(ran, directory):
+            expect(ran.status == (-signal.SIGKILL if ran.came else 0), ran)
+            new = task.check(directory, killed=ran.came)
+            expect(new == sorted(new, reverse=True), "a later file is new, and an earlier one is not")
+            seen.add(sum(new))
+
+        self.break_each(task.make, judge)
+        expect(seen == {*range(len(task.targets) + 1)}, f"the kills left {sorted(seen)} new files alone")
+
+    def failing_writes(self, task, number, **how):
+        """A run in which a write fails: nothing is new but what was written before."""
+
+        def judge(ran, directory):
+            new = sum(task.check(directory))
+            if ran.came:
+                self.expect_unwritten(ran, number)
+            expect(new <= task.before_failing if ran.came else (ran.status, new) == (0, len(task.targets)), ran, f"{new} files are new")
+
+        expect(self.break_each(task.make, judge, CALLS="write", ERRNO=number, **how), "it writes nothing")
+
+    def on_full_disk(self, task):
+        """A run on a small file system without room."""
+        with tempfile.TemporaryDirectory(dir=self.place) as directory, small_disk(directory):
+            arguments = task.make(directory)
+            with without_room(directory):
+                ran = self.run(directory, arguments)
+            self.expect_unwritten(ran, errno.ENOSPC)
+            expect(not any(task.check(directory)), "a file is new")
+
+    def within_file_size(self, task, handler=signal.SIG_DFL, is_ended=False):
+        """A run with a limit on the size of files, whose signal ends it; or which handles that or is started to ignore it."""
+
+        def prepare():
+            resource.setrlimit(resource.RLIMIT_FSIZE, (50, 50))
+            signal.signal(signal.SIGXFSZ, handler)
+
+        with tempfile.TemporaryDirectory(dir=self.place) as directory:
+            ran = self.run(directory, task.make(directory), preexec_fn=prepare)
+            expect(not any(task.check(directory, killed=is_ended)), "a file is new")
+        if is_ended:
+            expect(ran.status == -signal.SIGXFSZ, ran)
+        else:
+            self.expect_unwritten(ran, errno.EFBIG)
+
+    def at_once(self, task, environment=None, times=1, runs=8):
+        """Runs that write the same files at once: all end well, and each file is whole."""
+        with tempfile.TemporaryDirectory(dir=self.place) as directory:
+            command = [self.program, *task.make(directory)]
+            for _ in range(times):
+                ended = run_at_once(command, directory, environment, runs)
+                expect(not any(status for status, _ in ended), f"they ended with {ended}")
+            expect(all(task.check(directory)), "not all files are new")
 
 
 def content(directory, name):
@@ -99,21 +149,18 @@ def content(directory, name):
 def while_stopped(process, meanwhile, seconds=SECONDS):
     """Does something while a program is stopped, as by `disturbed_calls.c`, and has it go on: how it ended, and whether it came to
     that."""
-    _, how = os.waitpid(process.pid, os.WUNTRACED)
+    came = os.waitid(os.P_PID, process.pid, os.WSTOPPED | os.WEXITED | os.WNOWAIT).si_code == os.CLD_STOPPED
     try:
-        if os.WIFSTOPPED(how):
+        if came:
             meanwhile()
-        else:
-            process.returncode = os.waitstatus_to_exitcode(how)
     finally:
-        if process.returncode is None:
-            process.send_signal(signal.SIGCONT)
+        process.send_signal(signal.SIGCONT)
         try:
             said = process.communicate(timeout=seconds)[1]
         except subprocess.TimeoutExpired as why:
             process.kill()
             raise Failure(f"it goes on for more than {seconds} seconds") from why
-    return Ran(process.returncode, b"", said, os.WIFSTOPPED(how))
+    return Ran(process.returncode, b"", said, came)
 
 
 class Mounted:
@@ -138,7 +185,6 @@ def in_memory(directory, options, **how):
 
 
 def small_disk(directory):
-    """The same of 64 KiB."""
     return in_memory(directory, "size=64k")
 
 

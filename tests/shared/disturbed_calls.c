@@ -11,10 +11,13 @@
    write takes half of its bytes first, and the next one fails; and a read brings two bytes at most. With BREAK_GOES_ON a call is made
    after the signal, as one that stops the program, and the next write too. Calls of `write` count where they go to a regular file that
    the program has opened itself; those that only look, and getrandom, where they are named. One byte on the descriptor BREAK_SAYS says
-   that it came to the call. With BREAK_UNNAMED no file without a name can be made, as on file systems that have none; with DRAW_ZEROS
-   all that is drawn is zeros; and with SHOWN_TIME the clock shows that time.
+   that it came to the call, and with BREAK_REST each call after it is broken too. Requests for memory count where `memory` is named.
+   So does the start of libsodium, where `sodium_init` is named. With BREAK_UNNAMED no file without a name can be made, as on file
+   systems that have none; with DRAW_ZEROS all that is drawn is zeros; with RANDOM_BYTES the device of random bytes has so many, which
+   count up from 0; and with SHOWN_TIME the clock shows that time.
 
-   Compiled with ONLY_IN, the name of a library, it leaves alone what others call. */
+   Compiled with ONLY_IN, the name of a library, it leaves alone what others call, but for requests for memory: these are not to be
+   named then. */
 #include "preload.h"
 
 #include <dirent.h>
@@ -25,9 +28,9 @@
 #include <time.h>
 
 /* Whether somebody else makes the call. */
+#ifdef ONLY_IN
 static __thread int is_others;
 
-#ifdef ONLY_IN
 static void look_at(const void *caller)
 {
     Dl_info found;
@@ -37,6 +40,7 @@ static void look_at(const void *caller)
 
 #define LOOK look_at(__builtin_return_address(0))
 #else
+enum { is_others };
 #define LOOK (void)is_others
 #endif
 
@@ -68,7 +72,7 @@ static int is_broken(const char *name)
     if (!at || is_others || !is_named(name))
         return 0;
     calls += 1;
-    if (calls != atol(at))
+    if (calls < atol(at) || (calls > atol(at) && !getenv("BREAK_REST")))
         return 0;
     if (says && REAL(write)(atoi(says), "x", 1) != 1)
         return 0;
@@ -152,11 +156,27 @@ static void say(const char *call, const char *name, const char *more)
 
 /* == Calls that are told as well == */
 
+/* A pipe with so many bytes, at most 256, that count up from 0, and nothing after them. */
+static int count_to(size_t length)
+{
+    unsigned char bytes[256];
+    int ends[2];
+
+    for (size_t at = 0; at < sizeof bytes; at++)
+        bytes[at] = (unsigned char)at;
+    if (pipe2(ends, O_CLOEXEC) != 0 || REAL(write)(ends[1], bytes, length) != (ssize_t)length)
+        return -1;
+    close(ends[1]);
+    return ends[0];
+}
+
 static int open_in(const char *call, int directory, const char *path, int flags, mode_t mode)
 {
     char more[32] = "";
     int fd;
 
+    if (getenv("RANDOM_BYTES") && strcmp(path, "/dev/urandom") == 0)
+        return count_to((size_t)atoi(getenv("RANDOM_BYTES")));
     wait_first();
     if ((flags & O_TMPFILE) == O_TMPFILE && getenv("BREAK_UNNAMED")) {
         errno = EOPNOTSUPP;
@@ -234,18 +254,6 @@ ssize_t write(int fd, const void *bytes, size_t length)
     return is_cut && n >= 0 ? (ssize_t)length : n;
 }
 
-ssize_t pread(int fd, void *bytes, size_t length, off_t at)
-{
-    LOOK;
-    char room[4096];
-    const char *name = name_of(fd, room, sizeof room);
-
-    wait_first();
-    if (name)
-        say("read-back", name, "");
-    return is_broken("pread") ? -1 : REAL(pread)(fd, bytes, length, at);
-}
-
 int fsync(int fd)
 {
     LOOK;
@@ -260,41 +268,39 @@ int fsync(int fd)
     return is_broken("fsync") ? -1 : REAL(fsync)(fd);
 }
 
-/* What a renaming answered, which is told where it was done. */
-static int say_rename(int answer, const char *from, const char *to)
-{
-    if (answer == 0)
-        say("rename", last_part(from), last_part(to));
-    return answer;
-}
+/* A renaming is told where it was done. */
+#define RENAMES(name, parameters, arguments)                                              \
+    int name parameters                                                                   \
+    {                                                                                     \
+        int answer;                                                                       \
+                                                                                          \
+        LOOK;                                                                             \
+        wait_first();                                                                     \
+        answer = is_taken("rename") ? 1 : is_broken(#name) ? -1 : REAL(name) arguments;   \
+        if (answer == 0)                                                                  \
+            say("rename", last_part(from), last_part(to));                                \
+        return answer < 0 ? answer : 0;                                                   \
+    }
 
-int rename(const char *from, const char *to)
-{
-    LOOK;
-    wait_first();
-    return is_taken("rename") ? 0 : is_broken("rename") ? -1 : say_rename(REAL(rename)(from, to), from, to);
-}
+RENAMES(rename, (const char *from, const char *to), (from, to))
+RENAMES(renameat, (int from_directory, const char *from, int to_directory, const char *to),
+        (from_directory, from, to_directory, to))
 
-int renameat(int from_directory, const char *from, int to_directory, const char *to)
-{
-    LOOK;
-    wait_first();
-    return is_taken("rename") ? 0
-           : is_broken("renameat") ? -1
-                                   : say_rename(REAL(renameat)(from_directory, from, to_directory, to), from, to);
-}
-
-/* A call on a descriptor that is told before it is made, with what is told behind the file's name; or taken away, where it is a step
-   of a name. */
-static int is_left_out(int fd, const char *step, const char *call, const char *more)
+/* Tells a call on a descriptor, with what is told behind the file's name. */
+static void tell(int fd, const char *call, const char *more)
 {
     char room[4096];
     const char *name = name_of(fd, room, sizeof room);
 
-    if (is_taken(step))
-        return 1;
     say(call, name ? name : "?", more);
-    return 0;
+}
+
+/* Whether it is taken away, where it is a step of a name; or else it is told before it is made. */
+static int is_left_out(int fd, const char *step, const char *call, const char *more)
+{
+    if (!is_taken(step))
+        tell(fd, call, more);
+    return is_taken(step);
 }
 
 int fchmod(int fd, mode_t mode)
@@ -316,6 +322,8 @@ int fchmod(int fd, mode_t mode)
 
 #define TELLS(first, answer, name, parameters, arguments) BREAKS_AFTER(first, is_broken, answer, name, parameters, arguments)
 
+TELLS(wait_first(); tell(fd, "read-back", ""), ssize_t, pread, (int fd, void *bytes, size_t length, off_t at),
+      (fd, bytes, length, at))
 TELLS(wait_first(); if (is_left_out(fd, "lock", "lock", "")) return 0, int, flock, (int fd, int operation), (fd, operation))
 TELLS(if (is_left_out(fd, "owner", "owner", "")) return 0, int, fchown, (int fd, uid_t owner, gid_t group), (fd, owner, group))
 TELLS(say("remove", last_part(path), ""), int, unlink, (const char *path), (path))
@@ -341,6 +349,14 @@ time_t time(time_t *found)
     return shown;
 }
 
+int clock_gettime(clockid_t clock, struct timespec *found)
+{
+    if (clock != CLOCK_REALTIME || !getenv("SHOWN_TIME"))
+        return REAL(clock_gettime)(clock, found);
+    *found = (struct timespec){.tv_sec = time(NULL)};
+    return 0;
+}
+
 /* Closes also where it then fails, as the system does. */
 int close(int fd)
 {
@@ -359,6 +375,26 @@ int getentropy(void *bytes, size_t length)
     if (is_broken("getentropy"))
         return -1;
     return getenv("DRAW_ZEROS") ? (memset(bytes, 0, length), 0) : REAL(getentropy)(bytes, length);
+}
+
+/* (a request may come from anywhere: who makes it is not looked at) */
+#define REFUSES(name, parameters, arguments)                                              \
+    void *name parameters                                                                 \
+    {                                                                                     \
+        static __typeof__(name) *given;                                                   \
+                                                                                          \
+        given = given ? given : REAL(name);                                               \
+        return is_broken_if_named("memory") ? NULL : given arguments;                     \
+    }
+
+REFUSES(malloc, (size_t size), (size))
+REFUSES(realloc, (void *old, size_t size), (old, size))
+
+/* (of libsodium, in programs that are linked to it) */
+int sodium_init(void)
+{
+    LOOK;
+    return is_broken_if_named("sodium_init") ? -1 : REAL(sodium_init)();
 }
 
 struct dirent *readdir(DIR *entries)

@@ -8,9 +8,10 @@ is the answer of libsodium 1.0.18; `cofactorless` and `cofactored` say which of 
 
 import base64
 import json
-import os
 
-HERE = os.path.dirname(os.path.realpath(__file__))
+from running import HERE, read
+from texts import joined, text_of
+
 KEY_ID = b"\x01\x02\x03\x04\x05\x06\x07\x08"
 # The neutral element, of order 1, as a key and as a first half: with a second half of 0 the equation holds for every
 # message.
@@ -19,16 +20,13 @@ NEUTRAL = b"\x01" + bytes(31)
 
 def vectors():
     """The vectors, as they stand in the file."""
-    with open(os.path.join(HERE, "ed25519_vectors.json"), encoding="utf-8") as file:
-        return json.load(file)
+    return json.loads(read(HERE, "ed25519_vectors.json"))
 
 
 def texts(comment, key, algorithm, signature):
     """The texts of a public key, and of a signature by this algorithm of the data and of the comment."""
-    record = lambda algorithm, rest: base64.b64encode(algorithm + KEY_ID + rest)
-    first = b"untrusted comment: " + comment
-    lines = [first, record(algorithm, signature), b"trusted comment: t", base64.b64encode(signature)]
-    return first + b"\n" + record(b"Ed", key) + b"\n", b"".join(line + b"\n" for line in lines)
+    more = joined([b"trusted comment: t", base64.b64encode(signature)])
+    return text_of(b"Ed" + KEY_ID + key, comment), text_of(algorithm + KEY_ID + signature, comment) + more
 
 
 def texts_for_every_file():

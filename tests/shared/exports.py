@@ -5,6 +5,7 @@ of the crates, as assertions in a file that is compiled as C or as C++, and not 
 A slice of Rattle is a pointer and a length in C. Needs Python 3.9 or later.
 """
 
+import ctypes
 import os
 import re
 import sys
@@ -23,24 +24,19 @@ KINDS = {"u32": "uint32_t", "u64": "uint64_t", "usize": "size_t", "State": "mini
          "Installation": "minisign_installation"}
 # The structs whose fields are the library's alone.
 CLOSED = ("minisign_state", "minisign_installation")
-SIZES = {"u8": 1, "u32": 4, "u64": 8}
+NUMBERS = {"u8": ctypes.c_uint8, "u32": ctypes.c_uint32, "u64": ctypes.c_uint64}
 
 EXPORT = re.compile(r'^pub extern "C" fn (minisign_\w+)\((.*?)\)(?: -> (\w+))?\s*$', re.M | re.S)
 FIELD = re.compile(r"^    (?:pub(?:\(crate\))? )?(\w+): ([^;,]+(?:; \w+\])?),$", re.M)
 HEAD = """\
 #include <assert.h>
+#include <stdalign.h>
 #include <stddef.h>
 
 #include "minisign_install.h"
 
-#ifdef __cplusplus
-#define ALIGNMENT(type) alignof(type)
-#else
-#define ALIGNMENT(type) _Alignof(type)
-#endif
-
 /* (some processors of 32 bits, as i386, align numbers of 64 bits to less) */
-#define IS_ALIGNED(type, alignment) (ALIGNMENT(type) == (alignment) || (sizeof(void *) < 8 && ALIGNMENT(type) < (alignment)))
+#define IS_ALIGNED(type, alignment) (alignof(type) == (alignment) || (sizeof(void *) < 8 && alignof(type) < (alignment)))
 #define IS_LAID_OUT(type, size, alignment) \\
     static_assert(sizeof(type) == (size) && IS_ALIGNED(type, alignment), #type)
 #define IS_AT(type, field, offset, size) \\
@@ -77,47 +73,30 @@ def unfit_declarations():
             for name in sorted({*declared, *exports}) if declared.get(name) != exports.get(name)]
 
 
-class Layouts:
-    """The structs that have the layout of C, and the constants that say how long their arrays are."""
-
-    def __init__(self):
-        self.structs, self.lengths = {}, {}
-        for file in sources.files_below(os.path.join(sources.ROOT, "crates"), ".rt"):
-            text = sources.read(file)
-            if "#[repr(C)]" in text:
-                self.structs.update((item.name, item.text) for item in sources.read_source(file).items
-                                    if item.what == "struct" and "#[repr(C)]" in item.text)
-            self.lengths.update(re.findall(r"const (\w+): usize = (\d+);", text))
-
-    def size_and_alignment(self, kind):
-        """The size and the alignment of a type, in bytes."""
-        array = re.fullmatch(r"\[(.+); (\w+)\]", kind)
-        if array:
-            size, alignment = self.size_and_alignment(array[1])
-            return size * int(self.lengths.get(array[2], array[2])), alignment
-        return (SIZES[kind], SIZES[kind]) if kind in SIZES else self.layout(kind)[1:]
-
-    def layout(self, struct):
-        """The fields of a struct with their offsets and sizes, and its own size and alignment, as C lays it out."""
-        at, greatest, placed = 0, 1, []
-        for name, kind in FIELD.findall(self.structs[struct]):
-            size, alignment = self.size_and_alignment(kind)
-            at += -at % alignment
-            placed.append((name, at, size))
-            at, greatest = at + size, max(greatest, alignment)
-        return placed, at + -at % greatest, greatest
-
-    def text(self):
-        """The assertions, on each struct of the header."""
-        lines, names = [HEAD], {name: struct for struct, name in KINDS.items()}
-        headers = c_header.both()
-        for name in (struct for struct in headers.structs if struct not in headers.in_parts):
-            fields, size, alignment = self.layout(names[name])
-            lines.append(f"IS_LAID_OUT({name}, {size}, {alignment});")
-            lines += [f"IS_AT({name}, {field}, {at}, {length});" for field, at, length in fields if name not in CLOSED]
-        return "\n".join([*lines, ""])
+def laid_out(kind, structs, lengths):
+    """A type as ctypes has it, of these structs, whose arrays may be as long as constants say."""
+    array = re.fullmatch(r"\[(.+); (\w+)\]", kind)
+    if array:
+        return laid_out(array[1], structs, lengths) * int(lengths.get(array[2], array[2]))
+    if kind in NUMBERS:
+        return NUMBERS[kind]
+    fields = [(name, laid_out(of, structs, lengths)) for name, of in FIELD.findall(structs[kind])]
+    return type(kind, (ctypes.Structure,), {"_fields_": fields})
 
 
 def write_layout(room):
-    """Writes the assertions into a directory, and returns the path."""
-    return write(room, "layout.c", Layouts().text().encode())
+    """Writes the assertions, on each struct of the header as the crates have it, into a directory: the path."""
+    structs, lengths, lines, headers = {}, {}, [HEAD], c_header.both()
+    for file in sources.files_below(os.path.join(sources.ROOT, "crates"), ".rt"):
+        text = sources.read(file)
+        lengths.update(re.findall(r"const (\w+): usize = (\d+);", text))
+        if "#[repr(C)]" in text:
+            structs.update((item.name, item.text) for item in sources.read_source(file).items
+                           if item.what == "struct" and "#[repr(C)]" in item.text)
+    names = {name: own for own, name in KINDS.items()}
+    for name in (name for name in headers.structs if name not in headers.in_parts):
+        struct = laid_out(names[name], structs, lengths)
+        lines.append(f"IS_LAID_OUT({name}, {ctypes.sizeof(struct)}, {ctypes.alignment(struct)});")
+        places = [(field, getattr(struct, field)) for field, _ in struct._fields_ if name not in CLOSED]
+        lines += [f"IS_AT({name}, {field}, {place.offset}, {place.size});" for field, place in places]
+    return write(room, "layout.c", "\n".join([*lines, ""]).encode())

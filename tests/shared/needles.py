@@ -5,6 +5,8 @@ them.
 import base64
 import hashlib
 
+from running import build_preload, read, write
+
 # Nothing stands in the program as it is looked for.
 MASK = 0x63
 # Where the first half of a secret key stands in the record of its text.
@@ -39,20 +41,27 @@ def of_password(password):
             "outer block of the password": bytes(byte ^ 0x5c for byte in padded)}
 
 
-def masked(data):
-    """Bytes as the program has them, in C."""
-    return ", ".join(str(byte ^ MASK) for byte in data)
-
-
 def text(found):
     """The text of needles.h, of needles by their names."""
     return "\n".join(["#include <stddef.h>", "#include <stdint.h>", f"#define MASK {MASK}", f"#define NEEDLES {len(found)}",
                       "struct needle {", "    const char *name;", "    size_t len;", "    uint8_t masked[64];", "};",
                       "static const struct needle needles[NEEDLES] = {",
-                      *(f'    {{ "{name}", {len(data)}, {{ {masked(data)} }} }},' for name, data in found.items()), "};", ""])
+                      *(f'    {{ "{name}", {len(data)}, {{ {", ".join(str(byte ^ MASK) for byte in data)} }} }},'
+                        for name, data in found.items()), "};", ""])
 
 
 def counts_of(line):
     """What a line says: of what and where, and how often in registers, on the stack, elsewhere, and where it belongs."""
     parts = line.split("\t")
     return (parts[0], parts[1]), tuple(map(int, parts[2:]))
+
+
+def build_finder(room, found):
+    """Compiles the library that looks for needles, by their names, in a program that it is preloaded into: its path."""
+    write(room, "needles.h", text(found).encode())
+    return build_preload(room, "search_calls")
+
+
+def found_by(directory):
+    """What it has found, line by line, where it was told to say so in the file `found` of a directory."""
+    return [counts_of(line) for line in read(directory, "found").decode().splitlines()]

@@ -11,8 +11,9 @@ import fcntl
 import os
 import shutil
 import subprocess
-import sys
 import tempfile
+
+from process import run
 
 SECONDS = 600
 # Scripts that install hold this file: apt-get does not wait for another one that renews the list of packages.
@@ -52,13 +53,11 @@ def which(name):
 def apt_get(*arguments):
     """Runs apt-get, and answers the end of what it said where it failed."""
     command = ["apt-get", "-q", "-y", "-o", "DPkg::Lock::Timeout=300", *arguments]
-    environment = dict(os.environ, DEBIAN_FRONTEND="noninteractive")
     try:
-        ran = subprocess.run(command, env=environment, stdin=subprocess.DEVNULL, stdout=subprocess.PIPE,
-                             stderr=subprocess.STDOUT, timeout=SECONDS)
+        status, said = run(command, seconds=SECONDS, DEBIAN_FRONTEND="noninteractive")
     except subprocess.SubprocessError as error:
         return str(error)
-    return ran.stdout.decode(errors="replace")[-300:] if ran.returncode else ""
+    return said[-300:] if status else ""
 
 
 def install(packages):
@@ -98,9 +97,8 @@ def compiles(compiler, source, flags):
     """Whether a compiler makes a program of the source."""
     with tempfile.TemporaryDirectory() as room:
         made = os.path.join(room, "made")
-        ran = subprocess.run([compiler, "-x", "c", "-", "-o", made, *flags], input=source.encode(),
-                             stdout=subprocess.DEVNULL, stderr=subprocess.DEVNULL, timeout=SECONDS)
-        return ran.returncode == 0 and os.path.exists(made)
+        status, _ = run([compiler, "-x", "c", "-", "-o", made, *flags], typed=source.encode(), seconds=SECONDS)
+        return status == 0 and os.path.exists(made)
 
 
 def c_compiler():
@@ -147,12 +145,3 @@ def chromium():
     """The paths of the browser chromium, with letters to show, and of its driver."""
     browser = need(lambda: which("chromium"), "the program chromium", "chromium", "fonts-dejavu-core")
     return browser, program("chromedriver", "chromium-driver")
-
-
-def python_with_selenium():
-    """The path of a Python that has selenium: this one, or Debian's."""
-    def has_selenium(python):
-        command = [python, "-c", "import selenium"]
-        return os.path.exists(python) and subprocess.run(command, stderr=subprocess.DEVNULL).returncode == 0
-
-    return need(lambda: next(filter(has_selenium, (sys.executable, "/usr/bin/python3")), None), "selenium", "python3-selenium")

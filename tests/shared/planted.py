@@ -7,6 +7,8 @@ Needs Python 3.9 or later, make and what `static_library.py` needs.
 import concurrent.futures
 import functools
 import os
+import pathlib
+import re
 import shutil
 import subprocess
 import tempfile
@@ -21,43 +23,63 @@ from running import SECONDS, Failure, Skip, expect, read, run_one, write
 Bug = namedtuple("Bug", "what file old new case")
 
 
-def plant(bug, copy):
-    """Changes the copy of a file in one place."""
-    text = read(copy, bug.file).decode()
-    expect(text.count(bug.old) == 1, f"{bug.file} has {text.count(bug.old)} times what is changed")
-    write(copy, bug.file, text.replace(bug.old, bug.new).encode())
+# What goes in a changed text, and what comes, marked as by `wdiff`.
+MARK = re.compile(r"\[-(.*?)-\]|\{\+(.*?)\+\}", re.S)
 
 
-# The variable of the Makefile that has the parts of a program, and the room of those that only this one has.
-PARTS = {"minisign": ("MINISIGN_PARTS", "minisign"), "minisign-install": ("INSTALL_PARTS", "install")}
+def before_and_after(change):
+    """The text before a change, and the one after it."""
+    return MARK.sub(r"\1", change), MARK.sub(r"\2", change)
+
+
+def bugs_of(path):
+    """The bugs of a list, which may begin with what it is. A paragraph `== FILE` names the file of those that follow; each is a line that
+    says what is done wrongly, one with the case that has to notice it, and the change."""
+    file = None
+    for paragraph in read(path).decode().strip("\n").split("\n\n"):
+        if paragraph.startswith("== "):
+            file = paragraph.removeprefix("== ")
+        elif file:
+            what, case, change = paragraph.split("\n", 2)
+            yield Bug(what, file, *before_and_after(change), case)
+
+
+def plant(top, file, old, new):
+    """Changes a file below this directory in one place."""
+    text = read(top, file).decode()
+    expect(text.count(old) == 1, f"{file} has {text.count(old)} times what is changed")
+    write(top, file, text.replace(old, new).encode())
+
+
+def copy_sources(room, *parts):
+    """A copy of these directories of the repository, without what was built: its path."""
+    copy = tempfile.mkdtemp(dir=room)
+    for part in parts:
+        shutil.copytree(os.path.join(proved.ROOT, part), os.path.join(copy, part), ignore=shutil.ignore_patterns("out"))
+    return copy
+
+
+# The room of the parts that a program alone has.
+ROOMS = {"minisign": "minisign", "minisign-install": "install"}
 
 
 def build(copy, name):
     """Builds the program of this name in a copy, of objects, so that only what was changed is compiled: its path."""
-    sources, (variable, own) = os.path.join(copy, "c"), PARTS[name]
-    parts = [f"{room}/{file[:-2]}.o" for room in (own, "shared") for file in sorted(os.listdir(os.path.join(sources, room))) if file.endswith(".c")]
+    sources, own = os.path.join(copy, "c"), ROOMS[name]
+    parts = [f"{room}/{source.stem}.o" for room in (own, "shared") for source in sorted(pathlib.Path(sources, room).glob("*.c"))]
+    words = [f"{own.upper()}_PARTS={' '.join(parts)} {'out/clearing.o' * (own == 'minisign')}", f"out/{name}"]
     # (the library is newer than all that it is made of)
-    status, said = run(["make", "-C", sources, "-o", "out/libminisign.a", "CFLAGS=-O0 -std=c11 -I. -I../include",
-                        f"{variable}={' '.join(parts)} {'out/clearing.o' * (own == 'minisign')}", f"out/{name}"], seconds=10 * SECONDS)
+    status, said = run(["make", "-C", sources, "-o", "out/libminisign.a", "CFLAGS=-O0 -std=c11 -I. -I../include", *words],
+                       seconds=10 * SECONDS)
     expect(status == 0, f"it was not built: {said[-500:]}")
     return os.path.join(sources, "out", name)
-
-
-def copy_sources(room, library):
-    """A copy of the sources, with the library."""
-    copy = tempfile.mkdtemp(dir=room)
-    for part in ("include", "c"):
-        shutil.copytree(os.path.join(proved.ROOT, part), os.path.join(copy, part), ignore=shutil.ignore_patterns("out"))
-    os.makedirs(os.path.join(copy, "c", "out"))
-    shutil.copy(library, os.path.join(copy, "c", "out"))
-    return copy
 
 
 def wrong_of(room, built, name, cases_of, bug):
     """What is wrong with a bug, or nothing. `cases_of` is given the program that has it, and a directory of its own."""
     try:
         copy, own = shutil.copytree(built, tempfile.mkdtemp(dir=room), dirs_exist_ok=True), tempfile.mkdtemp(dir=room)
-        plant(bug, os.path.join(copy, "c"))
+        plant(copy, os.path.join("c", bug.file), bug.old, bug.new)
         program = build(copy, name)
         try:
             run_one(cases_of(program, own), bug.case)
@@ -71,7 +93,9 @@ def wrong_of(room, built, name, cases_of, bug):
 def run_planted(bugs, room, name, cases_of):
     """Plants each bug, in a process of its own, as cases may act as other users: the failures, and how many there were."""
     os.chmod(room, 0o711)
-    built = copy_sources(room, static_library.library(os.path.join(room, "built")))
+    built = copy_sources(room, "include", "c")
+    os.mkdir(os.path.join(built, "c", "out"))
+    shutil.copy(static_library.library(os.path.join(room, "built")), os.path.join(built, "c", "out"))
     build(built, name)
     judge = functools.partial(wrong_of, room, built, name, cases_of)
     with concurrent.futures.ProcessPoolExecutor(os.cpu_count() or 1) as pool:

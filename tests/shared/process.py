@@ -40,6 +40,18 @@ def run(command, directory=None, typed=b"", seconds=SECONDS, **environment):
     return run_apart(command, directory, typed, seconds, subprocess.STDOUT, **environment)[:2]
 
 
+def run_measured(command, directory, typed=b"", **how):
+    """Runs a command that reads what is typed: its status, what it wrote, and the most memory that it held, in KiB."""
+    process = subprocess.Popen(command, cwd=directory, stdin=subprocess.PIPE, stdout=subprocess.PIPE, **how)
+    with process.stdin, process.stdout:
+        process.stdin.write(typed)
+        process.stdin.close()
+        output = process.stdout.read()
+    _, status, used = os.wait4(process.pid, 0)
+    process.returncode = os.waitstatus_to_exitcode(status)
+    return process.returncode, output, used.ru_maxrss
+
+
 def told(run):
     """What `run` answers, and whether the program that it runs came to the call, or the request for memory, which is broken:
     it is given the descriptor at which the library that breaks that says so."""

@@ -9,6 +9,7 @@ Needs Python 3.9 or later and the kit.
 """
 
 import functools
+import graphlib
 import os
 import re
 import subprocess
@@ -46,14 +47,11 @@ class Crate:
 def crates():
     """The crates of the repository by their names, each after those below it."""
     with open(f"{ROOT}/crates.txt", encoding="utf-8") as file:
-        left = [line for line in file.read().splitlines() if ":" in line.partition("#")[0]]
-    found, names = {}, {line.partition(":")[0].split()[0] for line in left}
-    while left:
-        line = left.pop(0)
-        if {*line.partition(":")[2].split()} & names <= {*found}:
-            found[line.split()[0].rstrip(":")] = Crate(line, found)
-        else:
-            left.append(line)
+        lines = {line.partition(":")[0].split()[0]: line for line in file if ":" in line.partition("#")[0]}
+    named = {name: [each for each in line.partition(":")[2].split() if each in lines] for name, line in lines.items()}
+    found = {}
+    for name in graphlib.TopologicalSorter(named).static_order():
+        found[name] = Crate(lines[name], found)
     return found
 
 

@@ -136,6 +136,12 @@ def expect(holds, *said):
         raise Failure(": ".join(map(str, said)))
 
 
+def only_root(what):
+    """Skips a run where this is not root, who alone may do this."""
+    if os.geteuid() != 0:
+        raise Skip(f"only root may {what}")
+
+
 def read(*path):
     """All that a file holds, which is named by the parts of its path."""
     with open(os.path.join(*path), "rb") as file:
@@ -148,6 +154,14 @@ def write(directory, name, data):
     with open(path, "wb") as file:
         file.write(data)
     return path
+
+
+def wait_until(holds, otherwise, seconds=SECONDS):
+    """Waits until something holds, and raises a `Failure` that says what else where it does not."""
+    end = time.monotonic() + seconds
+    while not holds():
+        expect(time.monotonic() <= end, otherwise)
+        time.sleep(0.001)
 
 
 def run_cases(cases):
@@ -176,13 +190,14 @@ class Runner:
     """Runs a program in fresh directories below a temporary one, as nobody where the script itself runs as root."""
 
     def __init__(self, program, room):
-        self.room = room
-        self.program = os.path.join(room, "program")
-        shutil.copyfile(program, self.program)
+        self.room, self.program = room, shutil.copyfile(program, os.path.join(room, "program"))
         os.chmod(self.program, 0o755)
         os.chmod(room, 0o711)
         self.nobody = runs_as_nobody(self.program)
-        self.preloads = {}
+
+    @functools.cached_property
+    def preload(self):
+        return build_preload(self.room, "disturbed_calls")
 
     def run(self, case):
         """Makes the run, or all runs of a case that is disturbed, and raises a `Failure` or a `Skip`."""
@@ -190,30 +205,23 @@ class Runner:
         if is_forbidding and os.geteuid() == 0 and not self.nobody:
             raise Skip("root may read and write every file, and cannot become nobody here")
         if case.rejecting:
-            rest = {"REFUSE_REST": "1"} if case.rejecting == "all" else {}
-            self.run_each(case, "request for memory", "REFUSE", self.preloading("refuse_memory", **rest))
+            rest = {"BREAK_REST": "1"} if case.rejecting == "all" else {}
+            self.run_each(case, "request for memory", "memory", errno.ENOMEM, **rest)
         elif case.breaking:
-            broken = {"BREAK_CALLS": case.breaking, "BREAK_ERRNO": str(errno.EIO)}
-            self.run_each(case, f"call of {case.breaking}", "BREAK", self.preloading("disturbed_calls", **broken))
+            self.run_each(case, f"call of {case.breaking}", case.breaking, errno.EIO)
         elif case.sources:
-            given = {"FIXED_RANDOM": str(case.sources.random), "FIXED_MOMENT": str(case.sources.moment)}
-            self.run_once(case, self.preloading("fixed_sources", **given))
+            given = {"RANDOM_BYTES": str(case.sources.random), "SHOWN_TIME": str(case.sources.moment)}
+            self.run_once(case, {"LD_PRELOAD": self.preload, **given})
         else:
             self.run_once(case, {})
 
-    def preloading(self, name, **environment):
-        """An environment in which a library of `tests/shared` is preloaded."""
-        if name not in self.preloads:
-            self.preloads[name] = build_preload(self.room, name)
-        return {"LD_PRELOAD": self.preloads[name], **environment}
-
-    def run_each(self, case, what, word, environment):
-        """Runs with each such allocation or call failing in turn. By names that begin with this word the library is told its
-        number, and whom to tell."""
+    def run_each(self, case, what, calls, error, **more):
+        """Runs with each of these calls, or requests for memory, failing in turn with the number of this error."""
+        environment = {"LD_PRELOAD": self.preload, "BREAK_CALLS": calls, "BREAK_ERRNO": str(error), **more}
 
         def failure_of(number, says):
             try:
-                self.run_once(case, {**environment, f"{word}_AT": str(number), f"{word}_SAYS": str(says)}, [says])
+                self.run_once(case, {**environment, "BREAK_AT": str(number), "BREAK_SAYS": str(says)}, [says])
             except Failure as failure:
                 return failure
             return None
@@ -236,85 +244,60 @@ class Runner:
 
     def run_in(self, directory, case, environment, passed):
         """Makes the files and the run in a directory, and compares all that it answers."""
-        pipes = make_files(directory, case.files)
-        if self.nobody:
-            for at, _, names in os.walk(directory):
-                for path in [at, *(os.path.join(at, name) for name in names)]:
-                    os.lchown(path, NOBODY, NOBODY)
-        streams = Streams(directory, case)
-        try:
-            status = self.start(case, directory, streams, pipes, environment, passed)
-            compare(case, status, streams)
+        with contextlib.ExitStack() as stack:
+            pipes = make_files(directory, case.files, stack)
+            if self.nobody:
+                for at, _, names in os.walk(directory):
+                    for path in [at, *(os.path.join(at, name) for name in names)]:
+                        os.lchown(path, NOBODY, NOBODY)
+            streams = Streams(directory, case, stack)
+            with subprocess.Popen([self.program, *case.arguments], cwd=directory, env=environment, umask=case.umask, pass_fds=passed,
+                                  preexec_fn=streams.prepare_child, **streams.ends, **(AS_NOBODY if self.nobody else {})) as process:
+                try:
+                    streams.serve()
+                    wait(process, [*pipes, *streams.terminals])
+                finally:
+                    process.kill()
+            compare(case, process.returncode, streams)
             if case.left:
                 case.left(directory)
-        finally:
-            streams.close()
-
-    def start(self, case, directory, streams, pipes, environment, passed):
-        """Starts the program, serves it until it has ended, and answers its exit status."""
-        stdin, stdout, stderr, *_ = streams.ends
-        process = subprocess.Popen([self.program, *case.arguments], cwd=directory, env=environment, stdin=stdin, stdout=stdout,
-                                   stderr=stderr, preexec_fn=streams.prepare_child, pass_fds=passed, umask=case.umask,
-                                   **(AS_NOBODY if self.nobody else {}))
-        try:
-            streams.serve()
-            wait(process, [*pipes, *streams.terminals])
-        finally:
-            process.kill()
-            process.wait()
-            for pipe in pipes:
-                pipe.close()
-        return process.returncode
 
 
 class NamedPipe:
     """A named pipe beside the files, and whether the program opened it."""
 
-    def __init__(self, path, kind):
-        self.path, self.kind = path, kind
-        self.opened, self.writer = False, None
+    def __init__(self, path, kind, stack):
+        self.path, self.kind, self.stack, self.opened = path, kind, stack, False
         os.mkfifo(path)
 
-    def poll(self):
+    def poll(self, has_ended):
         """Opens the pipe for writing where the program has it open for reading."""
-        if self.opened:
-            return
-        try:
-            self.writer = os.open(self.path, os.O_WRONLY | os.O_NONBLOCK)
-        except OSError:
-            return
-        self.opened = True
-        expect(self.kind.has_to_open, f"it opened {os.path.basename(self.path)}, which it had to leave closed")
-        if self.kind.data is not None:
-            os.set_blocking(self.writer, True)
-            threading.Thread(target=feed, args=(self.writer, self.kind.data), daemon=True).start()
-            self.writer = None
-
-    def check(self):
-        expect(not self.kind.has_to_open or self.opened, f"it never opened {os.path.basename(self.path)}")
-
-    def close(self):
-        if self.writer is not None:
-            os.close(self.writer)
+        if not self.opened:
+            with contextlib.suppress(OSError):
+                writer = os.open(self.path, os.O_WRONLY | os.O_NONBLOCK)
+                os.set_blocking(writer, True)
+                self.opened = True
+                if self.kind.data is None:
+                    self.stack.callback(os.close, writer)
+                else:
+                    threading.Thread(target=feed, args=(writer, self.kind.data), daemon=True).start()
+        name = os.path.basename(self.path)
+        expect(self.kind.has_to_open or not self.opened, f"it opened {name}, which it had to leave closed")
+        expect(self.opened or not (self.kind.has_to_open and has_ended), f"it never opened {name}")
 
 
 class DrainedPipe:
     """A named pipe beside the files that is read once the program has ended: it has room for more than a key."""
 
-    def __init__(self, path, kind):
+    def __init__(self, path, kind, stack):
         self.path, self.data = path, kind.data
         os.mkfifo(path)
         self.reader = os.open(path, os.O_RDONLY | os.O_NONBLOCK)
+        stack.callback(os.close, self.reader)
 
-    def poll(self):
-        """Leaves all in the pipe."""
-
-    def check(self):
-        came = os.read(self.reader, 1 << 16)
+    def poll(self, has_ended):
+        came = os.read(self.reader, 1 << 16) if has_ended else self.data
         expect(came == self.data, f"in {os.path.basename(self.path)} came {came[:200]} in place of {self.data[:200]}")
-
-    def close(self):
-        os.close(self.reader)
 
 
 class Terminal:
@@ -323,64 +306,61 @@ class Terminal:
     def __init__(self, typed):
         self.pieces, self.shown = list(typed.pieces), b""
         self.person, self.side = pty.openpty()
-        os.set_blocking(self.person, False)
         if not typed.shows:
             settings = termios.tcgetattr(self.side)
             settings[1] &= ~termios.OPOST
             settings[3] &= ~termios.ECHO
             termios.tcsetattr(self.side, termios.TCSANOW, settings)
 
-    def poll(self):
-        """Looks at what the terminal shows, and types."""
+    def poll(self, has_ended):
+        """Looks at what the terminal shows, to the end of that once the program has ended, and types."""
+        os.set_blocking(self.person, has_ended)
         with contextlib.suppress(OSError):
             while shown := os.read(self.person, 4096):
                 self.shown += shown
                 if self.pieces and self.shown.endswith(b": "):
                     os.write(self.person, self.pieces.pop(0))
 
-    def check(self):
-        """Reads to the end of what the terminal showed, once the program has ended."""
-        os.set_blocking(self.person, True)
-        self.poll()
-
 
 def wait(process, watched):
     """Waits for the end of the program, and looks which pipes it opens, and what it asks at a terminal."""
-    end = time.monotonic() + SECONDS
-    while True:
-        ended = process.poll() is not None
+    def has_ended():
+        is_over = process.poll() is not None
         for each in watched:
-            each.poll()
-        if ended:
-            break
-        expect(time.monotonic() <= end, f"it had not ended after {SECONDS} seconds")
-        time.sleep(0.001)
-    for each in watched:
-        each.check()
+            each.poll(is_over)
+        return is_over
+
+    wait_until(has_ended, f"it had not ended after {SECONDS} seconds")
 
 
 class Streams:
-    """The three streams of a run. `ends` are those of the program, and the side of its terminal."""
+    """The three streams of a run, of which the program's ends are closed once it has them, and all else at the end."""
 
-    def __init__(self, directory, case):
-        self.given, self.pipe, self.late, self.early = case.stdin, None, None, []
-        self.closed = [number for number, kind in enumerate((case.stdin, case.stdout, case.stderr)) if kind == CLOSED]
-        self.room = min((kind.length for kind in (case.stdout, case.stderr) if isinstance(kind, RoomFor)), default=None)
+    def __init__(self, directory, case, stack):
+        kinds = (case.stdin, case.stdout, case.stderr)
+        self.directory, self.threads, self.early = directory, [], []
+        self.closed = [number for number, kind in enumerate(kinds) if kind == CLOSED]
+        self.room = min((kind.length for kind in kinds if isinstance(kind, RoomFor)), default=None)
         self.terminals = [Terminal(case.stdin)] if isinstance(case.stdin, Typed) else []
-        self.written, self.told = open_shared(), open_shared() if isinstance(case.stderr, RoomFor) else None
+        self.written = stack.enter_context(open_shared())
+        self.told = stack.enter_context(open_shared()) if isinstance(case.stderr, RoomFor) else None
         # Of such a pair of sockets each write is read by itself.
         self.said, said = socket.socketpair(socket.AF_UNIX, socket.SOCK_SEQPACKET)
-        self.ends = [self.open_stdin(directory), self.open_stdout(directory, case.stdout),
-                     open_unwritable(case.stderr) or os.dup((self.told or said).fileno()),
-                     *(terminal.side for terminal in self.terminals)]
-        said.close()
+        stack.callback(self.said.close)
+        self.ends = {"stdin": self.open_stdin(case.stdin), "stdout": self.open_stdout(case.stdout),
+                     "stderr": open_unwritable(case.stderr) or os.dup((self.told or said).fileno())}
+        self.lent = stack.enter_context(contextlib.ExitStack())
+        for end in (said.detach(), *self.ends.values(), *(terminal.side for terminal in self.terminals)):
+            self.lent.callback(os.close, end)
+        for terminal in self.terminals:
+            stack.callback(os.close, terminal.person)
 
-    def open_stdin(self, directory):
-        given = self.given
+    def open_stdin(self, given):
         if isinstance(given, Typed):
             return os.dup(self.terminals[0].side)
         if isinstance(given, (bytes, Pieces)):
-            reader, self.pipe = os.pipe()
+            reader, writer = os.pipe()
+            self.threads.append(threading.Thread(target=feed, args=(writer, given), daemon=True))
             return reader
         if isinstance(given, FromFile):
             with tempfile.TemporaryFile() as file:
@@ -388,27 +368,27 @@ class Streams:
                 file.seek(0)
                 return os.dup(file.fileno())
         if given == DIRECTORY:
-            return os.open(directory, os.O_RDONLY)
+            return os.open(self.directory, os.O_RDONLY)
         return os.open(os.devnull, os.O_WRONLY if given == WRITE_ONLY else os.O_RDONLY)
 
-    def open_stdout(self, directory, kind):
+    def open_stdout(self, kind):
         if isinstance(kind, ReadLate):
             reader, writer = os.pipe()
-            self.late = threading.Thread(target=self.read_late, args=(reader, kind, directory), daemon=True)
+            self.threads.append(threading.Thread(target=self.read_late, args=(reader, kind), daemon=True))
             return writer
         if isinstance(kind, IntoFile):
-            return os.open(os.path.join(directory, kind.name), kind.flags)
+            return os.open(os.path.join(self.directory, kind.name), kind.flags)
         return open_unwritable(kind) or os.dup(self.terminals[0].side if self.terminals else self.written.fileno())
 
     def heard(self):
         """Each write on the error stream, until the program has ended."""
         return (text.decode(errors="backslashreplace") for text in iter(lambda: self.said.recv(1 << 20), b""))
 
-    def read_late(self, reader, kind, directory):
+    def read_late(self, reader, kind):
         """Waits for the writes on the error stream, changes the directory, and reads the output to its end."""
         with os.fdopen(reader, "rb") as output:
             self.early += itertools.islice(self.heard(), kind.writes)
-            kind.change(directory)
+            kind.change(self.directory)
             shutil.copyfileobj(output, self.written)
             self.written.flush()
 
@@ -421,17 +401,10 @@ class Streams:
             signal.signal(signal.SIGXFSZ, signal.SIG_IGN)
 
     def serve(self):
-        """Lets go of the program's ends, and feeds its standard input."""
-        self.let_go()
-        if self.late:
-            self.late.start()
-        if self.pipe is not None:
-            threading.Thread(target=feed, args=(self.pipe, self.given), daemon=True).start()
-            self.pipe = None
-
-    def let_go(self):
-        while self.ends:
-            os.close(self.ends.pop())
+        """Lets go of the program's ends, feeds its standard input, and reads its output where that is read late."""
+        self.lent.close()
+        for thread in self.threads:
+            thread.start()
 
     def output(self):
         if self.terminals:
@@ -444,17 +417,9 @@ class Streams:
         if self.told:
             self.told.seek(0)
             return [self.told.read().decode(errors="backslashreplace")]
-        if self.late:
-            self.late.join(SECONDS)
+        for thread in self.threads:
+            thread.join(SECONDS)
         return [*self.early, *self.heard()]
-
-    def close(self):
-        self.let_go()
-        for descriptor in (self.pipe, *(terminal.person for terminal in self.terminals)):
-            if descriptor is not None:
-                os.close(descriptor)
-        for file in filter(None, (self.written, self.said, self.told)):
-            file.close()
 
 
 def open_shared():
@@ -501,8 +466,8 @@ def compare(case, status, streams):
         expect(output == case.output, f"it wrote {output[:200]} in place of {case.output[:200]}")
 
 
-def make_files(directory, files):
-    """Makes the files of a run, and answers its named pipes."""
+def make_files(directory, files, stack=None):
+    """Makes the files of a run, and answers its named pipes, which are closed with the stack."""
     pipes = []
     for name, kind in files.items():
         path = os.path.join(directory, name)
@@ -511,7 +476,7 @@ def make_files(directory, files):
         if kind in (DIRECTORY, LOCKED):
             os.mkdir(path, 0o555 if kind == LOCKED else 0o755)
         elif isinstance(kind, (Pipe, ReadPipe)):
-            pipes.append((NamedPipe if isinstance(kind, Pipe) else DrainedPipe)(path, kind))
+            pipes.append((NamedPipe if isinstance(kind, Pipe) else DrainedPipe)(path, kind, stack))
         elif isinstance(kind, Link):
             os.symlink(kind.target, path)
         elif isinstance(kind, SecondName):
@@ -543,12 +508,13 @@ def runs_as_nobody(program):
     return True
 
 
-def build_preload(room, name="refuse_memory", only_in=None):
+def build_preload(room, name, only_in=None):
     """Compiles a library that is preloaded into the program, and answers its path. With the name of a library it leaves alone
     what others call."""
     made, source = os.path.join(room, f"{name}.so"), os.path.join(HERE, f"{name}.c")
     only = [f'-DONLY_IN="{only_in}"'] if only_in else []
-    ran = subprocess.run([needs.c_compiler(), "-shared", "-fPIC", "-O1", "-o", made, *only, source, "-ldl"], stderr=subprocess.PIPE)
+    command = [needs.c_compiler(), "-shared", "-fPIC", "-O1", "-I", room, "-o", made, *only, source, "-ldl"]
+    ran = subprocess.run(command, stderr=subprocess.PIPE)
     if ran.returncode:
         raise needs.Missing(f"{name}.c was not compiled: {ran.stderr.decode(errors='replace')[-300:]}")
     os.chmod(made, 0o755)

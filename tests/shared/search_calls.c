@@ -1,9 +1,10 @@
-/* Preloaded into a program, looks for the needles of needles.h whenever it opens, writes or closes a file, and at its
- * end. What goes into no core file is its own place for secrets. With SEARCH_SAYS a file of that name gets a line each
- * time: what the program does, a needle, and how often it is found in registers, on the stack, elsewhere, and in that
- * place. */
+/* Preloaded into a program, looks for the needles of needles.h whenever it opens, writes or closes a file, waits for a
+ * byte of a terminal or raises a signal against itself, and at its end. What goes into no core file is its own place for
+ * secrets. With SEARCH_SAYS a file of that name gets a line each time: what the program does, a needle, and how often it
+ * is found in registers, on the stack, elsewhere, and in that place. */
 #include "preload.h"
 
+#include <sys/select.h>
 #include <sys/syscall.h>
 
 #include "search_memory.h"
@@ -29,9 +30,7 @@ static void look(void)
     says = -1;
     search_all("/proc/self/smaps");
     for (size_t n = 0; n < NEEDLES; n++) {
-        int len = snprintf(line, sizeof line, "%s\t%s\t%zu\t%zu\t%zu\t%zu\n", doing, needles[n].name, counts[n][REGISTERS],
-                           counts[n][STACK], counts[n][ELSEWHERE], counts[n][OWN]);
-        syscall(SYS_write, to, line, (size_t) len);
+        syscall(SYS_write, to, line, (size_t) snprintf(line, sizeof line, COUNTS_OF(doing, n)));
     }
     says = to;
 }
@@ -82,4 +81,22 @@ int close(int fd)
 {
     LOOK("close");
     return (int) syscall(SYS_close, fd);
+}
+
+int pselect(int count, fd_set *reads, fd_set *writes, fd_set *others, const struct timespec *most, const sigset_t *mask)
+{
+    if (isatty(STDIN_FILENO)) {
+        LOOK("wait");
+    }
+    return REAL(pselect)(count, reads, writes, others, most, mask);
+}
+
+/* (the program's handlers block all signals, that of TRAP too: so the registers are not searched) */
+int raise(int number)
+{
+    doing = "raise";
+    if (says >= 0) {
+        look();
+    }
+    return kill(getpid(), number);
 }

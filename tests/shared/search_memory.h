@@ -26,6 +26,11 @@ enum { REGISTERS, STACK, ELSEWHERE, OWN, PLACES };
 static size_t counts[NEEDLES][PLACES];
 static uint8_t signal_stack[65536];
 
+/* What printf is given for a line of this needle: what was done, the needle, and how often it is found in each place. */
+#define COUNTS_OF(done, n) \
+    "%s\t%s\t%zu\t%zu\t%zu\t%zu\n", done, needles[n].name, counts[n][REGISTERS], counts[n][STACK], \
+        counts[n][ELSEWHERE], counts[n][OWN]
+
 /* What is done at TRAP. */
 static void look(void);
 

@@ -8,11 +8,10 @@ import hashlib
 import os
 import re
 import shutil
-import subprocess
 
 import needs
 import proved
-from process import run
+from process import SECONDS, run_apart
 from proved import NotBuilt
 from running import read
 
@@ -31,33 +30,30 @@ def path_without_kit():
 
 # The object of dist/calls.c, which takes seven seconds to compile, by a sum over all that decides what it is: scripts share it.
 KEPT = os.path.join(proved.ROOT, "out", "kept-objects")
-OBJECT = "portable-calls.o"
 # What decides it beside the compiler: words of make, and what it is compiled from.
 DECIDING = ("CFLAGS", "CPPFLAGS", "HAS_PAGES", "WARNINGS")
 COMPILED = (f"{DIST}/calls.c", f"{DIRECTORY}/library/portable/machine.h", f"{DIRECTORY}/Makefile")
 
 
-def key_of(words):
-    """The sum, or None where another file is compiled, or none."""
-    if "C_CALLS" in words or "-C" in words:
-        return None
+def sum_of(words):
     compiler = words["CC"].split()
-    said = subprocess.run([*compiler, "--version"], stdin=subprocess.DEVNULL, stdout=subprocess.PIPE, stderr=subprocess.DEVNULL).stdout
-    told = repr([(name, words.get(name)) for name in DECIDING] + [os.path.realpath(shutil.which(compiler[0]) or "")])
-    return hashlib.sha256(b"".join([told.encode(), said, *map(read, COMPILED)])).hexdigest()
+    said = run_apart([*compiler, "--version"])[1]
+    told = repr([said, os.path.realpath(shutil.which(compiler[0]) or ""), *((name, words.get(name)) for name in DECIDING)])
+    return hashlib.sha256(b"".join([told.encode(), *map(read, COMPILED)])).hexdigest()
 
 
 @contextlib.contextmanager
 def kept_object(words):
     """Puts the object where make builds it, if it was built before; or keeps it, while nobody else builds the same."""
-    out = os.path.join(DIRECTORY, words["OUT"])
-    key, made = key_of(words), os.path.join(out, OBJECT)
-    if key is None or os.path.exists(made):
+    out = os.path.join(DIRECTORY, words.get("OUT", ""))
+    made = os.path.join(out, "portable-calls.o")
+    # (another file is compiled, or none)
+    if "OUT" not in words or "C_CALLS" in words or os.path.exists(made):
         yield
         return
     os.makedirs(KEPT, exist_ok=True)
-    kept = os.path.join(KEPT, f"{key}.o")
-    with open(os.path.join(KEPT, f"{key}.lock"), "w", encoding="ascii") as lock:
+    kept = os.path.join(KEPT, f"{sum_of(words)}.o")
+    with open(f"{kept}.lock", "w", encoding="ascii") as lock:
         fcntl.flock(lock, fcntl.LOCK_EX)
         if os.path.exists(kept):
             fcntl.flock(lock, fcntl.LOCK_UN)
@@ -69,19 +65,18 @@ def kept_object(words):
             os.replace(f"{kept}.new", kept)
 
 
-def words_of(arguments):
-    """The variables that arguments of make name, with their values."""
-    return dict(argument.split("=", 1) for argument in arguments if "=" in argument)
+def hold(command, directory=None, seconds=SECONDS, **environment):
+    """Runs a command that has to go: what it wrote."""
+    status, said, why = run_apart(command, directory, seconds=seconds, **environment)
+    if status != 0:
+        raise NotBuilt(f"{' '.join(command)[:200]}: status {status}: {said[-600:]}{why[-1000:]}")
+    return said
 
 
 def run_make(*arguments):
-    """Runs make in the directory of the library."""
     told = [STRICT, f"CC={needs.c_compiler()}", *arguments]
-    words = words_of(told)
-    with kept_object(words) if "OUT" in words else contextlib.nullcontext():
-        status, said = run([needs.program("make", "make"), "-s", "-C", DIRECTORY, *told], PATH=path_without_kit())
-    if status != 0:
-        raise NotBuilt(f"make {' '.join(arguments)} in c/: {said[-1000:]}")
+    with kept_object(dict(argument.split("=", 1) for argument in told if "=" in argument)):
+        hold([needs.program("make", "make"), "-s", "-C", DIRECTORY, *told], PATH=path_without_kit())
 
 
 def library(out, *arguments):

@@ -19,6 +19,7 @@ sys.path += [os.path.join(HERE, "..", name) for name in ("shared", "c")]
 import ending
 import proved
 from commands import Clone, commands_of, run_in_shell
+from running import read, write
 
 PROGRAM = "crates/minisign_tool/out/minisign_tool"
 # What stands in PATH before the kit's own program.
@@ -35,9 +36,7 @@ def kit(room):
     """A directory with an `rt` of its own."""
     path = os.path.join(room, "kit")
     os.mkdir(path)
-    with open(os.path.join(path, "rt"), "w", encoding="ascii") as file:
-        file.write(RT.format(rt=shutil.which("rt")))
-    os.chmod(file.name, 0o755)
+    os.chmod(write(path, "rt", RT.format(rt=shutil.which("rt")).encode()), 0o755)
     return path
 
 
@@ -52,8 +51,7 @@ def run_all(checks, room):
     for command, status, said in run_in_shell(clone.top, lines, room, os.pathsep.join([kit(room), os.environ["PATH"]])):
         checks.check(status == 0, f"{command}: status {status}: {said[-600:]}")
         checks.check(command not in verifying or VERIFIED in said, f"{command}: it says {said[-600:]}")
-    with open(os.path.join(clone.top, LEFT), "rb") as file:
-        checks.check(file.read() == DATA, f"{LEFT} holds something else")
+    checks.check(read(clone.top, LEFT) == DATA, f"{LEFT} holds something else")
     new = clone.git("status", "--porcelain")
     checks.check(not new, f"git finds in the clone: {new}")
 

@@ -3,9 +3,9 @@
 import base64
 
 import toy
-from running import (CLOSED, DIRECTORY, FULL, LOCKED, NO_READER, WRITE_ONLY, Failure, FromFile, Link, OneOf, Pieces,
+from running import (CLOSED, DIRECTORY, FULL, LOCKED, WRITE_ONLY, Failure, FromFile, Link, OneOf, Pieces,
                      PrefixOf, ReadPipe, RoomFor, SecondName, Sources, Typed, WithMode, expect)
-from tool_cases import Leaves, command, held_by, refusing
+from tool_cases import Leaves, command, held_by, refusing, untold
 from toy import NOT_UTF8, OUT_OF_MEMORY, READING_FAILED, WARNING, WRITING_FAILED
 
 END_OF_INPUT = "error: unexpected end of input\n"
@@ -48,9 +48,6 @@ def one_file(name, links):
     return Leaves({**links, name: check_secret}, {name: 0o600})
 
 
-NOTHING = Leaves({})
-
-
 def record_of(text):
     """The record in the second line of a text."""
     try:
@@ -81,7 +78,7 @@ def check_pair(password, public_text, secret_text):
     MADE_BEFORE.add(key.keynum)
 
 
-def keygen(name, *said, typed=b"p\np\n", output=MADE, left=NOTHING, arguments=(PK, SK), **how):
+def keygen(name, *said, typed=b"p\np\n", output=MADE, left=Leaves({}), arguments=(PK, SK), **how):
     """A case of `keygen`, in which `p` is typed twice and no file is left where it says nothing else."""
     return command(name, ["keygen", *arguments], said, stdin=typed, output=output, left=left, **how)
 
@@ -107,7 +104,25 @@ NO_PASSWORD = [
     ("a directory as input", DIRECTORY, READING_FAILED),
 ]
 DIFFER, TO_OLDER = {"typed": b"a\nb\n", "output": TWICE}, {"files": OLDER, "left": Leaves(OLDER)}
-PASSWORD_CASES = [
+AT_TERMINAL = Typed((b"p\n", b"p\n"))
+
+LONGER, KEPT, READABLE = b"older\n" * 200, WithMode(b"older", 0o604), WithMode(b"older", 0o644)
+LINKS = {PK: Link("kept/public"), SK: Link("kept/secret")}
+CHAIN = {PK: Link("first"), "first": Link("./second"), "second": Link("kept/public"), SK: Link("kept/secret")}
+ACROSS = {PK: Link("kept/link"), "kept/link": Link("public"), SK: Link("kept/secret")}
+PUBLIC_PIPE, SECRET_PIPE, EMPTY_PIPE = {PK: ReadPipe(COUNTED_PUBLIC)}, {SK: ReadPipe(COUNTED_SECRET)}, {SK: ReadPipe(b"")}
+INTO_PIPES = {"sources": Sources(), "left": None}
+
+# Streams that are closed or full. No file gets the number of a closed stream, so that no prompt and no line of an error goes into one, and
+# no password is read from one.
+WITH_STREAMS = [
+    keygen(f"input {typed}, output {stdout}", line, typed=typed, output=output, stdout=stdout, **TO_OLDER)
+    for typed, stdout, line, output in (
+        (CLOSED, None, READING_FAILED, ONCE), (CLOSED, CLOSED, WRITING_FAILED, b""),
+        (b"p\np\n", CLOSED, WRITING_FAILED, b""), (b"p\np\n", FULL, WRITING_FAILED, b""))
+]
+
+CASES = [
     made("a password"),
     made("an empty password", b"", output=EMPTY),
     made("the longest password", LONGEST),
@@ -130,34 +145,20 @@ PASSWORD_CASES = [
         ("a second password that is no UTF-8", b"a\n\xc3\n", NOT_UTF8))),
     keygen("a password and an empty one", DIFFERENT, typed=b"a\n\n", output=TWICE + b"<empty>\n"),
     keygen("two passwords that differ, and files that exist", DIFFERENT, **DIFFER, **TO_OLDER),
-]
-
-# With known random bytes both texts are known. The device of random bytes ends before anything is asked.
-SOURCE_CASES = [
+    # With known random bytes both texts are known. The device of random bytes ends before anything is asked.
     *(made(f"{random} random bytes, which count up", sources=Sources(random=random), left=Leaves({PK: COUNTED_PUBLIC, SK: COUNTED_SECRET}))
       for random in (256, 72)),
     *(keygen(f"{count} random bytes", RANDOM_FAILED, output=b"", sources=Sources(random=count), **TO_OLDER) for count in (0, 32, 40, 71)),
-]
-
-# A person at a terminal types each line once it is asked for; the terminal shows no typed letters where nothing else is said. Control and
-# D end the input.
-AT_TERMINAL = Typed((b"p\n", b"p\n"))
-TERMINAL_CASES = [
+    # A person at a terminal types each line once it is asked for; the terminal shows no typed letters where nothing else is said. Control
+    # and D end the input.
     made("at a terminal", typed=AT_TERMINAL),
     made("at a terminal that shows what is typed", typed=Typed((b"p\n", b"p\n"), shows=True),
          output=b"".join(part.replace(b"\n", b"\r\n") for part in (ONCE, b"p\n", TWICE[len(ONCE):], b"p\n", TOLD))),
     made("an empty password at a terminal", b"", typed=Typed((b"\n", b"\n")), output=EMPTY),
     made("the longest password at a terminal", LONGEST, typed=Typed((LONGEST + b"\n",) * 2)),
     made("letters and the end in place of a line feed at a terminal", b"p", typed=Typed((b"p\n", b"p\x04\x04"))),
-]
-
-# Files that are there are replaced and keep their modes, but for what their groups have and not all others; new ones get theirs. Links
-# are followed and stay; what they lead to is replaced.
-LONGER, KEPT = b"older\n" * 200, WithMode(b"older", 0o604)
-LINKS = {PK: Link("kept/public"), SK: Link("kept/secret")}
-CHAIN = {PK: Link("first"), "first": Link("./second"), "second": Link("kept/public"), SK: Link("kept/secret")}
-ACROSS = {PK: Link("kept/link"), "kept/link": Link("public"), SK: Link("kept/secret")}
-FILE_CASES = [
+    # Files that are there are replaced and keep their modes, but for what their groups have and not all others; new ones get theirs. Links
+    # are followed and stay; what they lead to is replaced.
     *(made(name, files=files, left=pair(b"p", *modes)) for name, files, *modes in (
         ("files that exist", {PK: LONGER, SK: LONGER}, 0o644, 0o644),
         ("a public file that exists", {PK: b""}, 0o644, 0o600),
@@ -176,87 +177,61 @@ FILE_CASES = [
           ("links that lead nowhere", LINKS, {}, 0o644, 0o600),
           ("links to links", CHAIN, {"kept/public": KEPT}, 0o604, 0o600),
           ("a link to a link in another directory", ACROSS, {}, 0o644, 0o600))),
-]
-
-# Both paths lead to one file: that is the secret key's in the end, which only its owner may read, whatever the older file's mode. Two
-# names of one file get a file each.
-READABLE = WithMode(b"older", 0o644)
-ONE_FILE_CASES = [
-    made(f"{name}, and a mask of {umask:o}", arguments=arguments, files=files, umask=umask,
-         left=one_file(kept, files) if kept else pair(b"p", 0o644 if files else 0o666 & ~umask, 0o600))
-    for umask in (0o000, 0o022, 0o077)
-    for name, arguments, kept, files in (
-        ("one path twice", (SK, SK), SK, {}),
-        ("one path twice, and a file that exists", (SK, SK), SK, {SK: READABLE}),
-        ("one path in two ways", (SK, "./" + SK), SK, {}),
-        ("one path in two ways, and a file that exists", (SK, "./" + SK), SK, {SK: READABLE}),
-        ("the secret key a link to the public one", (PK, SK), PK, {PK: READABLE, SK: Link(PK)}),
-        ("the secret key a link to where the public one is made", (PK, SK), PK, {SK: Link(PK)}),
-        ("the public key a link to the secret one", (PK, SK), SK, {SK: READABLE, PK: Link(SK)}),
-        ("the public key a link to where the secret one is made", (PK, SK), SK, {PK: Link(SK)}),
-        ("both links to one path", (PK, SK), "key", {PK: Link("key"), SK: Link("./key")}),
-        ("both links to one file", (PK, SK), "key", {"key": READABLE, PK: Link("key"), SK: Link("./key")}),
-        ("two names of one file", (PK, SK), None, {PK: READABLE, SK: SecondName(PK)}),
-        ("new files", (PK, SK), None, {}))
-]
-
-# Files that cannot be written. Nothing is replaced before both new files are whole.
-UNWRITTEN_CASES = [
-    keygen(name, WRITING_FAILED, arguments=arguments, files=files,
-           left=Leaves({path: held.data if isinstance(held, WithMode) else held for path, held in files.items()}))
-    for name, arguments, files in (
-        ("no room for the public key", (FULL_DEVICE, SK), {}),
-        ("no room for the public key, and a secret file that exists", (FULL_DEVICE, SK), {SK: b"older"}),
-        ("no room for the secret key", (PK, FULL_DEVICE), {}),
-        ("no room for the secret key, and a public file that exists", (PK, FULL_DEVICE), {PK: b"older" * 99}),
-        ("a directory as public key", (PK, SK), {PK: DIRECTORY, SK: b"older"}),
-        ("a directory as secret key", (PK, SK), {SK: DIRECTORY}),
-        ("a link to itself as secret key", (PK, SK), {PK: b"older", SK: Link(SK)}),
-        ("a link into a missing directory as secret key", (PK, SK), {PK: b"older", SK: Link("none/key")}),
-        ("a missing directory of the public key", ("none/key", SK), {}),
-        ("a missing directory of the secret key", (PK, "none/key"), {}),
-        ("a locked directory of the public key", ("locked/key", SK), {"locked": LOCKED}),
-        ("a locked directory of the secret key", (PK, "locked/key"), {"locked": LOCKED}),
-        ("a public file that may not be written", (PK, SK), {PK: WithMode(b"older", 0o444)}),
-        ("a secret file that may not be written", (PK, SK), {SK: WithMode(b"older", 0o400)}),
-        ("an empty name of the public key", ("", SK), {}),
-        ("an empty name of the secret key", (PK, ""), {}),
-        ("a name of the public key that is too long", ("k" * 256, SK), {}))
-]
-
-# Named pipes are written as they are, the public key's first. A failed one ends that, and what is said changes nothing.
-PUBLIC_PIPE, SECRET_PIPE, EMPTY_PIPE = {PK: ReadPipe(COUNTED_PUBLIC)}, {SK: ReadPipe(COUNTED_SECRET)}, {SK: ReadPipe(b"")}
-INTO_PIPES = {"sources": Sources(), "left": None}
-PIPE_CASES = [
+    # Both paths lead to one file: that is the secret key's in the end, which only its owner may read, whatever the older file's mode. Two
+    # names of one file get a file each.
+    *(made(f"{name}, and a mask of {umask:o}", arguments=arguments, files=files, umask=umask,
+           left=one_file(kept, files) if kept else pair(b"p", 0o644 if files else 0o666 & ~umask, 0o600))
+      for umask in (0o000, 0o022, 0o077)
+      for name, arguments, kept, files in (
+          ("one path twice", (SK, SK), SK, {}),
+          ("one path twice, and a file that exists", (SK, SK), SK, {SK: READABLE}),
+          ("one path in two ways", (SK, "./" + SK), SK, {}),
+          ("one path in two ways, and a file that exists", (SK, "./" + SK), SK, {SK: READABLE}),
+          ("the secret key a link to the public one", (PK, SK), PK, {PK: READABLE, SK: Link(PK)}),
+          ("the secret key a link to where the public one is made", (PK, SK), PK, {SK: Link(PK)}),
+          ("the public key a link to the secret one", (PK, SK), SK, {SK: READABLE, PK: Link(SK)}),
+          ("the public key a link to where the secret one is made", (PK, SK), SK, {PK: Link(SK)}),
+          ("both links to one path", (PK, SK), "key", {PK: Link("key"), SK: Link("./key")}),
+          ("both links to one file", (PK, SK), "key", {"key": READABLE, PK: Link("key"), SK: Link("./key")}),
+          ("two names of one file", (PK, SK), None, {PK: READABLE, SK: SecondName(PK)}),
+          ("new files", (PK, SK), None, {}))),
+    # Files that cannot be written. Nothing is replaced before both new files are whole.
+    *(keygen(name, WRITING_FAILED, arguments=arguments, files=files,
+             left=Leaves({path: held.data if isinstance(held, WithMode) else held for path, held in files.items()}))
+      for name, arguments, files in (
+          ("no room for the public key", (FULL_DEVICE, SK), {}),
+          ("no room for the public key, and a secret file that exists", (FULL_DEVICE, SK), {SK: b"older"}),
+          ("no room for the secret key", (PK, FULL_DEVICE), {}),
+          ("no room for the secret key, and a public file that exists", (PK, FULL_DEVICE), {PK: b"older" * 99}),
+          ("a directory as public key", (PK, SK), {PK: DIRECTORY, SK: b"older"}),
+          ("a directory as secret key", (PK, SK), {SK: DIRECTORY}),
+          ("a link to itself as secret key", (PK, SK), {PK: b"older", SK: Link(SK)}),
+          ("a link into a missing directory as secret key", (PK, SK), {PK: b"older", SK: Link("none/key")}),
+          ("a missing directory of the public key", ("none/key", SK), {}),
+          ("a missing directory of the secret key", (PK, "none/key"), {}),
+          ("a locked directory of the public key", ("locked/key", SK), {"locked": LOCKED}),
+          ("a locked directory of the secret key", (PK, "locked/key"), {"locked": LOCKED}),
+          ("a public file that may not be written", (PK, SK), {PK: WithMode(b"older", 0o444)}),
+          ("a secret file that may not be written", (PK, SK), {SK: WithMode(b"older", 0o400)}),
+          ("an empty name of the public key", ("", SK), {}),
+          ("an empty name of the secret key", (PK, ""), {}),
+          ("a name of the public key that is too long", ("k" * 256, SK), {}))),
+    # Named pipes are written as they are, the public key's first. A failed one ends that, and what is said changes nothing.
     made("keys into pipes", files={**PUBLIC_PIPE, **SECRET_PIPE}, **INTO_PIPES),
     made("keys into pipes, and for errors room for five bytes", said=["warni"], files={**PUBLIC_PIPE, **SECRET_PIPE}, typed=AT_TERMINAL,
          stderr=RoomFor(5), **INTO_PIPES),
-    keygen("no room for the public key, and the secret key into a pipe", WRITING_FAILED, files=EMPTY_PIPE, arguments=(FULL_DEVICE, SK), **INTO_PIPES),
-    keygen("the public key into a pipe, and no room for the secret key", WRITING_FAILED, files=PUBLIC_PIPE, arguments=(PK, FULL_DEVICE), **INTO_PIPES),
+    keygen("no room for the public key, and the secret key into a pipe", WRITING_FAILED,
+           files=EMPTY_PIPE, arguments=(FULL_DEVICE, SK), **INTO_PIPES),
+    keygen("the public key into a pipe, and no room for the secret key", WRITING_FAILED,
+           files=PUBLIC_PIPE, arguments=(PK, FULL_DEVICE), **INTO_PIPES),
     keygen("the public key for errors with room for nine bytes, and the secret key into a pipe", "untrusted", status=1,
            files=EMPTY_PIPE, arguments=("/dev/stderr", SK), typed=AT_TERMINAL, stderr=RoomFor(9), **INTO_PIPES),
     keygen("the public key into a pipe, and the secret key for errors with room for a byte", "u", status=1,
            files=PUBLIC_PIPE, arguments=(PK, "/dev/stderr"), typed=AT_TERMINAL, stderr=RoomFor(1), **INTO_PIPES),
+    *WITH_STREAMS,
+    *untold([*WITH_STREAMS, made("a password"), keygen("two passwords that differ", DIFFERENT, **DIFFER, **TO_OLDER),
+             keygen("no room for the secret key", WRITING_FAILED, arguments=(PK, FULL_DEVICE), files=OLDER, left=Leaves(OLDER))]),
+    # Each allocation fails: where it is for the texts of a pair that was made, that is reported as a failed write. No file is touched.
+    *refusing(OneOf(([WARNING, OUT_OF_MEMORY], [WARNING, WRITING_FAILED])),
+              ("a pair", keygen("", OUT_OF_MEMORY, output=PrefixOf(MADE), **TO_OLDER))),
 ]
-
-
-def with_streams(errors):
-    """Streams that are closed or full. No file gets the number of a closed stream, so that no prompt and no
-    line of an error goes into one, and no password is read from one."""
-    for what, typed, stdout, line, output in (("a closed input", CLOSED, None, READING_FAILED, ONCE),
-                                              ("a closed output", b"p\np\n", CLOSED, WRITING_FAILED, b""),
-                                              ("a closed input and a closed output", CLOSED, CLOSED, WRITING_FAILED, b""),
-                                              ("a full output", b"p\np\n", FULL, WRITING_FAILED, b"")):
-        yield keygen(f"{what}, and for errors {errors}", line, typed=typed, output=output, stdout=stdout, stderr=errors, **TO_OLDER)
-    yield made(f"a password, and for errors {errors}", stderr=errors)
-    yield keygen(f"two passwords that differ, and for errors {errors}", DIFFERENT, stderr=errors, **DIFFER, **TO_OLDER)
-    yield keygen(f"no room for the secret key, and for errors {errors}", WRITING_FAILED, arguments=(PK, FULL_DEVICE),
-                 files={PK: b"older" * 99}, left=Leaves({PK: b"older" * 99}), stderr=errors)
-
-
-# Each allocation fails: where it is for the texts of a pair that was made, that is reported as a failed write. No file is touched.
-MEMORY_CASES = refusing(OneOf(([WARNING, OUT_OF_MEMORY], [WARNING, WRITING_FAILED])),
-                        ("a pair", keygen("", OUT_OF_MEMORY, output=PrefixOf(MADE), **TO_OLDER)))
-
-CASES = [*PASSWORD_CASES, *SOURCE_CASES, *TERMINAL_CASES, *FILE_CASES, *ONE_FILE_CASES, *UNWRITTEN_CASES, *PIPE_CASES,
-         *(case for errors in (None, CLOSED, FULL, NO_READER) for case in with_streams(errors)), *MEMORY_CASES]

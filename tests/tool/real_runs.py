@@ -1,5 +1,5 @@
 #!/usr/bin/env python3
-"""Runs the built program `minisign_tool` on real files, and compares its answers to the letter.
+"""Runs the built program `minisign_tool` on real files, and compares its answers to the letter; and disturbs it (`surviving.py`).
 
     tests/tool/real_runs.py [PROGRAM ..]
 
@@ -21,22 +21,20 @@ sys.path.append(os.path.join(HERE, "..", "shared"))
 import ending
 import keygen_runs
 import sign_runs
-import verify_raw_runs
-import verify_runs
-from running import CLOSED, Case, FULL, Runner, run_cases
+import surviving
+from running import CLOSED, FULL, Case, Runner, run_cases
 from toy import WARNING
-from verify_raw_runs import KEY, SIGNATURE
+from verify_runs import CAT, KEY, RAW, SIGNATURE, VERIFY
 
 CRATE = os.path.join(HERE, "..", "..", "crates", "minisign_tool")
 
 USAGE = "usage: minisign_tool keygen PK SK | sign SK FILE SIG | verify PK FILE SIG | verify-raw PK SIG | cat PK FILE SIG\n"
 
-
 ONE_PAIR = ["key.pk", "abc.sig"]
 # Arguments that are none of the table's.
 USAGE_CASES = [
     *(Case(name, arguments, 2, [WARNING, USAGE], stdin=b"abc",
-           files={os.fsdecode(name): data for name, data in (("key.pk", KEY), ("abc.sig", SIGNATURE), (b"\xff.pk", KEY), (b"abc\xc3.sig", SIGNATURE))})
+           files={"key.pk": KEY, "abc.sig": SIGNATURE, os.fsdecode(b"\xff.pk"): KEY, os.fsdecode(b"abc\xc3.sig"): SIGNATURE})
       for name, arguments in (
           ("no arguments", []),
           ("a command alone", ["verify-raw"]),
@@ -64,14 +62,14 @@ USAGE_CASES = [
 ]
 
 # By the commands.
-CASES = {"usage": USAGE_CASES, "keygen": keygen_runs.CASES, "sign": sign_runs.CASES, "verify": verify_runs.VERIFY,
-         "verify-raw": verify_raw_runs.CASES, "cat": verify_runs.CAT}
+CASES = {"usage": USAGE_CASES, "keygen": keygen_runs.CASES, "sign": sign_runs.CASES, "verify": VERIFY, "verify-raw": RAW, "cat": CAT}
 
 
 def cases_of(program, room):
-    """The names of all cases of a program, and what runs each."""
+    """The names of all cases of a program, and what runs each, in a directory of its own."""
     runner = Runner(program, room)
-    return [(f"{command}: {case.name}", runner.run, case) for command, cases in CASES.items() for case in cases]
+    yield from ((f"{command}: {case.name}", runner.run, case) for command, cases in CASES.items() for case in cases)
+    yield from surviving.cases(program, room)
 
 
 def built_programs():
@@ -83,20 +81,15 @@ def built_programs():
     return [each for each in (made, made + ".by-rattle") if os.path.exists(each)]
 
 
-def run_over(name, programs, cases_of):
-    """Runs the cases of each program, or else of those that were built, prints the counts, and returns the exit status. `cases_of` is
-    given a program, and a directory of its own."""
-
-    def run_all(room):
-        os.chmod(room, 0o711)
-        failures, count = [], 0
-        for program in programs or built_programs():
-            some, ran = run_cases(cases_of(os.path.abspath(program), tempfile.mkdtemp(dir=room)))
-            failures, count = failures + [f"{os.path.basename(program)}: {failure}" for failure in some], count + ran
-        return (failures, count) if count else (["the program was not built"], 1)
-
-    return ending.main(name, run_all)
+def run_all(room):
+    """Runs the cases of each program, or else of those that were built: the failures, and how many there were."""
+    os.chmod(room, 0o711)
+    failures, count = [], 0
+    for program in sys.argv[1:] or built_programs():
+        some, ran = run_cases(cases_of(os.path.abspath(program), tempfile.mkdtemp(dir=room)))
+        failures, count = failures + [f"{os.path.basename(program)}: {failure}" for failure in some], count + ran
+    return (failures, count) if count else (["the program was not built"], 1)
 
 
 if __name__ == "__main__":
-    sys.exit(run_over("real-runs", sys.argv[1:], cases_of))
+    sys.exit(ending.main("real-runs", run_all))

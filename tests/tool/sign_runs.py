@@ -1,26 +1,20 @@
 """Runs of `sign`: the file that it leaves, its questions, and that the signature is accepted."""
 
 import base64
+import os
 import time
 from dataclasses import replace
 
 import toy
 from keygen_runs import FULL_DEVICE, LONGEST, MADE, NO_PASSWORD, PK, RANDOM_FAILED
-from running import (CLOSED, DIRECTORY, FULL, LOCKED, MISSING, NO_READER, WRITE_ONLY, Case, Failure, FromFile, OneOf, Pieces, Pipe,
-                     PrefixOf, RoomFor, Sources, Typed, WithMode, expect)
-from tool_cases import Leaves, command, in_order, opening, refusing
+from running import (CLOSED, DIRECTORY, FULL, LOCKED, MISSING, WRITE_ONLY, Case, Failure, FromFile, IntoFile, OneOf, Pieces, Pipe,
+                     PrefixOf, RoomFor, SecondName, Sources, Typed, WithMode, expect)
+from tool_cases import Leaves, command, in_order, opening, refusing, untold
 from toy import NOT_UTF8, OUT_OF_MEMORY, READING_FAILED, TOO_SHORT, WARNING, WRITING_FAILED
-from verify_raw_runs import VERIFIED
-from verify_runs import LARGE, LENGTHS, NO_TEXT, REJECTED
+from verify_runs import LARGE, LENGTHS, NO_TEXT, REJECTED, VERIFIED_RAW
 
 WRONG_PASSWORD = "error: Wrong password for that key\n"
-CORRUPTED = "error: Corrupted key\n"
-UNSUPPORTED = "error: Unsupported encryption algorithm\n"
-NO_SECRET_KEY = "error: Missing comment in secret key\n"
-NO_ENCODED_KEY = "error: Missing encoded key in secret key\n"
 CLOCK_INCORRECT = "error: system clock is incorrect\n"
-TOO_HIGH = "error: scrypt parameters too high\n"
-INVALID = "error: invalid scrypt parameters\n"
 
 ASKED = b"Password: "
 DERIVING = b"Deriving a key from the password and decrypting the secret key... "
@@ -31,10 +25,7 @@ SK, FILE, SIG = "key.sk", "data", "data.minisig"
 OPEN_KEY = toy.secret_text()
 SEALED_KEY = toy.sealed_text(b"p")
 
-# Sealed under `p` by Python's hashlib, with limits of zero.
-KEY_WITHOUT_LIMITS = b"""untrusted comment: rsign encrypted secret key
-RWRTY0IyAAECAwQFBgcICQoLDA0ODxAREhMUFRYXGBkaGxwdHh8AAAAAAAAAAAAAAAAAAAAAkLDGRytH/ki8dY+Q5je0C9jfdx7n76zQRxvsZKZ0Fou++Z02AkxRjNVsWWumnYT7ABUataSp7ivlTRMrlTDLYg6EjCuPjlUWYHcwVczVclt7S3fAKbQEA3z1Q0c0lxyTawUSIuL2KtY=
-"""
+KEY_WITHOUT_LIMITS = toy.secret_text(toy.KEY_A.sealed(b"p", toy.Limits(0, 0, 2, 512)))
 
 # The first random bytes of all signatures that were made: each run draws its own.
 DRAWN_BEFORE = set()
@@ -87,17 +78,64 @@ def sealed(name, *said, key=SEALED_KEY, typed=b"p\n", output=OPENED, files=None,
     return sign(name, *said, files={SK: key, **(files or {})}, stdin=typed, output=output, **how)
 
 
-DATA_CASES = [
+WIDE = "\u00e4\U0001f511 \u0000".encode()
+LONGER = b"older\n" * 200
+
+# The files are opened in the order of the arguments, and nothing is read or asked before both are open. The key's text is read whole and
+# has to be UTF-8; a key that is rejected is rejected before anything is asked or read. The signature's file is opened last.
+ORDER = list(in_order(
+    sign,
+    opening(SK, "key", OPEN_KEY),
+    opening(FILE, "data", b"abc"),
+    (SK, [("a directory as key", DIRECTORY, READING_FAILED),
+          ("a key that is no UTF-8", NO_TEXT, NOT_UTF8),
+          ("a key that ends inside a letter", OPEN_KEY + b"\xc3", NOT_UTF8),
+          ("an empty key", b"", "error: Missing comment in secret key\n"),
+          ("a key of one line", b"c\n", "error: Missing encoded key in secret key\n"),
+          ("a public key", toy.public_text(), TOO_SHORT),
+          ("a signature", toy.signature_text(b"abc"), TOO_SHORT),
+          ("a key with a space after it", OPEN_KEY.rstrip(b"\n") + b" \n", "error: invalid base64\n"),
+          ("a key with a changed checksum", toy.secret_text(toy.changed(toy.SECRET_RECORD)), "error: Corrupted key\n"),
+          ("a key with an unknown key derivation", toy.secret_text(toy.KEY_A.record(b"Xx")), "error: Unsupported encryption algorithm\n")]),
+    (FILE, [("a directory as data", DIRECTORY, READING_FAILED)])))
+
+# Streams that are closed or full. No file gets the number of a closed stream, so that no password is read from the key's file and no line
+# is written into the signature's.
+WITH_STREAMS = [
+    *(sign(f"{what}, input {stdin}, output {stdout}", *said, stdin=stdin, stdout=stdout, **how)
+      for stdin, stdout in [(b"", None), (CLOSED, None), (b"", CLOSED), (CLOSED, CLOSED), (b"", FULL)]
+      for what, how, *said in (
+          ("a key that was never sealed", {}),
+          ("a directory as data", {"files": {FILE: DIRECTORY, SIG: b"older"}, "left": kept(b"older")}, READING_FAILED),
+          ("no room for the signature", {"arguments": (SK, FILE, FULL_DEVICE)}, WRITING_FAILED))),
+    *(sealed(f"a sealed key, input {typed}, output {stdout}", line, typed=typed, output=output, stdout=stdout, **OVER_OLDER)
+      for typed, stdout, line, output in (
+          (CLOSED, None, READING_FAILED, ASKED), (CLOSED, CLOSED, WRITING_FAILED, b""),
+          (b"p\n", CLOSED, WRITING_FAILED, b""), (b"p\n", FULL, WRITING_FAILED, b""))),
+]
+
+# A pair is made, a file is signed with its secret key, and whoever has the public one verifies it and copies it out; where the file, the
+# signature or the key is another one, it is rejected.
+SIGNING, SIGNED = ["sign", SK, FILE, SIG], (PK, FILE, SIG)
+GOOD = [WARNING, f"{VERIFIED_RAW}Trusted comment: timestamp:{Sources.moment}\n"]
+WHOLE_WAY = Case("a pair is made, and a file is signed, verified and copied", ["keygen", PK, SK], 0, [WARNING], stdin=b"p\np\n",
+                 output=MADE, sources=Sources(), then=(
+    Case("", SIGNING, 0, [WARNING], files={FILE: b"abc"}, stdin=b"p\n", output=OPENED),
+    Case("", ["verify", *SIGNED], 0, GOOD),
+    Case("", ["cat", *SIGNED], 0, GOOD, output=b"abc"),
+    Case("", ["verify", *SIGNED], 1, [WARNING, REJECTED], files={FILE: b"abd"}),
+    Case("", ["cat", *SIGNED], 1, [WARNING, REJECTED]),
+    Case("", SIGNING, 1, [WARNING, WRONG_PASSWORD], stdin=b"q\n", output=OPENED),
+    Case("", SIGNING, 0, [WARNING], stdin=b"p\n", output=OPENED),
+    Case("", ["cat", *SIGNED], 0, GOOD, output=b"abd")))
+
+CASES = [
     *(sign(f"data of {len(data)} bytes", files={FILE: data}, left=signed(data)) for data in map(toy.some_data, LENGTHS)),
     sign("data from a pipe", files={FILE: Pipe(b"abc")}),
     sign("large data from a pipe", files={FILE: Pipe(LARGE)}, left=signed(LARGE)),
     sign("a key from a pipe", files={SK: Pipe(OPEN_KEY)}),
     sealed("a directory as data, and a sealed key", READING_FAILED, files={FILE: DIRECTORY}),
     sealed("a directory as data, and a wrong password", WRONG_PASSWORD, typed=b"q\n", files={FILE: DIRECTORY}),
-]
-
-WIDE = "\u00e4\U0001f511 \u0000".encode()
-PASSWORD_CASES = [
     sealed("a password"),
     sealed("an empty password", key=toy.sealed_text(b""), typed=b"\n", output=OPENED_EMPTY),
     sealed("the longest password", key=toy.sealed_text(LONGEST), typed=LONGEST + b"\r\n"),
@@ -113,43 +151,19 @@ PASSWORD_CASES = [
     sealed("a wrong password, and a signature that exists", WRONG_PASSWORD, typed=b"q\n", **OVER_OLDER),
     *(sealed(name, line, typed=typed, output=ASKED) for name, typed, line in NO_PASSWORD),
     sign("a key that was never sealed, and an input that cannot be read", stdin=WRITE_ONLY),
-]
-
-# The files are opened in the order of the arguments, and nothing is read or asked before both are open. The key's text is read whole and
-# has to be UTF-8; a key that is rejected is rejected before anything is asked or read. The signature's file is opened last.
-ORDER = list(in_order(
-    sign,
-    opening(SK, "key", OPEN_KEY),
-    opening(FILE, "data", b"abc"),
-    (SK, [("a directory as key", DIRECTORY, READING_FAILED),
-          ("a key that is no UTF-8", NO_TEXT, NOT_UTF8),
-          ("a key that ends inside a letter", OPEN_KEY + b"\xc3", NOT_UTF8),
-          ("an empty key", b"", NO_SECRET_KEY),
-          ("a key of one line", b"c\n", NO_ENCODED_KEY),
-          ("a public key", toy.public_text(), TOO_SHORT),
-          ("a signature", toy.signature_text(b"abc"), TOO_SHORT),
-          ("a key with a space after it", OPEN_KEY.rstrip(b"\n") + b" \n", "error: invalid base64\n"),
-          ("a key with a changed checksum", toy.secret_text(toy.changed(toy.SECRET_RECORD)), CORRUPTED),
-          ("a key with an unknown key derivation", toy.secret_text(toy.KEY_A.record(b"Xx")), UNSUPPORTED)]),
-    (FILE, [("a directory as data", DIRECTORY, READING_FAILED)])))
-
-KEY_CASES = [
     *ORDER,
     *(replace(case, name=f"{case.name}, and a signature that exists", files={**case.files, **OVER_OLDER["files"]}, left=OVER_OLDER["left"])
       for case in ORDER),
-    *(sealed(f"missing data before a password is asked for, and {what}", READING_FAILED, typed=b"", output=b"", files={FILE: MISSING, SIG: held},
-             left=kept(held))
+    *(sealed(f"missing data before a password is asked for, and {what}", READING_FAILED, typed=b"", output=b"",
+             files={FILE: MISSING, SIG: held}, left=kept(held))
       for what, held in (("no signature", MISSING), ("a signature that exists", b"older"))),
     sign("lines that end with carriage return and line feed", files={SK: OPEN_KEY.replace(b"\n", b"\r\n")}),
-    sealed("a key whose derivation takes too much memory", TOO_HIGH,
+    sealed("a key whose derivation takes too much memory", "error: scrypt parameters too high\n",
            key=toy.secret_text(toy.KEY_A.record(b"Sc", toy.Limits((1 << 30) + 1))), output=ASKED + DERIVING),
-    sealed("a key whose derivation has too many parts", INVALID,
+    sealed("a key whose derivation has too many parts", "error: invalid scrypt parameters\n",
            key=toy.secret_text(toy.KEY_A.record(b"Sc", toy.Limits(0, 1 << 40))), output=ASKED + DERIVING),
-]
-
-# With known random bytes at a known moment the whole text is known. The device of random bytes ends, and the clock shows a moment before
-# 1970.
-SOURCE_CASES = [
+    # With known random bytes at a known moment the whole text is known. The device of random bytes ends, and the clock shows a moment
+    # before 1970.
     *(make(f"{name} at the moment {moment}", sources=Sources(moment=moment), left=kept(signed_at(moment)), **how)
       for moment in (0, 1555779966)
       for make, name, how in ((sign, "a key that was never sealed", {}), (sealed, "a sealed key", {}),
@@ -158,11 +172,7 @@ SOURCE_CASES = [
     *(sign(f"{count} random bytes", RANDOM_FAILED, sources=Sources(random=count), **OVER_OLDER) for count in (0, 63, 64, 127)),
     sign("a moment before 1970", CLOCK_INCORRECT, sources=Sources(moment=-1), **OVER_OLDER),
     sign("a moment before 1970 before an empty key", CLOCK_INCORRECT, sources=Sources(moment=-1), files={SK: b""}),
-]
-
-# A signature that exists is replaced and keeps its mode. One that cannot be written is told last.
-LONGER = b"older\n" * 200
-FILE_CASES = [
+    # A signature that exists is replaced and keeps its mode. One that cannot be written is told last.
     sign("a signature that exists", files={SIG: LONGER}),
     sign("an empty signature that exists", files={SIG: b""}),
     sign("a signature that exists, with a mode", files={SIG: WithMode(LONGER, 0o640)}, left=signed(mode=0o600)),
@@ -184,48 +194,19 @@ FILE_CASES = [
     sealed("a wrong password before a directory as signature", WRONG_PASSWORD, typed=b"q\n", files={SIG: DIRECTORY}, left=kept(DIRECTORY)),
     sign("the signature into standard output", arguments=(SK, FILE, "/dev/stdout"), sources=Sources(),
          output=signed_at(Sources.moment), left=kept()),
+    # (into that very file, which has another name)
+    sign("the signature into a file that standard output leads into", arguments=(SK, FILE, "/dev/stdout"),
+         files={SIG: b"", "other": SecondName(SIG)}, stdout=IntoFile(SIG, os.O_RDWR),
+         left=Leaves({"other": lambda text: check_signature(b"abc", text)}, others=(SK, FILE, SIG))),
     sign("the signature into standard output with room for nine bytes", WRITING_FAILED,
          arguments=(SK, FILE, "/dev/stdout"), stdout=RoomFor(9), output=b"untrusted"),
+    *WITH_STREAMS,
+    *untold([*WITH_STREAMS, sealed("a password")]),
+    # Each allocation fails: where it is for the text that was made, that is reported as a failed write. No file is touched.
+    *refusing(
+        OneOf(([WARNING, OUT_OF_MEMORY], [WARNING, WRITING_FAILED])),
+        ("a key that was never sealed", sign("", OUT_OF_MEMORY, **OVER_OLDER)),
+        ("a sealed key", sealed("", OUT_OF_MEMORY, **{**OVER_OLDER, "output": PrefixOf(OPENED)})),
+        ("an empty key", sign("", OUT_OF_MEMORY, files={SK: b"", SIG: b"older"}, left=kept(b"older")))),
+    WHOLE_WAY,
 ]
-
-
-def with_streams(errors):
-    """Streams that are closed or full. No file gets the number of a closed stream, so that no password is read
-    from the key's file and no line is written into the signature's."""
-    for stdin, stdout in [(b"", None), (CLOSED, None), (b"", CLOSED), (CLOSED, CLOSED), (b"", FULL)]:
-        how = {"stdin": stdin, "stdout": stdout, "stderr": errors}
-        yield sign("a key that was never sealed", **how)
-        yield sign("a directory as data", READING_FAILED, files={FILE: DIRECTORY, SIG: b"older"}, left=kept(b"older"), **how)
-        yield sign("no room for the signature", WRITING_FAILED, arguments=(SK, FILE, FULL_DEVICE), **how)
-    yield sealed("a closed input", READING_FAILED, typed=CLOSED, output=ASKED, stderr=errors, **OVER_OLDER)
-    for typed, stdout in [(b"p\n", CLOSED), (CLOSED, CLOSED), (b"p\n", FULL)]:
-        yield sealed("an output that takes nothing", WRITING_FAILED, typed=typed, output=b"", stdout=stdout, stderr=errors, **OVER_OLDER)
-    yield sealed("a password", stderr=errors)
-
-
-STREAM_CASES = [replace(case, name=f"{case.name}, input {case.stdin}, output {case.stdout}, and for errors {errors}")
-                for errors in (None, CLOSED, FULL, NO_READER) for case in with_streams(errors)]
-
-# Each allocation fails: where it is for the text that was made, that is reported as a failed write. No file is touched.
-MEMORY_CASES = refusing(
-    OneOf(([WARNING, OUT_OF_MEMORY], [WARNING, WRITING_FAILED])),
-    ("a key that was never sealed", sign("", OUT_OF_MEMORY, **OVER_OLDER)),
-    ("a sealed key", sealed("", OUT_OF_MEMORY, **{**OVER_OLDER, "output": PrefixOf(OPENED)})),
-    ("an empty key", sign("", OUT_OF_MEMORY, files={SK: b"", SIG: b"older"}, left=kept(b"older"))))
-
-# A pair is made, a file is signed with its secret key, and whoever has the public one verifies it and copies it out; where the file, the
-# signature or the key is another one, it is rejected.
-SIGNING, SIGNED = ["sign", SK, FILE, SIG], (PK, FILE, SIG)
-GOOD = [WARNING, f"{VERIFIED}Trusted comment: timestamp:{Sources.moment}\n"]
-WHOLE_WAY = Case("a pair is made, and a file is signed, verified and copied", ["keygen", PK, SK], 0, [WARNING], stdin=b"p\np\n", output=MADE,
-                 sources=Sources(), then=(
-    Case("", SIGNING, 0, [WARNING], files={FILE: b"abc"}, stdin=b"p\n", output=OPENED),
-    Case("", ["verify", *SIGNED], 0, GOOD),
-    Case("", ["cat", *SIGNED], 0, GOOD, output=b"abc"),
-    Case("", ["verify", *SIGNED], 1, [WARNING, REJECTED], files={FILE: b"abd"}),
-    Case("", ["cat", *SIGNED], 1, [WARNING, REJECTED]),
-    Case("", SIGNING, 1, [WARNING, WRONG_PASSWORD], stdin=b"q\n", output=OPENED),
-    Case("", SIGNING, 0, [WARNING], stdin=b"p\n", output=OPENED),
-    Case("", ["cat", *SIGNED], 0, GOOD, output=b"abd")))
-
-CASES = [*DATA_CASES, *PASSWORD_CASES, *KEY_CASES, *SOURCE_CASES, *FILE_CASES, *STREAM_CASES, *MEMORY_CASES, WHOLE_WAY]

@@ -7,16 +7,22 @@ import stat
 from dataclasses import replace
 
 import toy
-from running import DIRECTORY, LOCKED, MISSING, OPENED_PIPE, UNOPENED_PIPE, Case, Link, RoomFor, expect, read, unreadable
+from running import (CLOSED, DIRECTORY, FULL, LOCKED, MISSING, NO_READER, OPENED_PIPE, UNOPENED_PIPE, Case, Link, expect, read,
+                     unreadable)
 from toy import READING_FAILED, WARNING
 
 
 def command(name, arguments, said, status=None, stderr=None, **how):
-    """A case in which these lines are said after the warning, where the error stream takes any, and which ends badly where the last of
+    """A case in which these lines are said, after the warning where the error stream takes all, and which ends badly where the last of
     them is an error, or as is said."""
     status = (1 if said and said[-1].startswith("error: ") else 0) if status is None else status
-    lines = [WARNING, *said] if stderr is None else list(said) if isinstance(stderr, RoomFor) else []
-    return Case(name, arguments, status, lines, stderr=stderr, **how)
+    return Case(name, arguments, status, [*said] if stderr else [WARNING, *said], stderr=stderr, **how)
+
+
+def untold(cases, **how):
+    """These cases where the error stream takes nothing, and what differs then."""
+    return [replace(case, name=f"{case.name}, and for errors {errors}", lines=[], stderr=errors, **how)
+            for errors in (CLOSED, FULL, NO_READER) for case in cases]
 
 
 def opening(file, what, data):
@@ -60,7 +66,7 @@ class Leaves:
         expect(names >= {*self.files} - self.others and names <= {*self.files} | self.others,
                f"it left {sorted(names)} in place of {sorted(self.files)}")
         for name, mode in self.modes.items():
-            found = stat.S_IMODE(os.stat(os.path.join(directory, name)).st_mode)
+            found = mode_of(directory, name)
             expect(found == mode, f"{name} has the mode {found:o} in place of {mode:o}")
         for name, wanted in self.files.items():
             path = os.path.join(directory, name)
@@ -79,6 +85,10 @@ def names_in(directory):
     """The names of all files and links in a directory, and of all directories in it that are empty."""
     return {os.path.relpath(os.path.join(at, name), directory) for at, below, names in os.walk(directory)
             for name in (names if names or below or at == directory else ["."])}
+
+
+def mode_of(directory, name):
+    return stat.S_IMODE(os.stat(os.path.join(directory, name)).st_mode)
 
 
 def held_by(directory, name):

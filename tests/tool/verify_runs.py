@@ -1,24 +1,27 @@
-"""Runs of `verify` and `cat`, which take the same files: their answers, and what `cat` copies."""
+"""Runs of `verify` and `cat`, which take the same files, and of `verify-raw`: their answers, and what `cat` copies."""
 
 import os
 from dataclasses import replace
 
 import toy
-from running import (CLOSED, DIRECTORY, FULL, MISSING, NO_READER, IntoFile, Link, OneOf, Pipe, PrefixOf, ReadLate, RoomFor, SecondName)
-from tool_cases import Leaves, command, in_order, opening, refusing
+from running import (CLOSED, DIRECTORY, FULL, MISSING, WRITE_ONLY, FromFile, IntoFile, Link, OneOf, Pieces, Pipe, PrefixOf, ReadLate,
+                     RoomFor, SecondName, write)
+from tool_cases import Leaves, command, in_order, opening, refusing, untold
 from toy import NOT_UTF8, OUT_OF_MEMORY, READING_FAILED, TOO_SHORT, WARNING, WRITING_FAILED
 
-VERIFIED = "Signature and comment signature verified\nTrusted comment: t\n"
+VERIFIED_RAW = "Signature and comment signature verified\n"
+VERIFIED = VERIFIED_RAW + "Trusted comment: t\n"
 REJECTED = "error: Signature verification failed\n"
 COMMENT_REJECTED = "error: Comment signature verification failed\n"
 LEGACY = "error: Legacy signatures are not accepted\n"
+UNSUPPORTED = "error: Unsupported signature algorithm\n"
 OTHER_KEYNUM = "error: Signature key id: 0807060504030201 is different from public key: E7620F1842B4E81F\n"
 NO_PUBLIC_KEY, NO_ENCODED_KEY = "error: Missing comment in public key\n", "error: Missing encoded key in public key\n"
 NO_BASE64 = "error: Base64 conversion failed - was an actual public key given?"
 NO_SIGNATURE = "error: Missing untrusted comment\n"
 GOING_BACK_FAILED = "error: going back failed\n"
-INPUT_IS_OUTPUT = "error: input file is output file\n"
 DATA_CHANGED = "error: Data changed between verification and output\n"
+INPUT_IS_OUTPUT = "error: input file is output file\n"
 
 PK, FILE, SIG = "key.pub", "data", "data.minisig"
 GOOD = {PK: toy.public_text(), FILE: b"abc", SIG: toy.signature_text(b"abc")}
@@ -26,6 +29,8 @@ NO_TEXT = b"untrusted comment: \xff\n"
 # A key of another identifier, and lengths of data.
 OTHER_KEY = toy.public_text(keynum=toy.OTHER_KEYNUM)
 LENGTHS = (0, 1, 127, 128, 129, 65535, 65536, 65537, 131073, 5_000_000)
+# For errors there is room for the warning and five bytes more.
+CUT_SHORT = {"status": 1, "stderr": RoomFor(len(WARNING) + 5)}
 
 
 def verify(name, *said, files=None, arguments=(PK, FILE, SIG), **how):
@@ -76,8 +81,6 @@ VERDICTS = [
     ("a short record of a signature", signed(record=RECORD[:73]), TOO_SHORT),
     ("a key that ends inside a letter", {PK: GOOD[PK] + b"\xc3"}, NOT_UTF8),
     ("a signature that ends inside a letter", {SIG: GOOD[SIG] + b"\xf0\x9f\x94"}, NOT_UTF8),
-    ("a byte that is no UTF-8 as key before an empty signature", {PK: b"\xff", SIG: b""}, NOT_UTF8),
-    ("a byte that is no UTF-8 as signature before an empty key", {PK: b"", SIG: b"\xff"}, NOT_UTF8),
     ("key and signature swapped", {PK: GOOD[SIG], SIG: GOOD[PK]}, NO_BASE64 + "\n"),
     ("a key that is no base64", {PK: GOOD[PK][:-2] + b"!\n"}, NO_BASE64 + ": invalid base64\n"),
     ("a signature of one line", {SIG: FIRST}, "error: Missing signature\n"),
@@ -88,7 +91,7 @@ VERDICTS = [
     ("a signature that is no base64", {SIG: FIRST + b"!" + SECOND[1:] + THIRD + FOURTH}, "error: invalid base64\n"),
     ("a signature without the label of its trusted comment", {SIG: FIRST + SECOND + b"t\n" + FOURTH},
      "error: Trusted comment should start with: trusted comment: \n"),
-    ("a signature of an unknown algorithm", signed(record=toy.signature_record(b"abc", algorithm=b"Ex")), "error: Unsupported signature algorithm\n"),
+    ("a signature of an unknown algorithm", signed(record=toy.signature_record(b"abc", algorithm=b"Ex")), UNSUPPORTED),
     ("lines that end with carriage return and line feed", {name: GOOD[name].replace(b"\n", b"\r\n") for name in (PK, SIG)}, VERIFIED),
     ("more lines", {PK: GOOD[PK] + b"more", SIG: GOOD[SIG] + b"more\n" * 20_000}, VERIFIED),
     ("a last line that is not ended", {PK: GOOD[PK][:-1], SIG: GOOD[SIG][:-1]}, VERIFIED),
@@ -113,13 +116,11 @@ BOTH = [
 ]
 
 
-def untold(make, *rows):
-    """Only a status line that cannot be written changes the exit status, and with it nothing is copied. No file gets the number of a
-    closed stream."""
-    return [make(f"{what}, input {stdin}, output {stdout}, and for errors {errors}", files=files, status=1, stdin=stdin, stdout=stdout, stderr=errors)
-            for errors in (CLOSED, FULL, NO_READER)
+def over_streams(make, *rows):
+    """Cases of these files where input or output is closed, or neither."""
+    return [make(f"{what}, input {stdin}, output {stdout}", *said, files=files, stdin=stdin, stdout=stdout)
             for stdin, stdout in [(b"", None), (CLOSED, None), (b"", CLOSED), (CLOSED, CLOSED)]
-            for what, files in rows]
+            for what, files, *said in rows]
 
 
 def in_memory(make, *more_lines):
@@ -135,11 +136,9 @@ VERIFY = [
     verify("large data from a pipe", VERIFIED, files={FILE: Pipe(LARGE), SIG: toy.signature_text(LARGE)}),
     verify("other data from a pipe", REJECTED, files={FILE: Pipe(b"abd")}),
     verify("texts from pipes", VERIFIED, files={PK: Pipe(GOOD[PK]), SIG: Pipe(GOOD[SIG])}),
-    verify("a good signature, and closed input", VERIFIED, stdin=CLOSED),
-    verify("a good signature, and closed output", VERIFIED, stdout=CLOSED),
-    verify("a good signature, and closed input and output", VERIFIED, stdin=CLOSED, stdout=CLOSED),
+    *over_streams(verify, ("a good signature", {}, VERIFIED))[1:],
     verify("a good signature, and a full output", VERIFIED, stdout=FULL),
-    *untold(verify, ("a good signature", {}), ("missing data", {FILE: MISSING})),
+    *untold(over_streams(verify, ("a good signature", {}), ("missing data", {FILE: MISSING})), status=1),
     *in_memory(verify),
 ]
 
@@ -150,27 +149,7 @@ def holding(name, data):
 
 
 APPEND = os.O_WRONLY | os.O_APPEND
-# Data from the file that standard output leads into is rejected before anything is read or written, and after all files were opened.
-# Another file takes the copy.
-OWN_OUTPUT = [
-    *(cat(f"its own data {name}", INPUT_IS_OUTPUT, files=files, stdout=IntoFile(into, flags), left=holding(FILE, data))
-      for name, into, flags, files, data in [
-          ("appended to", FILE, APPEND, {}, b"abc"),
-          ("written over", FILE, os.O_RDWR, {}, b"abc"),
-          ("cut to nothing before", FILE, APPEND | os.O_TRUNC, {}, b""),
-          ("written by a second name", "other", APPEND, {"other": SecondName(FILE)}, b"abc"),
-          ("written through a link", "other", APPEND, {"other": Link(FILE)}, b"abc"),
-          ("appended to before an empty key", FILE, APPEND, {PK: b""}, b"abc")]),
-    cat("a missing signature before its own data appended to", READING_FAILED, files={SIG: MISSING},
-        stdout=IntoFile(FILE, APPEND), left=holding(FILE, b"abc")),
-    cat("data of a link appended to", INPUT_IS_OUTPUT, files={"other": Link(FILE)}, arguments=(PK, "other", SIG),
-        stdout=IntoFile(FILE, APPEND), left=holding(FILE, b"abc")),
-    cat("another file appended to", VERIFIED, files={"other": b"abc"}, stdout=IntoFile("other", APPEND), left=holding("other", b"abcabc")),
-]
-
-
-# == Data that another process changes ==
-
+# Data that another process changes.
 LONG = toy.some_data(2_000_000)
 CHANGED = toy.changed(LONG)
 
@@ -181,27 +160,6 @@ def write_at(path, at, data):
         file.write(data)
 
 
-def replace_whole(path):
-    with open(path + ".new", "wb") as file:
-        file.write(CHANGED)
-    os.rename(path + ".new", path)
-
-
-# It is changed while it is copied: after the status was written, and before more than some pieces could be copied, since nobody reads
-# the output until then.
-BETWEEN = [
-    cat(f"between the passes {name}", VERIFIED, *([] if output == LONG else [DATA_CHANGED]), files=signed(LONG), output=output,
-        stdout=ReadLate(2, lambda directory, change=change: change(os.path.join(directory, FILE))))
-    for name, change, output in [
-        ("its last byte is changed", lambda path: write_at(path, len(LONG) - 1, CHANGED[-1:]), CHANGED),
-        ("it is cut by a byte", lambda path: os.truncate(path, len(LONG) - 1), LONG[:-1]),
-        ("half of it is cut", lambda path: os.truncate(path, 1_000_000), LONG[:1_000_000]),
-        ("more is appended", lambda path: write_at(path, len(LONG), b"more"), LONG + b"more"),
-        ("nothing is changed", lambda path: None, LONG),
-        ("another file takes its name", replace_whole, LONG),
-        ("its name is taken away", os.unlink, LONG)]
-]
-
 CAT = [
     *map(as_cat, BOTH),
     cat("data from a pipe", GOING_BACK_FAILED, files={FILE: Pipe(b"abc")}),
@@ -211,13 +169,125 @@ CAT = [
     # An output that cannot be written is told after the status.
     cat("a closed input", VERIFIED, output=b"abc", stdin=CLOSED),
     cat("room for two bytes of the copy", VERIFIED, WRITING_FAILED, output=b"ab", stdout=RoomFor(2)),
-    cat("for errors room for the warning and five bytes more", WARNING + VERIFIED[:5], status=1, stderr=RoomFor(50)),
+    cat("for errors little room", WARNING + VERIFIED[:5], **CUT_SHORT),
     *(cat(f"{what}, input {stdin}, and as output {stdout}", *said, files=files, stdin=stdin, stdout=stdout)
       for stdout in (CLOSED, FULL) for stdin in (b"", CLOSED)
       for what, files, *said in (("a good signature", {}, VERIFIED, WRITING_FAILED), ("no data", signed(b""), VERIFIED),
                                  ("other data", {FILE: b"abd"}, REJECTED))),
-    *untold(cat, ("a good signature", {})),
-    *OWN_OUTPUT,
-    *BETWEEN,
+    *untold(over_streams(cat, ("a good signature", {})), status=1),
+    # Data from the file that standard output leads into is rejected before anything is read or written, and after all files were opened.
+    # Another file takes the copy.
+    *(cat(name, said, files=files, arguments=(PK, data, SIG), stdout=IntoFile(into, flags), left=holding(FILE, left))
+      for name, said, data, into, flags, files, left in [
+          ("its own data appended to", INPUT_IS_OUTPUT, FILE, FILE, APPEND, {}, b"abc"),
+          ("its own data written over", INPUT_IS_OUTPUT, FILE, FILE, os.O_RDWR, {}, b"abc"),
+          ("its own data cut to nothing before", INPUT_IS_OUTPUT, FILE, FILE, APPEND | os.O_TRUNC, {}, b""),
+          ("its own data written by a second name", INPUT_IS_OUTPUT, FILE, "other", APPEND, {"other": SecondName(FILE)}, b"abc"),
+          ("its own data written through a link", INPUT_IS_OUTPUT, FILE, "other", APPEND, {"other": Link(FILE)}, b"abc"),
+          ("data of a link appended to", INPUT_IS_OUTPUT, "other", FILE, APPEND, {"other": Link(FILE)}, b"abc"),
+          ("its own data appended to before an empty key", INPUT_IS_OUTPUT, FILE, FILE, APPEND, {PK: b""}, b"abc"),
+          ("a missing signature before its own data appended to", READING_FAILED, FILE, FILE, APPEND, {SIG: MISSING}, b"abc")]),
+    cat("another file appended to", VERIFIED, files={"other": b"abc"}, stdout=IntoFile("other", APPEND), left=holding("other", b"abcabc")),
+    # It is changed while it is copied: after the status was written, and before more than some pieces could be copied, since nobody reads
+    # the output until then.
+    *(cat(f"between the passes {name}", VERIFIED, *([] if output == LONG else [DATA_CHANGED]), files=signed(LONG), output=output,
+          stdout=ReadLate(2, lambda directory, change=change: change(os.path.join(directory, FILE))))
+      for name, change, output in [
+          ("its last byte is changed", lambda path: write_at(path, len(LONG) - 1, CHANGED[-1:]), CHANGED),
+          ("it is cut by a byte", lambda path: os.truncate(path, len(LONG) - 1), LONG[:-1]),
+          ("half of it is cut", lambda path: os.truncate(path, 1_000_000), LONG[:1_000_000]),
+          ("more is appended", lambda path: write_at(path, len(LONG), b"more"), LONG + b"more"),
+          ("nothing is changed", lambda path: None, LONG),
+          ("another file takes its name", lambda path: os.replace(write("", path + ".new", CHANGED), path), LONG),
+          ("its name is taken away", os.unlink, LONG)]),
     *in_memory(cat, [WARNING, VERIFIED, OUT_OF_MEMORY]),
+]
+
+
+# == verify-raw ==
+
+KEY = toy.RECORD
+# The signature of `abc` under that key by its digest, with a first half of zeros.
+SIGNATURE = b"ED" + toy.KEYNUM + bytes(32) + bytes.fromhex("9d5d3a5ce8ed6e7af22f1832807b60260ea8ffe6e9f10cb7a86b67d855a561a8")
+UNKNOWN, SAYS_LEGACY = b"Ex" + SIGNATURE[2:], b"Ed" + SIGNATURE[2:]
+
+
+def verify_raw(name, *said, files=None, arguments=(PK, SIG), **how):
+    """A case of `verify-raw`, whose files are a good key and a good signature of `abc` where it names no others. The data comes by
+    standard input."""
+    files = {PK: KEY, SIG: SIGNATURE, FILE: b"abc", **(files or {})}
+    return command(name, ["verify-raw", *arguments], said, stdin=files.pop(FILE), files=files, **how)
+
+
+# Data that comes byte by byte, in pieces, and much of it.
+BY_BYTES = Pieces((b"a", b"b", b"c"))
+PIECES = (toy.some_data(1), toy.some_data(70_000), toy.some_data(128), toy.some_data(3))
+MUCH = toy.some_data(32_000_000)
+OF_MUCH = toy.signature_record(MUCH)
+
+RAW = [
+    *(verify_raw(name, line, files=files) for name, files, line in (
+        ("the first run", {}, VERIFIED_RAW),
+        ("other data", {FILE: b"abd"}, REJECTED),
+        ("no data", {FILE: b""}, REJECTED),
+        ("more data", {FILE: b"abc\n"}, REJECTED),
+        ("another public key", {PK: KEY[:-1] + b"z"}, REJECTED),
+        ("a signature of the data itself", {SIG: b"Ed" + toy.KEYNUM + toy.signature_of(b"abc")}, LEGACY),
+        ("another algorithm of the key", {PK: b"xx" + KEY[2:]}, VERIFIED_RAW),
+        ("an empty key", {PK: b""}, TOO_SHORT),
+        ("a longer key", {PK: KEY + b"\xff"}, VERIFIED_RAW),
+        ("an empty signature", {SIG: b""}, TOO_SHORT),
+        ("a longer signature", {SIG: SIGNATURE + b"\xff"}, VERIFIED_RAW),
+        ("a far longer signature", {SIG: SIGNATURE + bytes(200_000)}, VERIFIED_RAW),
+        ("a short signature of an unknown algorithm", {SIG: UNKNOWN[:73]}, TOO_SHORT),
+        ("data that cannot be read", {FILE: WRITE_ONLY}, READING_FAILED),
+        ("a closed input", {FILE: CLOSED}, READING_FAILED))),
+    # The key is opened first, then the signature, and nothing is read before both are open. The key is read first, then the signature,
+    # then both are tested, and then the data is read.
+    *in_order(
+        verify_raw,
+        opening(PK, "key", KEY),
+        opening(SIG, "signature", SIGNATURE),
+        (PK, [("a directory as key", DIRECTORY, READING_FAILED)]),
+        (SIG, [("a directory as signature", DIRECTORY, READING_FAILED)]),
+        (PK, [("a short key", KEY[:41], TOO_SHORT)]),
+        (SIG, [("a short signature", SIGNATURE[:73], TOO_SHORT), ("an unknown algorithm", UNKNOWN, UNSUPPORTED)]),
+        (FILE, [("a directory as data", DIRECTORY, READING_FAILED)]),
+        (PK, [("another identifier", toy.OTHER_RECORD, OTHER_KEYNUM)]),
+        (SIG, [("a signature that only says it is of the data itself", SAYS_LEGACY, LEGACY),
+               ("a changed signature", toy.changed(SIGNATURE), REJECTED)])),
+    # Each read fails in turn, also the one that finds the end: of the key, of the signature and of data that comes byte by byte. That comes
+    # before any verdict, and with a short key before the bytes of the two files are tested.
+    *(verify_raw(f"{name}, and a read fails", READING_FAILED, files={PK: key, FILE: BY_BYTES}, breaking="read")
+      for name, key in (("good data", KEY), ("another identifier", toy.OTHER_RECORD), ("a short key", KEY[:41]))),
+    # Names of files are taken as they stand.
+    *(verify_raw(f"a file of the name {name[:20]!r}", VERIFIED_RAW,
+                 files={name: KEY, PK: b""} if "/" not in name else {}, arguments=(name, SIG))
+      for name in (" key ", "-", "--help", "sch\u00fcssel \U0001f511", "two\nlines", "./" + PK, "a\\b", "$HOME", "k" * 255)),
+    *(verify_raw(name, line, arguments=arguments) for name, line, *arguments in (
+        ("an empty name of the key", READING_FAILED, "", SIG),
+        ("an empty name of the signature", READING_FAILED, PK, ""),
+        ("a name that is too long", READING_FAILED, "k" * 256, SIG),
+        ("a path that is too long", READING_FAILED, "./" * 10_000 + PK, SIG),
+        ("one file as key and signature", TOO_SHORT, PK, PK),
+        ("key and signature swapped", TOO_SHORT, SIG, PK))),
+    # Data of many lengths, and however it comes.
+    *(verify_raw(f"data of {len(data)} bytes", VERIFIED_RAW, files={SIG: toy.signature_record(data), FILE: data})
+      for data in map(toy.some_data, (*LENGTHS[:8], 256, 257, 131072, 131073))),
+    *(verify_raw(name, line, files={FILE: data, SIG: signature}) for name, data, signature, line in (
+        ("data byte by byte", BY_BYTES, SIGNATURE, VERIFIED_RAW),
+        ("data in pieces", Pieces(PIECES), toy.signature_record(b"".join(PIECES)), VERIFIED_RAW),
+        ("data from a file", FromFile(b"abc"), SIGNATURE, VERIFIED_RAW),
+        ("no data from a file", FromFile(b""), SIGNATURE, REJECTED),
+        ("much data", MUCH, OF_MUCH, VERIFIED_RAW),
+        ("much data from a file", FromFile(MUCH), OF_MUCH, VERIFIED_RAW),
+        ("much data and a byte more", MUCH + b"\0", OF_MUCH, REJECTED))),
+    # Only a status line that cannot be written changes the exit status.
+    *untold([verify_raw(name, files=files) for name, files in (
+        ("good data", {}), ("other data", {FILE: b"abd"}), ("a missing key", {PK: MISSING}))], status=1),
+    *(verify_raw(f"good data, and as output {stdout}", VERIFIED_RAW, stdout=stdout) for stdout in (CLOSED, FULL)),
+    verify_raw("for errors little room", WARNING + VERIFIED_RAW[:5], **CUT_SHORT),
+    # Each allocation fails, first while the arguments are read.
+    *refusing([WARNING, OUT_OF_MEMORY], ("good data", verify_raw("", OUT_OF_MEMORY)),
+              ("other data", verify_raw("", OUT_OF_MEMORY, files={FILE: b"abd"})), ("no arguments", command("", [], [OUT_OF_MEMORY]))),
 ]

@@ -144,8 +144,11 @@ async function growth(count, [[key, data, signature], [, other]]) {
     for (let at = 0; at < times; at += 50) {
       await Promise.all(Array.from({length: 25}, called));
     }
+    // (the second time waits until the buffers are gone that the first one has found; `external` has the memory of the module)
     globalThis.gc();
-    return process.memoryUsage().rss;
+    globalThis.gc();
+    const {heapUsed, external} = process.memoryUsage();
+    return heapUsed + external;
   };
   const early = await some(count / 10);
   return [await some(count - count / 10) - early];

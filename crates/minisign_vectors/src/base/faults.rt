@@ -1,4 +1,4 @@
-//! Errors as they are shown, and what errors of others become. `tests/rows/named_errors.py` has every named
+//! Errors as they are shown, and what errors of others become. `tests/rows/named_errors.txt` has every named
 //! error with its number, its kind and its text.
 
 use base64::{DecodeAllocError, DecodeError};

@@ -1,28 +1,27 @@
 #!/usr/bin/env python3
 """Made the files of tests/corpus, with Minisign's own program, once; kept to show how.
 
-    tests/verdicts/make_corpus.py DIRECTORY
+    tools/make_corpus.py DIRECTORY
 
 It makes the same anew, with other keys, in an empty directory: keys with and without a password, data, signatures of
 both kinds with odd comments, some of them damaged, and `cases.json`, which has the answer of `minisign -V` to each
 case. The texts of the published key are those that Minisign's author published with the Rust crate.
 """
 
-import base64
 import json
 import os
 import shutil
 import sys
 
-HERE = os.path.dirname(os.path.realpath(__file__))
-sys.path.append(os.path.join(HERE, "..", "shared"))
+TESTS = os.path.join(os.path.dirname(os.path.dirname(os.path.realpath(__file__))), "tests")
+sys.path += [os.path.join(TESTS, "shared"), os.path.join(TESTS, "verdicts")]
 
 import needs
 from minisign_cases import PASSWORD, Minisign, lines, pattern, with_line, with_record
 from process import run_program
-from running import read
+from running import read, write
+from texts import CORPUS, record_of
 
-CORPUS = os.path.join(HERE, "..", "corpus")
 # These stay as they are.
 PUBLISHED = ("published.pub", "published.minisig", "published-legacy.minisig", "test")
 
@@ -30,16 +29,16 @@ PUBLISHED = ("published.pub", "published.minisig", "published-legacy.minisig", "
 def make_files(minisign):
     """Makes the files, and answers the rows: a key, data and a signature each."""
     for name in PUBLISHED:
-        minisign.write(name, read(CORPUS, name))
+        write(minisign.directory, name, read(CORPUS, name))
     rows = [("published.pub", "test", name) for name in ("published.minisig", "published-legacy.minisig")]
     for name, password in (("first", None), ("second", None), ("sealed", PASSWORD)):
         minisign.make_pair(name, password)
     contents = {"empty": b"", "hello": b"hello, world\n", "block": pattern(128), "binary": pattern(300)}
     for name, data in contents.items():
-        minisign.write(name, data)
+        write(minisign.directory, name, data)
 
     def keep(name, text, data="hello", key="first.pub"):
-        minisign.write(name, text)
+        write(minisign.directory, name, text)
         rows.append((key, data, name))
         return text
 
@@ -64,13 +63,13 @@ def make_files(minisign):
     keep("space-added.minisig", with_line(text, 2, lines(text)[2] + b" "))
     keep("spaces-around-base64.minisig", with_line(text, 1, b" " + lines(text)[1] + b" "))
     keep("three-lines.minisig", b"\n".join(lines(text)[:3]) + b"\n")
-    record = base64.b64decode(lines(text)[1])
+    record = record_of(text)
     keep("other-algorithm.minisig", with_record(text, 1, b"EE" + record[2:]))
     keep("as-legacy.minisig", with_record(text, 1, b"Ed" + record[2:]))
-    keep("longer-record.minisig", with_record(text, 3, base64.b64decode(lines(text)[3]) + b"more"))
+    keep("longer-record.minisig", with_record(text, 3, record_of(text, 3) + b"more"))
     key = minisign.read("first.pub")
-    minisign.write("cr-lf.pub", key.replace(b"\n", b"\r\n"))
-    minisign.write("other-algorithm.pub", with_record(key, 1, b"ED" + base64.b64decode(lines(key)[1])[2:]))
+    write(minisign.directory, "cr-lf.pub", key.replace(b"\n", b"\r\n"))
+    write(minisign.directory, "other-algorithm.pub", with_record(key, 1, b"ED" + record_of(key)[2:]))
     return rows + [("cr-lf.pub", "hello", "hello.minisig"), ("other-algorithm.pub", "hello", "hello.minisig")]
 
 
@@ -91,7 +90,7 @@ def main(directory):
     shutil.rmtree(os.path.join(directory, "run"))
     for name in ("signed", "made", "first.key", "second.key", "sealed.key"):
         os.remove(os.path.join(directory, name))
-    minisign.write("cases.json", json.dumps(rows, indent=1).encode() + b"\n")
+    write(minisign.directory, "cases.json", json.dumps(rows, indent=1).encode() + b"\n")
 
 
 if __name__ == "__main__":

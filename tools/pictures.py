@@ -2,7 +2,7 @@
 """Makes the pictures of the page in docs/ anew: `page.png`, with a good and a bad verdict, `page_narrow.png`, in the dark on a
 narrow screen, and `page_project.png`, a project's page that was given the download alone.
 
-    tests/page/pictures.py [PAGE]
+    tools/pictures.py [PAGE]
 
 PAGE is the page, that of `dist/` where none is named. Needs what tests/page/page.py needs of Chromium.
 """
@@ -12,20 +12,21 @@ import os
 import sys
 import tempfile
 
-TOP = os.path.join(os.path.dirname(os.path.realpath(__file__)), "..", "..")
-sys.path += [os.path.join(TOP, *directory) for directory in (("tests", "shared"), ("tests", "verdicts"), ("page",))]
+TOP = os.path.dirname(os.path.dirname(os.path.realpath(__file__)))
+sys.path += [os.path.join(TOP, directory) for directory in (os.path.join("tests", "shared"), os.path.join("tests", "page"), "page")]
 
 import build
-import cases
 import needs
 from browser import Chromium
+from running import read
+from texts import CORPUS
 
 PUBLISHED = "RWQf6LRCGA9i53mlYecO4IzT51TGPpvWucNSCh1CBM0QTaLn73Y7GFO3"
 
 
 def give(person, *names):
     """Chooses files of the corpus together, and waits for the verdicts."""
-    person.choose(*(os.path.join(cases.CORPUS, name) for name in names))
+    person.choose(*(os.path.join(CORPUS, name) for name in names))
     person.wait_seen("work")
 
 
@@ -50,7 +51,7 @@ def main():
             give(person, "hello", "hello.minisig")
             take_picture(person, "page.png", 720, "light")
             take_picture(person, "page_narrow.png", 360, "dark")
-            own, signature = os.path.join(room, "own.html"), ("test.minisig", cases.read_kept("published.minisig").decode())
+            own, signature = os.path.join(room, "own.html"), ("test.minisig", read(CORPUS, "published.minisig").decode())
             with open(own, "w", encoding="utf-8") as file:
                 file.write(build.page(*build.taken_from(page), PUBLISHED, "Verify a download of Example", [signature]))
             person.open(f"file://{own}")

@@ -1,11 +1,6 @@
 // What a module of the page answers: each number, all that a signature and the questions hold and the state, for texts that are
-// passed in, and for a signature with another text or another place in it. It runs in Node, and tests/page/modules.py runs
-// `answersOf` in Chromium too, which takes the module with a memory of 64 bits.
-//
-//     node answers.mjs LIBRARY MODULE CASES
-//
-// LIBRARY is bindings/javascript/calls.js, and CASES a list of {key, signature, data} in base64, as JSON. It prints a list of
-// texts as JSON.
+// passed in, and for a signature with another text or another place in it. tests/page/modules.py runs it, with the calls of
+// bindings/javascript/calls.js, in Chromium, which takes the module with a memory of 64 bits, too.
 
 function bytesOf(base64) {
   return Uint8Array.from(atob(base64), letter => letter.charCodeAt(0));
@@ -21,8 +16,8 @@ function textOf(answer) {
 
 // What it answers about one text, in a list: about the signature where one of the readings of the key is good, and about the
 // key and what was fed in any case.
-function answersAbout(library, {key, signature, data}) {
-  const [keyText, signatureText, bytes] = [key, signature, data].map(bytesOf);
+function answersAbout(library, {pk, sig, data}) {
+  const [keyText, signatureText, bytes] = [pk, sig, data].map(bytesOf);
   const found = [library.readKey(keyText, false), library.readKey(keyText, true)];
   const read = found.find(one => one.number === 0)?.key ?? new Uint8Array(40), signatureRead = library.readSignature(signatureText);
   found.push(signatureRead);
@@ -52,12 +47,4 @@ async function answersOf(Library, module, cases) {
   const library = await Library.load(bytesOf(module));
   const numbers = Array.from({length: 256}, (_, number) => library.errorText(number));
   return [textOf(numbers), ...cases.map(one => textOf(answersAbout(library, one)))];
-}
-
-if (typeof process === "object") {
-  const {readFileSync} = await import("node:fs");
-  const {runInThisContext} = await import("node:vm");
-  const [script, module, cases] = process.argv.slice(2).map(path => readFileSync(path));
-  const Library = runInThisContext(`${script.toString().replaceAll(/^export /gm, "")}; Library`);
-  console.log(JSON.stringify(await answersOf(Library, module.toString("base64"), JSON.parse(cases))));
 }

@@ -1,0 +1,18 @@
+// What keeps Firefox from asking for anything from outside, and from showing anything but the page. (`page.test`: ELSEWHERE of person.py)
+user_pref("marionette.port", 0);
+user_pref("browser.shell.checkDefaultBrowser", false);
+user_pref("datareporting.policy.dataSubmissionEnabled", false);
+user_pref("toolkit.telemetry.enabled", false);
+user_pref("app.update.enabled", false);
+user_pref("browser.startup.homepage", "about:blank");
+user_pref("startup.homepage_welcome_url", "about:blank");
+user_pref("network.captive-portal-service.enabled", false);
+user_pref("network.connectivity-service.enabled", false);
+user_pref("app.normandy.enabled", false);
+user_pref("services.settings.server", "http://127.0.0.1:1/");
+user_pref("extensions.update.enabled", false);
+user_pref("browser.safebrowsing.update.enabled", false);
+user_pref("browser.safebrowsing.malware.enabled", false);
+user_pref("network.dns.localDomains", "page.test");
+user_pref("browser.safebrowsing.phishing.enabled", false);
+user_pref("network.proxy.type", 0);
