@@ -108,6 +108,11 @@ def musl_variables(room):
     return {"CC": musl_compiler(), "CPPFLAGS": f"-isystem {headers}", "SODIUM": f"{archive} {room}/of-glibc.o"}
 
 
+def musl_words(room):
+    """The words of make for static programs over musl."""
+    return [*(f"{name}={value}" for name, value in musl_variables(room).items()), "LDFLAGS=-static"]
+
+
 class Emulated:
     """The compiler, the emulator, and what was built, with a directory for the files of the programs."""
 
