@@ -46,7 +46,8 @@ PASSWORD = b"correct horse battery staple 42"
 SALT = bytes(range(32))
 # What scrypt's N is of the keys; the rows of the second take 4 MiB, which is a large block.
 ROWS = (1024, 4096)
-LEVELS = ("-O0", "-O2")
+# The levels of optimizing, with what make is told of each: of the second what it does by itself.
+LEVELS = {"-O0": ("CFLAGS=-O0", "CPPFLAGS="), "-O2": ()}
 # What make is told of each copy of the calls: for x86-64-v2, for x86-64-v3, and as C, of which the compiler decides what is left.
 COPIES = (["V3=../dist/calls-x86-64-v2.a", "C_CALLS="], ["C_CALLS="], ["PORTABLE=1"])
 LEFT = "what is left by intent"
@@ -99,12 +100,12 @@ class Builder:
     def make(self, goal, *words, top=proved.ROOT):
         """What make builds, in a directory of its own."""
         out = tempfile.mkdtemp(dir=self.room)
-        static_library.run_make("-C", os.path.join(top, "c"), "CPPFLAGS=", f"OUT={out}", *words, f"{out}/{goal}")
+        static_library.run_make("-C", os.path.join(top, "c"), f"OUT={out}", *words, f"{out}/{goal}")
         return f"{out}/{goal}"
 
     def program(self, compiler, level, *words, top=proved.ROOT, linking=(), library=None):
         """The path of the program, over this library, or over one that is built for it."""
-        library = library or self.make("libminisign.a", f"CC={compiler}", f"CFLAGS={level}", *words, top=top)
+        library = library or self.make("libminisign.a", f"CC={compiler}", *LEVELS[level], *words, top=top)
         made = os.path.join(os.path.dirname(library), "cleared")
         where = ["-I", os.path.join(top, "include"), "-I", self.room, "-I", SHARED, "-o", made]
         sources = [os.path.join(HERE, "cleared.c"), library, *linking]
@@ -163,7 +164,7 @@ class Searched:
     """The program, and the key that it is run with, whose bytes are looked for."""
 
     def __init__(self, builder, level, top=proved.ROOT):
-        self.program = builder.make("minisign", f"CC={needs.libsodium()}", f"CFLAGS={level}", "C_CALLS=", top=top)
+        self.program = builder.make("minisign", f"CC={needs.libsodium()}", *LEVELS[level], "C_CALLS=", top=top)
         self.room = os.path.dirname(self.program)
         # A key of random bytes that are known is drawn again.
         self.draws = build_preload(self.room, "fixed_sources")

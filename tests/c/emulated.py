@@ -47,7 +47,7 @@ def fetch(kind, place, *packages):
             os.makedirs(f"{room}/{directory}")
         options = [f"-o{option}" for option in (
             f"Dir::State::lists={room}/lists", f"Dir::Cache={room}/cache", f"APT::Architecture={kind.debian}",
-            f"APT::Architectures={kind.debian}", "APT::Sandbox::User=root", "Acquire::Retries=3")]
+            f"APT::Architectures={kind.debian}", "APT::Sandbox::User=root", "Acquire::Retries=3", "Acquire::Languages=none")]
         # (a mirror may lack one of the lists for a while, of which the packages need the first)
         _, listed = run(["apt-get", "-q", *options, "update"], room)
         status, said = run(["apt-get", "-q", *options, "download", *packages], room)

@@ -104,10 +104,10 @@ def check_here(checks, room, answers):
 def check_strict(checks, room):
     """It is C99 without a warning of two compilers, and what is made of the header and of the calls declares the same."""
     whole = write(room, "whole.c", f'#include "{C_CALLS}"\n#include "{PORTABLE}/pointers.c"\n'.encode())
-    # (of clang's warnings none comes of optimizing)
-    for compiler, how in (("gcc", ["-O1", "-c", "-o", os.devnull]), ("clang", ["-fsyntax-only"])):
+    # (the warnings of gcc that come of optimizing are errors where make builds it)
+    for compiler in ("gcc", "clang"):
         for source in (*sorted(glob.glob(f"{PORTABLE}/*.c")), whole):
-            command = [needs.program(compiler, compiler), "-std=c99", *STRICT, *how, *OF_LIBRARY, "-I", INCLUDE, source]
+            command = [needs.program(compiler, compiler), "-std=c99", *STRICT, "-fsyntax-only", *OF_LIBRARY, "-I", INCLUDE, source]
             checks.ended(f"{os.path.basename(source)} by {compiler}", run(command))
 
 
@@ -247,11 +247,13 @@ def check_compiled(checks, room, _):
     places = [f"{room}/linux", f"/usr/include/{os.uname().machine}-linux-musl", emulated.headers_of_sodium(room)]
     sources = [path for name in ("minisign", "install", "shared") for path in sorted(glob.glob(f"{C}/{name}/*.c"))]
     checks.check(len(sources) > 25, f"the programs have only these files: {sources}")
+    # (but for the calls, which hold no assembly, it is compiled to the end)
     library = (f"{LIBRARY}/boundary.c", f"{LIBRARY}/clearing.c", *sorted(glob.glob(f"{PORTABLE}/*.c")), C_CALLS)
-    how = ["-isystem", f"{room}/ours", "-DMINISIGN_PORTABLE", "-DMINISIGN_MALLOC_ALONE", *OF_LIBRARY, "-c", "-o", os.devnull]
+    how = ["-isystem", f"{room}/ours", "-DMINISIGN_PORTABLE", "-DMINISIGN_MALLOC_ALONE", *OF_LIBRARY]
     for target in TARGETS:
         for source in library:
-            checks.ended(f"{os.path.basename(source)} for {target}", run([*clang, f"--target={target}", *how, source]))
+            end = ["-fsyntax-only"] if source == C_CALLS else ["-c", "-o", os.devnull]
+            checks.ended(f"{os.path.basename(source)} for {target}", run([*clang, f"--target={target}", *how, *end, source]))
         # (the headers of musl have those of POSIX)
         if re.match("x86_64-.*(apple|bsd)", target):
             system = [word for place in [f"{room}/macos"] * ("apple" in target) + places for word in ("-isystem", place)]

@@ -56,9 +56,11 @@ UNSIGNED = "the release is not signed, as RELEASE_KEY names no secret key"
 OF_DEBIAN = ("usr/include/minisign.h", "usr/share/man/man1/minisign-proved.1.gz", "usr/share/minisign-in-rattle/minisign.html",
              "usr/share/doc/minisign-in-rattle/copyright", "usr/lib/*/libminisign.so.*.*.*", "usr/lib/*/pkgconfig/minisign.pc")
 OF_ALPINE = ("usr/lib/libminisign.so", "usr/include/minisign.h", "usr/share/man/man1/minisign-proved.1")
-# How Alpine's tool runs the steps of its build file. (The calls as C take the most time, and `portable.py` has them over musl.)
+# Without the calls as C, which take the most time: `portable.py` compiles them over musl, and `packaging.py` by Ubuntu's flags.
+WITHOUT_C = "C_CALLS="
+# How Alpine's tool runs the steps of its build file.
 STEPS = """set -eu
-    make() { command make -s CC="$cc" CPPFLAGS="$cppflags" SODIUM="$sodium" "$@"; }
+    make() { command make -s CC="$cc" CPPFLAGS="$cppflags" SODIUM="$sodium" C_CALLS= "$@"; }
     srcdir=$PWD/src pkgdir=$PWD/pkg
     . "$file"
     test "$pkgver" = "$version"
@@ -146,7 +148,7 @@ def check_signed(checks, room, program, minisign):
     """With a key archive and sums are signed by the program that is in the release, and without one that is there not at all."""
     key = f"{room}/own key"
     checks.ended("a pair for this run", run([program, "-G", "-W", "-p", f"{key}.pub", "-s", f"{key}.key"]))
-    archive = release(checks, f"{room}/one", f"RELEASE_KEY={key}.key", "C_CALLS=")
+    archive = release(checks, f"{room}/one", f"RELEASE_KEY={key}.key", WITHOUT_C)
     for name in (archive, f"{room}/one/SHA256SUMS"):
         verifying = ["-V", "-p", f"{key}.pub", "-m", name]
         for by in (minisign, program):
@@ -154,7 +156,8 @@ def check_signed(checks, room, program, minisign):
         with open(name, "ab") as file:
             file.write(b"\n")
         checks.ended(f"a changed {name}", run([minisign, *verifying]), status=1)
-    checks.ended("with a key that is not there", make("-s", "release", f"OUT={room}/one", f"RELEASE_KEY={room}/no.key"), status=2)
+    words = ("-s", "release", f"OUT={room}/one", f"RELEASE_KEY={room}/no.key", WITHOUT_C)
+    checks.ended("with a key that is not there", make(*words), status=2)
     checks.check(not glob.glob(f"{room}/one/*.minisig"), "with a key that is not there a release is signed")
     release(checks, f"{room}/one")
     checks.check(read(archive) == read(archive_in(f"{room}/two")), "a key changes the archive")
@@ -165,10 +168,11 @@ def check_compiler(checks, room, top, name):
     place, compiler = os.path.join(room, f"by-{name}"), needs.program(name, name)
     os.mkdir(place)
     tree = Tree(place, top, compiler, [name], "basename", "date", "env", "gzip", "ldconfig", "mktemp", "tar")
-    for goal in ("all", "check", f"install DESTDIR={place}/dest PREFIX=/usr"):
-        said = checks.ended(f"a release by {name}, {goal}", tree.run(f"make -C c CC={name} OUT={place}/out {goal}"))
-        checks.check("warning:" not in said, f"a release by {name}, {goal}: {said[-800:]}")
-        checks.check(goal != "check" or static_library.VERIFIED.search(said), f"a release by {name}, {goal}: {said[-300:]}")
+    with static_library.kept_object({"CC": compiler, "OUT": f"{place}/out"}):
+        for goal in ("all", "check", f"install DESTDIR={place}/dest PREFIX=/usr"):
+            said = checks.ended(f"a release by {name}, {goal}", tree.run(f"make -C c CC={name} OUT={place}/out {goal}"))
+            checks.check("warning:" not in said, f"a release by {name}, {goal}: {said[-800:]}")
+            checks.check(goal != "check" or static_library.VERIFIED.search(said), f"a release by {name}, {goal}: {said[-300:]}")
     root, example = f"{place}/dest/usr", f"{place}/verify"
     building = [compiler, "-I", f"{root}/include", "-o", example, f"{top}/c/examples/verify.c", f"{root}/lib/libminisign.a", "-lsodium"]
     checks.ended(f"the example over what {name} installed", run(building))
@@ -205,7 +209,7 @@ def check_debian(checks, room, archive):
     command, place = ["sh", os.path.join(TOP, "packaging", "debian.sh"), archive, f"{room}/debian"], f"{room}/debian"
     checks.ended("packages without a maintainer", run(command, **dict.fromkeys(MAINTAINER, "")), status=2)
     checks.check(not os.path.exists(place), "packages without a maintainer are begun")
-    said = checks.ended("packages for Debian", run(command, DEB_BUILD_OPTIONS="noautodbgsym", **MAINTAINER))
+    said = checks.ended("packages for Debian", run(command, DEB_BUILD_OPTIONS="noautodbgsym", MAKEFLAGS=WITHOUT_C, **MAINTAINER))
     checks.check(not re.search(r"\.[ch]:\d+:.*warning:", said), f"packages for Debian: {said[-800:]}")
     packages, changes = glob.glob(f"{place}/*.deb"), glob.glob(f"{place}/*.changes")
     checks.check(len(packages) == 3 and len(changes) == 1, f"there are the packages {packages} of {changes}")
@@ -235,12 +239,12 @@ def check_alpine(checks, room, top):
         checks.check(os.path.exists(f"{place}/pkg/{file}"), f"Alpine's package has no {file}")
     compiler, library = emulated.musl_compiler(), f"{place}/src/{name}/c/out/libminisign.a"
     for program in ("asked_texts", "usage_errors"):
-        check_program(checks, "musl", program, compiler, library, "-static", *PROGRAMS[program])
+        check_program(checks, "musl", program, compiler, library, "-static", *emulated.LESS, *PROGRAMS[program])
 
 
 def check_others(checks, room, top):
     """What is installed, packed by make alone."""
-    words = ["make", "-s", "-C", f"{top}/packaging/others", "PREFIX=/usr/of-minisign", f"OUT={room}/others", "C_CALLS="]
+    words = ["make", "-s", "-C", f"{top}/packaging/others", "PREFIX=/usr/of-minisign", f"OUT={room}/others", WITHOUT_C]
     archives = []
     for _ in range(2):
         checks.ended("packaging/others", run(words))
