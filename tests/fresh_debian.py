@@ -37,8 +37,8 @@ hold = functools.partial(static_library.hold, seconds=3000)
 SUITE, MIRROR = "bookworm", "http://deb.debian.org/debian"
 USER = "ann"
 HOME = f"/srv/{USER}"
-# What packages.txt names, and no marked script needs: browsers, other compilers, emulators, and what makes packages.
-LEFT_OUT = re.compile(r"acl|chromium|firefox|fonts|lintian|debhelper|dpkg-dev|wine|mingw|s390x|riscv64|arm|aarch64|qemu|tcc|"
+# What packages.txt names, and no marked script needs: browsers, other compilers and systems, emulators, and what makes packages.
+LEFT_OUT = re.compile(r"acl|chromium|firefox|fonts|lintian|debhelper|dpkg-dev|win|mingw|s390x|riscv64|arm|aarch64|qemu|tcc|"
                       r"clang|lld|musl|mandoc|mypy|black|rustfmt|typescript|go-minisign|binaryen|nodejs")
 
 

@@ -51,7 +51,7 @@ VERIFIED = "Signature and comment signature verified\nTrusted comment: timestamp
 
 PLACE = os.path.join("a b", "c d")
 # The directories that have a Makefile, with what is built there in a directory of others, and what is tried with a wrong OUT.
-MAKEFILES = {"c": ("all", "release"), "bindings": ("rust", "go"), "examples/rust": ()}
+MAKEFILES = {"c": ("all", "release", "C_CALLS="), "bindings": ("rust", "go"), "examples/rust": ()}
 GOALS = {"c": ("all", "install", "release", "uninstall", "clean"), "bindings": ("all", "rust", "javascript", "clean"),
          "examples/rust": ("out/minisign-verify", "clean")}
 # Where paths in the copy, and in its directories, lead that fall apart at their blanks.
@@ -117,8 +117,10 @@ def check_building(checks, tree):
     """The two commands that README begins with."""
     commands = re.search(r"^```sh\n(.*?)^```$", read(TOP, "README.md").decode(), re.M | re.S)[1].splitlines()
     checks.check(len(commands) == 2 and commands[0] == MAKE, f"README begins with other commands: {commands}")
-    began, used = time.monotonic(), processor_seconds()
-    said = [checks.ended(command, tree.run(command)) for command in commands]
+    # (other scripts take what is compiled here)
+    with static_library.kept_object({"CC": needs.libsodium(), "OUT": os.path.join(tree.top, "c", "out")}, is_taken=False):
+        began, used = time.monotonic(), processor_seconds()
+        said = [checks.ended(command, tree.run(command)) for command in commands]
     took, used = time.monotonic() - began, processor_seconds() - used
     checks.check(said[1] == VERIFIED, f"{commands[1]}: {said[1]}")
     print(f"at hand: built, and a download verified, in {took:.1f} s, of which {used:.1f} of the processor")
@@ -166,7 +168,7 @@ def check_damaged(checks, tree):
 def check_without_sources(checks, tree):
     """Where there are no crates what is built and installed is that of dist/. (The calls as C take the most time.)"""
     os.rename(os.path.join(tree.top, "crates"), os.path.join(tree.top, "elsewhere"))
-    checks.ended("no crates", tree.run(f"{MAKE} install DESTDIR=../installed OUT=../again C_CALLS="))
+    checks.ended("no crates", tree.run(f"{MAKE} install DESTDIR=../installed OUT=../again C_CALLS= CFLAGS=-O0 CPPFLAGS="))
     checks.check(os.path.exists(f"{tree.top}/installed/usr/local/bin/minisign"), "without crates nothing is installed")
     os.rename(os.path.join(tree.top, "elsewhere"), os.path.join(tree.top, "crates"))
 

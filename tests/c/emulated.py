@@ -15,15 +15,13 @@ from collections import namedtuple
 import exports
 import needs
 import static_library
-from c_library import INCLUDE, STRICT, check_program, compiled
+from c_library import INCLUDE, LESS, STRICT, check_programs, compiled
 from process import run
 from proved import ROOT
 from running import read, write
 
 # How many rows of a derivation the key of a usual limit takes.
 USUAL_ROWS = "1048576"
-# With these the programs of tests/c do less of what takes long, which they do over the archives (`c_library.py`).
-LESS = ["-DIS_EMULATED"]
 
 # What Debian's libsodium calls of its own C library.
 OF_GLIBC = b"""#define _GNU_SOURCE
@@ -168,8 +166,7 @@ def check_all(checks, built, own, programs):
     checks.ended(f"{name}: the library", run(["readelf", "-h", f"{built.out}/libminisign.so"]), says=built.kind.elf)
     layout = [built.compiler, "-std=c11", *STRICT, "-I", INCLUDE, "-fsyntax-only", exports.write_layout(built.room)]
     checks.ended(f"{name}: the layout", run(layout))
-    for program, flags in programs.items():
-        check_program(checks, name, program, built.compiler, built.library, *LESS, *flags, before=built.emulator)
+    check_programs(checks, name, programs, built.compiler, built.library, *LESS, before=built.emulator)
     if built.kind.has_sodium:
         testing = ["make", "-s", "-C", static_library.DIRECTORY, *built.flags, f"OUT={built.out}", "test"]
         said = checks.ended(f"{name}: make test", run(testing, RUN=" ".join(built.emulator)))

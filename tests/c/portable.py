@@ -26,7 +26,6 @@ import os
 import random
 import re
 import struct
-import subprocess
 import sys
 
 HERE = os.path.dirname(os.path.realpath(__file__))
@@ -38,8 +37,8 @@ import emulated
 import ending
 import needs
 import static_library
-from c_library import INCLUDE, NO_THREADS, PROGRAMS, SANITIZED, STRICT, check_program, compiled
-from emulated import LESS, Kind
+from c_library import INCLUDE, LESS, NO_THREADS, PROGRAMS, SANITIZED, STRICT, check_programs, compiled, only
+from emulated import Kind
 from minisign_cases import random_cases
 from process import run, run_apart
 from running import read, write
@@ -50,7 +49,6 @@ LIBRARY, PORTABLE, C_CALLS = f"{C}/library", f"{C}/library/portable", f"{static_
 # Where what is built with the calls as C finds what stands beside them.
 OF_LIBRARY = ["-I", PORTABLE, "-I", LIBRARY]
 DRAWN = 1500
-SECONDS = 1800
 # How the programs of tests/c are built where memory is malloc's alone: but on Linux with pointers of 64 bits.
 OF_MALLOC = {**PROGRAMS, "allocations": [*PROGRAMS["allocations"], "-DMINISIGN_MALLOC_ALONE", *OF_LIBRARY]}
 
@@ -83,19 +81,17 @@ def check_here(checks, room, answers):
     """By the compilers that are here; the programs over musl verify the kept signatures."""
     gcc, clang, tcc = (needs.program(name, name) for name in ("gcc", "clang", "tcc"))
     of_musl = [*(f"{name}={value}" for name, value in emulated.musl_variables(room).items()), "LDFLAGS=-static"]
-    fewer = {name: PROGRAMS[name] for name in ("usage_errors", "asked_texts", "random_calls")}
     # (with -g gcc takes twice as long for the calls; without -O1 all that is run takes several times as long)
     for what, words, compiler, flags, programs in (
             ("gcc", [], gcc, [], PROGRAMS), ("clang", [f"CC={clang}"], gcc, [], PROGRAMS),
             ("sanitized", [f"CFLAGS=-O1 {' '.join(SANITIZED)}", "CPPFLAGS=", "LDFLAGS="], gcc, SANITIZED, PROGRAMS),
             ("tcc", [f"CC={tcc}", "TARGET=x86_64-linux", "LD=ld", "OBJCOPY=objcopy", "AR=ar", "CFLAGS=", "CPPFLAGS=", "HAS_PAGES="],
              gcc, [NO_THREADS], OF_MALLOC),
-            ("musl", of_musl, emulated.musl_compiler(), ["-static"], fewer)):
+            ("musl", of_musl, emulated.musl_compiler(), ["-static"], only("usage_errors", "asked_texts", "random_calls"))):
         made = f"{room}/{what}/libminisign.a"
         static_library.run_make("CC=gcc", "PORTABLE=1", f"OUT={room}/{what}", *words, made)
         answers.check_library(what, compiler, made, *LESS, *flags)
-        for name, linking in programs.items():
-            check_program(checks, what, name, compiler, made, *LESS, *flags, *linking)
+        check_programs(checks, what, programs, compiler, made, *LESS, *flags)
     static_library.run_make("PORTABLE=1", f"OUT={room}/musl", *of_musl, "all")
     checks.ended("musl: the programs", run(["sh", "check.sh", f"{room}/musl/minisign"], C), says=" passed, 0 failed")
     check_strict(checks, room)
@@ -187,39 +183,23 @@ def check_elsewhere(checks, room, answers):
 WINE = "/usr/lib/wine"
 
 
-class Windows:
-    """What runs programs of Windows, with a directory of its own for its settings."""
-
-    def __init__(self, room):
-        self.program = needs.need(lambda: needs.which("wine64") or next(iter(glob.glob(f"{WINE}/wine64")), None), "wine64", "wine64")
-        self.variables = {"WINEPREFIX": os.path.join(room, "wine"), "WINEDEBUG": "-all", "HOME": room}
-
-    def run(self, program, *words):
-        """Runs a program: its status, and what it printed."""
-        status, said, _ = run_apart([self.program, program, *words], **self.variables)
-        return status, said.replace("\r\n", "\n")
-
-    def end(self):
-        """Ends what serves it."""
-        subprocess.run([f"{WINE}/wineserver", "-k"], env={**os.environ, **self.variables}, stderr=subprocess.DEVNULL, timeout=SECONDS)
-
-
 def check_windows(checks, room, answers):
-    """The dynamic library, and the static one."""
+    """The dynamic library, and the static one, by a wine with a directory of its own for its settings."""
     compiler, place = needs.program("x86_64-w64-mingw32-gcc", "gcc-mingw-w64-x86-64"), os.path.join(room, "windows")
+    wine = needs.need(lambda: needs.which("wine64") or next(iter(glob.glob(f"{WINE}/wine64")), None), "wine64", "wine64")
+    variables = {"WINEPREFIX": os.path.join(room, "wine"), "WINEDEBUG": "-all", "HOME": room}
     static_library.run_make(f"CC={compiler}", f"OUT={place}", "library")
-    windows = Windows(room)
-    try:
-        for library in ("libminisign.a", "libminisign.dll.a"):
-            for name in ("answers", "usage_errors", "asked_texts", "error_texts", "random_calls"):
-                what, flags = f"Windows, {library}", [*LESS, "-w", "-D__USE_MINGW_ANSI_STDIO=1", *PROGRAMS.get(name, [])]
-                program = compiled(checks, what, name, compiler, f"{place}/{library}", *flags) + ".exe"
-                if name == "answers":
-                    answers.check(what, *windows.run(program, answers.file))
-                else:
-                    checks.ended(f"{what}: {name}", windows.run(program), says=" passed, 0 failed")
-    finally:
-        windows.end()
+    for library in ("libminisign.a", "libminisign.dll.a"):
+        for name in ("answers", "usage_errors", "asked_texts", "error_texts", "random_calls"):
+            what, flags = f"Windows, {library}", [*LESS, "-w", "-D__USE_MINGW_ANSI_STDIO=1", *PROGRAMS.get(name, [])]
+            program = compiled(checks, what, name, compiler, f"{place}/{library}", *flags) + ".exe"
+            status, said, _ = run_apart([wine, program, *([answers.file] if name == "answers" else [])], **variables)
+            said = said.replace("\r\n", "\n")
+            if name == "answers":
+                answers.check(what, status, said)
+            else:
+                checks.ended(f"{what}: {name}", (status, said), says=" passed, 0 failed")
+    run([f"{WINE}/wineserver", "-k"], **variables)
 
 
 # What stands for headers: with the functions that the library calls, where none of the system are here; and for those of musl that

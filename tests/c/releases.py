@@ -30,7 +30,7 @@ import ending
 import needs
 import proved
 import static_library
-from c_library import PROGRAMS, check_program
+from c_library import LESS, check_programs, only
 from at_hand import DAMAGED
 from commands import has_secret_key
 from copies import TOP, Tree, files_below, listed
@@ -238,8 +238,7 @@ def check_alpine(checks, room, top):
     for file in OF_ALPINE:
         checks.check(os.path.exists(f"{place}/pkg/{file}"), f"Alpine's package has no {file}")
     compiler, library = emulated.musl_compiler(), f"{place}/src/{name}/c/out/libminisign.a"
-    for program in ("asked_texts", "usage_errors"):
-        check_program(checks, "musl", program, compiler, library, "-static", *emulated.LESS, *PROGRAMS[program])
+    check_programs(checks, "musl", only("asked_texts", "usage_errors"), compiler, library, "-static", *LESS)
 
 
 def check_others(checks, room, top):

@@ -82,6 +82,8 @@ def section(which, *parts):
     return bytes([which]) + sized(b"".join(parts))
 
 
+# The address of the data, in as many bytes as any has: so no other number is written.
+ADDRESS = bytes(DATA >> shift & 127 | (128 if shift < 63 else 0) for shift in range(0, 70, 7))
 # The codes of instructions by their names, with what follows each, and how that is written.
 CODES = {name: (code, operand) for code, (name, operand) in wasm_object.INSTRUCTIONS.items()}
 # (of labels the last is for all other numbers, and not counted)
@@ -89,29 +91,22 @@ OPERANDS = {
     "block": lambda word, _: bytes([TYPE[word]]), "index": lambda word, _: number(int(word)),
     "place": lambda word, _: b"\0" + number(int(word)),
     "labels": lambda word, _: number(word.count(",")) + b"".join(number(int(label)) for label in word.split(",")),
-    "number": lambda word, name: number(int(word), BITS[name[:3]])}
+    "number": lambda word, name: ADDRESS if word == "data" else number(int(word), BITS[name[:3]])}
 WITHOUT_WORD = {"": b"", "memory": b"\0", "memories": b"\0\0"}
-# The address of the data, in as many bytes as any has.
-ADDRESS = bytes(DATA >> shift & 127 | (128 if shift < 63 else 0) for shift in range(0, 70, 7))
 
 
 def assembled(code):
-    """The bytes of code, and where the address of the data stands in them. The code is names of instructions, each with what follows
-    it: a number, a kind, or labels, and for the address `data`. Other bytes are in hexadecimal digits after `0x`."""
-    made, addresses, words = bytearray(), [], iter(code.split())
+    """The bytes of code, which is names of instructions, each with what follows it: a number, a kind, or labels, and for the address of
+    the data `data`. Other bytes are in hexadecimal digits after `0x`."""
+    made, words = b"", iter(code.split())
     for name in words:
         if name.startswith("0x"):
             made += bytes.fromhex(name[2:])
-            continue
-        opcode, operand = CODES[name]
-        made += bytes([opcode]) if opcode < 256 else bytes([opcode >> 8]) + number(opcode & 255)
-        word = None if operand in WITHOUT_WORD else next(words)
-        if word == "data":
-            addresses.append(len(made))
-            made += ADDRESS
         else:
-            made += WITHOUT_WORD[operand] if word is None else OPERANDS[operand](word, name)
-    return bytes(made), addresses
+            opcode, operand = CODES[name]
+            made += bytes([opcode]) if opcode < 256 else bytes([opcode >> 8]) + number(opcode & 255)
+            made += WITHOUT_WORD[operand] if operand in WITHOUT_WORD else OPERANDS[operand](next(words), name)
+    return made
 
 
 class Module:
@@ -132,14 +127,11 @@ class Module:
         count = len(self.functions)
         types = [b"\x60" + b"".join(listed([bytes([TYPE[kind]]) for kind in kinds if kind != "none"]) for kinds in (parameters, [gives]))
                  for _, parameters, gives, *_ in self.functions]
-        bodies, addresses = [], []
-        for *_, code, locals_ in self.functions:
-            instructions, places = assembled(f"{code} end")
-            body = sized(listed([b"\1" + bytes([TYPE[local]]) for local in locals_]) + instructions)
-            begun = len(number(count)) + sum(map(len, bodies)) + len(body) - len(instructions)
-            addresses += [bytes([wasm_object.CONSTANT]) + number(begun + place) + number(count) + b"\0" for place in places]
-            bodies.append(body)
-        segment = b"\0" + assembled(f"i64.const {DATA} end")[0] + sized(DATA_BYTES)
+        bodies = [sized(listed([b"\1" + bytes([TYPE[local]]) for local in locals_]) + assembled(f"{code} end"))
+                  for *_, code, locals_ in self.functions]
+        addresses = [bytes([wasm_object.CONSTANT]) + number(found.start()) + number(count) + b"\0"
+                     for found in re.finditer(re.escape(ADDRESS), listed(bodies))]
+        segment = b"\0" + assembled(f"i64.const {DATA} end") + sized(DATA_BYTES)
         place = len(segment) - len(DATA_BYTES) + 1 + POINTER_AT
         pointer = bytes([wasm_object.DATA]) + number(place) + number(count) + number(POINTS_TO, 64)
         symbols = [b"\0\0" + number(index) + text(name) for index, name in enumerate(self.names())]
