@@ -8,8 +8,8 @@ README's first commands verify a download within 30 seconds, of the processor on
 but a C compiler, make, binutils and what every Debian has: no kit and no Python. Where a source of the proved calls
 has changed since `dist/` was made, or an archive is damaged, make stops with a sentence and installs nothing.
 
-Make checks, installs and releases `c/`, packs the packages of `bindings/` and builds the example in Rust; what was
-packed is built too, as is a page from that of `dist/`. `make uninstall` and `make clean` remove what was installed or
+Make checks, installs and releases `c/` (`releases.py` builds what is released), packs the packages of `bindings/` and
+builds the example in Rust; what was packed is built too, as is a page from that of `dist/`. `make uninstall` and `make clean` remove what was installed or
 built, and nothing else: files of others stand beside it, and where a path would lead that falls apart at its blanks.
 An OUT that make cannot have in a target is rejected before anything is written or removed. It prints a line for each
 failure; the last line is `N passed, M failed`.
@@ -236,13 +236,6 @@ def check_installing(checks, copy):
         checks.check(said.strip() == wanted, f"pkg-config {words}: {said}")
 
 
-def check_release(_, copy):
-    """A release is written, and built."""
-    copy.make("c", "release")
-    copy.ended("sha256sum", "-c", "SHA256SUMS", at="c/out")
-    copy.make(copy.unpack("c/out/*.tar.gz", "a release") + "/c", "library", "C_CALLS=")
-
-
 def check_packages(checks, copy):
     """Packages are packed, and what was packed is built."""
     packages = ["rust", "go", "python"]
@@ -286,7 +279,7 @@ def run_all(checks, room):
     tree = Tree(room, copy.top, compiler, ("gcc", "cc"))
     for check in (check_building, check_older, check_damaged, check_kit, check_without_sources):
         check(checks, tree)
-    for check in (check_rejected, check_built, check_installing, check_release, check_packages, check_cleaning):
+    for check in (check_rejected, check_built, check_installing, check_packages, check_cleaning):
         check(checks, copy)
     for name in NEIGHBOURS:
         checks.check(FILE in files_below(os.path.join(room, name)), f"what others had in {name} is not there any more")

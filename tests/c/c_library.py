@@ -28,7 +28,7 @@ import ending
 import exports
 import needs
 import static_library
-from process import run
+from process import run, run_apart
 
 INCLUDE = os.path.join(HERE, "..", "..", "include")
 STRICT = ["-Wall", "-Wextra", "-Wpedantic", "-Werror"]
@@ -61,8 +61,8 @@ def compiled(checks, what, name, compiler, library, *flags):
 def check_programs(checks, what, programs, compiler, library, *flags, before=()):
     """Programs that count what they check: by these words before them, they are run."""
     for name, linking in programs.items():
-        ran = run([*before, compiled(checks, what, name, compiler, library, *flags, *linking)])
-        said = checks.ended(f"{what}: {name}", ran, says=" passed, 0 failed\n")
+        status, said, why = run_apart([*before, compiled(checks, what, name, compiler, library, *flags, *linking)])
+        said = checks.ended(f"{what}: {name}", (status, said.replace("\r\n", "\n") + why), says=" passed, 0 failed\n")
         checks.passed += int((re.findall(r"(?m)^(\d+) passed, 0 failed$", said) or [0])[-1])
 
 

@@ -26,7 +26,7 @@ import needs
 import static_library
 from c_library import compiled
 from process import run_measured
-from running import build_preload, read, write
+from running import build_preload, make_files, read
 from texts import Limits, record_of, sealed, text_of, with_checksum
 
 # The limits of `minisign -G`, and some that take little; some of which the memory is too much, and some that scrypt does not take.
@@ -105,8 +105,7 @@ class Keys:
 
     def is_used(self, secret, public, password=""):
         """Whether Minisign signs with the one key and verifies with the other."""
-        for name, data in (("used.key", secret), ("used.pub", public), ("data", b"data that is signed"), ("data.minisig", b"")):
-            write(self.directory, name, data)
+        make_files(self.directory, {"used.key": secret, "used.pub": public, "data": b"data that is signed", "data.minisig": b""})
         typed = f"{password}\n".encode() if password else b""
         signed, *_ = self.run(self.minisign, "-S", "-s", "used.key", "-m", "data", typed=typed)
         return signed == 0 and self.run(self.minisign, "-V", "-p", "used.pub", "-m", "data")[0] == 0

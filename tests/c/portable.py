@@ -67,14 +67,12 @@ class Answers:
         _, self.wanted, _ = run_apart([compiled(checks, "archives", "answers", needs.c_compiler(), self.library), self.file])
         checks.check(len(self.wanted) > 1000, f"the archives answer {self.wanted[:100]}")
 
-    def check(self, what, status, said):
-        is_same = status == 0 and said == self.wanted
-        self.checks.check(is_same, f"{what}: status {status}, other answers than the archives give: {said[:100]!r}")
-
-    def check_library(self, what, compiler, library, *flags, before=()):
+    def check(self, what, compiler, library, *flags, before=()):
         """A library answers the same."""
         program = compiled(self.checks, what, "answers", compiler, library, *flags)
-        self.check(what, *run_apart([*before, program, self.file])[:2])
+        status, said, _ = run_apart([*before, program, self.file])
+        is_same = status == 0 and said.replace("\r\n", "\n") == self.wanted
+        self.checks.check(is_same, f"{what}: status {status}, other answers than the archives give: {said[:100]!r}")
 
 
 def check_here(checks, room, answers):
@@ -90,7 +88,7 @@ def check_here(checks, room, answers):
             ("musl", of_musl, emulated.musl_compiler(), ["-static"], only("usage_errors", "asked_texts", "random_calls"))):
         made = f"{room}/{what}/libminisign.a"
         static_library.run_make("CC=gcc", "PORTABLE=1", f"OUT={room}/{what}", *words, made)
-        answers.check_library(what, compiler, made, *LESS, *flags)
+        answers.check(what, compiler, made, *LESS, *flags)
         check_programs(checks, what, programs, compiler, made, *LESS, *flags)
     static_library.run_make("PORTABLE=1", f"OUT={room}/musl", *of_musl, "all")
     checks.ended("musl: the programs", run(["sh", "check.sh", f"{room}/musl/minisign"], C), says=" passed, 0 failed")
@@ -167,7 +165,7 @@ def check_kind(checks, room, answers, kind):
     """A kind of processors, under qemu; what was built."""
     built = emulated.Emulated(checks, room, kind, *(["CFLAGS=-O2"] if kind.debian in ("hppa", "alpha") else []))
     emulated.check_all(checks, built, answers.library, OF_MALLOC if kind.has_32_bits else PROGRAMS)
-    answers.check_library(kind.name, built.compiler, built.library, before=built.emulator)
+    answers.check(kind.name, built.compiler, built.library, before=built.emulator)
     return built
 
 
@@ -187,19 +185,14 @@ def check_windows(checks, room, answers):
     """The dynamic library, and the static one, by a wine with a directory of its own for its settings."""
     compiler, place = needs.program("x86_64-w64-mingw32-gcc", "gcc-mingw-w64-x86-64"), os.path.join(room, "windows")
     wine = needs.need(lambda: needs.which("wine64") or next(iter(glob.glob(f"{WINE}/wine64")), None), "wine64", "wine64")
-    variables = {"WINEPREFIX": os.path.join(room, "wine"), "WINEDEBUG": "-all", "HOME": room}
+    settings = {"WINEPREFIX": f"{room}/wine", "WINEDEBUG": "-all", "HOME": room}
+    before = ["env", *(f"{name}={value}" for name, value in settings.items()), "sh", "-c", f'exec {wine} "$0.exe" "$@"']
     static_library.run_make(f"CC={compiler}", f"OUT={place}", "library")
     for library in ("libminisign.a", "libminisign.dll.a"):
-        for name in ("answers", "usage_errors", "asked_texts", "error_texts", "random_calls"):
-            what, flags = f"Windows, {library}", [*LESS, "-w", "-D__USE_MINGW_ANSI_STDIO=1", *PROGRAMS.get(name, [])]
-            program = compiled(checks, what, name, compiler, f"{place}/{library}", *flags) + ".exe"
-            status, said, _ = run_apart([wine, program, *([answers.file] if name == "answers" else [])], **variables)
-            said = said.replace("\r\n", "\n")
-            if name == "answers":
-                answers.check(what, status, said)
-            else:
-                checks.ended(f"{what}: {name}", (status, said), says=" passed, 0 failed")
-    run([f"{WINE}/wineserver", "-k"], **variables)
+        what, over = f"Windows, {library}", (compiler, f"{place}/{library}", *LESS, "-w", "-D__USE_MINGW_ANSI_STDIO=1")
+        answers.check(what, *over, before=before)
+        check_programs(checks, what, only("usage_errors", "asked_texts", "error_texts", "random_calls"), *over, before=before)
+    run([f"{WINE}/wineserver", "-k"], **settings)
 
 
 # What stands for headers: with the functions that the library calls, where none of the system are here; and for those of musl that

@@ -12,7 +12,6 @@ passes is a failure too. In none of them a stranger gets a key. It prints a line
 Needs what these two scripts need, and installs what is missing if it may.
 """
 
-import collections
 import os
 import re
 import sys
@@ -60,22 +59,16 @@ def check_calls(checks, program):
 
 def check_script(checks, script, *arguments):
     """Runs a script over a program: each of its failures has to be named, and each name has to be of one."""
-    status, said = run([sys.executable, os.path.join(HERE, "..", script), *arguments], seconds=None)
-    lines = said.splitlines()
-    ended = re.fullmatch(r"(\d+) passed, \d+ failed", lines[-1] if lines else "")
-    if ended:
-        checks.passed += int(ended[1])
-    else:
-        checks.check(False, f"{script} ended with {status}: {lines[-5:]}")
-    found = collections.Counter()
-    for line in (line for line in lines if line.startswith("FAILED: ")):
-        name = line.removeprefix("FAILED: ").removeprefix("minisign-install: ")
-        pattern = next((pattern for pattern in WEAKER[script] if re.match(pattern, name)), None)
-        found[pattern] += 1
-        checks.check(pattern is not None, line)
+    _, said = run([sys.executable, os.path.join(HERE, "..", script), *arguments], seconds=None)
+    ended = re.search(r"(?m)^(\d+) passed, \d+ failed\n\Z", said)
+    checks.passed += int(ended[1]) if checks.check(ended, f"{script} ended with {said[-800:]}") else 0
+    failed = {*re.findall(r"(?m)^FAILED: (?:minisign-install: )?(.*)$", said)}
+    print(f"that fail in {script}: {len(failed)} cases")
     for pattern, why in WEAKER[script].items():
-        checks.check(found[pattern] > 0, f"no case fails that is named {pattern}, of which it is said: {why}")
-    print(f"weaker in {script}: {found.total() - found[None]} cases")
+        weaker = {name for name in failed if re.match(pattern, name)}
+        checks.check(weaker, f"no case fails that is named {pattern}, of which it is said: {why}")
+        failed -= weaker
+    checks.check(not failed, *failed)
 
 
 def run_all(checks, room):

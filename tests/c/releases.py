@@ -31,7 +31,6 @@ import needs
 import proved
 import static_library
 from c_library import LESS, check_programs, only
-from at_hand import DAMAGED
 from commands import has_secret_key
 from copies import TOP, Tree, files_below, listed
 from packaging import make
@@ -190,16 +189,12 @@ def check_same(checks, room, root):
 
 
 def check_bare(checks, room, top):
-    """A release without what stands built, by PORTABLE=1, and with calls that were changed."""
+    """A release without what stands built, by PORTABLE=1. (Where its calls were changed it is rejected, as `at_hand.py` tries.)"""
     for archive in glob.glob(f"{top}/dist/*.a"):
         os.remove(archive)
     words = [f"CC={needs.libsodium()}", f"OUT={room}/bare", "PORTABLE=1", "CFLAGS=-O0", "CPPFLAGS="]
     said = checks.ended("a release with nothing prebuilt", run(["make", "-s", "-C", f"{top}/c", *words, "all", "test"]))
     checks.check(static_library.VERIFIED.search(said), f"a release with nothing prebuilt: {said[-600:]}")
-    with open(f"{top}/dist/calls.c", "a", encoding="utf-8") as file:
-        file.write("/* changed */\n")
-    changed = run(["make", "-s", "-C", f"{top}/c", *words, f"OUT={room}/changed", "library"])
-    checks.ended("a changed calls.c", changed, status=2, says=DAMAGED)
 
 
 def check_debian(checks, room, archive):

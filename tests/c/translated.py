@@ -173,6 +173,11 @@ def call(function, given, buffer=bytes(BUFFER_BYTES)):
     return struct.pack("<4Q", function, *given, *[0] * (3 - len(given))) + buffer
 
 
+def answers_in(made):
+    """The answers that stand one after the other."""
+    return (made[at:at + ANSWER_BYTES] for at in range(0, len(made), ANSWER_BYTES))
+
+
 class Runners:
     """Builds and runs modules."""
 
@@ -196,14 +201,14 @@ class Runners:
         return run_program([program], self.room, calls, SECONDS)
 
     def in_node(self, module, calls):
-        """What Node answers to calls."""
+        """The answers of Node to calls."""
         told = [[each[:2] for each in module.functions], wasm_to_c.STACK_POINTER, STACK_END, BUFFER, BUFFER_BYTES]
         paths = [write(self.room, "module.wasm", module.bytes()), write(self.room, "told.json", json.dumps(told).encode())]
         command = [self.node, "--experimental-wasm-memory64", "--no-warnings", f"{HERE}/translated.js", *paths]
-        ran = run_program(command, self.room, calls, SECONDS)
-        if ran.status:
+        ran = run_program(command, self.room, b"".join(calls), SECONDS)
+        if ran.status or len(ran.output) != ANSWER_BYTES * len(calls):
             raise needs.Missing(f"Node: {ran}")
-        return ran.output
+        return answers_in(ran.output)
 
 
 # ---- What is called ----
@@ -376,9 +381,7 @@ class Case:
         self.module, self.ending, self.answered = Module(), {}, []
         calls = [one for add in (add_numbers, add_memory, add_places) for one in add(self.module, drawn)]
         calls += add_drawn(self.module, drawn, count)
-        answers = runners.in_node(self.module, b"".join(calls))
-        for at, asked in enumerate(calls):
-            answer = answers[at * ANSWER_BYTES:(at + 1) * ANSWER_BYTES]
+        for asked, answer in zip(calls, runners.in_node(self.module, calls)):
             (self.ending.setdefault(self.asked(asked)[0], []) if answer[0] else self.answered).append((asked, answer))
         self.calls, self.wanted = map(b"".join, zip(*self.answered))
 
@@ -389,11 +392,8 @@ class Case:
 
     def first_difference(self, made):
         """Where an answer first differs: of which function, to which numbers."""
-        for at, (asked, answer) in enumerate(self.answered):
-            other = made[at * ANSWER_BYTES:(at + 1) * ANSWER_BYTES]
-            if answer != other:
-                return f"{self.asked(asked)}: {answer[1:9].hex()} and {other[1:9].hex()}"
-        return "the lengths"
+        return next((f"{self.asked(asked)}: {answer[1:9].hex()} and {other[1:9].hex()}"
+                     for (asked, answer), other in zip(self.answered, answers_in(made)) if other != answer), "the lengths")
 
 
 def check_answers(checks, case, runners):

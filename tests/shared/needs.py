@@ -8,9 +8,9 @@ Needs Python 3.9 or later.
 """
 
 import fcntl
+import functools
 import os
 import shutil
-import subprocess
 import tempfile
 
 from process import run
@@ -53,10 +53,7 @@ def which(name):
 def apt_get(*arguments):
     """Runs apt-get, and answers the end of what it said where it failed."""
     command = ["apt-get", "-q", "-y", "-o", "DPkg::Lock::Timeout=300", *arguments]
-    try:
-        status, said = run(command, seconds=SECONDS, DEBIAN_FRONTEND="noninteractive")
-    except subprocess.SubprocessError as error:
-        return str(error)
+    status, said = run(command, seconds=SECONDS, DEBIAN_FRONTEND="noninteractive")
     return said[-300:] if status else ""
 
 
@@ -101,6 +98,7 @@ def compiles(compiler, source, flags):
         return status == 0 and os.path.exists(made)
 
 
+@functools.lru_cache(maxsize=None)
 def c_compiler():
     """The path of a C compiler that links with the C library."""
     return need(lambda: compiler_of("#include <dlfcn.h>\n" + HELLO, "-ldl"), "a C compiler", "gcc", "libc6-dev")
@@ -122,6 +120,7 @@ def first_rust_compiler():
     return os.environ.get("RUSTC") or shutil.which("rustc") or rust_compiler()
 
 
+@functools.lru_cache(maxsize=None)
 def libsodium():
     """The path of a C compiler that finds libsodium's header and links with `-lsodium`."""
     c_compiler()
