@@ -9,10 +9,10 @@ but a C compiler, make, binutils and what every Debian has: no kit and no Python
 has changed since `dist/` was made, or an archive is damaged, make stops with a sentence and installs nothing.
 
 Make checks, installs and releases `c/` (`releases.py` builds what is released), packs the packages of `bindings/` and
-builds the example in Rust; what was packed is built too, as is a page from that of `dist/`. `make uninstall` and `make clean` remove what was installed or
-built, and nothing else: files of others stand beside it, and where a path would lead that falls apart at its blanks.
-An OUT that make cannot have in a target is rejected before anything is written or removed. It prints a line for each
-failure; the last line is `N passed, M failed`.
+builds the example in Rust; what was packed is built too, as is a page from that of `dist/`. `make uninstall` and
+`make clean` remove what was installed or built, and nothing else: files of others stand beside it, and where a path
+would lead that falls apart at its blanks. An OUT that make cannot have in a target is rejected before anything is
+written or removed. It prints a line for each failure; the last line is `N passed, M failed`.
 
 Needs git where this is a clone, make, binutils, pkg-config, groff, a C compiler, rustc, cargo, golang-go, libsodium
 with its header, and Debian's Python with pip, setuptools and wheel, and, where npm is, clang and lld, and installs

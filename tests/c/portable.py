@@ -181,18 +181,31 @@ def check_elsewhere(checks, room, answers):
 WINE = "/usr/lib/wine"
 
 
+class Windows:
+    """What runs programs of Windows, with a directory of its own for its settings."""
+
+    def __init__(self, room):
+        self.program = needs.need(lambda: needs.which("wine64") or next(iter(glob.glob(f"{WINE}/wine64")), None), "wine64", "wine64")
+        self.variables = {"WINEPREFIX": os.path.join(room, "wine"), "WINEDEBUG": "-all", "HOME": room}
+
+    def end(self):
+        """Ends what serves it."""
+        run([f"{WINE}/wineserver", "-k"], **self.variables)
+
+
 def check_windows(checks, room, answers):
-    """The dynamic library, and the static one, by a wine with a directory of its own for its settings."""
+    """The dynamic library, and the static one."""
     compiler, place = needs.program("x86_64-w64-mingw32-gcc", "gcc-mingw-w64-x86-64"), os.path.join(room, "windows")
-    wine = needs.need(lambda: needs.which("wine64") or next(iter(glob.glob(f"{WINE}/wine64")), None), "wine64", "wine64")
-    settings = {"WINEPREFIX": f"{room}/wine", "WINEDEBUG": "-all", "HOME": room}
-    before = ["env", *(f"{name}={value}" for name, value in settings.items()), "sh", "-c", f'exec {wine} "$0.exe" "$@"']
+    windows = Windows(room)
+    # (a program is named without its `.exe`)
+    settings = [f"{name}={value}" for name, value in windows.variables.items()]
+    before = ["env", *settings, "sh", "-c", f'exec {windows.program} "$0.exe" "$@"']
     static_library.run_make(f"CC={compiler}", f"OUT={place}", "library")
     for library in ("libminisign.a", "libminisign.dll.a"):
         what, over = f"Windows, {library}", (compiler, f"{place}/{library}", *LESS, "-w", "-D__USE_MINGW_ANSI_STDIO=1")
         answers.check(what, *over, before=before)
         check_programs(checks, what, only("usage_errors", "asked_texts", "error_texts", "random_calls"), *over, before=before)
-    run([f"{WINE}/wineserver", "-k"], **settings)
+    windows.end()
 
 
 # What stands for headers: with the functions that the library calls, where none of the system are here; and for those of musl that
