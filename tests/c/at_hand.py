@@ -51,9 +51,8 @@ VERIFIED = "Signature and comment signature verified\nTrusted comment: timestamp
 
 PLACE = os.path.join("a b", "c d")
 # The directories that have a Makefile, with what is built there in a directory of others, and what is tried with a wrong OUT.
-MAKEFILES = {"c": ("all", "release", "C_CALLS="), "bindings": ("rust", "go"), "examples/rust": ()}
-GOALS = {"c": ("all", "install", "release", "uninstall", "clean"), "bindings": ("all", "rust", "javascript", "clean"),
-         "examples/rust": ("out/minisign-verify", "clean")}
+MAKEFILES = {"c": ("all release C_CALLS=", "all install release uninstall clean"), "bindings": ("rust go", "all rust javascript clean"),
+             "examples/rust": ("", "out/minisign-verify clean")}
 # Where paths in the copy, and in its directories, lead that fall apart at their blanks.
 NEIGHBOURS = ("a", "a b/c", *(f"{PLACE}/{directory}/{name}" for directory in MAKEFILES
                               for name in ("b/c", "d/bindings/out/rust", "d/c/out")))
@@ -185,10 +184,10 @@ def check_kit(checks, tree):
 
 def check_rejected(checks, copy):
     """An OUT that is no target of make."""
-    for directory, goals in GOALS.items():
+    for directory, (_, goals) in MAKEFILES.items():
         copy.put(directory, "x/out/library", "y/out/library")
         before = files_below(copy.room)
-        for goal in goals:
+        for goal in goals.split():
             for out in ("x y", "x/out y/out", "x ", ""):
                 # (a makefile that took no OUT for one would write into the root directory)
                 status, said = copy.run("make", "-s", "-C", directory, goal, f"OUT={out}", *([] if out else ["--just-print"]))
@@ -264,9 +263,9 @@ def check_cleaning(checks, copy):
     copy.make("c", "library", "OUT=../library", "C_CALLS=")
     copy.put("named", *OTHERS)
     copy.put("never", *OTHERS, *OURS)
-    for directory, words in MAKEFILES.items():
+    for directory, (words, _) in MAKEFILES.items():
         up = os.path.relpath("named", directory)
-        copy.make(directory, *words, f"OUT={up}", f"CARGO={copy.cargo}")
+        copy.make(directory, *words.split(), f"OUT={up}", f"CARGO={copy.cargo}")
         checks.check(files_below(copy.path("named")) > OTHERS, f"make -C {directory} OUT={up} builds nothing there")
         for each in ("named", "never"):
             copy.make(directory, "clean", f"OUT={os.path.relpath(each, directory)}")

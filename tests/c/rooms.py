@@ -61,10 +61,10 @@ def files_of(room):
 def names_of(text):
     """What a file defines or declares for itself or others: functions, types, constants and variables."""
     kind = r"(?:(?:static|extern|_Noreturn|const|volatile|struct|enum|unsigned) )*[a-z_0-9]+[ *]+"
-    found = set(re.findall(rf"^{kind}\**([a-z_][a-z0-9_]*)\(", text, re.M))
-    found |= {" ".join(words) for words in re.findall(r"\b(struct|enum|union) ([a-z_0-9]+) \{", text)}
-    found |= set(re.findall(r"^#define ([A-Z_0-9]+)", text, re.M))
-    found |= set(re.findall(r"^static [^(=;{]*?\b([a-z_]+)(?:\[[^\]]*\])?(?: = |;)", text, re.M))
+    found = set()
+    for pattern in (rf"^{kind}\**([a-z_][a-z0-9_]*)\(", r"\b((?:struct|enum|union) [a-z_0-9]+) \{", r"^#define ([A-Z_0-9]+)",
+                    r"^static [^(=;{]*?\b([a-z_]+)(?:\[[^\]]*\])?(?: = |;)"):
+        found |= {*re.findall(pattern, text, re.M)}
     for body in re.findall(r"\benum(?: [a-z_]+)? \{([^}]*)\}", text):
         found |= set(re.findall(r"\b([A-Z][A-Z_0-9]+)\b", re.sub(r"=[^,}]*", "", body)))
     return found - {"main", "_DEFAULT_SOURCE", "_GNU_SOURCE", "_POSIX_C_SOURCE"}
