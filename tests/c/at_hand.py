@@ -236,7 +236,7 @@ def check_installing(checks, copy):
 
 
 def check_packages(checks, copy):
-    """Packages are packed, and what was packed is built."""
+    """Packages are packed, and what was packed is built: the crate by cargo, as it packs it."""
     packages = ["rust", "go", "python"]
     if shutil.which("npm", path=copy.environment["PATH"]):
         needs.program("clang", "clang"), needs.program("wasm-ld", "lld")
@@ -245,8 +245,6 @@ def check_packages(checks, copy):
     copy.make("bindings", *packages, f"CARGO={copy.cargo}", f"PYTHON={copy.python}", f"PAGE={copy.path('dist/minisign.html')}")
     archives = files_below(copy.path("bindings/out"))
     checks.check(len(archives) == len(packages) + 1, f"packed are {sorted(archives)}")
-    crate = copy.unpack("bindings/out/*.crate", "a crate")
-    copy.ended(copy.cargo, "test", "--quiet", "--doc", at=crate, says="test result: ok. 3 passed")
     copy.ended(copy.go, "test", at=copy.unpack("bindings/out/*go*.tar.gz", "a module"), says="ok")
     (archive,) = [archive for archive in archives if archive.endswith(".tar.gz") and "go" not in archive]
     copy.ended(copy.python, "-m", "pip", "wheel", "-q", "--no-index", "--no-build-isolation", "--no-deps", "-w", copy.path("a wheel"),

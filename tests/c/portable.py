@@ -161,19 +161,13 @@ MORE_KINDS = {kind.debian: kind for kind in (
     Kind("sparc64", "sparc64-linux-gnu", "sparc64", "sparc64", "Sparc v9", has_sodium=False))}
 
 
-def check_kind(checks, room, answers, kind):
-    """A kind of processors, under qemu; what was built."""
-    built = emulated.Emulated(checks, room, kind, *(["CFLAGS=-O2"] if kind.debian in ("hppa", "alpha") else []))
-    emulated.check_all(checks, built, answers.library, OF_MALLOC if kind.has_32_bits else PROGRAMS)
-    answers.check(kind.name, built.compiler, built.library, before=built.emulator)
-    return built
-
-
-def check_elsewhere(checks, room, answers):
-    """Kinds of processors, of which the registers are cleared too (`cleared.py` tries that of AArch64)."""
-    for kind in KINDS:
-        built = check_kind(checks, room, answers, kind)
-        if kind != emulated.AARCH64:
+def check_elsewhere(checks, room, answers, kinds=KINDS):
+    """Kinds of processors, under qemu; of those that the gate tries the registers are cleared too (`cleared.py` tries that of AArch64)."""
+    for kind in kinds:
+        built = emulated.Emulated(checks, room, kind, *(["CFLAGS=-O2"] if kind.debian in ("hppa", "alpha") else []))
+        emulated.check_all(checks, built, answers.library, OF_MALLOC if kind.has_32_bits else PROGRAMS)
+        answers.check(kind.name, built.compiler, built.library, before=built.emulator)
+        if kind in KINDS[1:]:
             program = cleared.Builder(built.room).program(built.compiler, "-O2", library=built.library, linking=["-static"])
             cleared.check_run(checks, kind.name, cleared.Run([*built.emulator, program]))
 
@@ -259,7 +253,7 @@ def run_all(checks, room):
         if part in PARTS:
             PARTS[part](checks, room, answers)
         else:
-            check_kind(checks, room, answers, MORE_KINDS[part])
+            check_elsewhere(checks, room, answers, [MORE_KINDS[part]])
 
 
 if __name__ == "__main__":

@@ -292,7 +292,15 @@ class Drawn:
 
     def write(self, text, deep=5):
         """Code, of a text of the grammar (`translated_grammar.txt`), in whose expressions numbers may stand so deep."""
-        return re.sub(r"\{(\w+) ?(.*?)\}", lambda found: self.draw(found[1], found[2], deep), text)
+        return re.sub(r"\{(\w+) ?(.*?)\}|<(\w+) (\w+) (.*?)>",
+                      lambda found: self.draw(found[1], found[2], deep) if found[1] else self.within(*found.groups()[2:]), text)
+
+    def within(self, how, gives, text):
+        """Code of a text where one more label is around it."""
+        self.labels.append((how, gives))
+        code = self.write(text)
+        self.labels.pop()
+        return code
 
     def draw(self, name, word, deep):
         """What stands in braces."""
@@ -317,23 +325,6 @@ class Drawn:
         wrapped = "i32.wrap_i64" if kind == "i32" else ""
         return self.write(f"local.get 0 {{i64}} {{i32}} call {self.choice(self.callees)} {wrapped}" if self.callees else f"{{{kind}}}", 3)
 
-    def within(self, label, text):
-        """Code of a text where one more label is around it."""
-        self.labels.append(label)
-        code = self.write(text)
-        self.labels.pop()
-        return code
-
-    def block(self, how, gives):
-        """A block, with its end; of `if` both ways where it gives something."""
-        part = "{statements} " + left_for(gives)
-        other = f" else {part}" if how == "if" and (gives != "none" or self.drawn.random() < 0.5) else ""
-        return f"{how} {gives} {self.within((how, gives), part + other)} end"
-
-    def inside(self):
-        """What goes on elsewhere if a number is not 0."""
-        return f"{self.write('{i32 1}')} if none {self.within(('inside', 'none'), '{leaving}')} end"
-
     def loop(self):
         """A loop that goes on for a few times at most."""
         free = [at for at, local in enumerate(self.locals) if local == "i32" and at > 2 and at not in self.counters]
@@ -341,7 +332,7 @@ class Drawn:
             return self.write("{set}")
         self.counters.append(free[0])
         again = f"local.get {free[0]} if none local.get {free[0]} i32.const 1 i32.sub local.set {free[0]} br 1 end"
-        body = self.within(("loop", "none"), self.choice(["", "", f"{{statements}} {again} "]) + f"{{statements}} {again}")
+        body = self.within("loop", "none", self.choice(["", "", f"{{statements}} {again} "]) + f"{{statements}} {again}")
         self.counters.remove(free[0])
         return f"i32.const {self.drawn.randrange(4)} local.set {free[0]} loop none {body} end"
 
