@@ -91,10 +91,10 @@ class Builder:
     def copy(self, name, old, new):
         """A copy of what is built, in which a file is changed."""
         top = copy_sources(self.room, "c", "include", "dist")
-        text = read(top, "c", name).decode()
-        if not re.search(old, text):
+        text, count = re.subn(old, new, read(top, "c", name).decode())
+        if not count:
             raise static_library.NotBuilt(f"c/{name} has nothing like {old!r}")
-        write(top, f"c/{name}", re.sub(old, new, text).encode())
+        write(top, f"c/{name}", text.encode())
         return top
 
     def make(self, goal, *words, top=proved.ROOT):

@@ -34,6 +34,7 @@ void __explicit_bzero_chk(void *data, size_t len, size_t size) { (void) size; ex
 # it, whether Debian has a libsodium for it, and whether its pointers have 32 bits.
 Kind = namedtuple("Kind", "name triple debian emulator elf has_sodium has_32_bits", defaults=(True, False))
 AARCH64 = Kind("AArch64", "aarch64-linux-gnu", "arm64", "aarch64", "AArch64")
+musl_compiler = lambda: needs.program("musl-gcc", "musl-tools")
 
 
 def fetch(kind, place, *packages):
@@ -84,10 +85,6 @@ def compiler(kind):
     found, header = needs.program(f"{kind.triple}-gcc", f"gcc-{kind.triple}"), f"/usr/{kind.triple}/include/stdio.h"
     needs.need(lambda: os.path.exists(header) or None, f"the C library for {kind.name}", f"libc6-dev-{kind.debian}-cross")
     return found
-
-
-def musl_compiler():
-    return needs.program("musl-gcc", "musl-tools")
 
 
 def headers_of_sodium(room):

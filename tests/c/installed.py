@@ -17,11 +17,12 @@ import shlex
 import sys
 
 HERE = os.path.dirname(os.path.realpath(__file__))
-sys.path.append(os.path.join(HERE, "..", "shared"))
+sys.path += [os.path.join(HERE, "..", name) for name in ("shared", os.path.join("..", "tools"))]
 
 import ending
 import needs
 import static_library
+from c_header import Header
 from needles import SEED_AT
 from process import run, run_apart
 from running import read, write
@@ -39,17 +40,12 @@ DROPPED = b"#include <minisign.h>\nint main(void) { minisign_state s; minisign_i
 COMMENT = "version 2 \u00e9"
 
 
-def header_names(header):
-    """The names of the calls that the header declares."""
-    text = re.sub(r"/\*.*?\*/", "", read(header).decode(), flags=re.S)
-    return set(re.findall(r"^(?!typedef|#)[^\n(]*?\b(minisign_\w+)\(", text, re.M))
-
-
 def installed_files(checks, root):
     """What was installed, and the names in it."""
     found = {os.path.relpath(os.path.join(at, name), root) for at, _, names in os.walk(root) for name in names}
     versions = [name for name in found if re.fullmatch(r"lib/libminisign\.so\.\d+\.\d+(?:\.\d+)?", name)]
-    pages = {page: header_names(f"{root}/include/{page}.h") for page in ("minisign", "minisign_install")}
+    pages = {page: {call.name for call in Header(read(root, "include", f"{page}.h").decode()).calls}
+             for page in ("minisign", "minisign_install")}
     names = set().union(*pages.values())
     links = {f"share/man/man3/{name}.3": page for page, calls in pages.items() for name in calls}
     checks.check(len(versions) == 2 and found == {*FILES, *versions, *links}, f"other files were installed: {sorted(found)}")

@@ -66,22 +66,11 @@ def number(value, bits=0):
     return bytes([*made, value & 127])
 
 
-def listed(parts):
-    return number(len(parts)) + b"".join(parts)
-
-
-def sized(data):
-    return number(len(data)) + data
-
-
-def text(words):
-    return sized(words.encode())
-
-
-def section(which, *parts):
-    return bytes([which]) + sized(b"".join(parts))
-
-
+# How a list is written, what begins with its size, a name, and a section.
+listed = lambda parts: number(len(parts)) + b"".join(parts)
+sized = lambda data: number(len(data)) + data
+text = lambda words: sized(words.encode())
+section = lambda which, *parts: bytes([which]) + sized(b"".join(parts))
 # The address of the data, in as many bytes as any has: so no other number is written.
 ADDRESS = bytes(DATA >> shift & 127 | (128 if shift < 63 else 0) for shift in range(0, 70, 7))
 # The codes of instructions by their names, with what follows each, and how that is written.

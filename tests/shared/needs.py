@@ -60,9 +60,7 @@ def apt_get(*arguments):
 def install(packages):
     """Installs packages, with a new list of them where the old one does not do; answers what went wrong."""
     command = ["install", "--no-install-recommends", *packages]
-    if not apt_get(*command):
-        return ""
-    return apt_get("update") or apt_get(*command)
+    return apt_get(*command) and (apt_get("update") or apt_get(*command))
 
 
 def need(find, what, *packages):
@@ -79,9 +77,9 @@ def need(find, what, *packages):
     return found
 
 
-def program(name, package):
-    """The path of a program of a package."""
-    return need(lambda: which(name), f"the program {name}", package)
+def program(name, *packages):
+    """The path of a program, with the packages that it is in or needs."""
+    return need(lambda: which(name), f"the program {name}", *packages)
 
 
 def compiler_of(source, *flags):
@@ -127,20 +125,11 @@ def libsodium():
     return need(lambda: compiler_of(SODIUM, "-lsodium"), "libsodium with its header", "libsodium-dev")
 
 
-# The paths of git, of the C program minisign, of what makes modules with a memory of 32 bits of such for 64, and of what runs
-# scripts of a browser's language outside of one.
+# The paths of git, of the C program minisign, of what makes modules with a memory of 32 bits of such for 64, of what runs scripts of
+# a browser's language outside of one, and of browsers with letters to show; of one with its driver.
 git = lambda: program("git", "git")
 minisign = lambda: program("minisign", "minisign")
 wasm_opt = lambda: program("wasm-opt", "binaryen")
 node = lambda: program("node", "nodejs")
-
-
-def firefox():
-    """The path of the browser firefox, with letters to show."""
-    return need(lambda: which("firefox-esr"), "the program firefox-esr", "firefox-esr", "fonts-dejavu-core")
-
-
-def chromium():
-    """The paths of the browser chromium, with letters to show, and of its driver."""
-    browser = need(lambda: which("chromium"), "the program chromium", "chromium", "fonts-dejavu-core")
-    return browser, program("chromedriver", "chromium-driver")
+firefox = lambda: program("firefox-esr", "firefox-esr", "fonts-dejavu-core")
+chromium = lambda: (program("chromium", "chromium", "fonts-dejavu-core"), program("chromedriver", "chromium-driver"))
