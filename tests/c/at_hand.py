@@ -8,20 +8,18 @@ README's first commands verify a download within 30 seconds, of the processor on
 but a C compiler, make, binutils and what every Debian has: no kit and no Python. Where a source of the proved calls
 has changed since `dist/` was made, or an archive is damaged, make stops with a sentence and installs nothing.
 
-Make checks, installs and releases `c/` (`releases.py` builds what is released), packs the packages of `bindings/` and
-builds the example in Rust; what was packed is built too, as is a page from that of `dist/`. `make uninstall` and
-`make clean` remove what was installed or built, and nothing else: files of others stand beside it, and where a path
-would lead that falls apart at its blanks. An OUT that make cannot have in a target is rejected before anything is
-written or removed. It prints a line for each failure; the last line is `N passed, M failed`.
+Make checks, installs and releases `c/` (`releases.py` builds what is released), packs packages of `bindings/` and
+builds the example in Rust; a wheel is built too, and a page from that of `dist/`. `make uninstall` and `make clean`
+remove what was installed or built, and nothing else: files of others stand beside it, and where a path would lead that
+falls apart at its blanks. An OUT that make cannot have in a target is rejected before anything is written or removed.
+It prints a line for each failure; the last line is `N passed, M failed`.
 
 Needs git where this is a clone, make, binutils, pkg-config, groff, a C compiler, rustc, cargo, libsodium with its
-header, and Debian's Python with pip, setuptools and wheel, and, where npm is, clang and lld, and installs what is
-missing if it may. Without npm the package for JavaScript is left out.
+header, and Debian's Python with pip, setuptools and wheel, and installs what is missing if it may.
 """
 
 import os
 import re
-import shutil
 import sys
 import time
 
@@ -226,17 +224,9 @@ def check_installing(checks, copy):
 
 
 def check_packages(checks, copy):
-    """Packages are packed, and what was packed is built: the crate by cargo, as it packs it, and a wheel. (`go.py` builds the module in a
-    path with blanks.)"""
-    packages = ["rust", "go", "python"]
-    if shutil.which("npm", path=copy.environment["PATH"]):
-        needs.program("clang", "clang"), needs.program("wasm-ld", "lld")
-        packages.append("javascript")
-    print(f"at hand: packed are {', '.join(packages)}")
-    copy.make("bindings", *packages, f"CARGO={copy.cargo}", f"PYTHON={copy.python}", f"PAGE={copy.path('dist/minisign.html')}")
-    archives = files_below(copy.path("bindings/out"))
-    checks.check(len(archives) == len(packages) + 1, f"packed are {sorted(archives)}")
-    (archive,) = [archive for archive in archives if archive.endswith(".tar.gz") and "go" not in archive]
+    """The package for Python is packed, and built. (`check_cleaning` packs those for Rust, which cargo builds then, and for Go.)"""
+    copy.make("bindings", "python", f"PYTHON={copy.python}")
+    (archive,) = [name for name in files_below(copy.path("bindings/out")) if name.endswith(".tar.gz")]
     copy.ended(copy.python, "-m", "pip", "wheel", "-q", "--no-index", "--no-build-isolation", "--no-deps", "-w", copy.path("a wheel"),
                copy.path("bindings/out", archive))
     checks.check(len(os.listdir(copy.path("a wheel"))) == 1, "no wheel was built")
