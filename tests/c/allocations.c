@@ -22,13 +22,8 @@
 
 /* The rows of a key that are such a block, and how many times as great the next alignment is that is asked for: with
  * -DIS_EMULATED the smallest, and fewer of them. */
-#ifdef IS_EMULATED
-#define LARGE_ROWS LARGE_BYTES
-#define NEXT_ALIGNMENT 64
-#else
-#define LARGE_ROWS ((size_t) 16 << 20)
-#define NEXT_ALIGNMENT 4
-#endif
+#define LARGE_ROWS (IS_EMULATED ? LARGE_BYTES : (size_t) 16 << 20)
+#define NEXT_ALIGNMENT (IS_EMULATED ? 4096 : 4)
 
 #include <errno.h>
 #include <time.h>

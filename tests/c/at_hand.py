@@ -8,21 +8,18 @@ README's first commands verify a download within 30 seconds, of the processor on
 but a C compiler, make, binutils and what every Debian has: no kit and no Python. Where a source of the proved calls
 has changed since `dist/` was made, or an archive is damaged, make stops with a sentence and installs nothing.
 
-Make checks, installs and releases `c/`, packs the packages of `bindings/` and builds the example in Rust; what was
-packed is built too, as is a page from that of `dist/`. `make uninstall` and `make clean` remove what was installed or
-built, and nothing else: files of others stand beside it, and where a path would lead that falls apart at its blanks.
-An OUT that make cannot have in a target is rejected before anything is written or removed. It prints a line for each
-failure; the last line is `N passed, M failed`.
+Make checks, installs and releases `c/` (`releases.py` builds what is released), packs packages of `bindings/` and
+builds the example in Rust; a wheel is built too, and a page from that of `dist/`. `make uninstall` and `make clean`
+remove what was installed or built, and nothing else: files of others stand beside it, and where a path would lead that
+falls apart at its blanks. An OUT that make cannot have in a target is rejected before anything is written or removed.
+It prints a line for each failure; the last line is `N passed, M failed`.
 
-Needs git where this is a clone, make, binutils, pkg-config, groff, a C compiler, rustc, cargo, golang-go, libsodium
-with its header, and Debian's Python with pip, setuptools and wheel, and, where npm is, clang and lld, and installs
-what is missing if it may. Without npm the package for JavaScript is left out.
+Needs git where this is a clone, make, binutils, pkg-config, groff, a C compiler, rustc, cargo, libsodium with its
+header, and Debian's Python with pip, setuptools and wheel, and installs what is missing if it may.
 """
 
-import glob
 import os
 import re
-import shutil
 import sys
 import time
 
@@ -51,9 +48,8 @@ VERIFIED = "Signature and comment signature verified\nTrusted comment: timestamp
 
 PLACE = os.path.join("a b", "c d")
 # The directories that have a Makefile, with what is built there in a directory of others, and what is tried with a wrong OUT.
-MAKEFILES = {"c": ("all", "release"), "bindings": ("rust", "go"), "examples/rust": ()}
-GOALS = {"c": ("all", "install", "release", "uninstall", "clean"), "bindings": ("all", "rust", "javascript", "clean"),
-         "examples/rust": ("out/minisign-verify", "clean")}
+MAKEFILES = {"c": ("all release C_CALLS=", "all install release uninstall clean"), "bindings": ("rust go", "all rust javascript clean"),
+             "examples/rust": ("", "out/minisign-verify clean")}
 # Where paths in the copy, and in its directories, lead that fall apart at their blanks.
 NEIGHBOURS = ("a", "a b/c", *(f"{PLACE}/{directory}/{name}" for directory in MAKEFILES
                               for name in ("b/c", "d/bindings/out/rust", "d/c/out")))
@@ -72,14 +68,12 @@ class Copy:
 
     def __init__(self, checks, room):
         self.checks, self.room, self.top = checks, room, os.path.join(room, PLACE)
-        self.cargo, self.go, self.python = needs.program("cargo", "cargo"), needs.program("go", "golang-go"), python()
-        rustc, temporary = needs.rust_compiler(), os.path.join(room, "tem p")
+        self.cargo, self.python = needs.program("cargo", "cargo"), python()
         # (C is compiled without optimizing, to take less time)
-        self.environment = {"PATH": static_library.path_without_kit(), "TMPDIR": temporary, "RUSTC": rustc, "GOCACHE": f"{temporary}/go",
-                            "RUSTDOC": os.path.join(os.path.dirname(rustc), "rustdoc"), "CARGO_NET_OFFLINE": "true", "GOPROXY": "off",
-                            "GOFLAGS": "", "GOTOOLCHAIN": "local", "CFLAGS": "-O0", "CGO_CFLAGS": "-O0"}
+        self.environment = {"PATH": static_library.path_without_kit(), "TMPDIR": os.path.join(room, "tem p"), "CFLAGS": "-O0",
+                            "RUSTC": needs.rust_compiler(), "CARGO_NET_OFFLINE": "true"}
         copy_tree(self.top)
-        os.mkdir(temporary)
+        os.mkdir(self.environment["TMPDIR"])
         self.put(room, *(f"{name}/{FILE}" for name in NEIGHBOURS))
 
     def path(self, *names):
@@ -102,13 +96,6 @@ class Copy:
     def make(self, directory, *words, says=""):
         return self.ended("make", "-s", "-C", directory, *words, says=says)
 
-    def unpack(self, archive, to):
-        """The directory that an archive of the copy holds, unpacked into a new one."""
-        os.mkdir(self.path(to))
-        (packed,) = glob.glob(os.path.join(glob.escape(self.top), archive))
-        self.ended("tar", "-xf", packed, "-C", self.path(to))
-        return os.path.join(to, *os.listdir(self.path(to)))
-
 
 # ---- With few programs ----
 
@@ -117,8 +104,10 @@ def check_building(checks, tree):
     """The two commands that README begins with."""
     commands = re.search(r"^```sh\n(.*?)^```$", read(TOP, "README.md").decode(), re.M | re.S)[1].splitlines()
     checks.check(len(commands) == 2 and commands[0] == MAKE, f"README begins with other commands: {commands}")
-    began, used = time.monotonic(), processor_seconds()
-    said = [checks.ended(command, tree.run(command)) for command in commands]
+    # (other scripts take what is compiled here)
+    with static_library.kept_object({"CC": needs.libsodium(), "OUT": os.path.join(tree.top, "c", "out")}, is_taken=False):
+        began, used = time.monotonic(), processor_seconds()
+        said = [checks.ended(command, tree.run(command)) for command in commands]
     took, used = time.monotonic() - began, processor_seconds() - used
     checks.check(said[1] == VERIFIED, f"{commands[1]}: {said[1]}")
     print(f"at hand: built, and a download verified, in {took:.1f} s, of which {used:.1f} of the processor")
@@ -166,7 +155,7 @@ def check_damaged(checks, tree):
 def check_without_sources(checks, tree):
     """Where there are no crates what is built and installed is that of dist/. (The calls as C take the most time.)"""
     os.rename(os.path.join(tree.top, "crates"), os.path.join(tree.top, "elsewhere"))
-    checks.ended("no crates", tree.run(f"{MAKE} install DESTDIR=../installed OUT=../again C_CALLS="))
+    checks.ended("no crates", tree.run(f"{MAKE} install DESTDIR=../installed OUT=../again C_CALLS= CFLAGS=-O0 CPPFLAGS="))
     checks.check(os.path.exists(f"{tree.top}/installed/usr/local/bin/minisign"), "without crates nothing is installed")
     os.rename(os.path.join(tree.top, "elsewhere"), os.path.join(tree.top, "crates"))
 
@@ -183,10 +172,10 @@ def check_kit(checks, tree):
 
 def check_rejected(checks, copy):
     """An OUT that is no target of make."""
-    for directory, goals in GOALS.items():
+    for directory, (_, goals) in MAKEFILES.items():
         copy.put(directory, "x/out/library", "y/out/library")
         before = files_below(copy.room)
-        for goal in goals:
+        for goal in goals.split():
             for out in ("x y", "x/out y/out", "x ", ""):
                 # (a makefile that took no OUT for one would write into the root directory)
                 status, said = copy.run("make", "-s", "-C", directory, goal, f"OUT={out}", *([] if out else ["--just-print"]))
@@ -234,27 +223,10 @@ def check_installing(checks, copy):
         checks.check(said.strip() == wanted, f"pkg-config {words}: {said}")
 
 
-def check_release(_, copy):
-    """A release is written, and built."""
-    copy.make("c", "release")
-    copy.ended("sha256sum", "-c", "SHA256SUMS", at="c/out")
-    copy.make(copy.unpack("c/out/*.tar.gz", "a release") + "/c", "library", "C_CALLS=")
-
-
 def check_packages(checks, copy):
-    """Packages are packed, and what was packed is built."""
-    packages = ["rust", "go", "python"]
-    if shutil.which("npm", path=copy.environment["PATH"]):
-        needs.program("clang", "clang"), needs.program("wasm-ld", "lld")
-        packages.append("javascript")
-    print(f"at hand: packed are {', '.join(packages)}")
-    copy.make("bindings", *packages, f"CARGO={copy.cargo}", f"PYTHON={copy.python}", f"PAGE={copy.path('dist/minisign.html')}")
-    archives = files_below(copy.path("bindings/out"))
-    checks.check(len(archives) == len(packages) + 1, f"packed are {sorted(archives)}")
-    for directory in (copy.unpack("bindings/out/*.crate", "a crate"), "bindings/rust"):
-        copy.ended(copy.cargo, "test", "--quiet", "--doc", at=directory, says="test result: ok. 3 passed")
-    copy.ended(copy.go, "test", at=copy.unpack("bindings/out/*go*.tar.gz", "a module"), says="ok")
-    (archive,) = [archive for archive in archives if archive.endswith(".tar.gz") and "go" not in archive]
+    """The package for Python is packed, and built. (`check_cleaning` packs those for Rust, which cargo builds then, and for Go.)"""
+    copy.make("bindings", "python", f"PYTHON={copy.python}")
+    (archive,) = [name for name in files_below(copy.path("bindings/out")) if name.endswith(".tar.gz")]
     copy.ended(copy.python, "-m", "pip", "wheel", "-q", "--no-index", "--no-build-isolation", "--no-deps", "-w", copy.path("a wheel"),
                copy.path("bindings/out", archive))
     checks.check(len(os.listdir(copy.path("a wheel"))) == 1, "no wheel was built")
@@ -269,9 +241,9 @@ def check_cleaning(checks, copy):
     copy.make("c", "library", "OUT=../library", "C_CALLS=")
     copy.put("named", *OTHERS)
     copy.put("never", *OTHERS, *OURS)
-    for directory, words in MAKEFILES.items():
+    for directory, (words, _) in MAKEFILES.items():
         up = os.path.relpath("named", directory)
-        copy.make(directory, *words, f"OUT={up}", f"CARGO={copy.cargo}")
+        copy.make(directory, *words.split(), f"OUT={up}", f"CARGO={copy.cargo}")
         checks.check(files_below(copy.path("named")) > OTHERS, f"make -C {directory} OUT={up} builds nothing there")
         for each in ("named", "never"):
             copy.make(directory, "clean", f"OUT={os.path.relpath(each, directory)}")
@@ -284,7 +256,7 @@ def run_all(checks, room):
     tree = Tree(room, copy.top, compiler, ("gcc", "cc"))
     for check in (check_building, check_older, check_damaged, check_kit, check_without_sources):
         check(checks, tree)
-    for check in (check_rejected, check_built, check_installing, check_release, check_packages, check_cleaning):
+    for check in (check_rejected, check_built, check_installing, check_packages, check_cleaning):
         check(checks, copy)
     for name in NEIGHBOURS:
         checks.check(FILE in files_below(os.path.join(room, name)), f"what others had in {name} is not there any more")

@@ -10,8 +10,9 @@ installation at each of its calls (`installations.c`), memory from malloc, which
 (`allocations.c`), each allocation failing (`out_of_memory.c`), buffers beside pages without access (`guard_pages.c`),
 threads (`threads.c`), and random calls beside a model (`random_calls.c`); each program also with sanitizers, where the
 compiler has them. The library is built over `dist/` (`static_library.py`), once more with the copy of the calls for
-processors without AVX2 alone, and once more with -DMINISIGN_NO_THREADS: such a library names no call for threads. It
-prints a line for each failure; the last line is `N passed, M failed`.
+processors without AVX2 alone, and once more with -DMINISIGN_NO_THREADS, for the programs about memory, which alone
+that changes: such a library names no call for threads. It prints a line for each failure; the last line is
+`N passed, M failed`.
 
 Needs binutils, a C compiler and a C++ compiler, and installs what is missing if it may.
 """
@@ -27,7 +28,7 @@ import ending
 import exports
 import needs
 import static_library
-from process import run
+from process import run, run_apart
 
 INCLUDE = os.path.join(HERE, "..", "..", "include")
 STRICT = ["-Wall", "-Wextra", "-Wpedantic", "-Werror"]
@@ -38,10 +39,15 @@ WRAPPED = ["-Wl,--wrap=malloc", "-Wl,--wrap=realloc", "-Wl,--wrap=free"]
 PROGRAMS = {"usage_errors": [], "asked_texts": WRAPPED, "error_texts": [], "installations": WRAPPED, "guard_pages": [], "random_calls": [],
             "allocations": [*WRAPPED, "-Wl,--wrap=madvise"], "threads": ["-pthread"],
             "out_of_memory": [*WRAPPED, "-Wl,--wrap=madvise", "-Wl,--wrap=pthread_create"]}
-# The libraries, with what make is told of each, and the flags that the programs are built with once each.
+only = lambda *names: {name: PROGRAMS[name] for name in names}
+# With these the programs do less of what takes long; once they do all of it.
+LESS = ["-DIS_EMULATED"]
+# The libraries, with what make is told of each, the flags that the programs are built with once each, and which programs these are.
 NO_THREADS = "-DMINISIGN_NO_THREADS"
-LIBRARIES = {"both copies": ([], ([], SANITIZED)), "for x86-64-v2": ([f"V3={static_library.DIST}/calls-x86-64-v2.a"], ([],)),
-             "without threads": (["C_CALLS=", f"CPPFLAGS=-D_FORTIFY_SOURCE=2 {NO_THREADS}"], ([NO_THREADS],))}
+LIBRARIES = {"both copies": ([], ([], [*LESS, *SANITIZED]), PROGRAMS),
+             "for x86-64-v2": ([f"V3={static_library.DIST}/calls-x86-64-v2.a"], (LESS,), PROGRAMS),
+             "without threads": (["C_CALLS=", f"CPPFLAGS=-D_FORTIFY_SOURCE=2 {NO_THREADS}"], ([NO_THREADS],),
+                                 only("allocations", "out_of_memory", "threads"))}
 
 
 def compiled(checks, what, name, compiler, library, *flags):
@@ -52,11 +58,12 @@ def compiled(checks, what, name, compiler, library, *flags):
     return program
 
 
-def check_program(checks, what, name, compiler, library, *flags, before=()):
-    """A program that counts what it checks: by these words before it, it is run."""
-    ran = run([*before, compiled(checks, what, name, compiler, library, *flags)])
-    said = checks.ended(f"{what}: {name}", ran, says=" passed, 0 failed\n")
-    checks.passed += int((re.findall(r"(?m)^(\d+) passed, 0 failed$", said) or [0])[-1])
+def check_programs(checks, what, programs, compiler, library, *flags, before=()):
+    """Programs that count what they check: by these words before them, they are run."""
+    for name, linking in programs.items():
+        status, said, why = run_apart([*before, compiled(checks, what, name, compiler, library, *flags, *linking)])
+        said = checks.ended(f"{what}: {name}", (status, said.replace("\r\n", "\n") + why), says=" passed, 0 failed\n")
+        checks.passed += int((re.findall(r"(?m)^(\d+) passed, 0 failed$", said) or [0])[-1])
 
 
 def check_declarations(checks, room):
@@ -70,16 +77,15 @@ def check_declarations(checks, room):
 def run_all(checks, room):
     compiler = needs.c_compiler()
     check_declarations(checks, room)
-    for number, (what, (words, kinds)) in enumerate(LIBRARIES.items()):
+    for number, (what, (words, kinds, programs)) in enumerate(LIBRARIES.items()):
         library = static_library.library(os.path.join(room, str(number)), *words)
         named = {*re.findall(r"\w*pthread\w*", run([needs.program("nm", "binutils"), "--undefined-only", library])[1])}
         checks.check(bool(named) != (what == "without threads"), f"{what}: the library calls for threads {named}")
         for flags in kinds:
-            if flags == SANITIZED and not needs.compiles(compiler, needs.HELLO, SANITIZED):
+            if SANITIZED[0] in flags and not needs.compiles(compiler, needs.HELLO, SANITIZED):
                 print("skipped: the programs with sanitizers, which the compiler lacks")
-                continue
-            for name, linking in PROGRAMS.items():
-                check_program(checks, what, name, compiler, library, *flags, *linking)
+            else:
+                check_programs(checks, what, programs, compiler, library, *flags)
 
 
 if __name__ == "__main__":

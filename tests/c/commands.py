@@ -104,10 +104,11 @@ def check_commands(checks, clone, room):
         print(f"commands: left out, since {why}: {command}")
         checks.check(any(line.startswith(command) for line in commands), f"no document has the command {command}")
     wanted = [command for command in commands if not command.startswith(tuple(LEFT_OUT))]
-    for command, status, said in run_in_shell(clone.top, wanted, room):
-        right, words = next((ends for begins, ends in ENDS.items() if command.startswith(begins)), (0, said))
-        checks.check(status == right, f"{command}: status {status}, and not {right}: {said[-600:]}")
-        checks.check(said == words, f"{command}: it says {said[-600:]}")
+    with static_library.kept_object({"CC": needs.libsodium(), "OUT": os.path.join(clone.top, "c", "out")}):
+        for command, status, said in run_in_shell(clone.top, wanted, room):
+            right, words = next((ends for begins, ends in ENDS.items() if command.startswith(begins)), (0, said))
+            checks.check(status == right, f"{command}: status {status}, and not {right}: {said[-600:]}")
+            checks.check(said == words, f"{command}: it says {said[-600:]}")
 
 
 def check_left(checks, clone):

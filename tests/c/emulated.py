@@ -15,15 +15,13 @@ from collections import namedtuple
 import exports
 import needs
 import static_library
-from c_library import INCLUDE, STRICT, check_program, compiled
+from c_library import INCLUDE, LESS, STRICT, check_programs, compiled
 from process import run
 from proved import ROOT
 from running import read, write
 
 # How many rows of a derivation the key of a usual limit takes.
 USUAL_ROWS = "1048576"
-# With these the programs of tests/c do less of what takes long, which they do over the archives (`c_library.py`).
-LESS = ["-DIS_EMULATED"]
 
 # What Debian's libsodium calls of its own C library.
 OF_GLIBC = b"""#define _GNU_SOURCE
@@ -36,6 +34,7 @@ void __explicit_bzero_chk(void *data, size_t len, size_t size) { (void) size; ex
 # it, whether Debian has a libsodium for it, and whether its pointers have 32 bits.
 Kind = namedtuple("Kind", "name triple debian emulator elf has_sodium has_32_bits", defaults=(True, False))
 AARCH64 = Kind("AArch64", "aarch64-linux-gnu", "arm64", "aarch64", "AArch64")
+musl_compiler = lambda: needs.program("musl-gcc", "musl-tools")
 
 
 def fetch(kind, place, *packages):
@@ -47,7 +46,7 @@ def fetch(kind, place, *packages):
             os.makedirs(f"{room}/{directory}")
         options = [f"-o{option}" for option in (
             f"Dir::State::lists={room}/lists", f"Dir::Cache={room}/cache", f"APT::Architecture={kind.debian}",
-            f"APT::Architectures={kind.debian}", "APT::Sandbox::User=root", "Acquire::Retries=3")]
+            f"APT::Architectures={kind.debian}", "APT::Sandbox::User=root", "Acquire::Retries=3", "Acquire::Languages=none")]
         # (a mirror may lack one of the lists for a while, of which the packages need the first)
         _, listed = run(["apt-get", "-q", *options, "update"], room)
         status, said = run(["apt-get", "-q", *options, "download", *packages], room)
@@ -86,10 +85,6 @@ def compiler(kind):
     found, header = needs.program(f"{kind.triple}-gcc", f"gcc-{kind.triple}"), f"/usr/{kind.triple}/include/stdio.h"
     needs.need(lambda: os.path.exists(header) or None, f"the C library for {kind.name}", f"libc6-dev-{kind.debian}-cross")
     return found
-
-
-def musl_compiler():
-    return needs.program("musl-gcc", "musl-tools")
 
 
 def headers_of_sodium(room):
@@ -173,8 +168,7 @@ def check_all(checks, built, own, programs):
     checks.ended(f"{name}: the library", run(["readelf", "-h", f"{built.out}/libminisign.so"]), says=built.kind.elf)
     layout = [built.compiler, "-std=c11", *STRICT, "-I", INCLUDE, "-fsyntax-only", exports.write_layout(built.room)]
     checks.ended(f"{name}: the layout", run(layout))
-    for program, flags in programs.items():
-        check_program(checks, name, program, built.compiler, built.library, *LESS, *flags, before=built.emulator)
+    check_programs(checks, name, programs, built.compiler, built.library, *LESS, before=built.emulator)
     if built.kind.has_sodium:
         testing = ["make", "-s", "-C", static_library.DIRECTORY, *built.flags, f"OUT={built.out}", "test"]
         said = checks.ended(f"{name}: make test", run(testing, RUN=" ".join(built.emulator)))

@@ -149,7 +149,7 @@ static void signing(void)
         CHECK(minisign_open_unsealed_key(unopened, key) == (is_read ? MINISIGN_OK : MINISIGN_KEY_NOT_READ));
         CHECK(minisign_open_sealed_key(unopened, buffer(0), 0, 1, 1, key) == (is_read ? MINISIGN_KEY_NOT_SEALED : MINISIGN_KEY_NOT_READ));
     }
-    for (size_t len = 0; len < 200; len++) {
+    for (size_t len = 0; len < 200; len += IS_EMULATED ? 7 : 1) {
         used = 0;
         minisign_secret_key *key = ALONE(minisign_secret_key, opened);
         minisign_signed_parts *parts = NEW(minisign_signed_parts);
@@ -326,8 +326,9 @@ int main(void)
         asking();
         signing();
         making();
-        opening_in_place(1);
-        opening_in_place(2);
+        for (uint64_t p = IS_EMULATED ? 2 : 1; p <= 2; p++) {
+            opening_in_place(p);
+        }
         installations();
         texts();
     }

@@ -17,11 +17,12 @@ import shlex
 import sys
 
 HERE = os.path.dirname(os.path.realpath(__file__))
-sys.path.append(os.path.join(HERE, "..", "shared"))
+sys.path += [os.path.join(HERE, "..", name) for name in ("shared", os.path.join("..", "tools"))]
 
 import ending
 import needs
 import static_library
+from c_header import Header
 from needles import SEED_AT
 from process import run, run_apart
 from running import read, write
@@ -39,17 +40,12 @@ DROPPED = b"#include <minisign.h>\nint main(void) { minisign_state s; minisign_i
 COMMENT = "version 2 \u00e9"
 
 
-def header_names(header):
-    """The names of the calls that the header declares."""
-    text = re.sub(r"/\*.*?\*/", "", read(header).decode(), flags=re.S)
-    return set(re.findall(r"^(?!typedef|#)[^\n(]*?\b(minisign_\w+)\(", text, re.M))
-
-
 def installed_files(checks, root):
     """What was installed, and the names in it."""
     found = {os.path.relpath(os.path.join(at, name), root) for at, _, names in os.walk(root) for name in names}
     versions = [name for name in found if re.fullmatch(r"lib/libminisign\.so\.\d+\.\d+(?:\.\d+)?", name)]
-    pages = {page: header_names(f"{root}/include/{page}.h") for page in ("minisign", "minisign_install")}
+    pages = {page: {call.name for call in Header(read(root, "include", f"{page}.h").decode()).calls}
+             for page in ("minisign", "minisign_install")}
     names = set().union(*pages.values())
     links = {f"share/man/man3/{name}.3": page for page, calls in pages.items() for name in calls}
     checks.check(len(versions) == 2 and found == {*FILES, *versions, *links}, f"other files were installed: {sorted(found)}")
@@ -237,18 +233,10 @@ def check_updater(checks, over):
 
 
 def check_programs(checks, over):
-    """The programs that were installed, once each; `tests/command_line/command_line.py` has all about the first."""
-    key, secret, data, sig, place = map(over.path, ("key.pub", "key.key", "data", "installed.sig", "place"))
-    ours, install = f"{over.root}/bin/minisign", f"{over.root}/bin/minisign-install"
-    comment = "version:7\tfile:place"
-    checks.ended("minisign -S", run([ours, "-S", "-s", secret, "-m", data, "-x", sig, "-t", comment]))
-    for program in (ours, over.minisign):
-        checks.same(run([program, "-V", "-Q", "-p", key, "-m", data, "-x", sig]), (0, f"{comment}\n"), program)
-    for words, wanted in (([], 7), (["--first"], 0), ([], 10)):
-        status, said, why = run_apart([install, *words, "--numbering", "version", key, data, sig, place])
-        checks.check(status == wanted and not said and bool(why) == (wanted == 7), f"minisign-install {words}: status {status}, {why!r}")
-    left = read(place), read(over.room, ".place.number").splitlines()[0]
-    checks.same(left, (read(data), b"version:7"), "minisign-install: what was installed")
+    """The programs that were installed are those that were built, which `command_line.py` and `real_installing.py` try."""
+    for name, flag in (("minisign", "-v"), ("minisign-install", "--version")):
+        checks.check(read(over.root, "bin", name) == read(over.room, "out", name), f"another {name} is installed than is built")
+        checks.ended(f"{name}, installed", run([f"{over.root}/bin/{name}", flag]), says=name)
 
 
 def run_all(checks, room):

@@ -26,7 +26,6 @@ import os
 import random
 import re
 import struct
-import subprocess
 import sys
 
 HERE = os.path.dirname(os.path.realpath(__file__))
@@ -38,8 +37,8 @@ import emulated
 import ending
 import needs
 import static_library
-from c_library import INCLUDE, NO_THREADS, PROGRAMS, SANITIZED, STRICT, check_program, compiled
-from emulated import LESS, Kind
+from c_library import INCLUDE, LESS, NO_THREADS, PROGRAMS, SANITIZED, STRICT, check_programs, compiled, only
+from emulated import Kind
 from minisign_cases import random_cases
 from process import run, run_apart
 from running import read, write
@@ -50,7 +49,6 @@ LIBRARY, PORTABLE, C_CALLS = f"{C}/library", f"{C}/library/portable", f"{static_
 # Where what is built with the calls as C finds what stands beside them.
 OF_LIBRARY = ["-I", PORTABLE, "-I", LIBRARY]
 DRAWN = 1500
-SECONDS = 1800
 # How the programs of tests/c are built where memory is malloc's alone: but on Linux with pointers of 64 bits.
 OF_MALLOC = {**PROGRAMS, "allocations": [*PROGRAMS["allocations"], "-DMINISIGN_MALLOC_ALONE", *OF_LIBRARY]}
 
@@ -69,33 +67,29 @@ class Answers:
         _, self.wanted, _ = run_apart([compiled(checks, "archives", "answers", needs.c_compiler(), self.library), self.file])
         checks.check(len(self.wanted) > 1000, f"the archives answer {self.wanted[:100]}")
 
-    def check(self, what, status, said):
-        is_same = status == 0 and said == self.wanted
-        self.checks.check(is_same, f"{what}: status {status}, other answers than the archives give: {said[:100]!r}")
-
-    def check_library(self, what, compiler, library, *flags, before=()):
+    def check(self, what, compiler, library, *flags, before=()):
         """A library answers the same."""
         program = compiled(self.checks, what, "answers", compiler, library, *flags)
-        self.check(what, *run_apart([*before, program, self.file])[:2])
+        status, said, _ = run_apart([*before, program, self.file])
+        is_same = status == 0 and said.replace("\r\n", "\n") == self.wanted
+        self.checks.check(is_same, f"{what}: status {status}, other answers than the archives give: {said[:100]!r}")
 
 
 def check_here(checks, room, answers):
     """By the compilers that are here; the programs over musl verify the kept signatures."""
     gcc, clang, tcc = (needs.program(name, name) for name in ("gcc", "clang", "tcc"))
     of_musl = emulated.musl_words(room)
-    fewer = {name: PROGRAMS[name] for name in ("usage_errors", "asked_texts", "random_calls")}
     # (with -g gcc takes twice as long for the calls; without -O1 all that is run takes several times as long)
     for what, words, compiler, flags, programs in (
             ("gcc", [], gcc, [], PROGRAMS), ("clang", [f"CC={clang}"], gcc, [], PROGRAMS),
             ("sanitized", [f"CFLAGS=-O1 {' '.join(SANITIZED)}", "CPPFLAGS=", "LDFLAGS="], gcc, SANITIZED, PROGRAMS),
             ("tcc", [f"CC={tcc}", "TARGET=x86_64-linux", "LD=ld", "OBJCOPY=objcopy", "AR=ar", "CFLAGS=", "CPPFLAGS=", "HAS_PAGES="],
              gcc, [NO_THREADS], OF_MALLOC),
-            ("musl", of_musl, emulated.musl_compiler(), ["-static"], fewer)):
+            ("musl", of_musl, emulated.musl_compiler(), ["-static"], only("usage_errors", "asked_texts", "random_calls"))):
         made = f"{room}/{what}/libminisign.a"
         static_library.run_make("CC=gcc", "PORTABLE=1", f"OUT={room}/{what}", *words, made)
-        answers.check_library(what, compiler, made, *LESS, *flags)
-        for name, linking in programs.items():
-            check_program(checks, what, name, compiler, made, *LESS, *flags, *linking)
+        answers.check(what, compiler, made, *LESS, *flags)
+        check_programs(checks, what, programs, compiler, made, *LESS, *flags)
     static_library.run_make("PORTABLE=1", f"OUT={room}/musl", *of_musl, "all")
     checks.ended("musl: the programs", run(["sh", "check.sh", f"{room}/musl/minisign"], C), says=" passed, 0 failed")
     check_strict(checks, room)
@@ -104,10 +98,10 @@ def check_here(checks, room, answers):
 def check_strict(checks, room):
     """It is C99 without a warning of two compilers, and what is made of the header and of the calls declares the same."""
     whole = write(room, "whole.c", f'#include "{C_CALLS}"\n#include "{PORTABLE}/pointers.c"\n'.encode())
-    # (of clang's warnings none comes of optimizing)
-    for compiler, how in (("gcc", ["-O1", "-c", "-o", os.devnull]), ("clang", ["-fsyntax-only"])):
+    # (the warnings of gcc that come of optimizing are errors where make builds it)
+    for compiler in ("gcc", "clang"):
         for source in (*sorted(glob.glob(f"{PORTABLE}/*.c")), whole):
-            command = [needs.program(compiler, compiler), "-std=c99", *STRICT, *how, *OF_LIBRARY, "-I", INCLUDE, source]
+            command = [needs.program(compiler, compiler), "-std=c99", *STRICT, "-fsyntax-only", *OF_LIBRARY, "-I", INCLUDE, source]
             checks.ended(f"{os.path.basename(source)} by {compiler}", run(command))
 
 
@@ -163,19 +157,13 @@ MORE_KINDS = {kind.debian: kind for kind in (
     Kind("sparc64", "sparc64-linux-gnu", "sparc64", "sparc64", "Sparc v9", has_sodium=False))}
 
 
-def check_kind(checks, room, answers, kind):
-    """A kind of processors, under qemu; what was built."""
-    built = emulated.Emulated(checks, room, kind, *(["CFLAGS=-O2"] if kind.debian in ("hppa", "alpha") else []))
-    emulated.check_all(checks, built, answers.library, OF_MALLOC if kind.has_32_bits else PROGRAMS)
-    answers.check_library(kind.name, built.compiler, built.library, before=built.emulator)
-    return built
-
-
-def check_elsewhere(checks, room, answers):
-    """Kinds of processors, of which the registers are cleared too (`cleared.py` tries that of AArch64)."""
-    for kind in KINDS:
-        built = check_kind(checks, room, answers, kind)
-        if kind != emulated.AARCH64:
+def check_elsewhere(checks, room, answers, kinds=KINDS):
+    """Kinds of processors, under qemu; of those that the gate tries the registers are cleared too (`cleared.py` tries that of AArch64)."""
+    for kind in kinds:
+        built = emulated.Emulated(checks, room, kind, *(["CFLAGS=-O2"] if kind.debian in ("hppa", "alpha") else []))
+        emulated.check_all(checks, built, answers.library, OF_MALLOC if kind.has_32_bits else PROGRAMS)
+        answers.check(kind.name, built.compiler, built.library, before=built.emulator)
+        if kind in KINDS[1:]:
             program = cleared.Builder(built.room).program(built.compiler, "-O2", library=built.library, linking=["-static"])
             cleared.check_run(checks, kind.name, cleared.Run([*built.emulator, program]))
 
@@ -190,32 +178,24 @@ class Windows:
         self.program = needs.need(lambda: needs.which("wine64") or next(iter(glob.glob(f"{WINE}/wine64")), None), "wine64", "wine64")
         self.variables = {"WINEPREFIX": os.path.join(room, "wine"), "WINEDEBUG": "-all", "HOME": room}
 
-    def run(self, program, *words):
-        """Runs a program: its status, and what it printed."""
-        status, said, _ = run_apart([self.program, program, *words], **self.variables)
-        return status, said.replace("\r\n", "\n")
-
     def end(self):
         """Ends what serves it."""
-        subprocess.run([f"{WINE}/wineserver", "-k"], env={**os.environ, **self.variables}, stderr=subprocess.DEVNULL, timeout=SECONDS)
+        run([f"{WINE}/wineserver", "-k"], **self.variables)
 
 
 def check_windows(checks, room, answers):
     """The dynamic library, and the static one."""
     compiler, place = needs.program("x86_64-w64-mingw32-gcc", "gcc-mingw-w64-x86-64"), os.path.join(room, "windows")
-    static_library.run_make(f"CC={compiler}", f"OUT={place}", "library")
     windows = Windows(room)
-    try:
-        for library in ("libminisign.a", "libminisign.dll.a"):
-            for name in ("answers", "usage_errors", "asked_texts", "error_texts", "random_calls"):
-                what, flags = f"Windows, {library}", [*LESS, "-w", "-D__USE_MINGW_ANSI_STDIO=1", *PROGRAMS.get(name, [])]
-                program = compiled(checks, what, name, compiler, f"{place}/{library}", *flags) + ".exe"
-                if name == "answers":
-                    answers.check(what, *windows.run(program, answers.file))
-                else:
-                    checks.ended(f"{what}: {name}", windows.run(program), says=" passed, 0 failed")
-    finally:
-        windows.end()
+    # (a program is named without its `.exe`)
+    settings = [f"{name}={value}" for name, value in windows.variables.items()]
+    before = ["env", *settings, "sh", "-c", f'exec {windows.program} "$0.exe" "$@"']
+    static_library.run_make(f"CC={compiler}", f"OUT={place}", "library")
+    for library in ("libminisign.a", "libminisign.dll.a"):
+        what, over = f"Windows, {library}", (compiler, f"{place}/{library}", *LESS, "-w", "-D__USE_MINGW_ANSI_STDIO=1")
+        answers.check(what, *over, before=before)
+        check_programs(checks, what, only("usage_errors", "asked_texts", "error_texts", "random_calls"), *over, before=before)
+    windows.end()
 
 
 # What stands for headers: with the functions that the library calls, where none of the system are here; and for those of musl that
@@ -243,11 +223,13 @@ def check_compiled(checks, room, _):
     places = [f"{room}/linux", f"/usr/include/{os.uname().machine}-linux-musl", emulated.headers_of_sodium(room)]
     sources = [path for name in ("minisign", "install", "shared") for path in sorted(glob.glob(f"{C}/{name}/*.c"))]
     checks.check(len(sources) > 25, f"the programs have only these files: {sources}")
+    # (but for the calls, which hold no assembly, it is compiled to the end)
     library = (f"{LIBRARY}/boundary.c", f"{LIBRARY}/clearing.c", *sorted(glob.glob(f"{PORTABLE}/*.c")), C_CALLS)
-    how = ["-isystem", f"{room}/ours", "-DMINISIGN_PORTABLE", "-DMINISIGN_MALLOC_ALONE", *OF_LIBRARY, "-c", "-o", os.devnull]
+    how = ["-isystem", f"{room}/ours", "-DMINISIGN_PORTABLE", "-DMINISIGN_MALLOC_ALONE", *OF_LIBRARY]
     for target in TARGETS:
         for source in library:
-            checks.ended(f"{os.path.basename(source)} for {target}", run([*clang, f"--target={target}", *how, source]))
+            end = ["-fsyntax-only"] if source == C_CALLS else ["-c", "-o", os.devnull]
+            checks.ended(f"{os.path.basename(source)} for {target}", run([*clang, f"--target={target}", *how, *end, source]))
         # (the headers of musl have those of POSIX)
         if re.match("x86_64-.*(apple|bsd)", target):
             system = [word for place in [f"{room}/macos"] * ("apple" in target) + places for word in ("-isystem", place)]
@@ -267,7 +249,7 @@ def run_all(checks, room):
         if part in PARTS:
             PARTS[part](checks, room, answers)
         else:
-            check_kind(checks, room, answers, MORE_KINDS[part])
+            check_elsewhere(checks, room, answers, [MORE_KINDS[part]])
 
 
 if __name__ == "__main__":

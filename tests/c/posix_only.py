@@ -1,16 +1,17 @@
 #!/usr/bin/env python3
-"""Builds the programs of `c/` with -DPOSIX_ONLY, which takes nothing that Linux alone has, and runs all tests of both.
+"""Builds the programs of `c/` with -DPOSIX_ONLY, which takes nothing that Linux alone has, and runs the tests of files of both.
 
     tests/c/posix_only.py
 
-All cases of `tests/command_line/command_line.py` and `tests/installer/real_installing.py` pass, but for those that
-this names, each with what is weaker there; one of these that passes is a failure too. In none of them a stranger gets
-a key. It prints a line for each failure; the last line is `N passed, M failed`.
+That changes the opening of files, their permissions and their replacing alone; of all else these scripts try the same
+code without it. All cases of `tests/installer/real_installing.py`, and those of `tests/command_line/command_line.py`
+that open and replace files, pass, but for those that this names, each with what is weaker there; one of these that
+passes is a failure too. In none of them a stranger gets a key. It prints a line for each failure; the last line is
+`N passed, M failed`.
 
 Needs what these two scripts need, and installs what is missing if it may.
 """
 
-import collections
 import os
 import re
 import sys
@@ -22,6 +23,7 @@ import ending
 import needs
 import static_library
 from process import run
+from rooms import ROOMS, files_of
 
 LISTS = "POSIX has no access control lists: none is copied, and one that a directory gives stays"
 EXCHANGE = "no two names are exchanged, so a failure or a signal leaves the first of a pair in place of an older one"
@@ -43,6 +45,8 @@ WEAKER = {
     },
 }
 
+# The files that it changes.
+CHANGED = {"handles.c", "permissions.c", "stages.c"}
 # Calls that Linux alone has.
 OF_LINUX = {"renameat2", "syscall", "sync_file_range", "getrandom", "fstatfs", "getxattr", "fgetxattr", "fsetxattr", "fremovexattr"}
 
@@ -55,26 +59,22 @@ def check_calls(checks, program):
 
 def check_script(checks, script, *arguments):
     """Runs a script over a program: each of its failures has to be named, and each name has to be of one."""
-    status, said = run([sys.executable, os.path.join(HERE, "..", script), *arguments], seconds=None)
-    lines = said.splitlines()
-    ended = re.fullmatch(r"(\d+) passed, \d+ failed", lines[-1] if lines else "")
-    if ended:
-        checks.passed += int(ended[1])
-    else:
-        checks.check(False, f"{script} ended with {status}: {lines[-5:]}")
-    found = collections.Counter()
-    for line in (line for line in lines if line.startswith("FAILED: ")):
-        name = line.removeprefix("FAILED: ").removeprefix("minisign-install: ")
-        pattern = next((pattern for pattern in WEAKER[script] if re.match(pattern, name)), None)
-        found[pattern] += 1
-        checks.check(pattern is not None, line)
+    _, said = run([sys.executable, os.path.join(HERE, "..", script), *arguments], seconds=None)
+    ended = re.search(r"(?m)^(\d+) passed, \d+ failed\n\Z", said)
+    checks.passed += int(ended[1]) if checks.check(ended, f"{script} ended with {said[-800:]}") else 0
+    failed = {*re.findall(r"(?m)^FAILED: (?:minisign-install: )?(.*)$", said)}
+    print(f"that fail in {script}: {len(failed)} cases")
     for pattern, why in WEAKER[script].items():
-        checks.check(found[pattern] > 0, f"no case fails that is named {pattern}, of which it is said: {why}")
-    print(f"weaker in {script}: {found.total() - found[None]} cases")
+        weaker = {name for name in failed if re.match(pattern, name)}
+        checks.check(weaker, f"no case fails that is named {pattern}, of which it is said: {why}")
+        failed -= weaker
+    checks.check(not failed, *failed)
 
 
 def run_all(checks, room):
     os.chmod(room, 0o711)
+    changed = {os.path.basename(path) for name in ROOMS for path, text in files_of(name).items() if "POSIX_ONLY" in text}
+    checks.same(changed, CHANGED, "the files that -DPOSIX_ONLY changes")
     programs = [f"{room}/c/minisign", f"{room}/c/minisign-install"]
     static_library.run_make(f"OUT={room}/c", f"CC={needs.libsodium()}", "CPPFLAGS=-D_FORTIFY_SOURCE=2 -DPOSIX_ONLY", "C_CALLS=",
                             "-j4", *programs)

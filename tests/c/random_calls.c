@@ -1,15 +1,11 @@
 /*
- * 2,000,000 random calls, or with -DIS_EMULATED a tenth of them, on a few states, keys and signatures, beside a model
+ * 2,000,000 random calls, or with -DIS_EMULATED a twentieth, on a few states, keys and signatures, beside a model
  * of each: the number of each call is the model's, an error changes nothing, and the digest is that of what the model
  * was fed.
  */
 #include "texts_for_tests.h"
 
-#ifdef IS_EMULATED
-#define CALLS 200000
-#else
-#define CALLS 2000000
-#endif
+#define CALLS (IS_EMULATED ? 100000 : 2000000)
 
 enum { STATES = 4, KEYS = 3, SIGNATURES = 4, MOST = 300, ROOM = 1024 };
 

@@ -30,17 +30,14 @@ import ending
 import needs
 import proved
 import static_library
-from c_library import PROGRAMS, check_program
-from at_hand import DAMAGED
+from c_library import LESS, check_programs, only
 from commands import has_secret_key
 from copies import TOP, Tree, files_below, listed
 from packaging import make
 from process import run
 from running import read
+from texts import CORPUS
 
-CORPUS = os.path.join(TOP, "tests", "corpus")
-# How what was published is verified by a program in CORPUS.
-VERIFYING = ("-V", "-p", "published.pub", "-x", "published.minisig", "-m", "DATA")
 # Sources of what is built in a release, of which no part has a sum.
 SOURCES = ("tools/wasm_to_c.py", "tools/dist.py", "bindings/javascript/index.js")
 # A document, as a text names it: by a link in another document, or by its path from the top.
@@ -56,9 +53,11 @@ UNSIGNED = "the release is not signed, as RELEASE_KEY names no secret key"
 OF_DEBIAN = ("usr/include/minisign.h", "usr/share/man/man1/minisign-proved.1.gz", "usr/share/minisign-in-rattle/minisign.html",
              "usr/share/doc/minisign-in-rattle/copyright", "usr/lib/*/libminisign.so.*.*.*", "usr/lib/*/pkgconfig/minisign.pc")
 OF_ALPINE = ("usr/lib/libminisign.so", "usr/include/minisign.h", "usr/share/man/man1/minisign-proved.1")
-# How Alpine's tool runs the steps of its build file. (The calls as C take the most time, and `portable.py` has them over musl.)
+# Without the calls as C, which take the most time: `portable.py` compiles them over musl, and `packaging.py` by Ubuntu's flags.
+WITHOUT_C = "C_CALLS="
+# How Alpine's tool runs the steps of its build file.
 STEPS = """set -eu
-    make() { command make -s CC="$cc" CPPFLAGS="$cppflags" SODIUM="$sodium" "$@"; }
+    make() { command make -s CC="$cc" CPPFLAGS="$cppflags" SODIUM="$sodium" C_CALLS= "$@"; }
     srcdir=$PWD/src pkgdir=$PWD/pkg
     . "$file"
     test "$pkgver" = "$version"
@@ -78,10 +77,11 @@ def release(checks, out, *words):
     return archive_in(out)
 
 
-def check_verifying(checks, what, *command):
-    """A command verifies what was published, and not with other data."""
+def check_verifying(checks, what, program):
+    """A program verifies what was published, and not with other data."""
     for data, status in (("test", 0), ("hello", 1)):
-        checks.ended(f"{what} on {data}", run([data if word == "DATA" else word for word in command], CORPUS), status)
+        command = [program, "-V", "-p", "published.pub", "-x", "published.minisig", "-m", data]
+        checks.ended(f"{what} on {data}", run(command, CORPUS), status)
 
 
 def check_release(checks, room):
@@ -146,7 +146,7 @@ def check_signed(checks, room, program, minisign):
     """With a key archive and sums are signed by the program that is in the release, and without one that is there not at all."""
     key = f"{room}/own key"
     checks.ended("a pair for this run", run([program, "-G", "-W", "-p", f"{key}.pub", "-s", f"{key}.key"]))
-    archive = release(checks, f"{room}/one", f"RELEASE_KEY={key}.key", "C_CALLS=")
+    archive = release(checks, f"{room}/one", f"RELEASE_KEY={key}.key", WITHOUT_C)
     for name in (archive, f"{room}/one/SHA256SUMS"):
         verifying = ["-V", "-p", f"{key}.pub", "-m", name]
         for by in (minisign, program):
@@ -154,7 +154,8 @@ def check_signed(checks, room, program, minisign):
         with open(name, "ab") as file:
             file.write(b"\n")
         checks.ended(f"a changed {name}", run([minisign, *verifying]), status=1)
-    checks.ended("with a key that is not there", make("-s", "release", f"OUT={room}/one", f"RELEASE_KEY={room}/no.key"), status=2)
+    words = ("-s", "release", f"OUT={room}/one", f"RELEASE_KEY={room}/no.key", WITHOUT_C)
+    checks.ended("with a key that is not there", make(*words), status=2)
     checks.check(not glob.glob(f"{room}/one/*.minisig"), "with a key that is not there a release is signed")
     release(checks, f"{room}/one")
     checks.check(read(archive) == read(archive_in(f"{room}/two")), "a key changes the archive")
@@ -165,16 +166,13 @@ def check_compiler(checks, room, top, name):
     place, compiler = os.path.join(room, f"by-{name}"), needs.program(name, name)
     os.mkdir(place)
     tree = Tree(place, top, compiler, [name], "basename", "date", "env", "gzip", "ldconfig", "mktemp", "tar")
-    for goal in ("all", "check", f"install DESTDIR={place}/dest PREFIX=/usr"):
-        said = checks.ended(f"a release by {name}, {goal}", tree.run(f"make -C c CC={name} OUT={place}/out {goal}"))
-        checks.check("warning:" not in said, f"a release by {name}, {goal}: {said[-800:]}")
-        checks.check(goal != "check" or static_library.VERIFIED.search(said), f"a release by {name}, {goal}: {said[-300:]}")
-    root, example = f"{place}/dest/usr", f"{place}/verify"
-    building = [compiler, "-I", f"{root}/include", "-o", example, f"{top}/c/examples/verify.c", f"{root}/lib/libminisign.a", "-lsodium"]
-    checks.ended(f"the example over what {name} installed", run(building))
-    check_verifying(checks, f"the example by {name}", example, "published.pub", "DATA", "published.minisig")
-    check_verifying(checks, f"the program by {name}", f"{root}/bin/minisign", *VERIFYING)
-    return tree, root
+    with static_library.kept_object({"CC": compiler, "OUT": f"{place}/out"}):
+        for goal in ("all", "check", f"install DESTDIR={place}/dest PREFIX=/usr"):
+            said = checks.ended(f"a release by {name}, {goal}", tree.run(f"make -C c CC={name} OUT={place}/out {goal}"))
+            checks.check("warning:" not in said, f"a release by {name}, {goal}: {said[-800:]}")
+            checks.check(goal != "check" or static_library.VERIFIED.search(said), f"a release by {name}, {goal}: {said[-300:]}")
+    check_verifying(checks, f"the program by {name}", f"{place}/dest/usr/bin/minisign")
+    return tree, f"{place}/dest/usr"
 
 
 def check_same(checks, room, root):
@@ -186,16 +184,12 @@ def check_same(checks, room, root):
 
 
 def check_bare(checks, room, top):
-    """A release without what stands built, by PORTABLE=1, and with calls that were changed."""
+    """A release without what stands built, by PORTABLE=1. (Where its calls were changed it is rejected, as `at_hand.py` tries.)"""
     for archive in glob.glob(f"{top}/dist/*.a"):
         os.remove(archive)
     words = [f"CC={needs.libsodium()}", f"OUT={room}/bare", "PORTABLE=1", "CFLAGS=-O0", "CPPFLAGS="]
     said = checks.ended("a release with nothing prebuilt", run(["make", "-s", "-C", f"{top}/c", *words, "all", "test"]))
     checks.check(static_library.VERIFIED.search(said), f"a release with nothing prebuilt: {said[-600:]}")
-    with open(f"{top}/dist/calls.c", "a", encoding="utf-8") as file:
-        file.write("/* changed */\n")
-    changed = run(["make", "-s", "-C", f"{top}/c", *words, f"OUT={room}/changed", "library"])
-    checks.ended("a changed calls.c", changed, status=2, says=DAMAGED)
 
 
 def check_debian(checks, room, archive):
@@ -205,7 +199,7 @@ def check_debian(checks, room, archive):
     command, place = ["sh", os.path.join(TOP, "packaging", "debian.sh"), archive, f"{room}/debian"], f"{room}/debian"
     checks.ended("packages without a maintainer", run(command, **dict.fromkeys(MAINTAINER, "")), status=2)
     checks.check(not os.path.exists(place), "packages without a maintainer are begun")
-    said = checks.ended("packages for Debian", run(command, DEB_BUILD_OPTIONS="noautodbgsym", **MAINTAINER))
+    said = checks.ended("packages for Debian", run(command, DEB_BUILD_OPTIONS="noautodbgsym", MAKEFLAGS=WITHOUT_C, **MAINTAINER))
     checks.check(not re.search(r"\.[ch]:\d+:.*warning:", said), f"packages for Debian: {said[-800:]}")
     packages, changes = glob.glob(f"{place}/*.deb"), glob.glob(f"{place}/*.changes")
     checks.check(len(packages) == 3 and len(changes) == 1, f"there are the packages {packages} of {changes}")
@@ -214,7 +208,7 @@ def check_debian(checks, room, archive):
         run(["dpkg", "-x", package, f"{place}/unpacked"])
     checks.ended("dpkg -I", run(["dpkg", "-I", packages[0]]), says="Maintainer: Nobody & Co <nobody@example.org>")
     program = f"{place}/unpacked/usr/bin/minisign-proved"
-    check_verifying(checks, "Debian's program", program, *VERIFYING)
+    check_verifying(checks, "Debian's program", program)
     checks.ended("Debian's program loads libsodium", run(["readelf", "-d", program]), says="libsodium.so")
     for name in OF_DEBIAN:
         checks.check(glob.glob(f"{place}/unpacked/{name}"), f"Debian's packages have no {name}")
@@ -234,13 +228,12 @@ def check_alpine(checks, room, top):
     for file in OF_ALPINE:
         checks.check(os.path.exists(f"{place}/pkg/{file}"), f"Alpine's package has no {file}")
     compiler, library = emulated.musl_compiler(), f"{place}/src/{name}/c/out/libminisign.a"
-    for program in ("asked_texts", "usage_errors"):
-        check_program(checks, "musl", program, compiler, library, "-static", *PROGRAMS[program])
+    check_programs(checks, "musl", only("asked_texts", "usage_errors"), compiler, library, "-static", *LESS)
 
 
 def check_others(checks, room, top):
     """What is installed, packed by make alone."""
-    words = ["make", "-s", "-C", f"{top}/packaging/others", "PREFIX=/usr/of-minisign", f"OUT={room}/others", "C_CALLS="]
+    words = ["make", "-s", "-C", f"{top}/packaging/others", "PREFIX=/usr/of-minisign", f"OUT={room}/others", WITHOUT_C]
     archives = []
     for _ in range(2):
         checks.ended("packaging/others", run(words))
@@ -248,7 +241,7 @@ def check_others(checks, room, top):
     checks.check(archives[0] == archives[1], "packaging/others packs other bytes")
     os.mkdir(f"{room}/unpacked")
     run(["tar", "-xzf", archive_in(f"{room}/others"), "-C", f"{room}/unpacked"])
-    check_verifying(checks, "the program of packaging/others", f"{room}/unpacked/usr/of-minisign/bin/minisign", *VERIFYING)
+    check_verifying(checks, "the program of packaging/others", f"{room}/unpacked/usr/of-minisign/bin/minisign")
     checks.ended("packaging/others, clean", run([*words, "clean"]))
     checks.check(not os.path.exists(f"{room}/others"), "packaging/others, clean, leaves something")
 

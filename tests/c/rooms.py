@@ -30,9 +30,8 @@ from process import run
 from running import read, write
 
 C = static_library.DIRECTORY
-# All but boundary.c and usage.h, which are made, and what the calls as C need besides.
-MADE = f"{C}/install/usage.h"
-BY_HAND = ("minisign/*.[ch]", "install/*.[ch]", "shared/*.[ch]", "library/allocation.[ch]", "library/clearing.[ch]")
+# What is made and not written by hand; and how many lines may be, but for what the calls as C need besides and for examples.
+MADE = {f"{C}/install/usage.h", f"{C}/library/boundary.c"}
 MAX_LINES, MAX_FUNCTION = 6583, 50
 OF_PROGRAMS, ROOMS = ("minisign", "install", "shared"), ("minisign", "install", "shared", "library", "library/portable", "examples")
 # Which headers each room takes besides its own: those of a room, or one.
@@ -62,10 +61,10 @@ def files_of(room):
 def names_of(text):
     """What a file defines or declares for itself or others: functions, types, constants and variables."""
     kind = r"(?:(?:static|extern|_Noreturn|const|volatile|struct|enum|unsigned) )*[a-z_0-9]+[ *]+"
-    found = set(re.findall(rf"^{kind}\**([a-z_][a-z0-9_]*)\(", text, re.M))
-    found |= {" ".join(words) for words in re.findall(r"\b(struct|enum|union) ([a-z_0-9]+) \{", text)}
-    found |= set(re.findall(r"^#define ([A-Z_0-9]+)", text, re.M))
-    found |= set(re.findall(r"^static [^(=;{]*?\b([a-z_]+)(?:\[[^\]]*\])?(?: = |;)", text, re.M))
+    found = set()
+    for pattern in (rf"^{kind}\**([a-z_][a-z0-9_]*)\(", r"\b((?:struct|enum|union) [a-z_0-9]+) \{", r"^#define ([A-Z_0-9]+)",
+                    r"^static [^(=;{]*?\b([a-z_]+)(?:\[[^\]]*\])?(?: = |;)"):
+        found |= {*re.findall(pattern, text, re.M)}
     for body in re.findall(r"\benum(?: [a-z_]+)? \{([^}]*)\}", text):
         found |= set(re.findall(r"\b([A-Z][A-Z_0-9]+)\b", re.sub(r"=[^,}]*", "", body)))
     return found - {"main", "_DEFAULT_SOURCE", "_GNU_SOURCE", "_POSIX_C_SOURCE"}
@@ -97,9 +96,8 @@ def check_sources(checks, files):
         checks.check(len(functions) == ends, f"{path}: {len(functions)} functions were found, and {ends} end")
         for function in functions:
             length = function.count("\n")
-            checks.check(length <= MAX_FUNCTION or path.endswith("boundary.c"), f"{path}: {function.splitlines()[0]} has {length} lines")
-    by_hand = {path for pattern in BY_HAND for path in glob.glob(f"{C}/{pattern}")} - {MADE}
-    count = sum(read(path).count(b"\n") for path in by_hand)
+            checks.check(length <= MAX_FUNCTION or path in MADE, f"{path}: {function.splitlines()[0]} has {length} lines")
+    count = sum(text.count("\n") for path, text in files.items() if path not in MADE and os.path.basename(os.path.dirname(path)) in TAKES)
     print(f"lines of C that are written by hand: {count}")
     checks.check(count <= MAX_LINES, f"{count} lines of C are written by hand, of at most {MAX_LINES}")
 
@@ -118,7 +116,7 @@ def check_messages(checks, files):
     tests = {path for room in NAMING for path in glob.glob(f"{HERE}/../{room}/*.[cp]*")} - {f"{HERE}/../c/rooms.py"}
     named, found = b"".join(map(read, [*sorted(tests), needs.minisign()])).decode(errors="replace"), set()
     for path, text in files.items():
-        for words, ends in messages_of(text) if path != MADE else ():
+        for words, ends in messages_of(text) if path not in MADE else ():
             # (`it is too short` is not named where a test has `it is too short or too long`)
             is_named = re.search(re.escape(words) + (r"(?! ?\w)" if ends else ""), named)
             checks.check(is_named or words in NOT_CAUSED, f"{path}: no test has the message: {words}")

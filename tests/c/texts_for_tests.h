@@ -14,6 +14,11 @@
 #define YES MINISIGN_ANSWER_YES
 #define NO MINISIGN_ANSWER_NO
 
+/* Whether what takes minutes where a processor is emulated is done less: -DIS_EMULATED says so. */
+#ifndef IS_EMULATED
+#define IS_EMULATED 0
+#endif
+
 static unsigned passed, failed;
 
 /* Counts what holds, and prints what does not, as printf does. */

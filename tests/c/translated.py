@@ -66,22 +66,13 @@ def number(value, bits=0):
     return bytes([*made, value & 127])
 
 
-def listed(parts):
-    return number(len(parts)) + b"".join(parts)
-
-
-def sized(data):
-    return number(len(data)) + data
-
-
-def text(words):
-    return sized(words.encode())
-
-
-def section(which, *parts):
-    return bytes([which]) + sized(b"".join(parts))
-
-
+# How a list is written, what begins with its size, a name, and a section.
+listed = lambda parts: number(len(parts)) + b"".join(parts)
+sized = lambda data: number(len(data)) + data
+text = lambda words: sized(words.encode())
+section = lambda which, *parts: bytes([which]) + sized(b"".join(parts))
+# The address of the data, in as many bytes as any has: so no other number is written.
+ADDRESS = bytes(DATA >> shift & 127 | (128 if shift < 63 else 0) for shift in range(0, 70, 7))
 # The codes of instructions by their names, with what follows each, and how that is written.
 CODES = {name: (code, operand) for code, (name, operand) in wasm_object.INSTRUCTIONS.items()}
 # (of labels the last is for all other numbers, and not counted)
@@ -89,29 +80,22 @@ OPERANDS = {
     "block": lambda word, _: bytes([TYPE[word]]), "index": lambda word, _: number(int(word)),
     "place": lambda word, _: b"\0" + number(int(word)),
     "labels": lambda word, _: number(word.count(",")) + b"".join(number(int(label)) for label in word.split(",")),
-    "number": lambda word, name: number(int(word), BITS[name[:3]])}
+    "number": lambda word, name: ADDRESS if word == "data" else number(int(word), BITS[name[:3]])}
 WITHOUT_WORD = {"": b"", "memory": b"\0", "memories": b"\0\0"}
-# The address of the data, in as many bytes as any has.
-ADDRESS = bytes(DATA >> shift & 127 | (128 if shift < 63 else 0) for shift in range(0, 70, 7))
 
 
 def assembled(code):
-    """The bytes of code, and where the address of the data stands in them. The code is names of instructions, each with what follows
-    it: a number, a kind, or labels, and for the address `data`. Other bytes are in hexadecimal digits after `0x`."""
-    made, addresses, words = bytearray(), [], iter(code.split())
+    """The bytes of code, which is names of instructions, each with what follows it: a number, a kind, or labels, and for the address of
+    the data `data`. Other bytes are in hexadecimal digits after `0x`."""
+    made, words = b"", iter(code.split())
     for name in words:
         if name.startswith("0x"):
             made += bytes.fromhex(name[2:])
-            continue
-        opcode, operand = CODES[name]
-        made += bytes([opcode]) if opcode < 256 else bytes([opcode >> 8]) + number(opcode & 255)
-        word = None if operand in WITHOUT_WORD else next(words)
-        if word == "data":
-            addresses.append(len(made))
-            made += ADDRESS
         else:
-            made += WITHOUT_WORD[operand] if word is None else OPERANDS[operand](word, name)
-    return bytes(made), addresses
+            opcode, operand = CODES[name]
+            made += bytes([opcode]) if opcode < 256 else bytes([opcode >> 8]) + number(opcode & 255)
+            made += WITHOUT_WORD[operand] if operand in WITHOUT_WORD else OPERANDS[operand](next(words), name)
+    return made
 
 
 class Module:
@@ -132,14 +116,11 @@ class Module:
         count = len(self.functions)
         types = [b"\x60" + b"".join(listed([bytes([TYPE[kind]]) for kind in kinds if kind != "none"]) for kinds in (parameters, [gives]))
                  for _, parameters, gives, *_ in self.functions]
-        bodies, addresses = [], []
-        for *_, code, locals_ in self.functions:
-            instructions, places = assembled(f"{code} end")
-            body = sized(listed([b"\1" + bytes([TYPE[local]]) for local in locals_]) + instructions)
-            begun = len(number(count)) + sum(map(len, bodies)) + len(body) - len(instructions)
-            addresses += [bytes([wasm_object.CONSTANT]) + number(begun + place) + number(count) + b"\0" for place in places]
-            bodies.append(body)
-        segment = b"\0" + assembled(f"i64.const {DATA} end")[0] + sized(DATA_BYTES)
+        bodies = [sized(listed([b"\1" + bytes([TYPE[local]]) for local in locals_]) + assembled(f"{code} end"))
+                  for *_, code, locals_ in self.functions]
+        addresses = [bytes([wasm_object.CONSTANT]) + number(found.start()) + number(count) + b"\0"
+                     for found in re.finditer(re.escape(ADDRESS), listed(bodies))]
+        segment = b"\0" + assembled(f"i64.const {DATA} end") + sized(DATA_BYTES)
         place = len(segment) - len(DATA_BYTES) + 1 + POINTER_AT
         pointer = bytes([wasm_object.DATA]) + number(place) + number(count) + number(POINTS_TO, 64)
         symbols = [b"\0\0" + number(index) + text(name) for index, name in enumerate(self.names())]
@@ -181,6 +162,11 @@ def call(function, given, buffer=bytes(BUFFER_BYTES)):
     return struct.pack("<4Q", function, *given, *[0] * (3 - len(given))) + buffer
 
 
+def answers_in(made):
+    """The answers that stand one after the other."""
+    return (made[at:at + ANSWER_BYTES] for at in range(0, len(made), ANSWER_BYTES))
+
+
 class Runners:
     """Builds and runs modules."""
 
@@ -204,14 +190,14 @@ class Runners:
         return run_program([program], self.room, calls, SECONDS)
 
     def in_node(self, module, calls):
-        """What Node answers to calls."""
+        """The answers of Node to calls."""
         told = [[each[:2] for each in module.functions], wasm_to_c.STACK_POINTER, STACK_END, BUFFER, BUFFER_BYTES]
         paths = [write(self.room, "module.wasm", module.bytes()), write(self.room, "told.json", json.dumps(told).encode())]
         command = [self.node, "--experimental-wasm-memory64", "--no-warnings", f"{HERE}/translated.js", *paths]
-        ran = run_program(command, self.room, calls, SECONDS)
-        if ran.status:
+        ran = run_program(command, self.room, b"".join(calls), SECONDS)
+        if ran.status or len(ran.output) != ANSWER_BYTES * len(calls):
             raise needs.Missing(f"Node: {ran}")
-        return ran.output
+        return answers_in(ran.output)
 
 
 # ---- What is called ----
@@ -295,7 +281,15 @@ class Drawn:
 
     def write(self, text, deep=5):
         """Code, of a text of the grammar (`translated_grammar.txt`), in whose expressions numbers may stand so deep."""
-        return re.sub(r"\{(\w+) ?(.*?)\}", lambda found: self.draw(found[1], found[2], deep), text)
+        return re.sub(r"\{(\w+) ?(.*?)\}|<(\w+) (\w+) (.*?)>",
+                      lambda found: self.draw(found[1], found[2], deep) if found[1] else self.within(*found.groups()[2:]), text)
+
+    def within(self, how, gives, text):
+        """Code of a text where one more label is around it."""
+        self.labels.append((how, gives))
+        code = self.write(text)
+        self.labels.pop()
+        return code
 
     def draw(self, name, word, deep):
         """What stands in braces."""
@@ -320,23 +314,6 @@ class Drawn:
         wrapped = "i32.wrap_i64" if kind == "i32" else ""
         return self.write(f"local.get 0 {{i64}} {{i32}} call {self.choice(self.callees)} {wrapped}" if self.callees else f"{{{kind}}}", 3)
 
-    def within(self, label, text):
-        """Code of a text where one more label is around it."""
-        self.labels.append(label)
-        code = self.write(text)
-        self.labels.pop()
-        return code
-
-    def block(self, how, gives):
-        """A block, with its end; of `if` both ways where it gives something."""
-        part = "{statements} " + left_for(gives)
-        other = f" else {part}" if how == "if" and (gives != "none" or self.drawn.random() < 0.5) else ""
-        return f"{how} {gives} {self.within((how, gives), part + other)} end"
-
-    def inside(self):
-        """What goes on elsewhere if a number is not 0."""
-        return f"{self.write('{i32 1}')} if none {self.within(('inside', 'none'), '{leaving}')} end"
-
     def loop(self):
         """A loop that goes on for a few times at most."""
         free = [at for at, local in enumerate(self.locals) if local == "i32" and at > 2 and at not in self.counters]
@@ -344,7 +321,7 @@ class Drawn:
             return self.write("{set}")
         self.counters.append(free[0])
         again = f"local.get {free[0]} if none local.get {free[0]} i32.const 1 i32.sub local.set {free[0]} br 1 end"
-        body = self.within(("loop", "none"), self.choice(["", "", f"{{statements}} {again} "]) + f"{{statements}} {again}")
+        body = self.within("loop", "none", self.choice(["", "", f"{{statements}} {again} "]) + f"{{statements}} {again}")
         self.counters.remove(free[0])
         return f"i32.const {self.drawn.randrange(4)} local.set {free[0]} loop none {body} end"
 
@@ -384,9 +361,7 @@ class Case:
         self.module, self.ending, self.answered = Module(), {}, []
         calls = [one for add in (add_numbers, add_memory, add_places) for one in add(self.module, drawn)]
         calls += add_drawn(self.module, drawn, count)
-        answers = runners.in_node(self.module, b"".join(calls))
-        for at, asked in enumerate(calls):
-            answer = answers[at * ANSWER_BYTES:(at + 1) * ANSWER_BYTES]
+        for asked, answer in zip(calls, runners.in_node(self.module, calls)):
             (self.ending.setdefault(self.asked(asked)[0], []) if answer[0] else self.answered).append((asked, answer))
         self.calls, self.wanted = map(b"".join, zip(*self.answered))
 
@@ -397,11 +372,8 @@ class Case:
 
     def first_difference(self, made):
         """Where an answer first differs: of which function, to which numbers."""
-        for at, (asked, answer) in enumerate(self.answered):
-            other = made[at * ANSWER_BYTES:(at + 1) * ANSWER_BYTES]
-            if answer != other:
-                return f"{self.asked(asked)}: {answer[1:9].hex()} and {other[1:9].hex()}"
-        return "the lengths"
+        return next((f"{self.asked(asked)}: {answer[1:9].hex()} and {other[1:9].hex()}"
+                     for (asked, answer), other in zip(self.answered, answers_in(made)) if other != answer), "the lengths")
 
 
 def check_answers(checks, case, runners):

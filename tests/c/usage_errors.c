@@ -105,14 +105,10 @@ static void other_places(void)
 static minisign_unopened_key unopened;
 static minisign_secret_key key;
 
-/* The greatest p of a key, and every how manieth row is kept where few are: with -DIS_EMULATED less, as all that takes minutes there. */
-#ifdef IS_EMULATED
-#define MOST_PARTS 2
-#define FEWEST_KEPT 24
-#else
-#define MOST_PARTS 32
-#define FEWEST_KEPT UINT64_MAX
-#endif
+/* The greatest p of a key, and every how manieth row is kept where few are, and where the fewest are. */
+#define MOST_PARTS (IS_EMULATED ? 2 : 32)
+#define FEW_KEPT (IS_EMULATED ? 3 : MINISIGN_KEEP_FEW_ROWS)
+#define FEWEST_KEPT (IS_EMULATED ? 5 : UINT64_MAX)
 
 /* Memory to open keys in, enough for all rows of one whose N is 1024 and whose p is the greatest. */
 static uint32_t words[256 * (1024 + 3)];
@@ -294,7 +290,7 @@ static void keys_made(void)
     opens("\xff", 0, 0, 0, 0, MINISIGN_NOT_UTF8);
     opens("abc", 0, 4 * 1024 - 1, 0, 0, MINISIGN_WORK_TOO_HIGH);
     opens("ab", 1, 4 * 1024, 0, 0, MINISIGN_WRONG_PASSWORD);
-    opens("ab", 16, MINISIGN_ANY_ROWS, 0, 0, MINISIGN_WRONG_PASSWORD);
+    opens("ab", FEW_KEPT, MINISIGN_ANY_ROWS, 0, 0, MINISIGN_WRONG_PASSWORD);
     unopened.is_sealed = unopened.log2_rows = 0;
     unopened.work = 1;
     opens("abc", FEWEST_KEPT, 4 * 1024, 0, 0, MINISIGN_OK);
@@ -303,7 +299,7 @@ static void keys_made(void)
 /* How the rows of a key are bounded, and what opening in place takes and answers. What it holds of rows is 1 KiB each. */
 static void rows_bounded(uint64_t p)
 {
-    static const uint64_t kept[] = { 16, 0, 1, FEWEST_KEPT };
+    static const uint64_t kept[] = { FEW_KEPT, 0, 1, FEWEST_KEPT };
     const uint64_t rows = 1024 * p;
 
     CHECK(seal(&of_zeros, "abc", 1 << 20, p, text, sizeof text, &text_len) == MINISIGN_OK);
@@ -311,8 +307,8 @@ static void rows_bounded(uint64_t p)
     opens("abc", 1, rows - 1, 0, 0, MINISIGN_WORK_TOO_HIGH);
     opens("abc", 1, 0, 0, 0, MINISIGN_WORK_TOO_HIGH);
     opens("abc", 1, rows, 0, 0, MINISIGN_OK);
-    opens("abc", 16, MINISIGN_USUAL_ROWS, 0, 0, MINISIGN_OK);
-    opens("abc", 16, MINISIGN_ANY_ROWS, 0, 0, MINISIGN_OK);
+    opens("abc", FEW_KEPT, MINISIGN_USUAL_ROWS, 0, 0, MINISIGN_OK);
+    opens("abc", FEW_KEPT, MINISIGN_ANY_ROWS, 0, 0, MINISIGN_OK);
     /* (few rows of many parts take long) */
     for (size_t i = 0; i < (p == 1 ? LENGTH(kept) : 1); i++) {
         const uint64_t every = kept[i] > 1 ? kept[i] : 1, held = 1024 / every + (1024 % every != 0);

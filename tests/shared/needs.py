@@ -8,9 +8,9 @@ Needs Python 3.9 or later.
 """
 
 import fcntl
+import functools
 import os
 import shutil
-import subprocess
 import tempfile
 
 from process import run
@@ -18,7 +18,7 @@ from process import run
 SECONDS = 600
 # Scripts that install hold this file: apt-get does not wait for another one that renews the list of packages.
 LOCK = os.path.join(tempfile.gettempdir(), "minisign-installing-packages")
-# Where Debian's packages have their programs, and those that only root has in PATH, as debootstrap.
+# Where Debian's packages have their programs, and those that only root has in PATH.
 DEBIAN = "/usr/bin"
 OF_ROOT = "/usr/sbin"
 
@@ -53,19 +53,14 @@ def which(name):
 def apt_get(*arguments):
     """Runs apt-get, and answers the end of what it said where it failed."""
     command = ["apt-get", "-q", "-y", "-o", "DPkg::Lock::Timeout=300", *arguments]
-    try:
-        status, said = run(command, seconds=SECONDS, DEBIAN_FRONTEND="noninteractive")
-    except subprocess.SubprocessError as error:
-        return str(error)
+    status, said = run(command, seconds=SECONDS, DEBIAN_FRONTEND="noninteractive")
     return said[-300:] if status else ""
 
 
 def install(packages):
     """Installs packages, with a new list of them where the old one does not do; answers what went wrong."""
     command = ["install", "--no-install-recommends", *packages]
-    if not apt_get(*command):
-        return ""
-    return apt_get("update") or apt_get(*command)
+    return apt_get(*command) and (apt_get("update") or apt_get(*command))
 
 
 def need(find, what, *packages):
@@ -82,9 +77,9 @@ def need(find, what, *packages):
     return found
 
 
-def program(name, package):
-    """The path of a program of a package."""
-    return need(lambda: which(name), f"the program {name}", package)
+def program(name, *packages):
+    """The path of a program, with the packages that it is in or needs."""
+    return need(lambda: which(name), f"the program {name}", *packages)
 
 
 def compiler_of(source, *flags):
@@ -101,6 +96,7 @@ def compiles(compiler, source, flags):
         return status == 0 and os.path.exists(made)
 
 
+@functools.lru_cache(maxsize=None)
 def c_compiler():
     """The path of a C compiler that links with the C library."""
     return need(lambda: compiler_of("#include <dlfcn.h>\n" + HELLO, "-ldl"), "a C compiler", "gcc", "libc6-dev")
@@ -122,26 +118,18 @@ def first_rust_compiler():
     return os.environ.get("RUSTC") or shutil.which("rustc") or rust_compiler()
 
 
+@functools.lru_cache(maxsize=None)
 def libsodium():
     """The path of a C compiler that finds libsodium's header and links with `-lsodium`."""
     c_compiler()
     return need(lambda: compiler_of(SODIUM, "-lsodium"), "libsodium with its header", "libsodium-dev")
 
 
-# The paths of git, of the C program minisign, of what makes modules with a memory of 32 bits of such for 64, and of what runs
-# scripts of a browser's language outside of one.
+# The paths of git, of the C program minisign, of what makes modules with a memory of 32 bits of such for 64, of what runs scripts of
+# a browser's language outside of one, and of browsers with letters to show; of one with its driver.
 git = lambda: program("git", "git")
 minisign = lambda: program("minisign", "minisign")
 wasm_opt = lambda: program("wasm-opt", "binaryen")
 node = lambda: program("node", "nodejs")
-
-
-def firefox():
-    """The path of the browser firefox, with letters to show."""
-    return need(lambda: which("firefox-esr"), "the program firefox-esr", "firefox-esr", "fonts-dejavu-core")
-
-
-def chromium():
-    """The paths of the browser chromium, with letters to show, and of its driver."""
-    browser = need(lambda: which("chromium"), "the program chromium", "chromium", "fonts-dejavu-core")
-    return browser, program("chromedriver", "chromium-driver")
+firefox = lambda: program("firefox-esr", "firefox-esr", "fonts-dejavu-core")
+chromium = lambda: (program("chromium", "chromium", "fonts-dejavu-core"), program("chromedriver", "chromium-driver"))

@@ -30,21 +30,23 @@ def path_without_kit():
 
 # The object of dist/calls.c, which takes seven seconds to compile, by a sum over all that decides what it is: scripts share it.
 KEPT = os.path.join(proved.ROOT, "out", "kept-objects")
-# What decides it beside the compiler: words of make, and what it is compiled from.
-DECIDING = ("CFLAGS", "CPPFLAGS", "HAS_PAGES", "WARNINGS")
-COMPILED = (f"{DIST}/calls.c", f"{DIRECTORY}/library/portable/machine.h", f"{DIRECTORY}/Makefile")
+# What decides it beside the compiler and what that compiles: words of make, and what they mean to it.
+DECIDING = ("CFLAGS", "HAS_PAGES")
+MAKEFILE = f"{DIRECTORY}/Makefile"
 
 
 def sum_of(words):
-    compiler = words["CC"].split()
-    said = run_apart([*compiler, "--version"])[1]
-    told = repr([said, os.path.realpath(shutil.which(compiler[0]) or ""), *((name, words.get(name)) for name in DECIDING)])
-    return hashlib.sha256(b"".join([told.encode(), *map(read, COMPILED)])).hexdigest()
+    """A sum over the compiler, the words, and the calls as the preprocessor leaves them, where headers may stand anywhere."""
+    compiler, given = words["CC"].split(), words.get("CPPFLAGS", "-D_FORTIFY_SOURCE=2").split()
+    told = [run_apart([*compiler, "--version"])[1], os.path.realpath(shutil.which(compiler[0]) or ""), *map(words.get, DECIDING)]
+    calls = hold([*compiler, "-O2", *given, "-E", "-P", "-I", f"{DIRECTORY}/library/portable", f"{DIST}/calls.c"])
+    return hashlib.sha256(repr(told).encode() + read(MAKEFILE) + calls.encode()).hexdigest()
 
 
 @contextlib.contextmanager
-def kept_object(words):
-    """Puts the object where make builds it, if it was built before; or keeps it, while nobody else builds the same."""
+def kept_object(words, is_taken=True):
+    """Puts the object where make builds it, if it was built before and is to be taken; or keeps it, while nobody else builds the same.
+    (No warning changes it.)"""
     out = os.path.join(DIRECTORY, words.get("OUT", ""))
     made = os.path.join(out, "portable-calls.o")
     # (another file is compiled, or none)
@@ -57,8 +59,9 @@ def kept_object(words):
         fcntl.flock(lock, fcntl.LOCK_EX)
         if os.path.exists(kept):
             fcntl.flock(lock, fcntl.LOCK_UN)
-            os.makedirs(out, exist_ok=True)
-            shutil.copyfile(kept, made)
+            if is_taken:
+                os.makedirs(out, exist_ok=True)
+                shutil.copyfile(kept, made)
         yield
         if not os.path.exists(kept) and os.path.exists(made):
             shutil.copyfile(made, f"{kept}.new")
