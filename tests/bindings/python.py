@@ -277,7 +277,7 @@ def chosen_cases(installing):
     # (what the host does after a cut over other beginnings, the cases of the program show)
     cut_off = {f"cut off by {cut}, over {begin}" for begin, *_ in BEGINNINGS[1:] for cut, _ in CUTS}
     left_out = LEFT_OUT | cut_off | {name for name, *_ in word_cases} - KEPT
-    found = cases(installing)
+    found = [*cases(installing)]
     expect(left_out | KEPT <= {case[0] for case in found}, "what is left out is no case")
     return [case for case in found if case[0] not in left_out]
 
