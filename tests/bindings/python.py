@@ -19,6 +19,7 @@ gcc-aarch64-linux-gnu, libc6-dev-arm64-cross and qemu-user-static. It installs w
 """
 
 import ast
+import ctypes.util
 import functools
 import glob
 import hashlib
@@ -44,6 +45,7 @@ from installing import cases
 from running import build_preload, expect, run_cases
 from runs import Installing
 from shared_cases import TOP, read, run, write
+from static_library import hold
 from words import word_cases
 
 USER, INSTALLER = os.path.join(HERE, "python_user.py"), os.path.join(HERE, "python_installing.py")
@@ -94,15 +96,15 @@ def build(sources, programs, **environment):
 def check_loaded(checks, what, compiler, library, before=(), **variables):
     """The library is loaded, and hashes; and has a host, but for Windows."""
     program = os.path.join(os.path.dirname(library), "loaded.exe")
-    shared.hold([compiler, "-std=c11", "-w", "-I", os.path.join(TOP, "include"), "-o", program, os.path.join(HERE, "python", "loaded.c")])
+    hold([compiler, "-std=c11", "-w", "-I", os.path.join(TOP, "include"), "-o", program, os.path.join(HERE, "python", "loaded.c")])
     said = run([*before, program, library], environment=variables)[1].decode()
     wanted = rf"\d+ {hashlib.blake2b(bytes([7]) * 1000).hexdigest()} with{'out' if what == 'Windows' else ''} a host\r?\n"
     checks.check(re.fullmatch(wanted, said), f"{what}: {said}")
 
 
 def check_builds(checks, archive, room):
-    """The archive of sources is built, in a path with blanks, over the archives of calls and where there is none: as C by Debian's
-    compiler and over musl, for AArch64, and for Windows. A compiler without GNU's options is an error that says so."""
+    """The archive of sources is built, in a path with blanks: as C by Debian's compiler and over musl, for AArch64 over its archive of
+    calls, and for Windows. A compiler without GNU's options is an error that says so."""
     programs, arm, windows = shared.few_programs(room, *NEEDED), emulated.AARCH64, portable.Windows(room)
 
     def unpacked(name):
@@ -112,14 +114,14 @@ def check_builds(checks, archive, room):
 
     gcc, mingw = needs.c_compiler(), needs.program("x86_64-w64-mingw32-gcc", "gcc-mingw-w64-x86-64")
     for what, compiler, before, is_portable, machine in (
-            ("the archives", gcc, [], "", "linux_x86_64"), ("C alone", gcc, [], "1", "linux_x86_64"),
+            ("C alone", gcc, [], "1", "linux_x86_64"),
             ("musl", needs.program("musl-gcc", "musl-tools"), [], "1", "linux_x86_64"),
             ("AArch64", emulated.compiler(arm), emulated.emulator(arm), "", "linux_aarch64"), ("Windows", mingw, [windows.program], "", "win_amd64")):
         sources = unpacked(what)
         status, why, library = build(sources, programs, CC=compiler, MINISIGN_PORTABLE=is_portable)
         if checks.check(status == 0, f"{what}: it was not built: {why[-1000:]}"):
             check_loaded(checks, what, compiler, library, before, **windows.variables)
-            checks.check(("v3_minisign_update" in shared.names_in(library)) == (what == "the archives"), f"{what}: the archives")
+            checks.check("v3_minisign_update" not in shared.names_in(library), f"{what}: the archives")
             wheel, = os.listdir(os.path.join(sources, "made"))
             checks.check(wheel.endswith(f"-none-{machine}.whl"), f"{what}: the wheel is {wheel}")
     windows.end()
@@ -142,11 +144,11 @@ def check_builds(checks, archive, room):
 
 
 def build_wheel(checks, room):
-    """The wheel, built from the packed archive."""
+    """The wheel, built from the packed archive over the archives of calls."""
     package = shared.packed("python", room, PYTHON=python())
     archive, = glob.glob(os.path.join(room, "packed", "*.tar.gz"))
     command = [python(), "-m", "pip", "wheel", "-q", "--no-index", "--no-build-isolation", "--no-deps", "-w", room, archive]
-    shared.hold(command, environment={"PATH": check_builds(checks, archive, room)})
+    hold(command, PATH=check_builds(checks, archive, room))
     path, = glob.glob(os.path.join(room, "*.whl"))
     with zipfile.ZipFile(path) as wheel:
         names = {name.partition("/")[2] for name in wheel.namelist() if name.startswith(PACKAGE + "/")}
@@ -162,8 +164,8 @@ def build_wheel(checks, room):
 def environment(room, name, wheel, *words):
     """A fresh environment that has the wheel: its Python, and where the package stands in it."""
     path = os.path.join(room, name)
-    for command in ([python(), "-m", "venv", *words, path], [f"{path}/bin/pip", "install", "-q", "--no-index", wheel]):
-        shared.hold(command)
+    hold([python(), "-m", "venv", "--without-pip", *words, path])
+    hold([python(), "-m", "pip", "--python", f"{path}/bin/python", "install", "-q", "--no-index", wheel])
     return os.path.join(path, "bin", "python"), glob.glob(f"{path}/lib/python3*/site-packages/{PACKAGE}")[0]
 
 
@@ -206,10 +208,11 @@ print(json.dumps([[[number, kind.__name__, str(_calls.error_of(number))] for num
 """
 
 
-def check_headers(checks, room, python_path):
-    """The exceptions, the numbers, the structs and their fields are those of the headers, and of c/install/installing.h as far as the
+def check_headers(checks, room, python_path, package):
+    """The library is linked with the archives. The exceptions, the numbers, the structs and their fields are those of the headers, and of c/install/installing.h as far as the
     package has them."""
-    errors, places, host = json.loads(shared.hold([python_path, "-c", TOLD]))
+    checks.check("v3_minisign_update" in shared.names_in(f"{package}/libminisign.so"), "it is not linked with the archives")
+    errors, places, host = json.loads(hold([python_path, "-c", TOLD]))
     wanted = [[number, "".join(map(str.capitalize, name.split("_"))), shared.error_texts()[name]] for name, number in shared.ERRORS.items()]
     checks.same(sorted(errors), sorted(wanted), "the exceptions")
     checks.same(places, shared.layout(room), "the structs")
@@ -219,9 +222,8 @@ def check_headers(checks, room, python_path):
 
 def check_types(checks, python_path, package):
     mypy = needs.program("mypy", "mypy")
-    for what in (package, USER):
-        status, said, why = run([mypy, "--strict", "--cache-dir=/dev/null", "--python-executable", python_path, what])
-        checks.check(status == 0, f"types of {os.path.basename(what)}: {said.decode()[-1000:]}{why[-300:]}")
+    status, said, why = run([mypy, "--strict", "--cache-dir=/dev/null", "--python-executable", python_path, package, USER])
+    checks.check(status == 0, f"types: {said.decode()[-1000:]}{why[-300:]}")
 
 
 # ---- What its user is told ----
@@ -282,10 +284,19 @@ def chosen_cases(installing):
     return [case for case in found if case[0] not in left_out]
 
 
-def check_installing(checks, python_path, room):
+# How the program begins: many starts take less time where Python looks for no other packages, and asks no other program where libsodium is.
+BEGIN = """#!{python} -IS
+import ctypes.util, sys
+sys.path.append({place!r})
+ctypes.util.find_library = lambda _: {library!r}
+"""
+
+
+def check_installing(checks, python_path, package, room):
     """The cases of `install` and `check` over the package, by a program of it."""
     os.mkdir(room)
-    program = write(room, "installing.py", f"#!{python_path}\n".encode() + read(INSTALLER))
+    begin = BEGIN.format(python=python_path, place=os.path.dirname(package), library=ctypes.util.find_library("sodium"))
+    program = write(room, "installing.py", begin.encode() + read(INSTALLER))
     os.chmod(program, 0o755)
     installing = Installing(program, RealInstaller(room), room)
     # (what Python itself calls is neither broken nor traced)
@@ -301,7 +312,8 @@ def check_installing(checks, python_path, room):
 def check_planted(checks, python_path, package, room, minisign):
     """Each planted bug is noticed by the checks of its word."""
     def ask(found, changed, directory, word):
-        user = user_of(found, python_path, "cryptography", os.path.dirname(changed))
+        # (over libsodium a start takes less time)
+        user = user_of(found, python_path, "cryptography" if word == "vectors" else "libsodium", os.path.dirname(changed))
         asked = {"answers": lambda: user.ask_reasons(["answers", "reject"], shared.rejections()),
                  "read": lambda: user.ask_readings(["read"], shown),
                  "pieces": lambda: user.ask_answers(minisign, shared.corpus(), (["pieces"], True)),
@@ -316,10 +328,10 @@ def run_all(checks, room):
     # (some runs are made as nobody)
     os.chmod(room, 0o711)
     minisign, wheel = shared.c_minisign(room), build_wheel(checks, room)
-    alone, _ = environment(room, "alone", wheel)
+    alone, place = environment(room, "alone", wheel)
     beside, package = environment(room, "beside", wheel, "--system-site-packages")
     check_sources(checks)
-    check_headers(checks, room, alone)
+    check_headers(checks, room, alone, place)
     check_types(checks, beside, package)
     check_examples(checks, alone, os.path.join(room, "examples"))
     cases = shared.all_cases(checks, minisign)
@@ -332,7 +344,7 @@ def run_all(checks, room):
             user.ask_itself(least, word, own)
         shared.check_signing(user, os.path.join(own, "signed"), needs.minisign())
     check_planted(checks, beside, package, room, minisign)
-    check_installing(checks, alone, os.path.join(room, "installs"))
+    check_installing(checks, alone, place, os.path.join(room, "installs"))
 
 
 if __name__ == "__main__":

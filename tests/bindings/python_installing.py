@@ -14,8 +14,6 @@ import minisign_proved as minisign
 FAILED, MISUSED, REJECTED, OLDER, IN_USE, NOT_ON_DISK, UNRECORDED, SAME, EXPIRED, THERE = range(1, 11)
 OFFERS = {minisign.Offer.NEWER: 0, minisign.Offer.THERE: THERE, minisign.Offer.OLDER: OLDER}
 OPTIONS = ["first", "again", "check", "must-expire", "key=", "name=", "numbering=", "mode=", "most=", "wait="]
-UNITS = {"K": 10, "M": 20, "G": 30, "T": 40}
-
 
 # The exit status that `minisign-install` has for an error, where it is not that of a rejected update.
 STATUSES = {
@@ -85,7 +83,7 @@ def main():
     most, mode, name = map(options.get, ("--most", "--mode", "--name"))
     numbering = options.get("--numbering", "timestamp")
     if most is not None:
-        most = int(most[:-1]) << UNITS[most[-1]] if most[-1] in UNITS else int(most)
+        most = int(most.rstrip("K")) << 10 * most.endswith("K")
     try:
         public_keys = [read_key(minisign.PublicKey.from_base64, text) for text in keys] or read_key(minisign.PublicKey.from_file, key)
         text = read_signature(signature)
@@ -110,4 +108,5 @@ def main():
 
 
 if __name__ == "__main__":
-    sys.exit(main())
+    # (the end of all of Python takes as long as an installation)
+    os._exit(main())

@@ -30,7 +30,7 @@ from minisign_proved import installing as host
 from python_arguments import check, check_arguments, public_calls, rejects
 
 # What so many calls may take more memory than the first ones, in KiB.
-CALLS, FIRST_CALLS, MAX_GROWTH = 20_000, 2_000, 96
+CALLS, FIRST_CALLS, MAX_GROWTH = 8_000, 1_000, 96
 
 
 # ---- Cases that are read ----

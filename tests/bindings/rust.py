@@ -111,7 +111,7 @@ class Cargo:
         return status, said.decode(errors="replace") + why
 
     def run(self, directory, *words, **environment):
-        return shared_cases.hold([self.cargo, *words], directory, {**self.environment, **environment})
+        return static_library.hold([self.cargo, *words], directory, **{**self.environment, **environment})
 
     def program(self, room, name, dependency, source):
         """A program of a crate of its own, over this one: its path in that crate."""
