@@ -47,9 +47,10 @@ LINES = 600
 # The globals that the package uses besides those of the language. All are of the web, and of the list that all of these have
 # (the "Minimum common web platform API").
 GLOBALS = ("TextDecoder", "TextEncoder", "WebAssembly", "atob", "crypto")
-# How many bytes may be in memory after so many calls, or keys, that were not after a tenth of them.
-CALLS, GROWTH = 10_000, 1_600_000
-KEYS, GROWTH_OF_KEYS = 3_000, 64 * 1048576
+# How many bytes may be in memory after so many calls, or keys, that were not after a tenth of them. (A page of a module's memory, which
+# each key would keep, is more.)
+CALLS, GROWTH = 5_000, 800_000
+KEYS, GROWTH_OF_KEYS = 1_000, 40 * 1048576
 # What becomes of streams, each tried in a program of its own, which an error that is lost would end.
 STREAMS = ("descriptors", "opening", "cancelled", "absent", "both", "begun", "between", "event", "late", "web", "accepted", "aborted")
 # The errors of the header that verifying has besides usage errors.
@@ -221,13 +222,8 @@ def check_bare(checks, user):
 
 PAGE = """<!doctype html><meta charset="utf-8"><title>Answers</title><body><script type="module" src="browser.mjs"></script>"""
 SECONDS = 600
-
-
-class Handler(http.server.SimpleHTTPRequestHandler):
-    """Hands out the files of the directory, and the page."""
-
-    def log_message(self, *words):
-        pass
+# Hands out the files of a directory, and says nothing.
+Handler = type("Handler", (http.server.SimpleHTTPRequestHandler,), {"log_message": lambda *_: None})
 
 
 def check_browsers(checks, user, room, minisign):

@@ -172,16 +172,11 @@ def environment(room, name, wheel, *words):
 # ---- What it is made of ----
 
 
-def lines_of(path):
-    """The lines of a source, without blank ones, comments and docstrings, which alone have three quotes."""
-    return shared.code_of(re.sub('""".*?"""', "", read(path).decode(), flags=re.S), "#")
-
-
 def check_sources(checks):
-    """The package is small, and its README too."""
+    """The package is small, without its docstrings, which alone have three quotes, and its README too."""
     sources = glob.glob(os.path.join(SOURCES, "src", PACKAGE, "*.py"))
-    by_hand = [path for path in sources if os.path.basename(path) not in MADE]
-    shared.check_written(checks, "python", sum(map(lines_of, [*by_hand, os.path.join(SOURCES, "setup.py")]), []), LINES)
+    by_hand = [read(path).decode() for path in [*sources, os.path.join(SOURCES, "setup.py")] if os.path.basename(path) not in MADE]
+    shared.check_written(checks, "python", shared.code_of(re.sub('""".*?"""', "", "\n".join(by_hand), flags=re.S), "#"), LINES)
     for path in sources:
         # (a `SyntaxError` where it is not for the oldest version of Python that the package is for)
         checks.check(ast.parse(read(path), path, feature_version=(3, 9)))

@@ -27,7 +27,7 @@ from unittest import mock
 import minisign_proved as minisign
 from minisign_proved import Data, PublicKey, SecretKey, Signature, Text, Verifier, _calls, _header
 from minisign_proved import installing as host
-from python_arguments import check, check_arguments, public_calls, rejects
+from python_arguments import arguments, check, public_calls, rejects
 
 # What so many calls may take more memory than the first ones, in KiB.
 CALLS, FIRST_CALLS, MAX_GROWTH = 8_000, 1_000, 96
@@ -450,18 +450,11 @@ def signals(room: str) -> None:
     check(found == minisign.Offer.THERE, "an installation in another thread")
 
 
-def main() -> None:
+if __name__ == "__main__":
     kind, word, *rest = sys.argv[1:]
     minisign.use_ed25519(kind)
-    calls: Dict[str, Callable[..., None]] = {
-        "answers": answers, "pieces": pieces, "read": read, "vectors": vectors, "make": make, "sign": sign, "sealed": sealed,
-        "opened": opened, "memory": memory, "threads": threads, "keys": keys, "passwords": passwords, "installing": installing,
-        "signals": signals, "arguments": check_arguments, "parts": parts, "documentation": documentation}
     if word in ("make", "sign", "sealed"):
-        print(outcome(calls[word], *rest))
+        print(outcome(globals()[word], *rest))
     else:
-        calls[word](*rest)
-
-
-if __name__ == "__main__":
-    main()
+        # (the word is the name of a function)
+        globals()[word](*rest)

@@ -108,7 +108,7 @@ async function answersInPieces(cases, options) {
   for (const [key, data, signature] of cases) {
     const ways = [
       data, data.slice().buffer, new DataView(data.buffer, data.byteOffset, data.length), new Blob([data]), cut(data, PIECE_LENGTHS),
-      streamOf(cut(data, PIECE_LENGTHS)), Readable.from(cut(Buffer.from(data), [1000])), streamOf(cut(data, [1])),
+      streamOf(cut(data, PIECE_LENGTHS)), Readable.from(cut(Buffer.from(data), [1000])), streamOf(cut(data, data.length < 1e5 ? [1] : [1, 1, 1000])),
       (async function* () { yield* cut(data, [300, 0, 1]); })(), ...ELSEWHERE(data),
     ];
     const found = new Set(await Promise.all(ways.map(way => answerOf(way, signature, key, options))));
