@@ -6,8 +6,8 @@ of README.md and of its comments run.
 
     tests/bindings/rust.py
 
-What it answers is compared with `c/minisign`, with libsodium and with the header (`ask_all`), and what it declares with
-the header; what is written by hand has at most 650 lines, and no `unsafe` outside one module; without its feature
+What it answers is compared with `c/minisign`, with libsodium and with the header (`ask_all`), and its structs with those
+of the header; what is written by hand has at most 650 lines, and no `unsafe` outside one module; without its feature
 `sodium` nothing of libsodium is linked. Each bug of rust/planted.txt is noticed. It prints a line for each failure;
 the last line is `N passed, M failed`.
 
@@ -129,26 +129,6 @@ def check_sources(checks):
         checks.check(name.startswith("src/raw") or "unsafe" not in words, f"{name}: it has `unsafe`")
     there = {os.path.relpath(path, CRATE) for path in glob.glob(f"{CRATE}/src/**", recursive=True) if os.path.isfile(path)}
     checks.check({*there, "build.rs"} == {*BY_HAND, MADE}, f"the crate has the files {sorted(there)}")
-
-
-def check_declarations(checks):
-    """Each call is declared with the kinds of parameters that the header has."""
-    kinds = {"size_t": "usize", "uint32_t": "u32", "uint64_t": "u64", "uint8_t": "u8", "char": "u8", "enum minisign_answer": "u32",
-             "enum minisign_error": "u32", "void": "", **STRUCTS}
-
-    def kind_of(value):
-        """As Rust writes the kind of a parameter in C."""
-        if value.count:
-            return f"&{'' if value.const else 'mut '}[{kinds[value.kind]}; {value.count}]"
-        return f"*{'const' if value.const else 'mut'} {kinds[value.kind]}" if value.star else kinds[value.kind]
-
-    calls = {call.name: call for call in shared_cases.HEADERS.calls}
-    declared = re.findall(r"fn (minisign_\w+)\(([^)]*?),?\s*\)(?:\s*-> (\w+))?;", read(CRATE, MADE).decode())
-    checks.check(len(declared) >= 10, f"the crate declares only {len(declared)} calls")
-    for name, parameters, answer in declared:
-        wanted = [*map(kind_of, calls[name].parameters), kinds[calls[name].answer]]
-        told = [*(parameter.partition(":")[2].strip() for parameter in parameters.split(",") if parameter), answer]
-        checks.same(told, wanted, f"{name}: with what it is declared")
 
 
 # How rust/inside.rs looks at a struct, and at a field of one.
@@ -325,7 +305,8 @@ def check_toolchain(checks, room, toolchain, minisign, is_first):
     """What one cargo builds. With the first one it is asked of more cases and for growth and threads, bugs are planted, and it is built in
     many places."""
     cargo = Cargo(room, *toolchain, **({} if is_first else Cargo.UNOPTIMIZED))
-    crate = shared_cases.packed("rust", room, cargo.environment, CARGO=cargo.cargo)
+    # (cargo builds what it packs, and throws that away)
+    crate = shared_cases.packed("rust", room, {**cargo.environment, **Cargo.UNOPTIMIZED}, CARGO=cargo.cargo)
     program = Program(checks, cargo.program(room, "answers", RENAMED.format(crate=crate), "answers.rs"))
     few = shared_cases.corpus() + shared_cases.damaged(60)
     ask_all(program, room, minisign, shared_cases.all_cases(checks, minisign) if is_first else few)
@@ -351,7 +332,6 @@ def check_toolchain(checks, room, toolchain, minisign, is_first):
 def run_all(checks, room):
     minisign = shared_cases.c_minisign(room)
     check_sources(checks)
-    check_declarations(checks)
     found = toolchains()
     checks.check(not needs.may_install() or found[0][0] == f"{needs.DEBIAN}/cargo", f"Debian's cargo is not tried: {found}")
     for number, toolchain in enumerate(found):

@@ -31,7 +31,7 @@ from cases import kept_cases, key_errors, signature_errors
 from checks import Checks
 from planted import MARK, before_and_after
 from process import SECONDS, run_program
-from running import read, write
+from running import Failure, expect, read, write
 from static_library import hold
 from texts import CORPUS, Limits, record_of, text_of, turned
 
@@ -396,16 +396,11 @@ def check_weak(checks, answer, room, secret, good):
 # ---- Planted bugs ----
 
 
-class Noticed(Exception):
-    """A check failed over what has a bug."""
-
-
 class Noticing(Checks):
-    """Ends at the first check that fails."""
+    """Ends at the first check that fails, of what may have a bug."""
 
     def check(self, holds, *what):
-        if not holds:
-            raise Noticed(*what)
+        expect(holds, *what)
         return True
 
 
@@ -430,7 +425,7 @@ def is_noticed(package, room, ask, file, old, new, word):
         write(changed, file, read(changed, file).decode().replace(old, new, 1).encode())
         try:
             ask(Noticing(), changed, directory, word)
-        except (Noticed, OSError):
+        except (Failure, OSError):
             return True
     return False
 
