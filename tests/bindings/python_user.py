@@ -9,6 +9,7 @@ import base64
 import concurrent.futures
 import contextlib
 import copy
+import importlib
 import inspect
 import io
 import os
@@ -398,6 +399,10 @@ def installing(room: str) -> None:
     for _ in range(20):
         install()
     check(len(os.listdir("/proc/self/fd")) == opened, "descriptors stay open")
+    # (other systems than Linux have a library without the host)
+    with mock.patch.object(_calls, "library", object()):
+        importlib.reload(host)
+    rejects(NotImplementedError, lambda: host.install(public, path, two, place), "a library without the host", "^installing is for Linux: ")
 
 
 def tells_of_updates(key: SecretKey, path: str, place: str) -> None:
