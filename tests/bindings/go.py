@@ -26,9 +26,8 @@ import shutil
 import sys
 
 HERE = os.path.dirname(os.path.realpath(__file__))
-sys.path += [HERE, *(os.path.join(HERE, "..", name) for name in ("shared", "c")), os.path.join(HERE, "..", "..", "tools")]
+sys.path += [HERE, *(os.path.join(HERE, "..", name) for name in ("shared", "c"))]
 
-import carried
 import commands
 import emulated
 import ending
@@ -338,8 +337,6 @@ def run_all(checks, room):
     check_sources(checks)
     minisign = shared_cases.c_minisign(room)
     package, go = shared_cases.packed("go", room), Go(room)
-    for name in [*carried.COPIES, carried.ARCHIVE]:
-        checks.check(read(package, name) == carried.copy(name), f"{name} is not what tools/carried.py makes: run it")
     check_own_tests(checks, go, package)
 
     def programs(source, name):

@@ -53,23 +53,16 @@ def rejection_text(data, signature, place, name, numbering, error):
     return "\n".join(filter(None, (f"error: {at}: {error}", more.format(record=record, name=name))))
 
 
-def read_key(kind, word):
-    """A public key, of a file or its letters, or the end of the program."""
+def read_text(kind, word):
+    """A public key, of a file or its letters, or a signature; or the end of the program."""
     try:
         return kind(word)
     except minisign.MinisignError as error:
-        text = "it is longer than it may be" if isinstance(error, minisign.TooLong) else error
-    print(f"error: {word}: {text}", file=sys.stderr)
-    sys.exit(REJECTED)
-
-
-def read_signature(path):
-    """A signature, or the end of the program where there is no file of one."""
-    try:
-        return minisign.Signature.from_file(path)
+        text, status = "it is longer than it may be" if isinstance(error, minisign.TooLong) else error, REJECTED
     except OSError as why:
-        print(f"error: {path}: {why.strerror} (os error {why.errno})", file=sys.stderr)
-        sys.exit(FAILED)
+        text, status = f"{why.strerror} (os error {why.errno})", FAILED
+    print(f"error: {word}: {text}", file=sys.stderr)
+    sys.exit(status)
 
 
 def main():
@@ -85,8 +78,8 @@ def main():
     if most is not None:
         most = int(most.rstrip("K")) << 10 * most.endswith("K")
     try:
-        public_keys = [read_key(minisign.PublicKey.from_base64, text) for text in keys] or read_key(minisign.PublicKey.from_file, key)
-        text = read_signature(signature)
+        public_keys = [read_text(minisign.PublicKey.from_base64, text) for text in keys] or read_text(minisign.PublicKey.from_file, key)
+        text = read_text(minisign.Signature.from_file, signature)
         wanted = {"first": "--first" in options, "must_expire": "--must-expire" in options, "numbering": numbering, "name": name}
         if "--check" in options:
             return OFFERS[minisign.check(public_keys, text, place, **wanted)]

@@ -42,7 +42,7 @@ BY_HAND = ["build.rs", "src/lib.rs", "src/signing.rs", "src/raw.rs", "src/raw/so
 MADE = "src/raw/header.rs"
 LINES = 650
 # How many pages of 4 KiB may be in memory after so many calls that were not after a tenth of them.
-CALLS, PAGES = 20_000, 16
+CALLS, PAGES = 10_000, 16
 
 PROGRAM = """[package]
 name = "user"
@@ -295,7 +295,7 @@ def check_planted(checks, cargo, crate, room, minisign):
     """Each planted bug is noticed by what is asked of a program over the changed crate, which may have warnings."""
     def ask(found, changed, directory, _):
         planted = new_crate(directory, "planted", RENAMED.format(crate=changed), "answers.rs")
-        cargo.run(planted, "build", RUSTFLAGS="", CARGO_INCREMENTAL="0")
+        cargo.run(planted, "build", RUSTFLAGS="", CARGO_INCREMENTAL="0", CARGO_PROFILE_DEV_DEBUG="0")
         ask_all(Program(found, f"{cargo.target}/debug/user"), directory, minisign, shared_cases.corpus())
 
     shared_cases.check_planted(checks, crate, shared_cases.bugs_of(HERE, "rust", "planted.txt"), room, ask)
