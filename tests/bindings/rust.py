@@ -92,9 +92,9 @@ def new_crate(room, name, dependency, source):
 
 class Cargo:
     """Runs cargo with what it keeps in a directory of its own, and no network. Where it is tried how C is built, and not what it
-    answers, that is compiled without optimizing, by `UNOPTIMIZED`."""
+    answers, that is compiled without optimizing, by `UNOPTIMIZED`; and what is no release, without what debuggers need."""
 
-    UNOPTIMIZED = {"CFLAGS": "-O0"}
+    UNOPTIMIZED = {"CFLAGS": "-O0", "CARGO_PROFILE_DEV_DEBUG": "0"}
 
     def __init__(self, room, cargo, rustc, **environment):
         self.cargo, self.target = cargo, os.path.join(room, "target")
@@ -222,14 +222,14 @@ class Place:
     def build(self, target="", **environment):
         """Builds it: how that ended, and what was said."""
         words = ["--target", target] if target else []
-        return self.cargo.try_to_run(self.directory, "build", "--release", *words, **{**Cargo.UNOPTIMIZED, **environment})
+        return self.cargo.try_to_run(self.directory, "build", *words, **{**Cargo.UNOPTIMIZED, **environment})
 
     def check(self, checks, what, names, before=(), target="", ending="", variables=None, **environment):
         """Builds and runs it, under these variables: it answers as it has to, and has these names or has them not."""
         status, why = self.build(target, **environment)
         if not checks.check(status == 0, f"{what}: it was not built: {why[-1000:]}"):
             return
-        program, (key, _, signature) = os.path.join(self.cargo.target, target, "release", f"user{ending}"), shared_cases.PATHS
+        program, (key, _, signature) = os.path.join(self.cargo.target, target, "debug", f"user{ending}"), shared_cases.PATHS
         status, said, why = run([*before, program, key, signature], environment=variables)
         checks.check(said.decode().replace("\r", "") == messages(), f"{what}: status {status}, {said.decode()}{why[-500:]}")
         found = shared_cases.names_in(program)
@@ -295,7 +295,7 @@ def check_planted(checks, cargo, crate, room, minisign):
     """Each planted bug is noticed by what is asked of a program over the changed crate, which may have warnings."""
     def ask(found, changed, directory, _):
         planted = new_crate(directory, "planted", RENAMED.format(crate=changed), "answers.rs")
-        cargo.run(planted, "build", RUSTFLAGS="", CARGO_INCREMENTAL="0", CARGO_PROFILE_DEV_DEBUG="0")
+        cargo.run(planted, "build", RUSTFLAGS="", CARGO_INCREMENTAL="0", **Cargo.UNOPTIMIZED)
         ask_all(Program(found, f"{cargo.target}/debug/user"), directory, minisign, shared_cases.corpus())
 
     shared_cases.check_planted(checks, crate, shared_cases.bugs_of(HERE, "rust", "planted.txt"), room, ask)
