@@ -19,7 +19,6 @@ gcc-aarch64-linux-gnu, libc6-dev-arm64-cross and qemu-user-static. It installs w
 """
 
 import ast
-import ctypes.util
 import functools
 import glob
 import hashlib
@@ -262,19 +261,10 @@ def chosen_cases(installing):
     return [case for case in found if case[0] not in left_out]
 
 
-# How the program begins: many starts take less time where Python looks for no other packages, and asks no other program where libsodium is.
-BEGIN = """#!{python} -IS
-import ctypes.util, sys
-sys.path.append({place!r})
-ctypes.util.find_library = lambda _: {library!r}
-"""
-
-
-def check_installing(checks, python_path, package, room):
+def check_installing(checks, python_path, room):
     """The cases of `install` and `check` over the package, by a program of it."""
     os.mkdir(room)
-    begin = BEGIN.format(python=python_path, place=os.path.dirname(package), library=ctypes.util.find_library("sodium"))
-    program = write(room, "installing.py", begin.encode() + read(INSTALLER))
+    program = write(room, "installing.py", f"#!{python_path}\n".encode() + read(INSTALLER))
     os.chmod(program, 0o755)
     installing = Installing(program, RealInstaller(room), room)
     # (what Python itself calls is neither broken nor traced)
@@ -322,7 +312,7 @@ def run_all(checks, room):
             user.ask_itself(least, word, own)
         shared.check_signing(user, os.path.join(own, "signed"), needs.minisign())
     check_planted(checks, beside, package, room, minisign)
-    check_installing(checks, alone, place, os.path.join(room, "installs"))
+    check_installing(checks, alone, os.path.join(room, "installs"))
 
 
 if __name__ == "__main__":

@@ -34,18 +34,9 @@ def rejects(kind: Type[BaseException], call: Callable[[], object], what: str, sa
         check(False, f"{what}: it is not rejected")
 
 
-class BytesPath(pathlib.PurePosixPath):
-    """A path that is bytes for the system."""
-
-    def __fspath__(self) -> Any:
-        return os.fsencode(str(self))
-
-
-class NoPath:
-    """Looks like a path, and is none."""
-
-    def __fspath__(self) -> Any:
-        return 3
+# A path that is bytes for the system, and what looks like a path and is none.
+BytesPath = type("BytesPath", (pathlib.PurePosixPath,), {"__fspath__": lambda path: os.fsencode(str(path))})
+NoPath = type("NoPath", (), {"__fspath__": lambda _: 3})
 
 
 def scattered(value: bytes) -> memoryview:

@@ -4,6 +4,7 @@ tests/installer run over it.
 Needs Python 3.9 or later.
 """
 
+import ctypes.util
 import getopt
 import os
 import sys
@@ -101,5 +102,7 @@ def main():
 
 
 if __name__ == "__main__":
+    # (other programs are asked for where a library is: without them the package takes libsodium by its usual name)
+    ctypes.util.find_library = lambda _: None
     # (the end of all of Python takes as long as an installation)
     os._exit(main())

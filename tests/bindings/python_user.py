@@ -338,8 +338,7 @@ def installing(room: str) -> None:
     def signed(data: bytes, comment: str) -> Signature:
         return key.sign(write(room, "update", data), trusted_comment=comment)
 
-    one, another, two = (signed(data, comment) for data, comment in (
-        (b"one", "version:1\tfile:app"), (b"another one", "version:1\tfile:app"), (b"two", "version:2\tfile:app")))
+    one, two = signed(b"one", "version:1\tfile:app"), signed(b"two", "version:2\tfile:app")
 
     def install(data: Any = path, update: Signature = two, keys: Any = public, **how: Any) -> bool:
         how.setdefault("numbering", "version")
@@ -361,9 +360,7 @@ def installing(room: str) -> None:
     install(io.BytesIO(b"one"), one, first=True, progress=lambda done, size: seen.append((done, size)))
     stands(b"one", 1, "data in memory")
     check(bool(seen), "progress of an installation")
-    rejects(minisign.SameNumber, lambda: offer(another), "a check of another update of the number")
     write(directory, "app", b"changed")
-    check(offer(one) is minisign.Offer.NEWER, "a check of a changed file")
     check(install(io.BytesIO(b"one"), one) is True, "a changed file")
 
     for raised in (LookupError, minisign.SignatureRefused):

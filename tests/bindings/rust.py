@@ -183,18 +183,6 @@ def ask_all(program, room, minisign, cases):
     shared_cases.check_signing(program, os.path.join(room, "signed"), minisign, lambda name: f"Err(Rejected({name}))", "Ok(())")
 
 
-def check_own(checks, cargo, room, crate):
-    """A program with an Ed25519 of its own gets its answers, and is linked with no libsodium."""
-    program = cargo.program(room, "own", ALONE.format(crate=crate), "own.rs")
-    key, _, signature = shared_cases.PATHS
-    for answers, why in (("yy", None), ("yn", "COMMENT_SIGNATURE_REFUSED"), ("ny", "SIGNATURE_REFUSED")):
-        wanted = f"Err(InvalidSignature({why}))" if why else "Ok(())"
-        said = run([program, answers, key, signature])[1].decode().strip()
-        checks.check(said == wanted, f"an Ed25519 that answers {answers}: {said}")
-    needed = run([needs.program("readelf", "binutils"), "-d", program])[1]
-    checks.check(b"libsodium" not in needed and b"libc" in needed, "a program without libsodium is linked with it")
-
-
 # ---- Where it is built ----
 
 # All that Debian's cargo runs to build the crate and a program over it: no make, and no other compiler.
@@ -217,7 +205,7 @@ class Place:
 
     def __init__(self, programs, room, name, dependency):
         self.directory = new_crate(room, name, dependency, "target.rs")
-        self.cargo = Cargo(self.directory, *(os.path.join(needs.DEBIAN, name) for name in ("cargo", "rustc")), PATH=programs, RUSTFLAGS="")
+        self.cargo = Cargo(self.directory, *(os.path.join(needs.DEBIAN, name) for name in ("cargo", "rustc")), PATH=programs)
 
     def build(self, target="", **environment):
         """Builds it: how that ended, and what was said."""
@@ -246,10 +234,10 @@ def rust_for_arm():
 
 
 def check_here(checks, programs, crate, room):
-    """In a path with blanks, and without make; over the archives, and as C; and as a git dependency."""
+    """In a path with blanks, and without make; over the archives, and as C, with no libsodium; and as a git dependency."""
     place = Place(programs, room, "a user's crate", ALONE.format(crate=crate))
     for what, has_archives, portable in (("the archives", True, ""), ("C alone", False, "1")):
-        place.check(checks, f"without make, {what}", {"v3_minisign_update": has_archives}, MINISIGN_PORTABLE=portable)
+        place.check(checks, f"without make, {what}", {"v3_minisign_update": has_archives, "crypto_sign": False}, MINISIGN_PORTABLE=portable)
     status, why = place.build(CC="cl", MINISIGN_PORTABLE="")
     checks.check(status != 0 and NO_COMPILER + "x86_64-unknown-linux-gnu: name one in CC_x86_64_unknown_linux_gnu (tried: cl)\n" in why,
                  f"a compiler without GNU's options: {why[-500:]}")
@@ -314,7 +302,7 @@ def check_toolchain(checks, room, toolchain, minisign, is_first):
     said = cargo.run(crate, "test", "--doc")
     checks.check(re.search(r"test result: ok\. [2-9] passed; 0 failed; 0 ignored", said), f"the examples: {said[-500:]}")
     check_inside(checks, cargo, crate, room)
-    check_own(checks, cargo, room, crate)
+    cargo.run(crate, "check", "--no-default-features")
     if not is_first:
         return
     program.ask_growth(CALLS, PAGES, few)

@@ -51,8 +51,7 @@ def packed(package, room, environment=None, **chosen):
     command = [needs.program("make", "make"), "-s", "-C", os.path.join(TOP, "bindings"), package, *words]
     hold(command, **{"PATH": static_library.path_without_kit(), **(environment or {})})
     archive, = (name for name in os.listdir(out) if name.endswith((".crate", ".tar.gz", ".tgz")))
-    os.makedirs(to)
-    hold(["tar", "-xf", os.path.join(out, archive), "-C", to])
+    shutil.unpack_archive(os.path.join(out, archive), to, "gztar")
     return os.path.join(to, *os.listdir(to))
 
 
