@@ -35,7 +35,6 @@ import needs
 import portable
 import shared_cases
 import static_library
-from emulated import Kind
 from shared_cases import TOP, Program, names_in, read, run, write
 
 PACKAGE = os.path.join(TOP, "bindings", "go")
@@ -273,11 +272,12 @@ def check_own_tests(checks, go, package):
 
 def check_as_c(checks, go, room, package, minisign):
     """Over the calls as C: here, for ARM with pointers of 32 bits, and for Windows, under wine."""
-    windows, arm = portable.Windows(room), Kind("armhf", "arm-linux-gnueabihf", "armhf", "arm", "ARM", has_32_bits=True)
+    windows, mingw = portable.Windows(room), needs.program("x86_64-w64-mingw32-gcc", "gcc-mingw-w64-x86-64")
+    arm = next(kind for kind in portable.KINDS if kind.debian == "armhf")
     for what, before, words, environment in (
             ("as C", [], ["-tags", "portable"], {}),
             ("for ARM", emulated.emulator(arm), [QUICKLY], {"GOOS": "linux", "GOARCH": "arm", "CC": emulated.compiler(arm)}),
-            ("for Windows", [windows.program], [QUICKLY], {"GOOS": "windows", "CC": needs.program("x86_64-w64-mingw32-gcc", "gcc-mingw-w64-x86-64")})):
+            ("for Windows", [windows.program], [QUICKLY], {"GOOS": "windows", "CC": mingw})):
         program = go.build("answers.go", os.path.join(room, what.replace(" ", "-")), package, *words, **environment)
         asked = Program(checks, *before, program, name=what, **windows.variables)
         asked.ask_answers(minisign, shared_cases.corpus(), (["verify"], True))

@@ -186,8 +186,8 @@ print(json.dumps([[[number, kind.__name__, str(_calls.error_of(number))] for num
 
 
 def check_headers(checks, room, python_path, package):
-    """The library is linked with the archives. The exceptions, the numbers, the structs and their fields are those of the headers, and of c/install/installing.h as far as the
-    package has them."""
+    """The library is linked with the archives. The exceptions, the numbers, the structs and their fields are those of the headers, and of
+    c/install/installing.h as far as the package has them."""
     checks.check("v3_minisign_update" in shared.names_in(f"{package}/libminisign.so"), "it is not linked with the archives")
     errors, places, host = json.loads(hold([python_path, "-c", TOLD]))
     wanted = [[number, "".join(map(str.capitalize, name.split("_"))), shared.error_texts()[name]] for name, number in shared.ERRORS.items()]
