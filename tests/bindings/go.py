@@ -20,16 +20,14 @@ libc6-dev-armhf-cross, qemu-user-static, gcc-mingw-w64-x86-64, wine64 and git. I
 
 import base64
 import binascii
-import glob
 import os
 import re
 import shutil
 import sys
 
 HERE = os.path.dirname(os.path.realpath(__file__))
-sys.path += [HERE, *(os.path.join(HERE, "..", name) for name in ("shared", "c")), os.path.join(HERE, "..", "..", "tools")]
+sys.path += [HERE, *(os.path.join(HERE, "..", name) for name in ("shared", "c"))]
 
-import carried
 import commands
 import emulated
 import ending
@@ -37,7 +35,6 @@ import needs
 import portable
 import shared_cases
 import static_library
-from emulated import Kind
 from shared_cases import TOP, Program, names_in, read, run, write
 
 PACKAGE = os.path.join(TOP, "bindings", "go")
@@ -45,8 +42,8 @@ LINES = 500
 # What tools/bindings.py makes.
 MADE = ("errors.go", "header.go")
 # How many pages of 4 KiB may be in memory after so many calls, or keys, that were not after a tenth of them.
-CALLS, PAGES = 50_000, 256
-KEYS, PAGES_OF_KEYS = 20_000, 512
+CALLS, PAGES = 20_000, 256
+KEYS, PAGES_OF_KEYS = 8_000, 512
 # go-minisign, as Debian has it, below a directory of sources.
 SOURCES, GO_MINISIGN = "/usr/share/gocode", "github.com/jedisct1/go-minisign"
 # Of the changes of go/changed.go go-minisign, which does not look at the first line, says that these are good.
@@ -101,18 +98,18 @@ REJECTED_THERE = {
 class Go:
     """Runs go with what it keeps in a directory of its own, and no network. Where it is tried how C is built, and not what it answers,
     that is compiled without optimizing; `AS_USUAL` compiles it as go does. (The calls as C are compiled in many ways by
-    tests/c/portable.py.)"""
+    tests/c/portable.py.) Its compiler has memory enough to collect nothing, which takes less time."""
 
     AS_USUAL = {"CGO_CFLAGS": "-g -O2"}
 
     def __init__(self, room, **environment):
         self.go = needs.program("go", "golang-go")
-        self.environment = {"GOPROXY": "off", "GOFLAGS": "", "GOCACHE": f"{room}/cache", "GOPATH": f"{room}/path",
+        self.environment = {"GOPROXY": "off", "GOFLAGS": "", "GOCACHE": f"{room}/cache", "GOPATH": f"{room}/path", "GOGC": "off",
                             "GOTOOLCHAIN": "local", "CGO_ENABLED": "1", "CC": needs.c_compiler(), "CGO_CFLAGS": "-O0",
                             "PATH": static_library.path_without_kit(), **environment}
 
     def run(self, directory, *words, **environment):
-        return shared_cases.hold([self.go, *words], directory, {**self.environment, **environment})
+        return static_library.hold([self.go, *words], directory, **{**self.environment, **environment})
 
     def begin(self, directory, package):
         """Begins a module that uses the package, as README.md tells a user."""
@@ -257,6 +254,8 @@ def check_readme(checks, go, room, package, minisign):
 
 # All that Debian's Go runs to build the module and a program over it: no make.
 NEEDED = ("go", "gcc", "ld", "as", "git")
+# For another system all of Go's own library is compiled, which takes less time without optimizing.
+QUICKLY = "-gcflags=all=-N -l"
 NO_CGO = "minisign calls C: set CGO_ENABLED=1, and CC to a C compiler for this system"
 
 
@@ -265,19 +264,20 @@ def check_own_tests(checks, go, package):
     for AArch64 in an emulator."""
     checks.check(go.run(package, "vet", "./...") == "", "go vet has words")
     arm = emulated.AARCH64
-    in_emulator = ["-exec", " ".join(emulated.emulator(arm))], {"GOARCH": "arm64", "CC": emulated.compiler(arm)}
+    in_emulator = [QUICKLY, "-exec", " ".join(emulated.emulator(arm))], {"GOARCH": "arm64", "CC": emulated.compiler(arm)}
     for words, environment in ((["-race", "-tags", "amd64.v3"], {}), in_emulator):
-        said = go.run(package, "test", "-count=1", "-v", *words, "./...", **environment)
+        said = go.run(package, "test", "-count=1", "-vet=off", "-v", *words, "./...", **environment)
         checks.check(said.count("--- PASS: ") >= 6 and "--- SKIP" not in said, f"go test {words}: {said[-500:]}")
 
 
 def check_as_c(checks, go, room, package, minisign):
     """Over the calls as C: here, for ARM with pointers of 32 bits, and for Windows, under wine."""
-    windows, arm = portable.Windows(room), Kind("armhf", "arm-linux-gnueabihf", "armhf", "arm", "ARM", has_32_bits=True)
+    windows, mingw = portable.Windows(room), needs.program("x86_64-w64-mingw32-gcc", "gcc-mingw-w64-x86-64")
+    arm = next(kind for kind in portable.KINDS if kind.debian == "armhf")
     for what, before, words, environment in (
             ("as C", [], ["-tags", "portable"], {}),
-            ("for ARM", emulated.emulator(arm), [], {"GOOS": "linux", "GOARCH": "arm", "CC": emulated.compiler(arm)}),
-            ("for Windows", [windows.program], [], {"GOOS": "windows", "CC": needs.program("x86_64-w64-mingw32-gcc", "gcc-mingw-w64-x86-64")})):
+            ("for ARM", emulated.emulator(arm), [QUICKLY], {"GOOS": "linux", "GOARCH": "arm", "CC": emulated.compiler(arm)}),
+            ("for Windows", [windows.program], [QUICKLY], {"GOOS": "windows", "CC": mingw})):
         program = go.build("answers.go", os.path.join(room, what.replace(" ", "-")), package, *words, **environment)
         asked = Program(checks, *before, program, name=what, **windows.variables)
         asked.ask_answers(minisign, shared_cases.corpus(), (["verify"], True))
@@ -312,19 +312,17 @@ def check_without_cgo(checks, go, room, package):
 def with_compiled_c(go, package, room):
     """A copy of the package whose C stands there compiled, as go links it: the bugs are in what is Go."""
     copied = shutil.copytree(package, os.path.join(room, "with-compiled-c"))
-    sources = glob.glob(f"{copied}/*.c")
-    objects = [path[:-1] + "o" for path in sources]
-    shared_cases.hold([go.environment["CC"], "-O2", "-I.", "-c", *sources], copied)
-    shared_cases.hold(["ld", "-r", "-o", "compiled.syso", *objects], copied)
-    for path in [*sources, *objects]:
-        os.remove(path)
+    sources = go.run(copied, "list", "-f", '{{join .CFiles " "}}').split()
+    static_library.hold([go.environment["CC"], "-O2", "-I.", "-r", "-nostdlib", "-o", "compiled.syso", *sources], copied)
+    for name in sources:
+        os.remove(os.path.join(copied, name))
     return copied
 
 
 def check_planted(checks, go, package, room, minisign):
     """Each planted bug is noticed by what is asked of a program over the changed package."""
     def ask(found, changed, directory, word):
-        built = lambda name: go.build(f"{name}.go", os.path.join(directory, name), changed)
+        built = lambda name: go.build(f"{name}.go", os.path.join(directory, name), changed, "-ldflags=-s -w")
         if word == "sign":
             check_signing(Program(found, built("signing")), os.path.join(directory, "signed"), minisign)
         else:
@@ -339,8 +337,6 @@ def run_all(checks, room):
     check_sources(checks)
     minisign = shared_cases.c_minisign(room)
     package, go = shared_cases.packed("go", room), Go(room)
-    for name in [*carried.COPIES, carried.ARCHIVE]:
-        checks.check(read(package, name) == carried.copy(name), f"{name} is not what tools/carried.py makes: run it")
     check_own_tests(checks, go, package)
 
     def programs(source, name):

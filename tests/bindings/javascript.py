@@ -47,9 +47,10 @@ LINES = 600
 # The globals that the package uses besides those of the language. All are of the web, and of the list that all of these have
 # (the "Minimum common web platform API").
 GLOBALS = ("TextDecoder", "TextEncoder", "WebAssembly", "atob", "crypto")
-# How many bytes may be in memory after so many calls, or keys, that were not after a tenth of them.
-CALLS, GROWTH = 10_000, 1_600_000
-KEYS, GROWTH_OF_KEYS = 3_000, 64 * 1048576
+# How many bytes may be in memory after so many calls, or keys, that were not after a tenth of them. (A page of a module's memory, which
+# each key would keep, is more.)
+CALLS, GROWTH = 5_000, 800_000
+KEYS, GROWTH_OF_KEYS = 1_000, 40 * 1048576
 # What becomes of streams, each tried in a program of its own, which an error that is lost would end.
 STREAMS = ("descriptors", "opening", "cancelled", "absent", "both", "begun", "between", "event", "late", "web", "accepted", "aborted")
 # The errors of the header that verifying has besides usage errors.
@@ -148,19 +149,14 @@ def ask_streams(program, *_):
 
 def ask_readings(program, minisign, _):
     """It tells which key a signature names, and whether it is legacy, before anything is asked; and verifies with what was read."""
-    def form_of(allow_legacy):
-        def form(reading):
-            comment, = shared_cases.answers_of(minisign, [reading.case], allow_legacy)
-            # (of what is rejected otherwise, the white space behind a comment was signed)
-            why = ("DIFFERENT_KEY_IDS" if reading.key_id != reading.signature_key_id else "LEGACY_NOT_ACCEPTED" if reading.is_legacy
-                   else "COMMENT_SIGNATURE_REFUSED")
-            ids = " ".join(f"{shared_cases.shown_id(key_id):0>16}" for key_id in (reading.key_id, reading.signature_key_id))
-            verdict = shared_cases.rejected(why) if comment is None else shared_cases.accepted(comment)
-            return f"{ids} {str(reading.is_legacy).lower()} {verdict}"
-        return form
+    def form(reading):
+        comment, = shared_cases.answers_of(minisign, [reading.case], allow_legacy)
+        ids = " ".join(f"{shared_cases.shown_id(key_id):0>16}" for key_id in (reading.key_id, reading.signature_key_id))
+        verdict = shared_cases.rejected(".*") if comment is None else shared_cases.accepted(comment)
+        return f"{ids} {str(reading.is_legacy).lower()} {verdict}"
 
     for words, allow_legacy in ((["read"], False), (["read", "legacy"], True)):
-        program.ask_readings(words, form_of(allow_legacy))
+        program.ask_readings(words, form)
     rows = [(case, name) for case, name in shared_cases.rejections() if case.signature != PUBLISHED.signature]
     program.ask_reasons(["read"], rows, lambda name: rf"([0-9A-F]{{16}} [0-9A-F]{{16}} (true|false) )?rejected {name}")
 
@@ -221,13 +217,8 @@ def check_bare(checks, user):
 
 PAGE = """<!doctype html><meta charset="utf-8"><title>Answers</title><body><script type="module" src="browser.mjs"></script>"""
 SECONDS = 600
-
-
-class Handler(http.server.SimpleHTTPRequestHandler):
-    """Hands out the files of the directory, and the page."""
-
-    def log_message(self, *words):
-        pass
+# Hands out the files of a directory, and says nothing.
+Handler = type("Handler", (http.server.SimpleHTTPRequestHandler,), {"log_message": lambda *_: None})
 
 
 def check_browsers(checks, user, room, minisign):

@@ -17,7 +17,6 @@ import glob
 import json
 import os
 import re
-import shutil
 import sys
 
 HERE = os.path.dirname(os.path.realpath(__file__))
@@ -25,6 +24,7 @@ sys.path.append(os.path.join(HERE, "..", "shared"))
 
 import ending
 import needs
+from planted import copy_sources
 from shared_cases import TOP, bugs_of, check_planted, read, run
 
 # The files of each language from the top of the repository, how wide its lines are, and its formatter and the package that has that:
@@ -100,11 +100,7 @@ def check_language(checks, language, top):
 def run_all(checks, room):
     for language in LANGUAGES:
         check_language(checks, language, TOP)
-    copy = os.path.join(room, "copy")
-    for name in [*(name for language in LANGUAGES for name in files_of(language, TOP)), PACKAGE]:
-        os.makedirs(os.path.dirname(os.path.join(copy, name)), exist_ok=True)
-        shutil.copy(os.path.join(TOP, name), os.path.join(copy, name))
-    check_planted(checks, copy, bugs_of(HERE, "layout.txt"), room,
+    check_planted(checks, copy_sources(room, "bindings", "examples"), bugs_of(HERE, "layout.txt"), room,
                   lambda found, changed, _, language: check_language(found, language, changed))
 
 

@@ -44,6 +44,7 @@ from installing import cases
 from running import build_preload, expect, run_cases
 from runs import Installing
 from shared_cases import TOP, read, run, write
+from static_library import hold
 from words import word_cases
 
 USER, INSTALLER = os.path.join(HERE, "python_user.py"), os.path.join(HERE, "python_installing.py")
@@ -68,17 +69,6 @@ def python():
 # All that building runs, beside Python: no make.
 NEEDED = ("gcc", "x86_64-linux-gnu-gcc", "ld", "as", "objcopy")
 NO_COMPILER = "minisign-proved is built by a C compiler with GNU's options, as gcc and clang have them: {} is none, so name one in CC"
-# What is changed in setup.py for a library without the host, as other systems have it, and what its user does.
-NO_HOST = ('if "__linux__" in macros:\n            sources += HOST', 'if "none" in macros:\n            sources += HOST')
-WITHOUT_HOST = """
-import sys, minisign_proved as m
-key, signature = (open(sys.argv[number], "rb").read() for number in (1, 3))
-m.PublicKey(key).verify(b"test", m.Signature(signature))
-try:
-    m.install(m.PublicKey(key), sys.argv[2], m.Signature(signature), sys.argv[2] + "-there", first=True)
-except NotImplementedError as why:
-    print(why)
-"""
 # What is changed in setup.py, and with which of its libraries that is noticed: with C alone, or with the archives.
 SETUP_BUGS = [("setup.py", 'flags.append("-DMINISIGN_PORTABLE")', 'flags.append("-DMINISIGN_NO")', "1"),
               ("setup.py", "={prefix}_{name}", "=v2_{name}", "")]
@@ -94,15 +84,15 @@ def build(sources, programs, **environment):
 def check_loaded(checks, what, compiler, library, before=(), **variables):
     """The library is loaded, and hashes; and has a host, but for Windows."""
     program = os.path.join(os.path.dirname(library), "loaded.exe")
-    shared.hold([compiler, "-std=c11", "-w", "-I", os.path.join(TOP, "include"), "-o", program, os.path.join(HERE, "python", "loaded.c")])
+    hold([compiler, "-std=c11", "-w", "-I", os.path.join(TOP, "include"), "-o", program, os.path.join(HERE, "python", "loaded.c")])
     said = run([*before, program, library], environment=variables)[1].decode()
     wanted = rf"\d+ {hashlib.blake2b(bytes([7]) * 1000).hexdigest()} with{'out' if what == 'Windows' else ''} a host\r?\n"
     checks.check(re.fullmatch(wanted, said), f"{what}: {said}")
 
 
 def check_builds(checks, archive, room):
-    """The archive of sources is built, in a path with blanks, over the archives of calls and where there is none: as C by Debian's
-    compiler and over musl, for AArch64, and for Windows. A compiler without GNU's options is an error that says so."""
+    """The archive of sources is built, in a path with blanks: as C by Debian's compiler and over musl, for AArch64 over its archive of
+    calls, and for Windows. A compiler without GNU's options is an error that says so."""
     programs, arm, windows = shared.few_programs(room, *NEEDED), emulated.AARCH64, portable.Windows(room)
 
     def unpacked(name):
@@ -112,25 +102,19 @@ def check_builds(checks, archive, room):
 
     gcc, mingw = needs.c_compiler(), needs.program("x86_64-w64-mingw32-gcc", "gcc-mingw-w64-x86-64")
     for what, compiler, before, is_portable, machine in (
-            ("the archives", gcc, [], "", "linux_x86_64"), ("C alone", gcc, [], "1", "linux_x86_64"),
+            ("C alone", gcc, [], "1", "linux_x86_64"),
             ("musl", needs.program("musl-gcc", "musl-tools"), [], "1", "linux_x86_64"),
             ("AArch64", emulated.compiler(arm), emulated.emulator(arm), "", "linux_aarch64"), ("Windows", mingw, [windows.program], "", "win_amd64")):
         sources = unpacked(what)
         status, why, library = build(sources, programs, CC=compiler, MINISIGN_PORTABLE=is_portable)
         if checks.check(status == 0, f"{what}: it was not built: {why[-1000:]}"):
             check_loaded(checks, what, compiler, library, before, **windows.variables)
-            checks.check(("v3_minisign_update" in shared.names_in(library)) == (what == "the archives"), f"{what}: the archives")
+            checks.check("v3_minisign_update" not in shared.names_in(library), f"{what}: the archives")
             wheel, = os.listdir(os.path.join(sources, "made"))
             checks.check(wheel.endswith(f"-none-{machine}.whl"), f"{what}: the wheel is {wheel}")
     windows.end()
     status, why, _ = build(unpacked("another compiler"), programs, CC="cl")
     checks.check(status != 0 and NO_COMPILER.format("cl") in why, f"a compiler without GNU's options: {why[-500:]}")
-    sources = unpacked("no host")
-    text = read(sources, "setup.py").decode()
-    write(sources, "setup.py", text.replace(*NO_HOST).encode())
-    status, why, library = build(sources, programs, CC=gcc)
-    _, said, wrong = run([python(), "-c", WITHOUT_HOST, *shared.PATHS], environment={"PYTHONPATH": os.path.dirname(os.path.dirname(library))})
-    checks.check(NO_HOST[0] in text and status == 0 and said.startswith(b"installing is for Linux: "), f"without a host: {said!r} {why[-300:]}{wrong[-500:]}")
 
     def ask(found, changed, directory, is_portable):
         status, why, library = build(changed, programs, CC=gcc, MINISIGN_PORTABLE=is_portable)
@@ -142,11 +126,11 @@ def check_builds(checks, archive, room):
 
 
 def build_wheel(checks, room):
-    """The wheel, built from the packed archive."""
+    """The wheel, built from the packed archive over the archives of calls."""
     package = shared.packed("python", room, PYTHON=python())
     archive, = glob.glob(os.path.join(room, "packed", "*.tar.gz"))
     command = [python(), "-m", "pip", "wheel", "-q", "--no-index", "--no-build-isolation", "--no-deps", "-w", room, archive]
-    shared.hold(command, environment={"PATH": check_builds(checks, archive, room)})
+    hold(command, PATH=check_builds(checks, archive, room))
     path, = glob.glob(os.path.join(room, "*.whl"))
     with zipfile.ZipFile(path) as wheel:
         names = {name.partition("/")[2] for name in wheel.namelist() if name.startswith(PACKAGE + "/")}
@@ -162,24 +146,19 @@ def build_wheel(checks, room):
 def environment(room, name, wheel, *words):
     """A fresh environment that has the wheel: its Python, and where the package stands in it."""
     path = os.path.join(room, name)
-    for command in ([python(), "-m", "venv", *words, path], [f"{path}/bin/pip", "install", "-q", "--no-index", wheel]):
-        shared.hold(command)
+    hold([python(), "-m", "venv", "--without-pip", *words, path])
+    hold([python(), "-m", "pip", "--python", f"{path}/bin/python", "install", "-q", "--no-index", wheel])
     return os.path.join(path, "bin", "python"), glob.glob(f"{path}/lib/python3*/site-packages/{PACKAGE}")[0]
 
 
 # ---- What it is made of ----
 
 
-def lines_of(path):
-    """The lines of a source, without blank ones, comments and docstrings, which alone have three quotes."""
-    return shared.code_of(re.sub('""".*?"""', "", read(path).decode(), flags=re.S), "#")
-
-
 def check_sources(checks):
-    """The package is small, and its README too."""
+    """The package is small, without its docstrings, which alone have three quotes, and its README too."""
     sources = glob.glob(os.path.join(SOURCES, "src", PACKAGE, "*.py"))
-    by_hand = [path for path in sources if os.path.basename(path) not in MADE]
-    shared.check_written(checks, "python", sum(map(lines_of, [*by_hand, os.path.join(SOURCES, "setup.py")]), []), LINES)
+    by_hand = [read(path).decode() for path in [*sources, os.path.join(SOURCES, "setup.py")] if os.path.basename(path) not in MADE]
+    shared.check_written(checks, "python", shared.code_of(re.sub('""".*?"""', "", "\n".join(by_hand), flags=re.S), "#"), LINES)
     for path in sources:
         # (a `SyntaxError` where it is not for the oldest version of Python that the package is for)
         checks.check(ast.parse(read(path), path, feature_version=(3, 9)))
@@ -206,10 +185,11 @@ print(json.dumps([[[number, kind.__name__, str(_calls.error_of(number))] for num
 """
 
 
-def check_headers(checks, room, python_path):
-    """The exceptions, the numbers, the structs and their fields are those of the headers, and of c/install/installing.h as far as the
-    package has them."""
-    errors, places, host = json.loads(shared.hold([python_path, "-c", TOLD]))
+def check_headers(checks, room, python_path, package):
+    """The library is linked with the archives. The exceptions, the numbers, the structs and their fields are those of the headers, and of
+    c/install/installing.h as far as the package has them."""
+    checks.check("v3_minisign_update" in shared.names_in(f"{package}/libminisign.so"), "it is not linked with the archives")
+    errors, places, host = json.loads(hold([python_path, "-c", TOLD]))
     wanted = [[number, "".join(map(str.capitalize, name.split("_"))), shared.error_texts()[name]] for name, number in shared.ERRORS.items()]
     checks.same(sorted(errors), sorted(wanted), "the exceptions")
     checks.same(places, shared.layout(room), "the structs")
@@ -219,9 +199,8 @@ def check_headers(checks, room, python_path):
 
 def check_types(checks, python_path, package):
     mypy = needs.program("mypy", "mypy")
-    for what in (package, USER):
-        status, said, why = run([mypy, "--strict", "--cache-dir=/dev/null", "--python-executable", python_path, what])
-        checks.check(status == 0, f"types of {os.path.basename(what)}: {said.decode()[-1000:]}{why[-300:]}")
+    status, said, why = run([mypy, "--strict", "--cache-dir=/dev/null", "--python-executable", python_path, package, USER])
+    checks.check(status == 0, f"types: {said.decode()[-1000:]}{why[-300:]}")
 
 
 # ---- What its user is told ----
@@ -277,7 +256,7 @@ def chosen_cases(installing):
     # (what the host does after a cut over other beginnings, the cases of the program show)
     cut_off = {f"cut off by {cut}, over {begin}" for begin, *_ in BEGINNINGS[1:] for cut, _ in CUTS}
     left_out = LEFT_OUT | cut_off | {name for name, *_ in word_cases} - KEPT
-    found = cases(installing)
+    found = [*cases(installing)]
     expect(left_out | KEPT <= {case[0] for case in found}, "what is left out is no case")
     return [case for case in found if case[0] not in left_out]
 
@@ -301,7 +280,8 @@ def check_installing(checks, python_path, room):
 def check_planted(checks, python_path, package, room, minisign):
     """Each planted bug is noticed by the checks of its word."""
     def ask(found, changed, directory, word):
-        user = user_of(found, python_path, "cryptography", os.path.dirname(changed))
+        # (over libsodium a start takes less time)
+        user = user_of(found, python_path, "cryptography" if word == "vectors" else "libsodium", os.path.dirname(changed))
         asked = {"answers": lambda: user.ask_reasons(["answers", "reject"], shared.rejections()),
                  "read": lambda: user.ask_readings(["read"], shown),
                  "pieces": lambda: user.ask_answers(minisign, shared.corpus(), (["pieces"], True)),
@@ -316,10 +296,10 @@ def run_all(checks, room):
     # (some runs are made as nobody)
     os.chmod(room, 0o711)
     minisign, wheel = shared.c_minisign(room), build_wheel(checks, room)
-    alone, _ = environment(room, "alone", wheel)
+    alone, place = environment(room, "alone", wheel)
     beside, package = environment(room, "beside", wheel, "--system-site-packages")
     check_sources(checks)
-    check_headers(checks, room, alone)
+    check_headers(checks, room, alone, place)
     check_types(checks, beside, package)
     check_examples(checks, alone, os.path.join(room, "examples"))
     cases = shared.all_cases(checks, minisign)

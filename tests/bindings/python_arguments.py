@@ -6,6 +6,7 @@ Needs Python 3.9 or later.
 
 import array
 import enum
+import functools
 import inspect
 import io
 import os
@@ -33,18 +34,9 @@ def rejects(kind: Type[BaseException], call: Callable[[], object], what: str, sa
         check(False, f"{what}: it is not rejected")
 
 
-class BytesPath(pathlib.PurePosixPath):
-    """A path that is bytes for the system."""
-
-    def __fspath__(self) -> Any:
-        return os.fsencode(str(self))
-
-
-class NoPath:
-    """Looks like a path, and is none."""
-
-    def __fspath__(self) -> Any:
-        return 3
+# A path that is bytes for the system, and what looks like a path and is none.
+BytesPath = type("BytesPath", (pathlib.PurePosixPath,), {"__fspath__": lambda path: os.fsencode(str(path))})
+NoPath = type("NoPath", (), {"__fspath__": lambda _: 3})
 
 
 def scattered(value: bytes) -> memoryview:
@@ -105,10 +97,10 @@ class Row:
     def __init__(self, name: str, of: object, /, **arguments: Tuple[str, object]) -> None:
         self.name, self.of, self.arguments = name, of, arguments
 
-    def call(self) -> Tuple[Callable[..., object], Dict[str, Any]]:
-        """What is called, and with which arguments."""
-        called: Callable[..., object] = getattr(anew(self.of), self.name.rpartition(".")[2])
-        return called, {argument: anew(value) for argument, (_, value) in self.arguments.items()}
+    def call(self) -> "functools.partial[Any]":
+        """The call with all that it takes."""
+        called = getattr(anew(self.of), self.name.rpartition(".")[2])
+        return functools.partial(called, **{argument: anew(value) for argument, (_, value) in self.arguments.items()})
 
 
 def anew(value: object) -> Any:
@@ -200,33 +192,29 @@ def files(room: str) -> Dict[str, bytes]:
 
 def told(result: object) -> object:
     """What of a result is the same in each run."""
-    if isinstance(result, (PublicKey, Verifier)):
-        return result.key if isinstance(result, PublicKey) else None
-    return result.public_key if isinstance(result, SecretKey) else result.text if isinstance(result, Signature) else result
+    part = {PublicKey: "key", SecretKey: "public_key", Signature: "text", Verifier: "__doc__"}.get(type(result))
+    return getattr(result, part) if part else result
 
 
 def check_row(row: Row, room: str) -> None:
-    call, good = row.call()
-    wanted = told(call(**good))
+    wanted = told(row.call()())
     for argument, (name, _) in row.arguments.items():
         kind = KINDS[name.replace(OR_NONE, "")]
         wrong = [(TypeError, value) for value in kind.wrong if value is not None or OR_NONE not in name]
         for error, value in [*wrong, *((ValueError, value) for value in kind.bad)]:
-            what = f"{row.name}, {argument}={value!r}"
-            call, good = row.call()
-            before = files(room)
-            rejects(error, lambda: call(**{**good, argument: value}), what, rf"\b{argument}\b")
+            what, call, before = f"{row.name}, {argument}={value!r}", row.call(), files(room)
+            rejects(error, lambda: call(**{argument: value}), what, rf"\b{argument}\b")
             check(files(room) == before, f"{what}: something is written")
         for number, form in enumerate(kind.same):
-            call, good = row.call()
+            call = row.call()
             try:
-                said = told(call(**{**good, argument: form(good[argument])}))
+                said = told(call(**{argument: form(call.keywords[argument])}))
                 check(said == wanted, f"{row.name}, form {number} of {argument}: {said!r} in place of {wanted!r}")
             except BaseException as why:
                 check(False, f"{row.name}, form {number} of {argument}: {why!r}")
 
 
-def check_arguments(room: str) -> None:
+def arguments(room: str) -> None:
     """Calls each with all that it takes, and with all that it does not, in a new directory."""
     room = os.path.join(room, "arguments")
     os.mkdir(room)
@@ -239,8 +227,8 @@ def check_arguments(room: str) -> None:
         check_row(row, room)
     place = os.path.join(room, "there", "app")
     os.mkdir(os.path.dirname(place))
-    install, good = rows[-1].call()
+    install = rows[-1].call()
     for mode in (0, 0o777, 0o755):
-        install(**{**good, "mode": mode, "target": place, "again": True})
+        install(mode=mode, target=place, again=True)
         check(os.stat(place).st_mode & 0o7777 == mode, f"the mode {mode:o}")
         os.remove(place)

@@ -4,6 +4,7 @@ tests/installer run over it.
 Needs Python 3.9 or later.
 """
 
+import ctypes.util
 import getopt
 import os
 import sys
@@ -14,8 +15,6 @@ import minisign_proved as minisign
 FAILED, MISUSED, REJECTED, OLDER, IN_USE, NOT_ON_DISK, UNRECORDED, SAME, EXPIRED, THERE = range(1, 11)
 OFFERS = {minisign.Offer.NEWER: 0, minisign.Offer.THERE: THERE, minisign.Offer.OLDER: OLDER}
 OPTIONS = ["first", "again", "check", "must-expire", "key=", "name=", "numbering=", "mode=", "most=", "wait="]
-UNITS = {"K": 10, "M": 20, "G": 30, "T": 40}
-
 
 # The exit status that `minisign-install` has for an error, where it is not that of a rejected update.
 STATUSES = {
@@ -55,23 +54,16 @@ def rejection_text(data, signature, place, name, numbering, error):
     return "\n".join(filter(None, (f"error: {at}: {error}", more.format(record=record, name=name))))
 
 
-def read_key(kind, word):
-    """A public key, of a file or its letters, or the end of the program."""
+def read_text(kind, word):
+    """A public key, of a file or its letters, or a signature; or the end of the program."""
     try:
         return kind(word)
     except minisign.MinisignError as error:
-        text = "it is longer than it may be" if isinstance(error, minisign.TooLong) else error
-    print(f"error: {word}: {text}", file=sys.stderr)
-    sys.exit(REJECTED)
-
-
-def read_signature(path):
-    """A signature, or the end of the program where there is no file of one."""
-    try:
-        return minisign.Signature.from_file(path)
+        text, status = "it is longer than it may be" if isinstance(error, minisign.TooLong) else error, REJECTED
     except OSError as why:
-        print(f"error: {path}: {why.strerror} (os error {why.errno})", file=sys.stderr)
-        sys.exit(FAILED)
+        text, status = f"{why.strerror} (os error {why.errno})", FAILED
+    print(f"error: {word}: {text}", file=sys.stderr)
+    sys.exit(status)
 
 
 def main():
@@ -85,10 +77,10 @@ def main():
     most, mode, name = map(options.get, ("--most", "--mode", "--name"))
     numbering = options.get("--numbering", "timestamp")
     if most is not None:
-        most = int(most[:-1]) << UNITS[most[-1]] if most[-1] in UNITS else int(most)
+        most = int(most.rstrip("K")) << 10 * most.endswith("K")
     try:
-        public_keys = [read_key(minisign.PublicKey.from_base64, text) for text in keys] or read_key(minisign.PublicKey.from_file, key)
-        text = read_signature(signature)
+        public_keys = [read_text(minisign.PublicKey.from_base64, text) for text in keys] or read_text(minisign.PublicKey.from_file, key)
+        text = read_text(minisign.Signature.from_file, signature)
         wanted = {"first": "--first" in options, "must_expire": "--must-expire" in options, "numbering": numbering, "name": name}
         if "--check" in options:
             return OFFERS[minisign.check(public_keys, text, place, **wanted)]
@@ -110,4 +102,7 @@ def main():
 
 
 if __name__ == "__main__":
-    sys.exit(main())
+    # (other programs are asked for where a library is: without them the package takes libsodium by its usual name)
+    ctypes.util.find_library = lambda _: None
+    # (the end of all of Python takes as long as an installation)
+    os._exit(main())

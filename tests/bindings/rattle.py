@@ -1,8 +1,8 @@
 #!/usr/bin/env python3
 """Builds the caller of examples/rattle in a copy, over the libraries as they stand proved (tests/shared/proved.py),
 and verifies files with keys of Minisign's own program: it accepts signed files, and rejects changed ones. The commands
-of its README.md run as they stand between the fences, but that `rt run`, which would prove all crates anew, runs the
-program that was built.
+of its README.md run as they stand between the fences, but that in place of `rt run`, which would prove all crates anew,
+the program that was built is run, by the same words.
 
     tests/bindings/rattle.py
 
@@ -29,14 +29,9 @@ from shared_cases import TOP, read, run, write
 
 NAME = "verify_with_sodium"
 EXAMPLE = "examples/rattle"
-# The command that takes away the endings of a copy, and those that build the program and run it.
-RENAMING, *RUNNING = commands_of(f"{EXAMPLE}/README.md")
-# What those find in place of the kit's own program.
-RT = f"""#!/bin/sh
-[ "$RT_ALLOW_C $1 $2" = "{NAME} run --" ] || exit 3
-shift 2
-exec ./{NAME} "$@"
-"""
+# The command that takes away the endings of a copy, the one that enters the program's directory, and how it runs the program.
+RENAMING, ENTERING, RUNNING = commands_of(f"{EXAMPLE}/README.md")
+BEFORE, _, WORDS = RUNNING.partition(" -- ")
 
 
 def build(room, libsodium):
@@ -60,41 +55,30 @@ def build(room, libsodium):
 
 
 def check_files(checks, program, room):
-    """A file that was signed, and what is not what was signed. The signature that fits every file where small orders are accepted is over
-    the data itself: it is rejected before libsodium is asked."""
+    """A file that was signed, under the names of the document, and what is not what was signed. The signature that fits every file where
+    small orders are accepted is over the data itself: it is rejected before libsodium is asked."""
     minisign = lambda *words: run([needs.minisign(), *words], room)
-    for name in ("one", "two"):
+    for name in ("app", "two"):
         minisign("-G", "-W", "-p", f"{name}.pub", "-s", f"{name}.key")
-    write(room, "data", os.urandom(300_000))
-    minisign("-S", "-s", "one.key", "-m", "data", "-t", "version:1\tfile:data")
-    minisign("-S", "-l", "-s", "one.key", "-m", "data", "-x", "legacy.minisig")
-    write(room, "changed", b"x" + read(room, "data"))
-    write(room, "comment.minisig", read(room, "data.minisig").replace(b"version:1", b"version:2"))
+    write(room, "app", os.urandom(300_000))
+    minisign("-S", "-s", "app.key", "-m", "app", "-t", "version:1\tfile:app")
+    minisign("-S", "-l", "-s", "app.key", "-m", "app", "-x", "legacy.minisig")
+    write(room, "changed", b"x" + read(room, "app"))
+    write(room, "comment.minisig", read(room, "app.minisig").replace(b"version:1", b"version:2"))
     for name, text in zip(("every.pub", "every.minisig"), edges.texts_for_every_file()):
         write(room, name, text)
-    status, said, why = run([program, "one.pub", "data.minisig", "data"], room)
-    checks.check((status, said) == (0, b"version:1\tfile:data\n"), f"a file that was signed: {status}, {said}, {why}")
-    for words, reason in ((("one.pub", "data.minisig", "changed"), "Signature verification failed"),
-                          (("one.pub", "comment.minisig", "data"), "Comment signature verification failed"),
-                          (("two.pub", "data.minisig", "data"), "key"), (("one.pub", "legacy.minisig", "data"), "Legacy"),
-                          (("data.minisig", "data.minisig", "data"), ""), (("one.pub", "data.minisig", "none"), ""),
-                          (("none", "data.minisig", "data"), ""), (("every.pub", "every.minisig", "data"), "")):
+    checks.same((ENTERING, BEFORE), (f"cd crates/{NAME}", f"RT_ALLOW_C={NAME} rt run"), f"{EXAMPLE}/README.md")
+    status, said, why = run([program, *WORDS.split()], room)
+    checks.check((status, said) == (0, b"version:1\tfile:app\n"), f"a file that was signed: {status}, {said}, {why}")
+    for words, reason in ((("app.pub", "app.minisig", "changed"), "Signature verification failed"),
+                          (("app.pub", "comment.minisig", "app"), "Comment signature verification failed"),
+                          (("two.pub", "app.minisig", "app"), "key"), (("app.pub", "legacy.minisig", "app"), "Legacy"),
+                          (("app.minisig", "app.minisig", "app"), ""), (("app.pub", "app.minisig", "none"), ""),
+                          (("none", "app.minisig", "app"), ""), (("every.pub", "every.minisig", "app"), "")):
         status, said, why = run([program, *words], room)
         checks.check(status == 1 and said == b"" and reason in why, f"{words}: {status}, {said}, {why}")
     status, said, _ = run([program], room)
     checks.check(status == 2 and said == b"", f"no words: {status}, {said}")
-
-
-def check_document(checks, room):
-    """The document's commands, in the copy: they verify the file that was signed."""
-    for name, signed in (("app.pub", "one.pub"), ("app.minisig", "data.minisig"), ("app", "data")):
-        shutil.copy(os.path.join(room, signed), os.path.join(room, "copy", "crates", NAME, name))
-    os.mkdir(os.path.join(room, "kit"))
-    write(room, "kit/rt", RT.encode())
-    os.chmod(os.path.join(room, "kit", "rt"), 0o755)
-    path = os.pathsep.join([os.path.join(room, "kit"), os.environ["PATH"]])
-    status, said, why = run(["sh", "-ec", "\n".join(RUNNING)], os.path.join(room, "copy"), {"PATH": path})
-    checks.check((status, said) == (0, b"version:1\tfile:data\n"), f"{EXAMPLE}/README.md: {status}, {said}, {why}")
 
 
 def run_all(checks, room):
@@ -102,7 +86,6 @@ def run_all(checks, room):
     program, said = build(os.path.join(room, "copy"), archive.decode().strip())
     checks.check(re.search(r"logic=proved", said) is not None, f"the example was not built: {said[-1500:]}")
     check_files(checks, program, room)
-    check_document(checks, room)
 
 
 if __name__ == "__main__":

@@ -6,8 +6,8 @@ of README.md and of its comments run.
 
     tests/bindings/rust.py
 
-What it answers is compared with `c/minisign`, with libsodium and with the header (`ask_all`), and what it declares with
-the header; what is written by hand has at most 650 lines, and no `unsafe` outside one module; without its feature
+What it answers is compared with `c/minisign`, with libsodium and with the header (`ask_all`), and its structs with those
+of the header; what is written by hand has at most 650 lines, and no `unsafe` outside one module; without its feature
 `sodium` nothing of libsodium is linked. Each bug of rust/planted.txt is noticed. It prints a line for each failure;
 the last line is `N passed, M failed`.
 
@@ -42,7 +42,7 @@ BY_HAND = ["build.rs", "src/lib.rs", "src/signing.rs", "src/raw.rs", "src/raw/so
 MADE = "src/raw/header.rs"
 LINES = 650
 # How many pages of 4 KiB may be in memory after so many calls that were not after a tenth of them.
-CALLS, PAGES = 20_000, 16
+CALLS, PAGES = 10_000, 16
 
 PROGRAM = """[package]
 name = "user"
@@ -92,9 +92,9 @@ def new_crate(room, name, dependency, source):
 
 class Cargo:
     """Runs cargo with what it keeps in a directory of its own, and no network. Where it is tried how C is built, and not what it
-    answers, that is compiled without optimizing, by `UNOPTIMIZED`."""
+    answers, that is compiled without optimizing, by `UNOPTIMIZED`; and what is no release, without what debuggers need."""
 
-    UNOPTIMIZED = {"CFLAGS": "-O0"}
+    UNOPTIMIZED = {"CFLAGS": "-O0", "CARGO_PROFILE_DEV_DEBUG": "0"}
 
     def __init__(self, room, cargo, rustc, **environment):
         self.cargo, self.target = cargo, os.path.join(room, "target")
@@ -111,7 +111,7 @@ class Cargo:
         return status, said.decode(errors="replace") + why
 
     def run(self, directory, *words, **environment):
-        return shared_cases.hold([self.cargo, *words], directory, {**self.environment, **environment})
+        return static_library.hold([self.cargo, *words], directory, **{**self.environment, **environment})
 
     def program(self, room, name, dependency, source):
         """A program of a crate of its own, over this one: its path in that crate."""
@@ -129,26 +129,6 @@ def check_sources(checks):
         checks.check(name.startswith("src/raw") or "unsafe" not in words, f"{name}: it has `unsafe`")
     there = {os.path.relpath(path, CRATE) for path in glob.glob(f"{CRATE}/src/**", recursive=True) if os.path.isfile(path)}
     checks.check({*there, "build.rs"} == {*BY_HAND, MADE}, f"the crate has the files {sorted(there)}")
-
-
-def check_declarations(checks):
-    """Each call is declared with the kinds of parameters that the header has."""
-    kinds = {"size_t": "usize", "uint32_t": "u32", "uint64_t": "u64", "uint8_t": "u8", "char": "u8", "enum minisign_answer": "u32",
-             "enum minisign_error": "u32", "void": "", **STRUCTS}
-
-    def kind_of(value):
-        """As Rust writes the kind of a parameter in C."""
-        if value.count:
-            return f"&{'' if value.const else 'mut '}[{kinds[value.kind]}; {value.count}]"
-        return f"*{'const' if value.const else 'mut'} {kinds[value.kind]}" if value.star else kinds[value.kind]
-
-    calls = {call.name: call for call in shared_cases.HEADERS.calls}
-    declared = re.findall(r"fn (minisign_\w+)\(([^)]*?),?\s*\)(?:\s*-> (\w+))?;", read(CRATE, MADE).decode())
-    checks.check(len(declared) >= 10, f"the crate declares only {len(declared)} calls")
-    for name, parameters, answer in declared:
-        wanted = [*map(kind_of, calls[name].parameters), kinds[calls[name].answer]]
-        told = [*(parameter.partition(":")[2].strip() for parameter in parameters.split(",") if parameter), answer]
-        checks.same(told, wanted, f"{name}: with what it is declared")
 
 
 # How rust/inside.rs looks at a struct, and at a field of one.
@@ -203,18 +183,6 @@ def ask_all(program, room, minisign, cases):
     shared_cases.check_signing(program, os.path.join(room, "signed"), minisign, lambda name: f"Err(Rejected({name}))", "Ok(())")
 
 
-def check_own(checks, cargo, room, crate):
-    """A program with an Ed25519 of its own gets its answers, and is linked with no libsodium."""
-    program = cargo.program(room, "own", ALONE.format(crate=crate), "own.rs")
-    key, _, signature = shared_cases.PATHS
-    for answers, why in (("yy", None), ("yn", "COMMENT_SIGNATURE_REFUSED"), ("ny", "SIGNATURE_REFUSED")):
-        wanted = f"Err(InvalidSignature({why}))" if why else "Ok(())"
-        said = run([program, answers, key, signature])[1].decode().strip()
-        checks.check(said == wanted, f"an Ed25519 that answers {answers}: {said}")
-    needed = run([needs.program("readelf", "binutils"), "-d", program])[1]
-    checks.check(b"libsodium" not in needed and b"libc" in needed, "a program without libsodium is linked with it")
-
-
 # ---- Where it is built ----
 
 # All that Debian's cargo runs to build the crate and a program over it: no make, and no other compiler.
@@ -237,19 +205,19 @@ class Place:
 
     def __init__(self, programs, room, name, dependency):
         self.directory = new_crate(room, name, dependency, "target.rs")
-        self.cargo = Cargo(self.directory, *(os.path.join(needs.DEBIAN, name) for name in ("cargo", "rustc")), PATH=programs, RUSTFLAGS="")
+        self.cargo = Cargo(self.directory, *(os.path.join(needs.DEBIAN, name) for name in ("cargo", "rustc")), PATH=programs)
 
     def build(self, target="", **environment):
         """Builds it: how that ended, and what was said."""
         words = ["--target", target] if target else []
-        return self.cargo.try_to_run(self.directory, "build", "--release", *words, **{**Cargo.UNOPTIMIZED, **environment})
+        return self.cargo.try_to_run(self.directory, "build", *words, **{**Cargo.UNOPTIMIZED, **environment})
 
     def check(self, checks, what, names, before=(), target="", ending="", variables=None, **environment):
         """Builds and runs it, under these variables: it answers as it has to, and has these names or has them not."""
         status, why = self.build(target, **environment)
         if not checks.check(status == 0, f"{what}: it was not built: {why[-1000:]}"):
             return
-        program, (key, _, signature) = os.path.join(self.cargo.target, target, "release", f"user{ending}"), shared_cases.PATHS
+        program, (key, _, signature) = os.path.join(self.cargo.target, target, "debug", f"user{ending}"), shared_cases.PATHS
         status, said, why = run([*before, program, key, signature], environment=variables)
         checks.check(said.decode().replace("\r", "") == messages(), f"{what}: status {status}, {said.decode()}{why[-500:]}")
         found = shared_cases.names_in(program)
@@ -266,10 +234,10 @@ def rust_for_arm():
 
 
 def check_here(checks, programs, crate, room):
-    """In a path with blanks, and without make; over the archives, and as C; and as a git dependency."""
+    """In a path with blanks, and without make; over the archives, and as C, with no libsodium; and as a git dependency."""
     place = Place(programs, room, "a user's crate", ALONE.format(crate=crate))
     for what, has_archives, portable in (("the archives", True, ""), ("C alone", False, "1")):
-        place.check(checks, f"without make, {what}", {"v3_minisign_update": has_archives}, MINISIGN_PORTABLE=portable)
+        place.check(checks, f"without make, {what}", {"v3_minisign_update": has_archives, "crypto_sign": False}, MINISIGN_PORTABLE=portable)
     status, why = place.build(CC="cl", MINISIGN_PORTABLE="")
     checks.check(status != 0 and NO_COMPILER + "x86_64-unknown-linux-gnu: name one in CC_x86_64_unknown_linux_gnu (tried: cl)\n" in why,
                  f"a compiler without GNU's options: {why[-500:]}")
@@ -315,7 +283,7 @@ def check_planted(checks, cargo, crate, room, minisign):
     """Each planted bug is noticed by what is asked of a program over the changed crate, which may have warnings."""
     def ask(found, changed, directory, _):
         planted = new_crate(directory, "planted", RENAMED.format(crate=changed), "answers.rs")
-        cargo.run(planted, "build", RUSTFLAGS="", CARGO_INCREMENTAL="0")
+        cargo.run(planted, "build", RUSTFLAGS="", CARGO_INCREMENTAL="0", **Cargo.UNOPTIMIZED)
         ask_all(Program(found, f"{cargo.target}/debug/user"), directory, minisign, shared_cases.corpus())
 
     shared_cases.check_planted(checks, crate, shared_cases.bugs_of(HERE, "rust", "planted.txt"), room, ask)
@@ -325,7 +293,8 @@ def check_toolchain(checks, room, toolchain, minisign, is_first):
     """What one cargo builds. With the first one it is asked of more cases and for growth and threads, bugs are planted, and it is built in
     many places."""
     cargo = Cargo(room, *toolchain, **({} if is_first else Cargo.UNOPTIMIZED))
-    crate = shared_cases.packed("rust", room, cargo.environment, CARGO=cargo.cargo)
+    # (cargo builds what it packs, and throws that away)
+    crate = shared_cases.packed("rust", room, {**cargo.environment, **Cargo.UNOPTIMIZED}, CARGO=cargo.cargo)
     program = Program(checks, cargo.program(room, "answers", RENAMED.format(crate=crate), "answers.rs"))
     few = shared_cases.corpus() + shared_cases.damaged(60)
     ask_all(program, room, minisign, shared_cases.all_cases(checks, minisign) if is_first else few)
@@ -333,7 +302,7 @@ def check_toolchain(checks, room, toolchain, minisign, is_first):
     said = cargo.run(crate, "test", "--doc")
     checks.check(re.search(r"test result: ok\. [2-9] passed; 0 failed; 0 ignored", said), f"the examples: {said[-500:]}")
     check_inside(checks, cargo, crate, room)
-    check_own(checks, cargo, room, crate)
+    cargo.run(crate, "check", "--no-default-features")
     if not is_first:
         return
     program.ask_growth(CALLS, PAGES, few)
@@ -351,7 +320,6 @@ def check_toolchain(checks, room, toolchain, minisign, is_first):
 def run_all(checks, room):
     minisign = shared_cases.c_minisign(room)
     check_sources(checks)
-    check_declarations(checks)
     found = toolchains()
     checks.check(not needs.may_install() or found[0][0] == f"{needs.DEBIAN}/cargo", f"Debian's cargo is not tried: {found}")
     for number, toolchain in enumerate(found):

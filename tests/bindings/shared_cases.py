@@ -31,7 +31,8 @@ from cases import kept_cases, key_errors, signature_errors
 from checks import Checks
 from planted import MARK, before_and_after
 from process import SECONDS, run_program
-from running import read, write
+from running import Failure, expect, read, write
+from static_library import hold
 from texts import CORPUS, Limits, record_of, text_of, turned
 
 DAMAGED, BY_LINES = 500, 150
@@ -43,23 +44,14 @@ def run(command, directory=None, environment=None, data=b""):
     return ran.status, ran.output, ran.said.decode(errors="replace")
 
 
-def hold(command, directory=None, environment=None):
-    """Runs a command that builds something, and has to succeed: its output."""
-    status, said, why = run(command, directory, environment)
-    if status != 0:
-        raise static_library.NotBuilt(f"{' '.join(command)[:200]}: {said.decode(errors='replace')[-1500:]}{why[-3000:]}")
-    return said.decode(errors="replace")
-
-
 def packed(package, room, environment=None, **chosen):
     """What a package's archive holds, unpacked into an empty directory: `make -C bindings` packs it, without the kit."""
     out, to = os.path.join(room, "packed"), os.path.join(room, "unpacked")
     words = [f"{name}={value}" for name, value in {"OUT": out, "PYTHON": sys.executable, **chosen}.items()]
     command = [needs.program("make", "make"), "-s", "-C", os.path.join(TOP, "bindings"), package, *words]
-    hold(command, environment={"PATH": static_library.path_without_kit(), **(environment or {})})
+    hold(command, **{"PATH": static_library.path_without_kit(), **(environment or {})})
     archive, = (name for name in os.listdir(out) if name.endswith((".crate", ".tar.gz", ".tgz")))
-    os.makedirs(to)
-    hold(["tar", "-xf", os.path.join(out, archive), "-C", to])
+    shutil.unpack_archive(os.path.join(out, archive), to, "gztar")
     return os.path.join(to, *os.listdir(to))
 
 
@@ -403,16 +395,11 @@ def check_weak(checks, answer, room, secret, good):
 # ---- Planted bugs ----
 
 
-class Noticed(Exception):
-    """A check failed over what has a bug."""
-
-
 class Noticing(Checks):
-    """Ends at the first check that fails."""
+    """Ends at the first check that fails, of what may have a bug."""
 
     def check(self, holds, *what):
-        if not holds:
-            raise Noticed(*what)
+        expect(holds, *what)
         return True
 
 
@@ -437,7 +424,7 @@ def is_noticed(package, room, ask, file, old, new, word):
         write(changed, file, read(changed, file).decode().replace(old, new, 1).encode())
         try:
             ask(Noticing(), changed, directory, word)
-        except (Noticed, OSError):
+        except (Failure, OSError):
             return True
     return False
 

@@ -165,7 +165,7 @@ func threads(cases []line) bool {
 		}
 		return all.String()
 	}
-	alone, same := answers(), make(chan bool, 8*runtime.NumCPU())
+	alone, same := answers(), make(chan bool, 2*runtime.NumCPU())
 	var all sync.WaitGroup
 	for number := 0; number < cap(same); number++ {
 		all.Add(1)

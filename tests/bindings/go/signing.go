@@ -212,7 +212,7 @@ func threads() bool {
 		go func(data []byte) {
 			defer all.Done()
 			isGood := true
-			for turn := 0; turn < 200; turn++ {
+			for turn := 0; turn < 50; turn++ {
 				signature, err := key.SignBytes(data, "c", "u")
 				good, _ := public.Verify(data, signature)
 				isGood = isGood && good && err == nil

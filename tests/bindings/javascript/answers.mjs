@@ -106,9 +106,10 @@ const ELSEWHERE = runInNewContext("bytes => [new Uint8Array(bytes).buffer, new U
 async function answersInPieces(cases, options) {
   const answers = [];
   for (const [key, data, signature] of cases) {
+    const single = data.length < 1e5 ? [1] : [1, 1, 1000];
     const ways = [
       data, data.slice().buffer, new DataView(data.buffer, data.byteOffset, data.length), new Blob([data]), cut(data, PIECE_LENGTHS),
-      streamOf(cut(data, PIECE_LENGTHS)), Readable.from(cut(Buffer.from(data), [1000])), streamOf(cut(data, [1])),
+      streamOf(cut(data, PIECE_LENGTHS)), Readable.from(cut(Buffer.from(data), [1000])), streamOf(cut(data, single)),
       (async function* () { yield* cut(data, [300, 0, 1]); })(), ...ELSEWHERE(data),
     ];
     const found = new Set(await Promise.all(ways.map(way => answerOf(way, signature, key, options))));
