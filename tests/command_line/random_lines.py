@@ -26,7 +26,7 @@ from collections import namedtuple
 from functools import partial
 
 HERE = os.path.dirname(os.path.realpath(__file__))
-sys.path += [os.path.join(HERE, "..", name) for name in ("shared", "verdicts", "tool")]
+sys.path += [os.path.join(HERE, "..", name) for name in ("shared", "verdicts")]
 
 import ending
 import needs

@@ -16,7 +16,7 @@ import sys
 import tempfile
 
 HERE = os.path.dirname(os.path.realpath(__file__))
-sys.path += [os.path.join(HERE, "..", name) for name in ("shared", "tool")]
+sys.path.append(os.path.join(HERE, "..", "shared"))
 
 import ending
 import needs
