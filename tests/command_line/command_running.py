@@ -5,7 +5,6 @@ the same random bytes and at the same time, over pipes or at a terminal.
 import os
 import re
 import shutil
-import stat
 import sys
 import tempfile
 from collections import namedtuple
@@ -14,7 +13,7 @@ import texts
 from at_terminal import AtTerminal, type_at_terminal
 from disturbed import Disturbing
 from process import Ran, run_program
-from running import Link, expect, read, run_cases, wait_until, write
+from running import Link, expect, files_in, run_cases, wait_until, write
 from texts import record_of
 
 HOME = "home"
@@ -57,18 +56,6 @@ def put_files(directory, files):
         elif data is not None:
             write("", path, data)
             os.chmod(path, 0o600 if name.endswith(".key") else 0o644)
-
-
-def files_in(directory):
-    """The permissions of all files in a directory, by their names, and their bytes; None of a directory, and of others where a link
-    leads."""
-    found = {}
-    for at, directories, names in os.walk(directory):
-        for path in (os.path.join(at, name) for name in directories + names):
-            mode = os.lstat(path).st_mode
-            data = Link(os.readlink(path)) if stat.S_ISLNK(mode) else read(path) if stat.S_ISREG(mode) else None
-            found[os.path.relpath(path, directory)] = (stat.S_IMODE(mode), data)
-    return found
 
 
 def run_steps(program, preload, files, steps):

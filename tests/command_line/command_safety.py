@@ -4,6 +4,7 @@ memory, comments cannot talk to a terminal, only verified data is copied out, an
 """
 
 import concurrent.futures
+import functools
 import os
 import re
 import resource
@@ -21,7 +22,7 @@ from process import run_measured, run_program
 from running import expect, feed, read, wait_until, write
 from texts import record_of, text_of
 from command_breaking import is_signature
-from command_running import CLOSED, DATA, HOME, OPEN, PASSWORD, PUBLIC, Programs, Step, case, expect_end, expect_question, run_steps
+from command_running import CLOSED, DATA, HOME, OPEN, PASSWORD, PUBLIC, Programs, case, expect_end, expect_question, sealed
 
 HERE = os.path.dirname(os.path.realpath(__file__))
 # The length of data that changes between two readings: its last piece and its last block are not full.
@@ -163,25 +164,34 @@ class Safety(Programs):
 
     # ---- Memory ----
 
-    @case("a key of default limits in little memory")
-    def opens_in_little_memory(self):
-        """Where it takes 1 GiB, with -k 16 it opens within 68 MiB, all of the program's, and signs the same and is changed."""
-        ran, files = run_steps(self.whole.theirs, self.whole.preload, {}, [Step(NEW_PAIR, b"p\np\n")])
-        expect(ran[0].status == 0, "Minisign makes no key", *ran)
-        directory = self.directory(**{"default.key": files["a.key"][1], "default.pub": files["a.pub"][1]})
-        for arguments, typed in ((("-Sm", "data"), b"p\n"), (("-C",), b"p\nq\nq\n")):
-            command = [self.program, *arguments, "-s", "default.key", "-k", "16"]
-            status, said, kibibytes = run_measured(command, directory, typed, stderr=subprocess.STDOUT)
+    @functools.cached_property
+    def large(self):
+        """A sealed key that takes 256 MiB to open, a quarter of what a usual one takes. (Memory of this process would count as that of
+        the programs that it starts.)"""
+        with concurrent.futures.ProcessPoolExecutor(1) as pool:
+            return pool.submit(sealed, self.keys[OPEN], PASSWORD, 1 << 28, 1 << 18).result()
+
+    @case("keys in little memory")
+    def keeps_few_rows(self):
+        """Within 68 MiB, all of the program's, a key that takes 256 MiB opens with -k 4 and signs the same, and with -k 16 one is sealed
+        with usual limits, which take 1 GiB: Minisign opens it."""
+        directory = self.directory(**{"large.key": self.large})
+        for arguments in (("-Sm", "data", "-s", "large.key", "-k", "4"), ("-C", "-s", CLOSED, "-k", "16")):
+            command = [self.program, *arguments]
+            status, said, kibibytes = run_measured(command, directory, PASSWORD + b"\nq\nq\n", stderr=subprocess.STDOUT)
             expect(status == 0 and kibibytes <= 68 << 10, arguments, f"it ended with {status} and took {kibibytes} KiB: {said!r}")
-        self.expect_accepted(directory, "default.pub")
-        ran = self.theirs(directory, "-Sm", "more", "-s", "default.key", typed=b"q\n")
+        self.expect_accepted(directory, PUBLIC)
+        ran = self.theirs(directory, "-Sm", "more", "-s", CLOSED, typed=b"q\n")
         expect(ran.status == 0, "Minisign does not open what was changed", ran)
 
-    @case("a key of usual limits, where there is no room for all of its rows")
+    @case("a key where there is no room for all of its rows")
     def opens_where_memory_is_short(self):
         """Of those that do not fit, fewer are kept."""
-        self.expect_rejected(b"Wrong password for that key\n", "-Sm", "data", "-s", "costly.key", files={"costly.key": self.costly()},
-                             typed=b"wrong\n", preexec_fn=lambda: resource.setrlimit(resource.RLIMIT_AS, (300 << 20, 300 << 20)))
+        directory, bound = self.directory(**{"large.key": self.large}), (100 << 20,) * 2
+        ran = self.ours(directory, "-Sm", "data", "-s", "large.key", typed=PASSWORD + b"\n",
+                        preexec_fn=lambda: resource.setrlimit(resource.RLIMIT_AS, bound))
+        expect(ran.status == 0, ran)
+        self.expect_accepted(directory, PUBLIC)
 
     # ---- What is shown and copied ----
 

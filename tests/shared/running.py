@@ -10,6 +10,7 @@ import resource
 import shutil
 import signal
 import socket
+import stat
 import subprocess
 import tempfile
 import termios
@@ -488,6 +489,18 @@ def make_files(directory, files, stack=None):
         else:
             write(directory, name, kind)
     return pipes
+
+
+def files_in(directory):
+    """The permissions of all files in a directory, by their names, and their bytes; None of a directory, and of others where a link
+    leads."""
+    found = {}
+    for at, directories, names in os.walk(directory):
+        for path in (os.path.join(at, name) for name in directories + names):
+            mode = os.lstat(path).st_mode
+            data = Link(os.readlink(path)) if stat.S_ISLNK(mode) else read(path) if stat.S_ISREG(mode) else None
+            found[os.path.relpath(path, directory)] = (stat.S_IMODE(mode), data)
+    return found
 
 
 def set_list(path, entries):
