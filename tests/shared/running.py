@@ -188,13 +188,10 @@ def run_one(cases, name):
 
 
 class Runner:
-    """Runs a program in fresh directories below a temporary one, as nobody where the script itself runs as root."""
+    """Runs a program in fresh directories below a temporary one."""
 
     def __init__(self, program, room):
-        self.room, self.program = room, shutil.copyfile(program, os.path.join(room, "program"))
-        os.chmod(self.program, 0o755)
-        os.chmod(room, 0o711)
-        self.nobody = runs_as_nobody(self.program)
+        self.program, self.room = program, room
 
     @functools.cached_property
     def preload(self):
@@ -203,8 +200,8 @@ class Runner:
     def run(self, case):
         """Makes the run, or all runs of a case that is disturbed, and raises a `Failure` or a `Skip`."""
         is_forbidding = any(kind == LOCKED or isinstance(kind, WithMode) for kind in case.files.values())
-        if is_forbidding and os.geteuid() == 0 and not self.nobody:
-            raise Skip("root may read and write every file, and cannot become nobody here")
+        if is_forbidding and os.geteuid() == 0:
+            raise Skip("root may read and write every file")
         if case.rejecting:
             rest = {"BREAK_REST": "1"} if case.rejecting == "all" else {}
             self.run_each(case, "request for memory", "memory", errno.ENOMEM, **rest)
@@ -246,14 +243,9 @@ class Runner:
     def run_in(self, directory, case, environment, passed):
         """Makes the files and the run in a directory, and compares all that it answers."""
         with contextlib.ExitStack() as stack:
-            pipes = make_files(directory, case.files, stack)
-            if self.nobody:
-                for at, _, names in os.walk(directory):
-                    for path in [at, *(os.path.join(at, name) for name in names)]:
-                        os.lchown(path, NOBODY, NOBODY)
-            streams = Streams(directory, case, stack)
+            pipes, streams = make_files(directory, case.files, stack), Streams(directory, case, stack)
             with subprocess.Popen([self.program, *case.arguments], cwd=directory, env=environment, umask=case.umask, pass_fds=passed,
-                                  preexec_fn=streams.prepare_child, **streams.ends, **(AS_NOBODY if self.nobody else {})) as process:
+                                  preexec_fn=streams.prepare_child(), **streams.ends) as process:
                 try:
                     streams.serve()
                     wait(process, [*pipes, *streams.terminals])
@@ -394,12 +386,17 @@ class Streams:
             self.written.flush()
 
     def prepare_child(self):
-        """Closes the program's closed streams, and limits how long a file may become."""
-        for number in self.closed:
-            os.close(number)
-        if self.room is not None:
-            resource.setrlimit(resource.RLIMIT_FSIZE, (self.room, self.room))
-            signal.signal(signal.SIGXFSZ, signal.SIG_IGN)
+        """What closes the program's closed streams, and limits how long a file may become; or nothing, as most programs start in a tenth
+        of the time where nothing is to be done in a copy of this process first."""
+
+        def prepare():
+            for number in self.closed:
+                os.close(number)
+            if self.room is not None:
+                resource.setrlimit(resource.RLIMIT_FSIZE, (self.room, self.room))
+                signal.signal(signal.SIGXFSZ, signal.SIG_IGN)
+
+        return prepare if self.closed or self.room is not None else None
 
     def serve(self):
         """Lets go of the program's ends, feeds its standard input, and reads its output where that is read late."""
@@ -492,12 +489,14 @@ def make_files(directory, files, stack=None):
 
 
 def files_in(directory):
-    """The permissions of all files in a directory, by their names, and their bytes; None of a directory, and of others where a link
-    leads."""
+    """The permissions of all files in a directory, by their names, and their bytes, whatever the permissions; None of a directory, and of
+    others where a link leads."""
     found = {}
     for at, directories, names in os.walk(directory):
         for path in (os.path.join(at, name) for name in directories + names):
             mode = os.lstat(path).st_mode
+            if stat.S_ISREG(mode) and not os.access(path, os.R_OK):
+                os.chmod(path, 0o600)
             data = Link(os.readlink(path)) if stat.S_ISLNK(mode) else read(path) if stat.S_ISREG(mode) else None
             found[os.path.relpath(path, directory)] = (stat.S_IMODE(mode), data)
     return found
@@ -508,17 +507,6 @@ def set_list(path, entries):
     before = os.stat(path).st_mode
     subprocess.run([needs.program("setfacl", "acl"), "-m", entries, path], check=True, timeout=SECONDS)
     expect(os.stat(path).st_mode != before, f"the list of {path} has no mask")
-
-
-def runs_as_nobody(program):
-    """Whether the script runs as root and may start the program as nobody."""
-    if os.geteuid() != 0:
-        return False
-    try:
-        subprocess.run([program], stdin=subprocess.DEVNULL, capture_output=True, timeout=SECONDS, **AS_NOBODY)
-    except (OSError, subprocess.SubprocessError):
-        return False
-    return True
 
 
 def build_preload(room, name, only_in=None):

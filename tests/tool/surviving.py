@@ -98,11 +98,6 @@ class Surviving(OverTasks):
     def expect_unwritten(self, ran, _):
         expect(ran.status == 1 and ran.said.endswith(WRITING_FAILED), ran)
 
-    def does(self, task, directory, arguments=None, **how):
-        """A run that does its task."""
-        ran = self.run(directory, arguments or task.arguments, **how)
-        expect(ran.status == 0 and all(task.check(directory)), ran)
-
     def failing(self, task, calls, endings, number=errno.EIO):
         """A run in which each of these calls fails in turn. `endings` answers of the call of a number with which exit statuses and how many
         new files the run may end then; where it may end in one way alone, a failed write is told."""
@@ -131,7 +126,8 @@ class Surviving(OverTasks):
         """A program whose path is no UTF-8."""
         odd = os.path.join(os.fsencode(self.room), b"tool\xff")
         shutil.copy(self.program, odd)
-        self.does(task, directory, [*map(os.fsencode, task.arguments)], program=odd)
+        ran = self.run(directory, [*map(os.fsencode, task.arguments)], program=odd)
+        expect(ran.status == 0 and all(task.check(directory)), ran)
 
     def legacy_within(self, command, mebibytes=2):
         """A legacy signature over 1 GiB is rejected within so many MiB more than a prehashed one over nothing takes."""
@@ -180,6 +176,7 @@ def of_task(surviving, task):
 
 def cases(program, room):
     """The names of all cases, and what makes each."""
+    os.chmod(room, 0o711)
     surviving = Surviving(shutil.copy(program, room), room)
     for task in TASKS:
         for name, run, *given in of_task(surviving, task):
