@@ -25,8 +25,8 @@ from command_places import Places
 from command_running import Whole
 from command_strangers import Strangers
 from installers import NAME, RealInstaller
-from installing import cases
 from planted import bugs_of, run_planted
+from real_installing import cases_of
 from running import Failure, Skip, build_preload
 from runs import Installing
 
@@ -35,7 +35,7 @@ def cases_of_installer(preload, program, room):
     """The cases over a program, with a key of its own."""
     installing = Installing(program, RealInstaller(room), room)
     installing.preload = preload
-    return cases(installing)
+    return cases_of(installing)
 
 
 def cases_of_minisign(whole, keys, program, room):

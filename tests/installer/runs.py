@@ -13,7 +13,7 @@ import threading
 
 from disturbed import Disturbing, content
 from installers import CALLED, LOCK, NEW, OLD, PK, PLACE, RECORD, STAGE, THERE
-from process import Ran
+from process import Ran, told
 from running import NOBODY, SECONDS, expect, only_root, read, write
 
 
@@ -165,12 +165,8 @@ class Directory:
 
     def run_traced(self, words, how=None, **environment):
         """A run and the lines of its calls, as `disturbed_calls.c` tells them."""
-        reader, writer = map(os.fdopen, os.pipe(), "rw")
-        with reader:
-            with writer:
-                says = writer.fileno()
-                ran = self.run(words, self.preloading(TRACE_TO=str(says), **environment), pass_fds=[says], **(how or {}))
-            return ran, reader.read().splitlines()
+        ran, said = told(lambda says: self.run(words, self.preloading(TRACE_TO=str(says), **environment), pass_fds=[says], **(how or {})))
+        return ran, said.decode().splitlines()
 
     def while_stopped(self, number, meanwhile, where=".", **calls):
         """A run over the target in a directory of this directory: before its call of this number among the CALLS, or all, it stops,

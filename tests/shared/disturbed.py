@@ -14,24 +14,7 @@ import tempfile
 from dataclasses import dataclass, replace
 
 from process import Ran, run_program, told
-from running import SECONDS, Failure, Skip, build_preload, expect, files_in, read
-
-MAX_CALLS = 500
-
-
-def in_turn(place, attempt):
-    """Has runs made with the first call broken, the second one and so on, each in a fresh directory there, until one comes to no such
-    call: how many there were. `attempt` is given the number and the directory, judges the run, and answers whether it came to that."""
-    for number in range(1, MAX_CALLS):
-        with tempfile.TemporaryDirectory(dir=place) as directory:
-            try:
-                came = attempt(number, directory)
-            except Failure as why:
-                raise Failure(f"at call {number}: {why}") from why
-        if not came:
-            return number - 1
-    raise Failure(f"it made {MAX_CALLS} calls")
-
+from running import SECONDS, Failure, Skip, build_preload, expect, files_in, in_turn, read
 
 class Disturbing:
     """A program that is run in fresh directories. It stands elsewhere, as what is in memory may not be run everywhere."""
@@ -58,8 +41,8 @@ class Disturbing:
 
     def run_broken(self, directory, arguments, how, **more):
         """A run with a call broken: also whether it came to that."""
-        ran, came = told(lambda says: self.run(directory, arguments, self.breaking(**how, SAYS=says), pass_fds=[says], **more))
-        return replace(ran, came=came)
+        ran, said = told(lambda says: self.run(directory, arguments, self.breaking(**how, SAYS=says), pass_fds=[says], **more))
+        return replace(ran, came=bool(said))
 
     def run_stopped(self, directory, arguments, meanwhile, **how):
         """A run that stops before a call, goes on once something was done, and then ends soon: also whether it came to that."""

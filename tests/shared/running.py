@@ -22,7 +22,7 @@ from dataclasses import dataclass, field
 import needs
 from process import told
 
-SECONDS = 30
+SECONDS, MAX_CALLS = 30, 500
 NOBODY = 65534
 AS_NOBODY = {"user": NOBODY, "group": NOBODY, "extra_groups": []}
 HERE = os.path.dirname(os.path.realpath(__file__))
@@ -187,6 +187,20 @@ def run_one(cases, name):
     run(*given)
 
 
+def in_turn(place, attempt):
+    """Has runs made with the first call broken, the second one and so on, each in a fresh directory there, until one comes to no such
+    call: how many there were. `attempt` is given the number and the directory, judges the run, and answers whether it came to that."""
+    for number in range(1, MAX_CALLS):
+        with tempfile.TemporaryDirectory(dir=place) as directory:
+            try:
+                came = attempt(number, directory)
+            except Failure as why:
+                raise Failure(f"at call {number}: {why}") from why
+        if not came:
+            return number - 1
+    raise Failure(f"it made {MAX_CALLS} calls")
+
+
 class Runner:
     """Runs a program in fresh directories below a temporary one."""
 
@@ -204,43 +218,42 @@ class Runner:
             raise Skip("root may read and write every file")
         if case.rejecting:
             rest = {"BREAK_REST": "1"} if case.rejecting == "all" else {}
-            self.run_each(case, "request for memory", "memory", errno.ENOMEM, **rest)
+            self.run_each(case, "memory", errno.ENOMEM, **rest)
         elif case.breaking:
-            self.run_each(case, f"call of {case.breaking}", case.breaking, errno.EIO)
+            self.run_each(case, case.breaking, errno.EIO)
         elif case.sources:
             given = {"RANDOM_BYTES": str(case.sources.random), "SHOWN_TIME": str(case.sources.moment)}
             self.run_once(case, {"LD_PRELOAD": self.preload, **given})
         else:
             self.run_once(case, {})
 
-    def run_each(self, case, what, calls, error, **more):
+    def run_each(self, case, calls, error, **more):
         """Runs with each of these calls, or requests for memory, failing in turn with the number of this error."""
         environment = {"LD_PRELOAD": self.preload, "BREAK_CALLS": calls, "BREAK_ERRNO": str(error), **more}
 
-        def failure_of(number, says):
+        def failure_of(number, directory, says):
             try:
-                self.run_once(case, {**environment, "BREAK_AT": str(number), "BREAK_SAYS": str(says)}, [says])
+                self.run_in(directory, case, {**environment, "BREAK_AT": str(number), "BREAK_SAYS": str(says)}, [says])
             except Failure as failure:
                 return failure
             return None
 
-        for number in range(1, 1000):
-            failure, was_refused = told(functools.partial(failure_of, number))
-            if not was_refused:
-                expect(number != 1, f"it made no {what}")
-                return
-            expect(not failure, f"with {what} number {number} rejected: {failure}")
-        raise Failure(f"it came to {what} number 1000")
+        def attempt(number, directory):
+            failure, came = told(functools.partial(failure_of, number, directory))
+            expect(not came or not failure, failure)
+            return came
 
-    def run_once(self, case, environment, passed=()):
+        expect(in_turn(self.room, attempt), f"it came to no {calls}")
+
+    def run_once(self, case, environment):
         with tempfile.TemporaryDirectory(dir=self.room) as directory:
             for number, step in enumerate((case, *case.then)):
                 try:
-                    self.run_in(directory, step, environment, passed)
+                    self.run_in(directory, step, environment)
                 except Failure as error:
                     raise Failure(f"at step {number}: {error}") if case.then else error
 
-    def run_in(self, directory, case, environment, passed):
+    def run_in(self, directory, case, environment, passed=()):
         """Makes the files and the run in a directory, and compares all that it answers."""
         with contextlib.ExitStack() as stack:
             pipes, streams = make_files(directory, case.files, stack), Streams(directory, case, stack)
