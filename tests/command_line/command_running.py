@@ -10,7 +10,7 @@ import tempfile
 from collections import namedtuple
 
 import texts
-from at_terminal import AtTerminal, type_at_terminal
+from at_terminal import AtTerminal
 from disturbed import Disturbing
 from process import Ran, run_program
 from running import Link, expect, files_in, run_cases, wait_until, write
@@ -37,12 +37,18 @@ Left = namedtuple("Left", "ran files")
 
 
 def run_step(program, preload, directory, step):
+    """Runs a program; at a terminal a person types a line at each question for a password."""
     environment = {"HOME": HOME, "PATH": os.environ.get("PATH", ""), "LD_PRELOAD": preload or None, **step.variables}
     environment = {name: value for name, value in environment.items() if value is not None}
     command = ["minisign", *step.arguments]
     if step.at_terminal:
-        status, shown = type_at_terminal(command, program, directory, environment, step.typed.splitlines(True))
-        return Ran(status, PROGRESS.sub(b"", DOTS.sub(rb"\1", shown)), b"")
+        at = AtTerminal(command, program, directory, environment)
+        for questions, line in enumerate(step.typed.splitlines(True), 1):
+            if not at.read_until(rb"(?:Password(?: \(one more time\))?: [^P]*){%d}$" % questions):
+                break
+            at.wait_for_hiding()
+            at.type(line)
+        return Ran(at.finish(), PROGRESS.sub(b"", DOTS.sub(rb"\1", at.shown)), b"")
     return run_program(command, directory, step.typed, executable=program, env=environment)
 
 

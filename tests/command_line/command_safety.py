@@ -53,13 +53,6 @@ if os.WIFSTOPPED(status):
 sys.exit(os.waitstatus_to_exitcode(status) & 255)
 """
 
-# Sets a timer and becomes the program.
-ALARMED = """
-import os, signal, sys
-signal.setitimer(signal.ITIMER_REAL, 0.4)
-os.execv(sys.argv[1], ["minisign", *sys.argv[2:]])
-"""
-
 
 def block(number):
     """Another block for each number."""
@@ -72,9 +65,9 @@ class Safety(Programs):
         record = record_of(self.keys[CLOSED])
         return text_of(record[:38] + struct.pack("<QQ", 33554432, 1 << 30) + record[54:])
 
-    def run_by(self, script, directory, *words):
-        """Runs a script in Python at a terminal, which runs the program."""
-        return AtTerminal(["python", "-c", script, *words], sys.executable, directory, {"HOME": HOME})
+    def run_by_shell(self, how, directory):
+        """Signs by SHELL at a terminal."""
+        return AtTerminal(["python", "-c", SHELL, how, self.program, *SEALED], sys.executable, directory, {"HOME": HOME})
 
     # ---- Passwords ----
 
@@ -96,7 +89,7 @@ class Safety(Programs):
     def stopped_and_continued(self):
         """It shows what is typed while the program is stopped, which asks again afterwards."""
         directory = self.directory()
-        at = self.run_by(SHELL, directory, "foreground", self.program, *SEALED)
+        at = self.run_by_shell("foreground", directory)
         expect_question(at)
         at.type(b"half\x1a")
         wait_until(at.shows_typed, "the terminal does not show what is typed")
@@ -107,7 +100,7 @@ class Safety(Programs):
     @case("in the background")
     def in_background(self):
         """There it is stopped, and the terminal shows what is typed; in the foreground it asks."""
-        at = self.run_by(SHELL, self.directory(), "background", self.program, *SEALED)
+        at = self.run_by_shell("background", self.directory())
         expect(at.read_until(rb"stopped by SIGTTOU and it shows"), f"it showed {at.shown!r}")
         expect_question(at)
         expect_end(at, 0, rb"secret key\.\.\. done\r\n\r\n", PASSWORD + b"\n")
@@ -116,13 +109,13 @@ class Safety(Programs):
     def alarm_before(self, at_terminal):
         """It ends a derivation of a key, and nothing is written into a stream that is no terminal."""
         directory = self.directory(**{"costly.key": self.costly()})
-        arguments = ("-Sm", "data", "-s", "costly.key", "-k", "64")
+        arguments, set_timer = ("-Sm", "data", "-s", "costly.key", "-k", "64"), lambda: signal.setitimer(signal.ITIMER_REAL, 0.4)
         if at_terminal:
-            at = self.run_by(ALARMED, directory, self.program, *arguments)
+            at = AtTerminal(["minisign", *arguments], self.program, directory, {"HOME": HOME}, set_timer)
             expect_question(at)
             expect_end(at, -signal.SIGALRM, b"", b"wrong\n")
         else:
-            ran = run_program([sys.executable, "-c", ALARMED, self.program, *arguments], directory, b"wrong\n")
+            ran = self.ours(directory, *arguments, typed=b"wrong\n", preexec_fn=set_timer)
             expect(ran.status == -signal.SIGALRM and b"." not in ran.said, ran)
 
     @case("while it asks, its secrets are locked in memory, and no core file would be written")

@@ -50,10 +50,7 @@ class Task(disturbed.Task):
         return not mode & ~(self.mode if {*self.targets} & {*self.files} else 0o600 if is_secret else 0o644)
 
 
-def is_signature(text):
-    check_signature(b"abc", text)
-
-
+is_signature = partial(check_signature, b"abc")
 KEYGEN, SIGN = ["keygen", PK, SK], ["sign", SK, FILE, SIG]
 PAIR = {PK: check_public, SK: check_secret}
 OLDER_PAIR = {PK: toy.public_text(), SK: toy.sealed_text(b"older")}
