@@ -56,8 +56,7 @@ PAIR = {PK: check_public, SK: check_secret}
 OLDER_PAIR = {PK: toy.public_text(), SK: toy.sealed_text(b"older")}
 TO_SIGN = {SK: OPEN_KEY, FILE: b"abc"}
 
-REPLACED_PAIR = Task("a pair over an older one", KEYGEN, OLDER_PAIR, PAIR)
-OWNERS_PAIR = Task("a pair over an older one for its owner alone", KEYGEN, OLDER_PAIR, PAIR, mode=0o600)
+REPLACED_PAIR = Task("a pair over an older one for its owner alone", KEYGEN, OLDER_PAIR, PAIR, mode=0o600)
 NEW_SIGNATURE = Task("a new signature", SIGN, TO_SIGN, {SIG: is_signature})
 LINKS = {PK: Link("kept/" + PK), SK: Link("chain"), "chain": Link("./kept/" + SK)}
 TASKS = [
@@ -178,7 +177,6 @@ def cases(program, room):
     for task in TASKS:
         for name, run, *given in of_task(surviving, task):
             yield f"{task.name}, {name}", run, task, *given
-    yield f"{OWNERS_PAIR.name}, killed", surviving.killed, OWNERS_PAIR
     for replaced in OLDER_PAIR:
         def prepare(directory, name=replaced):
             REPLACED_PAIR.make(directory)
