@@ -40,7 +40,7 @@ import shared_cases as shared
 import static_library
 from cut_off import BEGINNINGS, CUTS
 from installers import RealInstaller
-from installing import cases
+from real_installing import cases_of
 from running import build_preload, expect, run_cases
 from runs import Installing
 from shared_cases import TOP, read, run, write
@@ -256,7 +256,7 @@ def chosen_cases(installing):
     # (what the host does after a cut over other beginnings, the cases of the program show)
     cut_off = {f"cut off by {cut}, over {begin}" for begin, *_ in BEGINNINGS[1:] for cut, _ in CUTS}
     left_out = LEFT_OUT | cut_off | {name for name, *_ in word_cases} - KEPT
-    found = [*cases(installing)]
+    found = [*cases_of(installing)]
     expect(left_out | KEPT <= {case[0] for case in found}, "what is left out is no case")
     return [case for case in found if case[0] not in left_out]
 

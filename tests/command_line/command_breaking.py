@@ -8,15 +8,15 @@ import errno
 import os
 import re
 import signal
-import stat
-from collections import namedtuple
+from dataclasses import dataclass, replace
 from functools import partial
 
+import disturbed
 from disturbed import OverTasks, run_at_once
 from permissions import KEPT, permission_cases
 from running import Skip, expect, read
 from texts import record_of
-from command_running import DATA, OPEN, OTHER, PUBLIC, Programs, files_in, put_files
+from command_running import DATA, OPEN, OTHER, PUBLIC, Programs, put_files
 
 STAGE = ".minisign-"
 # The calls that bring a file to the disk, or to its place.
@@ -25,10 +25,12 @@ BRINGING = "fsync linkat rename renameat renameat2"
 OUT_OF_MEMORY = re.compile(rb"out of memory\n|[\w.]+: Cannot allocate memory\n")
 
 
-class Task(namedtuple("Task", "name arguments files targets before_failing by_path", defaults=(0, False))):
-    """A run that replaces files: what stands in its directory before it, a judge of each file that it writes, and how many may be
-    new where it fails, which is none where they belong together. The files are named by their paths, which begin with /dev/ where they
-    are in memory, or by their names."""
+@dataclass(frozen=True)
+class Task(disturbed.Task):
+    """A run whose files are named by their paths, which begin with /dev/ where they are in memory, or by their names."""
+
+    by_path: bool = False
+    stage = STAGE
 
     @property
     def belong_together(self):
@@ -39,21 +41,9 @@ class Task(namedtuple("Task", "name arguments files targets before_failing by_pa
         names = {*self.files, *self.targets} if self.by_path else ()
         return [os.path.join(directory, word) if word in names else word for word in self.arguments]
 
-    def check(self, directory, killed=False):
-        found = {name: held for name, held in files_in(directory).items() if held[1] is not None}
-        expect(found.keys() >= self.files.keys(), f"{sorted(self.files.keys() - found.keys())} are gone")
-        new = set()
-        for name, (mode, data) in found.items():
-            is_a_secret = name.endswith(".key") or data.startswith(b"untrusted comment: minisign encrypted")
-            expect(not is_a_secret or mode == 0o600, f"{name} has the mode {mode:o}")
-            is_stage = killed and os.path.basename(name).startswith(STAGE)
-            expect(name in self.targets or name in self.files or is_stage, f"it left {name}")
-            if name in self.targets and data != self.files.get(name):
-                self.targets[name](data)
-                new.add(name)
-            elif name in self.files:
-                expect(data == self.files[name], f"{name} was changed")
-        return [name in new for name in self.targets]
+    def may_have(self, name, mode, data, _):
+        """A secret key is its owner's alone."""
+        return mode == 0o600 or not (name.endswith(".key") or data.startswith(b"untrusted comment: minisign encrypted"))
 
 
 def whole(begin, *lengths):
@@ -126,17 +116,6 @@ class Breaking(OverTasks, Programs):
         expect(len(answers) == 1 or task.targets and answers, f"it answers {answers}")
         expect((b"out of memory\n" in said) == by_library, f"it said {said}")
 
-    def keeps_permissions(self, task, mode):
-        """A run over a file with these permissions, of another owner where that can be had, keeps both."""
-        directory = self.fresh(task.files)
-        path = os.path.join(directory, *task.targets)
-        os.chmod(path, mode)
-        owner = (12345, 54321) if os.geteuid() == 0 else (os.geteuid(), os.stat(path).st_gid)
-        os.chown(path, *owner)
-        ran, found = self.run(directory, task.arguments), os.stat(path)
-        expect(ran.status == 0 and (found.st_uid, found.st_gid, stat.S_IMODE(found.st_mode)) == (*owner, mode),
-               ran, f"it left {found.st_uid}, {found.st_gid}, {found.st_mode:o}")
-
     def through_links(self, task):
         """A run over files that are reached by links, of which the last may lead to nothing yet, keeps the links."""
         directory = self.fresh({"kept": None, **task.files})
@@ -208,7 +187,7 @@ class Breaking(OverTasks, Programs):
         right, wrong = (Task(f"verifying {name}", f"-Vm {name} -x data.minisig -p {PUBLIC}".split(), files, {})
                         for name in ("data", "more"))
         older, half_way = (replaced, changed, over, several), partial(self.failing_writes, SHORT=1)
-        by_path = [task._replace(by_path=True) for task in found]
+        by_path = [replace(task, by_path=True) for task in found]
         unnamed = {"LD_PRELOAD": self.preload, "BREAK_UNNAMED": "1"}
         for what, which, run, *given in (
             ("killed", found, self.killed), ("killed, and named by its path", by_path, self.killed),
@@ -223,8 +202,6 @@ class Breaking(OverTasks, Programs):
             ("on a full disk", found, self.on_full_disk), ("with a bound on files", found, self.within_file_size),
             ("through links", found, self.through_links),
             ("at once", older, self.at_once), ("at once", [pair], self.first_alone),
-            ("keeping its permissions", [over], self.keeps_permissions, 0o640),
-            ("keeping its permissions", [changed], self.keeps_permissions, 0o400 if os.geteuid() == 0 else 0o600),
             ("into a pipe", [new], self.into_pipe),
             *((f"and signal {int(number)} at each call", found, self.leaves_no_secret, number)
               for number in (signal.SIGUSR1, signal.SIGRTMIN, signal.SIGTERM, signal.SIGINT, signal.SIGHUP)),

@@ -5,16 +5,15 @@ the same random bytes and at the same time, over pipes or at a terminal.
 import os
 import re
 import shutil
-import stat
 import sys
 import tempfile
 from collections import namedtuple
 
 import texts
-from at_terminal import AtTerminal, type_at_terminal
+from at_terminal import AtTerminal
 from disturbed import Disturbing
 from process import Ran, run_program
-from running import Link, expect, read, run_cases, wait_until, write
+from running import Link, expect, files_in, run_cases, wait_until, write
 from texts import record_of
 
 HOME = "home"
@@ -38,12 +37,18 @@ Left = namedtuple("Left", "ran files")
 
 
 def run_step(program, preload, directory, step):
+    """Runs a program; at a terminal a person types a line at each question for a password."""
     environment = {"HOME": HOME, "PATH": os.environ.get("PATH", ""), "LD_PRELOAD": preload or None, **step.variables}
     environment = {name: value for name, value in environment.items() if value is not None}
     command = ["minisign", *step.arguments]
     if step.at_terminal:
-        status, shown = type_at_terminal(command, program, directory, environment, step.typed.splitlines(True))
-        return Ran(status, PROGRESS.sub(b"", DOTS.sub(rb"\1", shown)), b"")
+        at = AtTerminal(command, program, directory, environment)
+        for questions, line in enumerate(step.typed.splitlines(True), 1):
+            if not at.read_until(rb"(?:Password(?: \(one more time\))?: [^P]*){%d}$" % questions):
+                break
+            at.wait_for_hiding()
+            at.type(line)
+        return Ran(at.finish(), PROGRESS.sub(b"", DOTS.sub(rb"\1", at.shown)), b"")
     return run_program(command, directory, step.typed, executable=program, env=environment)
 
 
@@ -57,18 +62,6 @@ def put_files(directory, files):
         elif data is not None:
             write("", path, data)
             os.chmod(path, 0o600 if name.endswith(".key") else 0o644)
-
-
-def files_in(directory):
-    """The permissions of all files in a directory, by their names, and their bytes; None of a directory, and of others where a link
-    leads."""
-    found = {}
-    for at, directories, names in os.walk(directory):
-        for path in (os.path.join(at, name) for name in directories + names):
-            mode = os.lstat(path).st_mode
-            data = Link(os.readlink(path)) if stat.S_ISLNK(mode) else read(path) if stat.S_ISREG(mode) else None
-            found[os.path.relpath(path, directory)] = (stat.S_IMODE(mode), data)
-    return found
 
 
 def run_steps(program, preload, files, steps):

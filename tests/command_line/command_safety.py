@@ -4,6 +4,7 @@ memory, comments cannot talk to a terminal, only verified data is copied out, an
 """
 
 import concurrent.futures
+import functools
 import os
 import re
 import resource
@@ -21,7 +22,7 @@ from process import run_measured, run_program
 from running import expect, feed, read, wait_until, write
 from texts import record_of, text_of
 from command_breaking import is_signature
-from command_running import CLOSED, DATA, HOME, OPEN, PASSWORD, PUBLIC, Programs, Step, case, expect_end, expect_question, run_steps
+from command_running import CLOSED, DATA, HOME, OPEN, PASSWORD, PUBLIC, Programs, case, expect_end, expect_question, sealed
 
 HERE = os.path.dirname(os.path.realpath(__file__))
 # The length of data that changes between two readings: its last piece and its last block are not full.
@@ -52,13 +53,6 @@ if os.WIFSTOPPED(status):
 sys.exit(os.waitstatus_to_exitcode(status) & 255)
 """
 
-# Sets a timer and becomes the program.
-ALARMED = """
-import os, signal, sys
-signal.setitimer(signal.ITIMER_REAL, 0.4)
-os.execv(sys.argv[1], ["minisign", *sys.argv[2:]])
-"""
-
 
 def block(number):
     """Another block for each number."""
@@ -71,9 +65,9 @@ class Safety(Programs):
         record = record_of(self.keys[CLOSED])
         return text_of(record[:38] + struct.pack("<QQ", 33554432, 1 << 30) + record[54:])
 
-    def run_by(self, script, directory, *words):
-        """Runs a script in Python at a terminal, which runs the program."""
-        return AtTerminal(["python", "-c", script, *words], sys.executable, directory, {"HOME": HOME})
+    def run_by_shell(self, how, directory):
+        """Signs by SHELL at a terminal."""
+        return AtTerminal(["python", "-c", SHELL, how, self.program, *SEALED], sys.executable, directory, {"HOME": HOME})
 
     # ---- Passwords ----
 
@@ -95,7 +89,7 @@ class Safety(Programs):
     def stopped_and_continued(self):
         """It shows what is typed while the program is stopped, which asks again afterwards."""
         directory = self.directory()
-        at = self.run_by(SHELL, directory, "foreground", self.program, *SEALED)
+        at = self.run_by_shell("foreground", directory)
         expect_question(at)
         at.type(b"half\x1a")
         wait_until(at.shows_typed, "the terminal does not show what is typed")
@@ -106,7 +100,7 @@ class Safety(Programs):
     @case("in the background")
     def in_background(self):
         """There it is stopped, and the terminal shows what is typed; in the foreground it asks."""
-        at = self.run_by(SHELL, self.directory(), "background", self.program, *SEALED)
+        at = self.run_by_shell("background", self.directory())
         expect(at.read_until(rb"stopped by SIGTTOU and it shows"), f"it showed {at.shown!r}")
         expect_question(at)
         expect_end(at, 0, rb"secret key\.\.\. done\r\n\r\n", PASSWORD + b"\n")
@@ -115,13 +109,13 @@ class Safety(Programs):
     def alarm_before(self, at_terminal):
         """It ends a derivation of a key, and nothing is written into a stream that is no terminal."""
         directory = self.directory(**{"costly.key": self.costly()})
-        arguments = ("-Sm", "data", "-s", "costly.key", "-k", "64")
+        arguments, set_timer = ("-Sm", "data", "-s", "costly.key", "-k", "64"), lambda: signal.setitimer(signal.ITIMER_REAL, 0.4)
         if at_terminal:
-            at = self.run_by(ALARMED, directory, self.program, *arguments)
+            at = AtTerminal(["minisign", *arguments], self.program, directory, {"HOME": HOME}, set_timer)
             expect_question(at)
             expect_end(at, -signal.SIGALRM, b"", b"wrong\n")
         else:
-            ran = run_program([sys.executable, "-c", ALARMED, self.program, *arguments], directory, b"wrong\n")
+            ran = self.ours(directory, *arguments, typed=b"wrong\n", preexec_fn=set_timer)
             expect(ran.status == -signal.SIGALRM and b"." not in ran.said, ran)
 
     @case("while it asks, its secrets are locked in memory, and no core file would be written")
@@ -163,25 +157,34 @@ class Safety(Programs):
 
     # ---- Memory ----
 
-    @case("a key of default limits in little memory")
-    def opens_in_little_memory(self):
-        """Where it takes 1 GiB, with -k 16 it opens within 68 MiB, all of the program's, and signs the same and is changed."""
-        ran, files = run_steps(self.whole.theirs, self.whole.preload, {}, [Step(NEW_PAIR, b"p\np\n")])
-        expect(ran[0].status == 0, "Minisign makes no key", *ran)
-        directory = self.directory(**{"default.key": files["a.key"][1], "default.pub": files["a.pub"][1]})
-        for arguments, typed in ((("-Sm", "data"), b"p\n"), (("-C",), b"p\nq\nq\n")):
-            command = [self.program, *arguments, "-s", "default.key", "-k", "16"]
-            status, said, kibibytes = run_measured(command, directory, typed, stderr=subprocess.STDOUT)
+    @functools.cached_property
+    def large(self):
+        """A sealed key that takes 256 MiB to open, a quarter of what a usual one takes. (Memory of this process would count as that of
+        the programs that it starts.)"""
+        with concurrent.futures.ProcessPoolExecutor(1) as pool:
+            return pool.submit(sealed, self.keys[OPEN], PASSWORD, 1 << 28, 1 << 18).result()
+
+    @case("keys in little memory")
+    def keeps_few_rows(self):
+        """Within 68 MiB, all of the program's, a key that takes 256 MiB opens with -k 4 and signs the same, and with -k 16 one is sealed
+        with usual limits, which take 1 GiB: Minisign opens it."""
+        directory = self.directory(**{"large.key": self.large})
+        for arguments in (("-Sm", "data", "-s", "large.key", "-k", "4"), ("-C", "-s", CLOSED, "-k", "16")):
+            command = [self.program, *arguments]
+            status, said, kibibytes = run_measured(command, directory, PASSWORD + b"\nq\nq\n", stderr=subprocess.STDOUT)
             expect(status == 0 and kibibytes <= 68 << 10, arguments, f"it ended with {status} and took {kibibytes} KiB: {said!r}")
-        self.expect_accepted(directory, "default.pub")
-        ran = self.theirs(directory, "-Sm", "more", "-s", "default.key", typed=b"q\n")
+        self.expect_accepted(directory, PUBLIC)
+        ran = self.theirs(directory, "-Sm", "more", "-s", CLOSED, typed=b"q\n")
         expect(ran.status == 0, "Minisign does not open what was changed", ran)
 
-    @case("a key of usual limits, where there is no room for all of its rows")
+    @case("a key where there is no room for all of its rows")
     def opens_where_memory_is_short(self):
         """Of those that do not fit, fewer are kept."""
-        self.expect_rejected(b"Wrong password for that key\n", "-Sm", "data", "-s", "costly.key", files={"costly.key": self.costly()},
-                             typed=b"wrong\n", preexec_fn=lambda: resource.setrlimit(resource.RLIMIT_AS, (300 << 20, 300 << 20)))
+        directory, bound = self.directory(**{"large.key": self.large}), (100 << 20,) * 2
+        ran = self.ours(directory, "-Sm", "data", "-s", "large.key", typed=PASSWORD + b"\n",
+                        preexec_fn=lambda: resource.setrlimit(resource.RLIMIT_AS, bound))
+        expect(ran.status == 0, ran)
+        self.expect_accepted(directory, PUBLIC)
 
     # ---- What is shown and copied ----
 

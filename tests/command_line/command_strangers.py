@@ -12,18 +12,17 @@ import itertools
 import os
 import pty
 import re
-import signal
 import stat
 import subprocess
 import tempfile
 from collections import namedtuple
 
-from disturbed import in_memory, while_stopped
+from disturbed import in_memory
 from permissions import list_of
 from process import run_program
-from running import NOBODY, Failure, expect, read, run_one, set_list
+from running import NOBODY, Failure, expect, files_in, read, run_one, set_list
 from command_breaking import is_public, is_secret, is_signature
-from command_running import CLOSED, OPEN, PASSED_THROUGH, PASSWORD, PUBLIC, Programs, case, expect_end, expect_question, files_in, put_files
+from command_running import CLOSED, OPEN, PASSED_THROUGH, PASSWORD, PUBLIC, Programs, case, expect_end, expect_question, put_files
 
 # A run that does not end within so many seconds waits for somebody.
 SECONDS = 20
@@ -156,11 +155,19 @@ class Strangers(Programs):
     # ---- What comes while a password is typed ----
 
     def made_meanwhile(self, arguments, typed, standing, status, said):
-        """Without -f, what is made while the password is typed is not written to."""
+        """Without -f, what is made while the password is typed, or where none is while the key is drawn, is not written to."""
         directory, path = self.around()
-        at = self.asked(directory, *arguments)
-        reader, before = standing.make(path, OLDER), everything(directory)
-        expect_answered(at, typed, status, said)
+        found = []
+        make = lambda: found.extend((standing.make(path, OLDER), everything(directory)))
+        if typed:
+            at = self.asked(directory, *arguments)
+            make()
+            expect_answered(at, typed, status, said)
+        else:
+            # (libsodium draws something before it draws the key)
+            ran = self.run_stopped(directory, arguments, make, AT=3, CALLS="getrandom")
+            expect(ran.came and ran.status == status and said.encode() in ran.said, ran)
+        reader, before = found
         expect(not take(reader) and everything(directory) == before, "something was made or changed")
 
     @case("a key changed by {0} that is swapped meanwhile", ("-CW", PASSWORD + b"\n"), ("-C", PASSWORD + b"\n", b"p\n", b"p\n"))
@@ -170,7 +177,7 @@ class Strangers(Programs):
         directory, path = self.around(around=REMOVABLE)
         put_files(directory, {"shared/it": self.keys[CLOSED]})
         os.chmod(path, 0o600)
-        at = self.asked(directory, flags, "-s", "shared/it", LD_PRELOAD=self.preload, BREAK_AT="1", BREAK_CALLS="write")
+        at = self.asked(directory, flags, "-s", "shared/it", **self.breaking(AT=1, CALLS="write"))
         os.rename(path, path + ".older")
         Standing(FILE, STRANGER).make(path, b"his")
         expect_answered(at, typed, 2, "shared/it: another user's file stands there now, in place of the key that was read")
@@ -183,16 +190,12 @@ class Strangers(Programs):
         for number in range(1, 60):
             directory, path = self.around(around=REMOVABLE)
             readers = [Standing(own, ROOT).make(path, OLDER)]
-            stopping = {"LD_PRELOAD": self.preload, "BREAK_AT": str(number), "BREAK_CALLS": "open openat",
-                        "BREAK_SIGNAL": str(int(signal.SIGSTOP)), "BREAK_GOES_ON": "1"}
-            process = subprocess.Popen([self.program, *self.secret.at("shared/it")], cwd=directory, stdin=subprocess.DEVNULL,
-                                       stdout=subprocess.DEVNULL, stderr=subprocess.PIPE, env=stopping)
 
             def swap():
                 os.rename(path, path + ".own")
                 readers.append(Standing(strangers, STRANGER).make(path, OLDER))
 
-            ran = while_stopped(process, swap, SECONDS)
+            ran = self.run_stopped(directory, self.secret.at("shared/it"), swap, AT=number, CALLS="open openat")
             kept, *got = map(take, readers)
             if own == FILE:
                 # (the key may have been put in its place before the pipe came)
@@ -301,7 +304,7 @@ class Strangers(Programs):
     # ---- Keys whose password is removed ----
 
     @case("a key without its password, of {0} with the mode {1:o} {2}", (ROOT, 0o644, ""), (ROOT, 0o660, ""), (OWNER, 0o640, ""),
-          (OWNER, 0o604, ""), (ROOT, 0o440, ""), (ROOT, 0o600, f"u:{STRANGER}:r"))
+          (OWNER, 0o604, ""), (OWNER, 0o400, ""), (ROOT, 0o440, ""), (ROOT, 0o600, f"u:{STRANGER}:r"))
     def made_its_owners(self, owner, mode, entries):
         """It is its owner's alone, whatever others might do with it."""
         directory, _ = self.around()
@@ -312,8 +315,8 @@ class Strangers(Programs):
             set_list(path, entries)
         ran = self.run_as(ROOT, directory, ("-CW", "-s", "own/k.key"))
         found = os.stat(path)
-        expect(ran.status == 0 and found.st_uid == owner and stat.S_IMODE(found.st_mode) == mode & 0o700 and list_of(path) is None,
-               ran, f"it left {found.st_uid}, {found.st_mode:o}")
+        expect(ran.status == 0 and (found.st_uid, found.st_gid) == (owner, OWNER) and stat.S_IMODE(found.st_mode) == mode & 0o700
+               and list_of(path) is None, ran, f"it left {found.st_uid}, {found.st_gid}, {found.st_mode:o}")
         is_secret(read(path))
 
     # ---- The cases ----
@@ -353,12 +356,14 @@ class Strangers(Programs):
                    self.over, ROOT, Command(name, arguments), Standing(FILE, STRANGER), IN_SHARED)
 
     def meanwhile(self):
-        """What is made while a password is typed, without -f."""
-        for name, arguments, *typed in (
-            ("a new secret key", ("-G", "-p", "own/a.pub", "-s", "shared/it"), b"p\n", b"p\n"),
-            ("a public key written again", ("-R", "-p", "shared/it", "-s", "own/closed.key"), PASSWORD + b"\n"),
+        """What is made while a password is typed or a key is drawn, without -f. (A new key that gets a password takes seconds.)"""
+        pair = ("-p", "own/a.pub", "-s", "shared/it")
+        for name, kinds, arguments, *typed in (
+            ("a new secret key", (FILE, PIPE), ("-GW", *pair)),
+            ("a new secret key with a password", [FILE], ("-G", *pair), b"p\n", b"p\n"),
+            ("a public key written again", (FILE, PIPE), ("-R", "-p", "shared/it", "-s", "own/closed.key"), PASSWORD + b"\n"),
         ):
-            for what in (FILE, PIPE):
+            for what in kinds:
                 for whose, owner, *ends in (("a stranger's", STRANGER, 2, f"shared/it: {IN_SHARED}"),
                                             ("an own", ROOT, 1, "shared/it already exists.")):
                     yield (f"{name}, and {whose} {what} comes meanwhile",

@@ -7,9 +7,9 @@ import os
 import struct
 
 from remedies import BY_FLAG
-from running import expect, read, write
+from running import expect, files_in, read, write
 from texts import record_of, text_of, turned, with_checksum
-from command_running import CLOSED, FEW_ROWS, OPEN, OTHER, PASSWORD, PUBLIC, Programs, case, files_in, sealed
+from command_running import CLOSED, FEW_ROWS, OPEN, OTHER, PASSWORD, PUBLIC, Programs, case, sealed
 
 # Texts of others: as their programs write them.
 SSH = b"ssh-ed25519 AAAAC3NzaC1lZDI1NTE5AAAAIK0wmN/Cr3JXqmLW7u+g9pTh+wyqDHpSQEIQczXkVx9q me@home\n"
@@ -73,7 +73,7 @@ class Words(Programs):
             self.expect_rejected(said, "-Vm", "data", "-p", PUBLIC, "-x", "cut", files={"cut": text[:end]}, status=1)
 
     @case("a key of {0} rows and the p {1}, {2}", (FEW_ROWS, 32, None), (FEW_ROWS, MAX_WORK // FEW_ROWS + 1, 17), (1 << 20, 17, 17),
-          (1 << 15, 513, 17), (FEW_ROWS, 1100, 2, "-K", "1"), (FEW_ROWS, 1100, None, "-K", "2"))
+          (1 << 15, 513, 17), (FEW_ROWS, 1025, 2, "-K", "1"), (FEW_ROWS, 1025, None, "-K", "2"))
     def work(self, rows, times, needed, *flags):
         """A key of so much work, N times p of scrypt, opens; or it is rejected at once, where it takes twenty seconds and more, and
         the words say what allows it."""

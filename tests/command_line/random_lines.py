@@ -26,17 +26,17 @@ from collections import namedtuple
 from functools import partial
 
 HERE = os.path.dirname(os.path.realpath(__file__))
-sys.path += [os.path.join(HERE, "..", name) for name in ("shared", "verdicts", "tool")]
+sys.path += [os.path.join(HERE, "..", name) for name in ("shared", "verdicts")]
 
 import ending
 import needs
 from process import run_program
-from running import Failure, Link, build_preload, expect
+from running import Failure, Link, build_preload, expect, files_in
 from texts import record_of, text_of, turned
 from command_breaking import STAGE, is_secret
 from command_cases import keys_of
 from command_line import build_program, heed_signals
-from command_running import CLOSED, DATA, HOME, OPEN, OTHER, PASSWORD, PUBLIC, Step, Whole, files_in, put_files, run_steps
+from command_running import CLOSED, DATA, HOME, OPEN, OTHER, PASSWORD, PUBLIC, Step, Whole, put_files, run_steps
 
 LINES = 2000
 # After so many seconds no further line is begun; fewer lines than this are too few.

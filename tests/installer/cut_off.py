@@ -16,7 +16,7 @@ import shutil
 import signal
 import tempfile
 
-from disturbed import Mounted, in_turn, small_disk, without_room
+from disturbed import in_turn, mounted, small_disk, without_room
 from installers import (CALLED, CHECK, FAILED, LATER, LOCK, NEW, NOT_ON_DISK, OLD, OLDER, PK, PLACE, RECORD, REJECTED, STAGE,
                         THERE, error)
 from process import run
@@ -282,8 +282,10 @@ MOMENTS = (("sync", 2, False), ("rename", 1, True), ("sync", 3, True), ("rename"
 def asks_to_end(directory, number, call, at, is_held):
     """A signal that comes before this call ends the run there, and the next one finishes; or it is held back, and ends the run where the
     target has its name. (What runs behind a shell's back is started to ignore some.)"""
-    environment = directory.signalling(number, CALLS=CALLED[call], AT=at)
-    directory.ends(directory.install(environment=environment, preexec_fn=lambda: signal.signal(number, signal.SIG_DFL)), -number)
+    how = {"SIGNAL": int(number), "GOES_ON": 1, "CALLS": CALLED[call], "AT": at}
+    ran = directory.installing.run_broken(directory.path, directory.arguments("new"), how,
+                                          preexec_fn=lambda: signal.signal(number, signal.SIG_DFL))
+    directory.ends(ran, -number)
     expect(directory.state() == ((NEW, b"6") if is_held else (OLD, b"5")), f"it ended with {directory.holds(RECORD)} in the record")
     directory.leaves(directory.install(), THERE if is_held else 0, b"")
 
@@ -345,7 +347,7 @@ def ended_well(*command):
 @contextlib.contextmanager
 def disk(image):
     """A file system in a file, mounted for as long as this is entered: its path."""
-    with tempfile.TemporaryDirectory(prefix="disk-") as path, Mounted(path, "-o", OPTIONS, image):
+    with tempfile.TemporaryDirectory(prefix="disk-") as path, mounted(path, "-o", OPTIONS, image):
         yield path
 
 
@@ -384,7 +386,7 @@ def crashes(directory):
         image, crashed = (os.path.join(room, name) for name in ("image", "crashed"))
         shutil.copyfile(fresh, image)
         with disk(image) as path:
-            ran = Directory(path, installing).while_stopped(None, number, lambda _: shutil.copyfile(image, crashed))
+            ran = Directory(path, installing).while_stopped(number, lambda _: shutil.copyfile(image, crashed))
             expect(ran.status == 0, ran)
             if not ran.came:
                 shutil.copyfile(image, crashed)

@@ -155,7 +155,7 @@ def replaces(directory, is_there):
         if is_there:
             fresh.check("new", 0)
         fresh.put("same", fresh.holds())
-        ran = fresh.while_stopped("fstat fstatat openat", number, lambda at: os.replace(at.at("same"), at.at(PLACE)))
+        ran = fresh.while_stopped(number, lambda at: os.replace(at.at("same"), at.at(PLACE)), CALLS="fstat fstatat openat")
         fresh.leaves(ran, THERE if is_there else 0, b"")
         return ran.came
 
@@ -175,7 +175,7 @@ def loses_lock(directory, call, at):
         os.remove(directory.at(LOCK))
         directory.check("later", 0)
 
-    ran = directory.while_stopped(CALLED[call], at, overtake)
+    ran = directory.while_stopped(at, overtake, CALLS=CALLED[call])
     expect(ran.came and ran.status == FAILED and b".place.lock: it was removed or replaced while it was locked" in ran.said, ran)
     expect(directory.state() == (LATER, b"7"), f"the record holds {directory.holds(RECORD)}")
 

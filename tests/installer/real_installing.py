@@ -1,14 +1,20 @@
 #!/usr/bin/env python3
-"""All of `installing.py` for the program `minisign-install` of `c/`, with keys and signatures of Minisign's own
-program.
+"""The cases of `minisign-install` on real files, with keys and signatures of Minisign's own program: good, bad and older
+updates, each option, and wrong command lines; files that cannot be used; kills, failures and interruptions at each call
+of the system; four runs at once with a reader beside them; others who change stage, target and lock file; runs by root
+over files of others, links, access control lists, a directory that may not be written, a full disk, a disk that crashes;
+data from a pipe that stands still, a failing allocation. Whatever comes, the old or a new update stands at the target,
+whole, and after a run that was cut off the next one ends with the update there. tests/bindings runs the package for
+Python through most of them.
 
     tests/installer/real_installing.py [PROGRAM ..]
 
 By default the program is built over the static library of `dist/` (`static_library.py`). It prints a line for each
 case that failed or was skipped; the last line is `N passed, M failed`.
 
-Needs besides what `installing.py` needs make, libsodium with its header and minisign. It installs what is missing if
-it may.
+Needs Python 3.9 or later, make, a C compiler, libsodium with its header, minisign and setfacl. It installs what is
+missing if it may. The disk that crashes is a file system in a file, which root mounts: where that is not allowed, those
+cases are skipped.
 """
 
 import os
@@ -16,15 +22,30 @@ import sys
 import tempfile
 
 HERE = os.path.dirname(os.path.realpath(__file__))
-sys.path += [os.path.join(HERE, "..", name) for name in ("shared", "tool")]
+sys.path.append(os.path.join(HERE, "..", "shared"))
 
 import ending
 import needs
 import static_library
-from installers import NAME, RealInstaller
-from installing import cases
+from checking import check_cases
+from cut_off import cut_off_cases
+from installers import NAME, PK, PLACE, RealInstaller
+from meanwhile import meanwhile_cases
+from owners import owner_cases
+from permissions import ASKED, KEPT, permission_cases
 from running import run_cases
 from runs import Installing
+from updates import update_cases
+from words import word_cases
+
+
+def cases_of(installing):
+    """The names of all cases, and what runs each."""
+    for some in (update_cases, owner_cases, meanwhile_cases, cut_off_cases, check_cases, word_cases):
+        for name, case, *given in some:
+            yield name, installing.run_case, case, *given
+    yield from permission_cases(installing, lambda path: installing.offered(path).at(PLACE),
+                                lambda asked: [*(["--mode", asked] if asked else []), PK, "new", "new.sig", PLACE], KEPT + ASKED)
 
 
 def run_all(room):
@@ -34,7 +55,7 @@ def run_all(room):
     if len(sys.argv) == 1:
         needs.libsodium()
         static_library.run_make(f"OUT={room}/out", program)
-    return run_cases(cases(Installing(program, RealInstaller(room), tempfile.mkdtemp(dir=room))))
+    return run_cases(cases_of(Installing(program, RealInstaller(room), tempfile.mkdtemp(dir=room))))
 
 
 if __name__ == "__main__":

@@ -6,15 +6,14 @@ import fcntl
 import os
 import re
 import shutil
-import signal
 import stat
 import subprocess
 import tempfile
 import threading
 
-from disturbed import Disturbing, content, while_stopped
+from disturbed import Disturbing, content
 from installers import CALLED, LOCK, NEW, OLD, PK, PLACE, RECORD, STAGE, THERE
-from process import Ran
+from process import Ran, told
 from running import NOBODY, SECONDS, expect, only_root, read, write
 
 
@@ -164,30 +163,20 @@ class Directory:
         """An environment in which `disturbed_calls.c` does this."""
         return {"LD_PRELOAD": self.installing.preload, **environment}
 
-    def signalling(self, number, **how):
-        """An environment in which a run gets a signal before a call, and goes on after it."""
-        broken = {f"BREAK_{name}": str(value) for name, value in how.items()}
-        return self.preloading(BREAK_SIGNAL=str(int(number)), BREAK_GOES_ON="1", **broken)
-
     def run_traced(self, words, how=None, **environment):
         """A run and the lines of its calls, as `disturbed_calls.c` tells them."""
-        reader, writer = map(os.fdopen, os.pipe(), "rw")
-        with reader:
-            with writer:
-                says = writer.fileno()
-                ran = self.run(words, self.preloading(TRACE_TO=str(says), **environment), pass_fds=[says], **(how or {}))
-            return ran, reader.read().splitlines()
+        ran, said = told(lambda says: self.run(words, self.preloading(TRACE_TO=str(says), **environment), pass_fds=[says], **(how or {})))
+        return ran, said.decode().splitlines()
 
-    def while_stopped(self, calls, number, meanwhile, where="."):
-        """A run over the target in a directory of this directory: before its call of this number among these, or all, it stops,
+    def while_stopped(self, number, meanwhile, where=".", **calls):
+        """A run over the target in a directory of this directory: before its call of this number among the CALLS, or all, it stops,
         something is done, and then it goes on."""
-        environment = self.signalling(signal.SIGSTOP, AT=number, **({"CALLS": calls} if calls else {}))
-        process = self.start([PK, "new", "new.sig", os.path.join(where, PLACE)], environment)
-        return while_stopped(process, lambda: meanwhile(Directory(self.at(where), self.installing)))
+        return self.installing.run_stopped(self.path, [PK, "new", "new.sig", os.path.join(where, PLACE)],
+                                           lambda: meanwhile(Directory(self.at(where), self.installing)), AT=number, **calls)
 
     def while_staged(self, meanwhile, where="."):
         """The same once it has staged all of its data."""
-        ran = self.while_stopped(CALLED["read-back"], 1, meanwhile, where)
+        ran = self.while_stopped(1, meanwhile, where, CALLS=CALLED["read-back"])
         expect(ran.came, "it staged nothing", ran)
         return ran
 

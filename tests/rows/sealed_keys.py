@@ -28,7 +28,7 @@ OPENED_TEXT = secret_text(OPENED)
 
 def sealed(password, limits=SMALL):
     """A text of key A, sealed, whose first line is `c` alone."""
-    return toy.lines(b"c", base64.b64encode(KEY_A.sealed(password, limits, SALT)))
+    return toy.joined([b"c", base64.b64encode(KEY_A.sealed(password, limits, SALT))])
 
 
 def opened(record, **tail):

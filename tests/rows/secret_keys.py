@@ -29,7 +29,7 @@ def of_prefix(length):
 WRITTEN = [
     *((name, record, None, secret_text(record), answer) for name, record, answer in (
         ("no key derivation", RECORD, KEY_A),
-        ("another checksum", toy.changed(RECORD), "CorruptedKey"),
+        ("another checksum", toy.turned(RECORD), "CorruptedKey"),
         ("the key derivation scrypt", toy.KEY_A.record(b"Sc"), "KeyMightBeEncrypted"),
         ("an unknown key derivation", toy.KEY_A.record(b"Xx"), "KeyMightBeEncrypted"))),
     *((f"a comment of {name}", RECORD, comment, secret_text(comment=comment), KEY_A)

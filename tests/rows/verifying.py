@@ -51,7 +51,7 @@ def judged(name, outcome, signature=PREHASHED_TEXT, content=b"abc", key=None, tr
     is_bare = signature[:1] == b"E"
     key = key if key is not None else RECORD if is_bare else KEY_TEXT
     request = "verify" if key[:1] == b"E" else "verify_texts"
-    told = b"" if quiet else VERIFIED if is_bare else VERIFIED + toy.lines(b"Trusted comment: " + trusted)
+    told = b"" if quiet else VERIFIED if is_bare else VERIFIED + toy.joined([b"Trusted comment: " + trusted])
     # (in base64 the record of a prehashed signature begins so)
     goes_back = output and (signature[:2] == b"ED" or b"\nRU" in signature)
     copied = second if second is not None and goes_back else content
@@ -78,7 +78,7 @@ def judged(name, outcome, signature=PREHASHED_TEXT, content=b"abc", key=None, tr
 
 def turned(record):
     """The text of a record with the last bit of its comment signature turned."""
-    return toy.signature_text(b"", record, comment_signature=toy.changed(toy.signature_of(record[10:] + b"t")))
+    return toy.signature_text(b"", record, comment_signature=toy.turned(toy.signature_of(record[10:] + b"t")))
 
 
 def each_run(name, key, signature, content, outcome, strict=None, **how):
@@ -103,7 +103,7 @@ CASES = (
     ("a signature", RECORD, PREHASHED_RECORD, b"abc", ACCEPTED),
     ("a signature over no data", RECORD, PREHASHED_RECORD, b"", "SignatureRefused"),
     ("a signature over other data", RECORD, PREHASHED_RECORD, b"abd", "SignatureRefused"),
-    ("a changed signature", RECORD, toy.changed(PREHASHED_RECORD), b"abc", "SignatureRefused"),
+    ("a changed signature", RECORD, toy.turned(PREHASHED_RECORD), b"abc", "SignatureRefused"),
     ("a signature of nothing", RECORD, toy.signature_record(b""), b"", ACCEPTED),
     ("a long message", RECORD, OF_LONG, LONG, ACCEPTED),
     ("a long message without its last byte", RECORD, OF_LONG, LONG[:-1], "SignatureRefused"),

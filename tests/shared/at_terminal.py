@@ -13,15 +13,15 @@ SECONDS = 600
 
 
 class AtTerminal:
-    """A program at a terminal of its own, and a person at it."""
+    """A program at a terminal of its own, for which something is prepared, and a person at it."""
 
-    def __init__(self, command, program, directory, environment):
+    def __init__(self, command, program, directory, environment, prepare=lambda: None):
         self.shown = b""
         self.person, self.side = pty.openpty()
         # (the terminal is that of the process, which has just begun a session)
         self.process = subprocess.Popen(command, executable=program, cwd=directory, env=environment, stdin=self.side,
                                         stdout=self.side, stderr=self.side, umask=0o022, start_new_session=True,
-                                        preexec_fn=lambda: fcntl.ioctl(self.side, termios.TIOCSCTTY, 0))
+                                        preexec_fn=lambda: [fcntl.ioctl(self.side, termios.TIOCSCTTY, 0), prepare()])
 
     def read_until(self, pattern):
         """Reads what is shown until it has a match, or until the program has ended: whether there was one."""
@@ -70,15 +70,3 @@ class AtTerminal:
         os.close(self.side)
         os.close(self.person)
         return self.process.returncode
-
-
-def type_at_terminal(command, program, directory, environment, lines):
-    """Runs a program at a terminal at which a person types a line at each question for a password: its status, and what was
-    shown."""
-    at = AtTerminal(command, program, directory, environment)
-    for questions, line in enumerate(lines, 1):
-        if not at.read_until(rb"(?:Password(?: \(one more time\))?: [^P]*){%d}$" % questions):
-            break
-        at.wait_for_hiding()
-        at.type(line)
-    return at.finish(), at.shown

@@ -11,27 +11,10 @@ import shutil
 import signal
 import subprocess
 import tempfile
-from dataclasses import replace
+from dataclasses import dataclass, replace
 
 from process import Ran, run_program, told
-from running import SECONDS, Failure, Skip, build_preload, expect, read
-
-MAX_CALLS = 500
-
-
-def in_turn(place, attempt):
-    """Has runs made with the first call broken, the second one and so on, each in a fresh directory there, until one comes to no such
-    call: how many there were. `attempt` is given the number and the directory, judges the run, and answers whether it came to that."""
-    for number in range(1, MAX_CALLS):
-        with tempfile.TemporaryDirectory(dir=place) as directory:
-            try:
-                came = attempt(number, directory)
-            except Failure as why:
-                raise Failure(f"at call {number}: {why}") from why
-        if not came:
-            return number - 1
-    raise Failure(f"it made {MAX_CALLS} calls")
-
+from running import SECONDS, Failure, Skip, build_preload, expect, files_in, in_turn, read
 
 class Disturbing:
     """A program that is run in fresh directories. It stands elsewhere, as what is in memory may not be run everywhere."""
@@ -52,12 +35,32 @@ class Disturbing:
         return run_program([program or self.program, *arguments], directory,
                            **{"seconds": self.seconds, "env": environment or {}, **how})
 
+    def breaking(self, **how):
+        """An environment in which `disturbed_calls.c` breaks a call, as it is told."""
+        return {"LD_PRELOAD": self.preload, **{f"BREAK_{name}": str(value) for name, value in how.items()}}
+
     def run_broken(self, directory, arguments, how, **more):
-        """A run with a call broken, as `disturbed_calls.c` is told: also whether it came to that."""
-        environment = {"LD_PRELOAD": self.preload, **{f"BREAK_{name}": str(value) for name, value in how.items()}}
-        run = lambda says: self.run(directory, arguments, {**environment, "BREAK_SAYS": str(says)}, pass_fds=[says], **more)
-        ran, came = told(run)
-        return replace(ran, came=came)
+        """A run with a call broken: also whether it came to that."""
+        ran, said = told(lambda says: self.run(directory, arguments, self.breaking(**how, SAYS=says), pass_fds=[says], **more))
+        return replace(ran, came=bool(said))
+
+    def run_stopped(self, directory, arguments, meanwhile, **how):
+        """A run that stops before a call, goes on once something was done, and then ends soon: also whether it came to that."""
+        stopping = self.breaking(SIGNAL=int(signal.SIGSTOP), GOES_ON=1, **how)
+        process = subprocess.Popen([self.program, *arguments], cwd=directory, env=stopping, stdin=subprocess.DEVNULL,
+                                   stdout=subprocess.DEVNULL, stderr=subprocess.PIPE)
+        came = os.waitid(os.P_PID, process.pid, os.WSTOPPED | os.WEXITED | os.WNOWAIT).si_code == os.CLD_STOPPED
+        try:
+            if came:
+                meanwhile()
+        finally:
+            process.send_signal(signal.SIGCONT)
+            try:
+                said = process.communicate(timeout=SECONDS)[1]
+            except subprocess.TimeoutExpired as why:
+                process.kill()
+                raise Failure(f"it goes on for more than {SECONDS} seconds") from why
+        return Ran(process.returncode, b"", said, came)
 
     def run_refused(self, directory, arguments, number):
         """A run whose request for memory of this number is refused."""
@@ -74,11 +77,34 @@ class Disturbing:
         return in_turn(self.place, attempt)
 
 
+@dataclass(frozen=True)
+class Task:
+    """A run that replaces files: what stands in its directory before it, as `make` makes it; a judge of each file that it writes, in the
+    order in which they are replaced; and how many may be new where a write fails."""
+
+    name: str
+    arguments: list
+    files: dict
+    targets: dict
+    before_failing: int = 0
+
+    def check(self, directory, killed=False):
+        """Whether each target is new. Raises a `Failure` where one is neither the older nor a new one, where anything else was changed,
+        where a file has a mode that it may not have, and where one stands beside them that is no stage which a killed run left."""
+        found = {name: held for name, held in files_in(directory).items() if held[1] is not None}
+        expect(found.keys() >= self.files.keys(), f"{sorted(self.files.keys() - found.keys())} are gone")
+        new = {name for name in self.targets if name in found and found[name][1] != self.files.get(name)}
+        for name, (mode, data) in found.items():
+            is_stage = killed and os.path.basename(name).startswith(self.stage)
+            expect(name in new or is_stage or data == self.files.get(name), f"it left or changed {name}")
+            expect(self.may_have(name, mode, data, found), f"{name} has the mode {mode:o}")
+        for name in new:
+            self.targets[name](found[name][1])
+        return [name in new for name in self.targets]
+
+
 class OverTasks(Disturbing):
-    """A program that does tasks, each of which replaces files, and says by `expect_unwritten` how it ends by a failed write. A task makes
-    what stands in a directory before a run, and answers the run's arguments; its `targets` are the files that are written, in the order
-    in which they are replaced; and its `check` answers of each whether it is new, and raises a `Failure` where a file is neither the old
-    nor a new one. Where a write fails so many files may be new as it has `before_failing`."""
+    """A program that does tasks, and says by `expect_unwritten` how it ends by a failed write."""
 
     def killed(self, task):
         """A run that is killed before each of its calls leaves each number of new files, those first that are replaced first."""
@@ -146,42 +172,24 @@ def content(directory, name):
         return None
 
 
-def while_stopped(process, meanwhile, seconds=SECONDS):
-    """Does something while a program is stopped, as by `disturbed_calls.c`, and has it go on: how it ended, and whether it came to
-    that."""
-    came = os.waitid(os.P_PID, process.pid, os.WSTOPPED | os.WEXITED | os.WNOWAIT).si_code == os.CLD_STOPPED
+@contextlib.contextmanager
+def mounted(place, *words, lazily=False):
+    """What words of `mount` name is mounted on a file or a directory meanwhile; with `lazily` what is open in it stays."""
+
+    def goes(*command):
+        return shutil.which(command[0]) is not None and subprocess.run([*command, place], stderr=subprocess.DEVNULL).returncode == 0
+
+    if os.geteuid() != 0 or not goes("mount", *words):
+        raise Skip(f"nothing may be mounted by {' '.join(words)} here")
     try:
-        if came:
-            meanwhile()
+        yield
     finally:
-        process.send_signal(signal.SIGCONT)
-        try:
-            said = process.communicate(timeout=seconds)[1]
-        except subprocess.TimeoutExpired as why:
-            process.kill()
-            raise Failure(f"it goes on for more than {seconds} seconds") from why
-    return Ran(process.returncode, b"", said, came)
-
-
-class Mounted:
-    """What words of `mount` name, mounted on a file or a directory while it is entered; with `lazily` what is open in it stays."""
-
-    def __init__(self, place, *words, lazily=False):
-        self.place, self.words, self.flags = place, words, ["-l"] if lazily else []
-
-    def __enter__(self):
-        command = ["mount", *self.words, self.place]
-        if os.geteuid() != 0 or shutil.which("mount") is None or subprocess.run(command, stderr=subprocess.DEVNULL).returncode:
-            raise Skip(f"nothing may be mounted by {' '.join(self.words)} here")
-
-    def __exit__(self, *_):
-        if subprocess.run(["umount", *self.flags, self.place], stderr=subprocess.DEVNULL).returncode:
-            subprocess.run(["umount", "-l", self.place], check=True)
+        expect(not lazily and goes("umount") or goes("umount", "-l"), f"{place} stays mounted")
 
 
 def in_memory(directory, options, **how):
     """A file system in memory in a directory, while it is entered."""
-    return Mounted(directory, "-t", "tmpfs", "-o", options, "tmpfs", **how)
+    return mounted(directory, "-t", "tmpfs", "-o", options, "tmpfs", **how)
 
 
 def small_disk(directory):

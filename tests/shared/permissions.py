@@ -17,16 +17,18 @@ import needs
 from running import AS_NOBODY, NOBODY, SECONDS, expect, only_root
 
 ACCESS_LIST = "system.posix_acl_access"
-# A group of which nobody is no member, and a user in lists.
+# A group of which nobody is no member, and a user who is nobody else.
 OTHER_GROUP, OTHER_USER = 54321, 54322
 
 # A run over an older file: the mode of that, and the one that the new file has to have; which entries of an access control list
 # the older file has, and which list each new file of its directory inherits; whether the new one has to have the older one's list.
-# It runs as nobody, whose the older file is, over a file of nobody's own group or of another one; or as whoever runs the test. A
-# mode may be asked for. A call may fail, by its name.
-Replaced = namedtuple("Replaced", "older mode entries inherited has_list as_nobody group asked broken",
-                      defaults=("", "", False, False, NOBODY, "", ""))
-of_other_group = functools.partial(Replaced, as_nobody=True, group=OTHER_GROUP)
+# It runs as nobody, whose the directory is with all that is in it; or as whoever runs the test. The older file may have another owner
+# and group than the rest: it keeps these where root replaces it, and else gets nobody's. A mode may be asked for. A call may fail, by
+# its name.
+Replaced = namedtuple("Replaced", "older mode entries inherited has_list as_nobody whose asked broken",
+                      defaults=("", "", False, False, None, "", ""))
+by_nobody = functools.partial(Replaced, as_nobody=True)
+of_other_group = functools.partial(by_nobody, whose=(NOBODY, OTHER_GROUP))
 uncopied = functools.partial(Replaced, broken="fsetxattr")
 
 
@@ -52,7 +54,9 @@ def run_case(disturbing, prepare, arguments, case):
             only_root("become nobody")
             for name in [".", *os.listdir(directory)]:
                 os.chown(os.path.join(directory, name), NOBODY, NOBODY)
-            os.chown(path, NOBODY, case.group)
+        if case.whose:
+            only_root("give files away")
+            os.chown(path, *case.whose)
         make_older(directory, path, case.older, case.entries, case.inherited)
         before, older = os.stat(path), list_of(path)
         expect((older is None) == (not case.entries), f"the older file has the list {older}")
@@ -60,9 +64,10 @@ def run_case(disturbing, prepare, arguments, case):
         run = functools.partial(disturbing.run_broken, how=how) if case.broken else disturbing.run
         ran = run(directory, arguments(case.asked), **(AS_NOBODY if case.as_nobody else {}))
         after, newer = os.stat(path), list_of(path)
-        mode = stat.S_IMODE(after.st_mode)
+        mode, owner = stat.S_IMODE(after.st_mode), (NOBODY, NOBODY) if case.as_nobody else (before.st_uid, before.st_gid)
         expect(ran.status == 0 and after.st_ino != before.st_ino, ran, f"the file was{' not' * (after.st_ino == before.st_ino)} replaced")
         expect(mode == case.mode, f"the file has the mode {mode:o} in place of {case.mode:o}")
+        expect((after.st_uid, after.st_gid) == owner, f"the file belongs to {after.st_uid}:{after.st_gid}, and not {owner}")
         expect(newer == (older if case.has_list else None), f"the file has the list {newer}, where the older one had {older}")
 
 
@@ -82,6 +87,7 @@ KEPT = [
     ("another group that may do nothing", of_other_group(0o705, 0o700)),
     ("another group that may do more than all others", of_other_group(0o754, 0o704)),
     ("another group that may do less than all others", of_other_group(0o757, 0o705)),
+    ("another's, which root replaces", Replaced(0o640, 0o640, whose=(OTHER_USER, OTHER_GROUP))),
     ("permissions of a group alone", Replaced(0o750, 0o750)),
     ("more permissions of a group than of all others", Replaced(0o771, 0o771)),
     ("a list of one who may do more", Replaced(0o700, 0o770, MORE, has_list=True)),
@@ -95,8 +101,8 @@ KEPT = [
     ("a list that cannot be copied, of a group that may do nothing", uncopied(0o755, 0o700, NONE)),
     ("a list that cannot be copied, whose owning group may do less", uncopied(0o757, 0o704, f"g::r--,u:{OTHER_USER}:rwx")),
     ("a list of a file of another group", of_other_group(0o755, 0o704, LESS)),
-    ("a list in nobody's own file", Replaced(0o755, 0o775, LESS, has_list=True, as_nobody=True)),
-    ("a list of a file that may not be read", Replaced(0o311, 0o311, f"g::--x,u:{OTHER_USER}:--x", has_list=True, as_nobody=True)),
+    ("a list in nobody's own file", by_nobody(0o755, 0o775, LESS, has_list=True)),
+    ("a list of a file that may not be read", by_nobody(0o311, 0o311, f"g::--x,u:{OTHER_USER}:--x", has_list=True)),
 ]
 
 # Of a program that can be asked for a mode: it has just these permissions, and no list.

@@ -53,13 +53,13 @@ def run_measured(command, directory, typed=b"", **how):
 
 
 def told(run):
-    """What `run` answers, and whether the program that it runs came to the call, or the request for memory, which is broken:
-    it is given the descriptor at which the library that breaks that says so."""
+    """What `run` answers, and what the program that it runs said, or a library that is preloaded into it, as of a call that is broken:
+    it is given the descriptor for that."""
     reader, says = os.pipe()
     try:
         answer = run(says)
     finally:
         os.close(says)
         with os.fdopen(reader, "rb") as pipe:
-            came = pipe.read(1) != b""
-    return answer, came
+            said = pipe.read()
+    return answer, said

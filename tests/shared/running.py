@@ -10,6 +10,7 @@ import resource
 import shutil
 import signal
 import socket
+import stat
 import subprocess
 import tempfile
 import termios
@@ -21,7 +22,7 @@ from dataclasses import dataclass, field
 import needs
 from process import told
 
-SECONDS = 30
+SECONDS, MAX_CALLS = 30, 500
 NOBODY = 65534
 AS_NOBODY = {"user": NOBODY, "group": NOBODY, "extra_groups": []}
 HERE = os.path.dirname(os.path.realpath(__file__))
@@ -186,14 +187,25 @@ def run_one(cases, name):
     run(*given)
 
 
+def in_turn(place, attempt):
+    """Has runs made with the first call broken, the second one and so on, each in a fresh directory there, until one comes to no such
+    call: how many there were. `attempt` is given the number and the directory, judges the run, and answers whether it came to that."""
+    for number in range(1, MAX_CALLS):
+        with tempfile.TemporaryDirectory(dir=place) as directory:
+            try:
+                came = attempt(number, directory)
+            except Failure as why:
+                raise Failure(f"at call {number}: {why}") from why
+        if not came:
+            return number - 1
+    raise Failure(f"it made {MAX_CALLS} calls")
+
+
 class Runner:
-    """Runs a program in fresh directories below a temporary one, as nobody where the script itself runs as root."""
+    """Runs a program in fresh directories below a temporary one."""
 
     def __init__(self, program, room):
-        self.room, self.program = room, shutil.copyfile(program, os.path.join(room, "program"))
-        os.chmod(self.program, 0o755)
-        os.chmod(room, 0o711)
-        self.nobody = runs_as_nobody(self.program)
+        self.program, self.room = program, room
 
     @functools.cached_property
     def preload(self):
@@ -202,57 +214,51 @@ class Runner:
     def run(self, case):
         """Makes the run, or all runs of a case that is disturbed, and raises a `Failure` or a `Skip`."""
         is_forbidding = any(kind == LOCKED or isinstance(kind, WithMode) for kind in case.files.values())
-        if is_forbidding and os.geteuid() == 0 and not self.nobody:
-            raise Skip("root may read and write every file, and cannot become nobody here")
+        if is_forbidding and os.geteuid() == 0:
+            raise Skip("root may read and write every file")
         if case.rejecting:
             rest = {"BREAK_REST": "1"} if case.rejecting == "all" else {}
-            self.run_each(case, "request for memory", "memory", errno.ENOMEM, **rest)
+            self.run_each(case, "memory", errno.ENOMEM, **rest)
         elif case.breaking:
-            self.run_each(case, f"call of {case.breaking}", case.breaking, errno.EIO)
+            self.run_each(case, case.breaking, errno.EIO)
         elif case.sources:
             given = {"RANDOM_BYTES": str(case.sources.random), "SHOWN_TIME": str(case.sources.moment)}
             self.run_once(case, {"LD_PRELOAD": self.preload, **given})
         else:
             self.run_once(case, {})
 
-    def run_each(self, case, what, calls, error, **more):
+    def run_each(self, case, calls, error, **more):
         """Runs with each of these calls, or requests for memory, failing in turn with the number of this error."""
         environment = {"LD_PRELOAD": self.preload, "BREAK_CALLS": calls, "BREAK_ERRNO": str(error), **more}
 
-        def failure_of(number, says):
+        def failure_of(number, directory, says):
             try:
-                self.run_once(case, {**environment, "BREAK_AT": str(number), "BREAK_SAYS": str(says)}, [says])
+                self.run_in(directory, case, {**environment, "BREAK_AT": str(number), "BREAK_SAYS": str(says)}, [says])
             except Failure as failure:
                 return failure
             return None
 
-        for number in range(1, 1000):
-            failure, was_refused = told(functools.partial(failure_of, number))
-            if not was_refused:
-                expect(number != 1, f"it made no {what}")
-                return
-            expect(not failure, f"with {what} number {number} rejected: {failure}")
-        raise Failure(f"it came to {what} number 1000")
+        def attempt(number, directory):
+            failure, came = told(functools.partial(failure_of, number, directory))
+            expect(not came or not failure, failure)
+            return came
 
-    def run_once(self, case, environment, passed=()):
+        expect(in_turn(self.room, attempt), f"it came to no {calls}")
+
+    def run_once(self, case, environment):
         with tempfile.TemporaryDirectory(dir=self.room) as directory:
             for number, step in enumerate((case, *case.then)):
                 try:
-                    self.run_in(directory, step, environment, passed)
+                    self.run_in(directory, step, environment)
                 except Failure as error:
                     raise Failure(f"at step {number}: {error}") if case.then else error
 
-    def run_in(self, directory, case, environment, passed):
+    def run_in(self, directory, case, environment, passed=()):
         """Makes the files and the run in a directory, and compares all that it answers."""
         with contextlib.ExitStack() as stack:
-            pipes = make_files(directory, case.files, stack)
-            if self.nobody:
-                for at, _, names in os.walk(directory):
-                    for path in [at, *(os.path.join(at, name) for name in names)]:
-                        os.lchown(path, NOBODY, NOBODY)
-            streams = Streams(directory, case, stack)
+            pipes, streams = make_files(directory, case.files, stack), Streams(directory, case, stack)
             with subprocess.Popen([self.program, *case.arguments], cwd=directory, env=environment, umask=case.umask, pass_fds=passed,
-                                  preexec_fn=streams.prepare_child, **streams.ends, **(AS_NOBODY if self.nobody else {})) as process:
+                                  preexec_fn=streams.prepare_child(), **streams.ends) as process:
                 try:
                     streams.serve()
                     wait(process, [*pipes, *streams.terminals])
@@ -393,12 +399,17 @@ class Streams:
             self.written.flush()
 
     def prepare_child(self):
-        """Closes the program's closed streams, and limits how long a file may become."""
-        for number in self.closed:
-            os.close(number)
-        if self.room is not None:
-            resource.setrlimit(resource.RLIMIT_FSIZE, (self.room, self.room))
-            signal.signal(signal.SIGXFSZ, signal.SIG_IGN)
+        """What closes the program's closed streams, and limits how long a file may become; or nothing, as most programs start in a tenth
+        of the time where nothing is to be done in a copy of this process first."""
+
+        def prepare():
+            for number in self.closed:
+                os.close(number)
+            if self.room is not None:
+                resource.setrlimit(resource.RLIMIT_FSIZE, (self.room, self.room))
+                signal.signal(signal.SIGXFSZ, signal.SIG_IGN)
+
+        return prepare if self.closed or self.room is not None else None
 
     def serve(self):
         """Lets go of the program's ends, feeds its standard input, and reads its output where that is read late."""
@@ -490,22 +501,25 @@ def make_files(directory, files, stack=None):
     return pipes
 
 
+def files_in(directory):
+    """The permissions of all files in a directory, by their names, and their bytes, whatever the permissions; None of a directory, and of
+    others where a link leads."""
+    found = {}
+    for at, directories, names in os.walk(directory):
+        for path in (os.path.join(at, name) for name in directories + names):
+            mode = os.lstat(path).st_mode
+            if stat.S_ISREG(mode) and not os.access(path, os.R_OK):
+                os.chmod(path, 0o600)
+            data = Link(os.readlink(path)) if stat.S_ISLNK(mode) else read(path) if stat.S_ISREG(mode) else None
+            found[os.path.relpath(path, directory)] = (stat.S_IMODE(mode), data)
+    return found
+
+
 def set_list(path, entries):
     """Gives a file entries of an access control list, whose mask then stands in the group's bits of its mode."""
     before = os.stat(path).st_mode
     subprocess.run([needs.program("setfacl", "acl"), "-m", entries, path], check=True, timeout=SECONDS)
     expect(os.stat(path).st_mode != before, f"the list of {path} has no mask")
-
-
-def runs_as_nobody(program):
-    """Whether the script runs as root and may start the program as nobody."""
-    if os.geteuid() != 0:
-        return False
-    try:
-        subprocess.run([program], stdin=subprocess.DEVNULL, capture_output=True, timeout=SECONDS, **AS_NOBODY)
-    except (OSError, subprocess.SubprocessError):
-        return False
-    return True
 
 
 def build_preload(room, name, only_in=None):

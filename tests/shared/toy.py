@@ -6,8 +6,7 @@ import struct
 from dataclasses import dataclass
 
 import texts
-from texts import Limits, joined, stream, text_of
-from texts import turned as changed
+from texts import Limits, joined, stream, text_of, turned
 
 WARNING = "warning: insecure toy scheme, for tests only\n"
 OUT_OF_MEMORY = "error: out of memory\n"
@@ -44,10 +43,6 @@ def digest(data):
     return hashlib.blake2b(data).digest()
 
 
-def lines(*parts):
-    return joined(parts)
-
-
 def public_text(keynum=KEYNUM, key=KEY):
     return text_of(b"Ed" + keynum + key, b"minisign public key: %016X" % int.from_bytes(keynum, "little"))
 
@@ -60,7 +55,7 @@ def signature_text(data, record=None, trusted=b"t", untrusted=b"c", comment_sign
     """The text of a signature of the data, or of this record."""
     record = record or signature_record(data)
     comment_signature = comment_signature or signature_of(record[10:] + trusted)
-    return text_of(record, untrusted) + lines(b"trusted comment: " + trusted, base64.b64encode(comment_signature))
+    return text_of(record, untrusted) + joined([b"trusted comment: " + trusted, base64.b64encode(comment_signature)])
 
 
 NEVER_SEALED, SCRYPT = bytes(2), b"Sc"

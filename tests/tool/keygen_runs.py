@@ -5,7 +5,7 @@ import base64
 import toy
 from running import (CLOSED, DIRECTORY, FULL, LOCKED, WRITE_ONLY, Failure, FromFile, Link, OneOf, Pieces,
                      PrefixOf, ReadPipe, RoomFor, SecondName, Sources, Typed, WithMode, expect)
-from tool_cases import Leaves, command, held_by, refusing, untold
+from tool_cases import Leaves, command, refusing, untold
 from toy import NOT_UTF8, OUT_OF_MEMORY, READING_FAILED, WARNING, WRITING_FAILED
 
 END_OF_INPUT = "error: unexpected end of input\n"
@@ -40,7 +40,7 @@ def pair(password=b"p", public_mode=0o644, secret_mode=0o600, names=(PK, SK), li
     """What is left are the two files of a pair that opens under the password, with these modes, and these links."""
     files = {**dict(links), **dict.fromkeys(names, bytes)}
     return Leaves(files, dict(zip(names, (public_mode, secret_mode))),
-                  judge=lambda directory: check_pair(password, *(held_by(directory, name) for name in names)))
+                  judge=lambda found: check_pair(password, *(found[name][1] for name in names)))
 
 
 def one_file(name, links):

@@ -10,7 +10,10 @@ skipped; the last line is `N passed, M failed`.
 Needs Python 3.9 or later and a C compiler, which it installs if it may.
 """
 
+import concurrent.futures
+import contextlib
 import os
+import shutil
 import subprocess
 import sys
 import tempfile
@@ -20,9 +23,10 @@ sys.path.append(os.path.join(HERE, "..", "shared"))
 
 import ending
 import keygen_runs
+import needs
 import sign_runs
 import surviving
-from running import CLOSED, FULL, Case, Runner, run_cases
+from running import CLOSED, FULL, NOBODY, Case, Runner, run_cases
 from toy import WARNING
 from verify_runs import CAT, KEY, RAW, SIGNATURE, VERIFY
 
@@ -65,11 +69,16 @@ USAGE_CASES = [
 CASES = {"usage": USAGE_CASES, "keygen": keygen_runs.CASES, "sign": sign_runs.CASES, "verify": VERIFY, "verify-raw": RAW, "cat": CAT}
 
 
-def cases_of(program, room):
-    """The names of all cases of a program, and what runs each, in a directory of its own."""
+def run_as_nobody(program, room):
+    """Runs all cases of CASES over a program, as nobody where the system lets root become that: the failures, and how many there were.
+    (A program that is started as another user starts ten times as slowly as by who is that user.)"""
+    if os.geteuid() == 0:
+        with contextlib.suppress(OSError):
+            os.setgroups([])
+            os.setgid(NOBODY)
+            os.setuid(NOBODY)
     runner = Runner(program, room)
-    yield from ((f"{command}: {case.name}", runner.run, case) for command, cases in CASES.items() for case in cases)
-    yield from surviving.cases(program, room)
+    return run_cases((f"{command}: {case.name}", runner.run, case) for command, cases in CASES.items() for case in cases)
 
 
 def built_programs():
@@ -84,10 +93,18 @@ def built_programs():
 def run_all(room):
     """Runs the cases of each program, or else of those that were built: the failures, and how many there were."""
     os.chmod(room, 0o711)
+    # (nobody installs nothing)
+    needs.c_compiler(), needs.program("setfacl", "acl")
     failures, count = [], 0
     for program in sys.argv[1:] or built_programs():
-        some, ran = run_cases(cases_of(os.path.abspath(program), tempfile.mkdtemp(dir=room)))
-        failures, count = failures + [f"{os.path.basename(program)}: {failure}" for failure in some], count + ran
+        place = tempfile.mkdtemp(dir=room)
+        copy = shutil.copy(program, os.path.join(place, "program"))
+        if os.geteuid() == 0:
+            os.chown(place, NOBODY, NOBODY)
+        with concurrent.futures.ProcessPoolExecutor(1) as pool:
+            beside = pool.submit(run_as_nobody, copy, place)
+            for some, ran in (run_cases(surviving.cases(program, tempfile.mkdtemp(dir=room))), beside.result()):
+                failures, count = failures + [f"{os.path.basename(program)}: {failure}" for failure in some], count + ran
     return (failures, count) if count else (["the program was not built"], 1)
 
 

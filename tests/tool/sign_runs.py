@@ -95,7 +95,7 @@ ORDER = list(in_order(
           ("a public key", toy.public_text(), TOO_SHORT),
           ("a signature", toy.signature_text(b"abc"), TOO_SHORT),
           ("a key with a space after it", OPEN_KEY.rstrip(b"\n") + b" \n", "error: invalid base64\n"),
-          ("a key with a changed checksum", toy.secret_text(toy.changed(toy.SECRET_RECORD)), "error: Corrupted key\n"),
+          ("a key with a changed checksum", toy.secret_text(toy.turned(toy.SECRET_RECORD)), "error: Corrupted key\n"),
           ("a key with an unknown key derivation", toy.secret_text(toy.KEY_A.record(b"Xx")), "error: Unsupported encryption algorithm\n")]),
     (FILE, [("a directory as data", DIRECTORY, READING_FAILED)])))
 

@@ -11,15 +11,16 @@ import shutil
 import signal
 import subprocess
 import tempfile
-from dataclasses import dataclass, field, replace
+from dataclasses import dataclass
 from functools import partial
 
+import disturbed
 import toy
 from disturbed import OverTasks, content
 from keygen_runs import PK, SK, check_public, check_secret
-from running import AS_NOBODY, DIRECTORY, NOBODY, Link, WithMode, expect, make_files, only_root, write
+from permissions import OTHER_GROUP, OTHER_USER, Replaced, by_nobody, of_other_group, permission_cases
+from running import DIRECTORY, NOBODY, Link, WithMode, expect, make_files, write
 from sign_runs import FILE, OPEN_KEY, SIG, check_signature
-from tool_cases import Leaves, mode_of, names_in
 from verify_runs import LEGACY
 
 WRITING_FAILED = toy.WRITING_FAILED.encode()
@@ -28,77 +29,53 @@ PUBLIC_FRONT, SECRET_FRONT = b"untrusted comment: minisign", b"untrusted comment
 
 
 @dataclass(frozen=True)
-class Task:
-    """A run that replaces files, by what stands in its directory before it, and the mode of that."""
+class Task(disturbed.Task):
+    """A run over files of this mode."""
 
-    name: str
-    arguments: list
-    # What each file that is written has to hold, in the order in which they are replaced.
-    targets: dict
-    files: dict
-    links: dict = field(default_factory=dict)
     mode: int = 0o644
-    before_failing = 0
+    stage = STAGE
 
     def make(self, directory):
-        files = {name: WithMode(data, self.mode) for name, data in self.files.items()}
-        make_files(directory, {"kept": DIRECTORY, **files, **self.links})
+        files = {name: data if isinstance(data, Link) else WithMode(data, self.mode) for name, data in self.files.items()}
+        make_files(directory, {"kept": DIRECTORY, **files})
         return self.arguments
 
-    def check(self, directory, killed=False):
-        """Which of the targets are new. Raises a `Failure` where one is neither the old nor a new one, where anything
-        else was changed, and where a file stands beside them that is none which a killed run may leave."""
-        stages = {name for name in names_in(directory) if killed and os.path.basename(name).startswith(STAGE)}
-        others = {name: data for name, data in self.files.items() if name not in self.targets}
-        Leaves({**others, **self.links}, others={*self.targets, *stages, "kept"})(directory)
-        for name in stages:
-            # It has no more permissions than the files that were there, or than a new file of its kind, whatever it holds by then.
-            mode = mode_of(directory, name)
-            expect(not mode & ~self.permissions_of(directory, name), f"{name} has the mode {mode:o}")
-        return [self.is_new(directory, name, judge) for name, judge in self.targets.items()]
-
-    def permissions_of(self, directory, name):
-        """The most permissions that a file may have which a killed run left. The file of a secret key is made once that of its
-        public key is whole."""
-        if {*self.targets} & {*self.files}:
-            return self.mode
-        held = content(directory, name)
-        stages = [each for each in os.listdir(os.path.join(directory, os.path.dirname(name))) if each.startswith(STAGE)]
-        is_secret = held.startswith(SECRET_FRONT) or (len(stages) == 2 and not held.startswith(PUBLIC_FRONT))
-        return 0o600 if is_secret else 0o644
-
-    def is_new(self, directory, name, judge):
-        held, older = content(directory, name), self.files.get(name)
-        if held == older:
-            return False
-        expect(held is not None, f"{name} is gone")
-        judge(held)
-        expect(older is None or mode_of(directory, name) == self.mode, f"{name} has the mode {mode_of(directory, name):o}")
-        return True
+    def may_have(self, name, mode, data, found):
+        """A file that was there keeps its mode. A stage has no more permissions than that, or than a new file of its kind, whatever it
+        holds by then. The file of a secret key is made once that of its public key is whole."""
+        if not os.path.basename(name).startswith(STAGE):
+            return mode == self.mode or name not in self.files or isinstance(data, Link)
+        stages = [each for each in found if os.path.basename(each).startswith(STAGE)]
+        is_secret = data.startswith(SECRET_FRONT) or (len(stages) == 2 and not data.startswith(PUBLIC_FRONT))
+        return not mode & ~(self.mode if {*self.targets} & {*self.files} else 0o600 if is_secret else 0o644)
 
 
-def is_signature(text):
-    check_signature(b"abc", text)
-
-
+is_signature = partial(check_signature, b"abc")
 KEYGEN, SIGN = ["keygen", PK, SK], ["sign", SK, FILE, SIG]
 PAIR = {PK: check_public, SK: check_secret}
 OLDER_PAIR = {PK: toy.public_text(), SK: toy.sealed_text(b"older")}
 TO_SIGN = {SK: OPEN_KEY, FILE: b"abc"}
 
-REPLACED_PAIR = Task("a pair over an older one", KEYGEN, PAIR, OLDER_PAIR)
-OWNERS_PAIR = Task("a pair over an older one for its owner alone", KEYGEN, PAIR, OLDER_PAIR, mode=0o600)
-REPLACED_SIGNATURE = Task("a signature over an older one", SIGN, {SIG: is_signature}, {**TO_SIGN, SIG: toy.signature_text(b"abc")})
-NEW_SIGNATURE = Task("a new signature", SIGN, {SIG: is_signature}, TO_SIGN)
+REPLACED_PAIR = Task("a pair over an older one for its owner alone", KEYGEN, OLDER_PAIR, PAIR, mode=0o600)
+NEW_SIGNATURE = Task("a new signature", SIGN, TO_SIGN, {SIG: is_signature})
+LINKS = {PK: Link("kept/" + PK), SK: Link("chain"), "chain": Link("./kept/" + SK)}
 TASKS = [
     REPLACED_PAIR,
-    Task("a new pair", KEYGEN, PAIR, {}),
-    Task("a pair through links", KEYGEN, {"kept/" + name: judge for name, judge in PAIR.items()},
-         {"kept/" + name: text for name, text in OLDER_PAIR.items()},
-         {PK: Link("kept/" + PK), SK: Link("chain"), "chain": Link("./kept/" + SK)}, mode=0o604),
-    REPLACED_SIGNATURE,
+    Task("a new pair", KEYGEN, {}, PAIR),
+    Task("a pair through links", KEYGEN, {**LINKS, **{"kept/" + name: text for name, text in OLDER_PAIR.items()}},
+         {"kept/" + name: judge for name, judge in PAIR.items()}, mode=0o604),
+    Task("a signature over an older one", SIGN, {**TO_SIGN, SIG: toy.signature_text(b"abc")}, {SIG: is_signature}),
     NEW_SIGNATURE,
-    Task("a signature through a link that leads nowhere", SIGN, {"kept/" + SIG: is_signature}, TO_SIGN, {SIG: Link("kept/" + SIG)}),
+    Task("a signature through a link that leads nowhere", SIGN, {**TO_SIGN, SIG: Link("kept/" + SIG)}, {"kept/" + SIG: is_signature}),
+]
+# Files of others, and what their permissions become.
+OWNERS = [
+    ("another's, which root replaces", Replaced(0o644, 0o644, whose=(OTHER_USER, OTHER_GROUP))),
+    ("nobody's own", by_nobody(0o664, 0o644)),
+    ("of another group", of_other_group(0o664, 0o604)),
+    ("of another group that may not do what all others may", of_other_group(0o606, 0o600)),
+    ("of another owner", by_nobody(0o664, 0o644, whose=(OTHER_USER, NOBODY))),
+    ("of another owner and group", by_nobody(0o666, 0o606, whose=(OTHER_USER, OTHER_GROUP))),
 ]
 
 
@@ -117,11 +94,6 @@ class Surviving(OverTasks):
     def expect_unwritten(self, ran, _):
         expect(ran.status == 1 and ran.said.endswith(WRITING_FAILED), ran)
 
-    def does(self, task, directory, arguments=None, **how):
-        """A run that does its task."""
-        ran = self.run(directory, arguments or task.arguments, **how)
-        expect(ran.status == 0 and all(task.check(directory)), ran)
-
     def failing(self, task, calls, endings, number=errno.EIO):
         """A run in which each of these calls fails in turn. `endings` answers of the call of a number with which exit statuses and how many
         new files the run may end then; where it may end in one way alone, a failed write is told."""
@@ -134,19 +106,6 @@ class Surviving(OverTasks):
 
         came = self.break_each(task.make, judge, CALLS=calls, ERRNO=number)
         expect(came or len(endings(1)) > 1, "it made no such call")
-
-    def keeps_owner(self, task, directory, user, owner, group, mode, *left):
-        """A run over files that may be written, of this owner, group and mode, as root or as nobody, which leaves files of this owner and
-        group."""
-        only_root("give a file away and become nobody")
-        os.chown(directory, NOBODY, NOBODY)
-        for name in (PK, SK):
-            os.chown(os.path.join(directory, name), owner, group)
-            os.chmod(os.path.join(directory, name), mode)
-        self.does(task, directory, **user)
-        for name in (PK, SK):
-            found = os.stat(os.path.join(directory, name))
-            expect((found.st_uid, found.st_gid) == left, f"{name} belongs to {found.st_uid} and {found.st_gid}")
 
     def taken_names(self, task, directory, count):
         """A run that draws the same number each time, in a directory in which so many names from that one on are taken."""
@@ -163,7 +122,8 @@ class Surviving(OverTasks):
         """A program whose path is no UTF-8."""
         odd = os.path.join(os.fsencode(self.room), b"tool\xff")
         shutil.copy(self.program, odd)
-        self.does(task, directory, [*map(os.fsencode, task.arguments)], program=odd)
+        ran = self.run(directory, [*map(os.fsencode, task.arguments)], program=odd)
+        expect(ran.status == 0 and all(task.check(directory)), ran)
 
     def legacy_within(self, command, mebibytes=2):
         """A legacy signature over 1 GiB is rejected within so many MiB more than a prehashed one over nothing takes."""
@@ -212,20 +172,18 @@ def of_task(surviving, task):
 
 def cases(program, room):
     """The names of all cases, and what makes each."""
+    os.chmod(room, 0o711)
     surviving = Surviving(shutil.copy(program, room), room)
     for task in TASKS:
         for name, run, *given in of_task(surviving, task):
             yield f"{task.name}, {name}", run, task, *given
-    yield f"{OWNERS_PAIR.name}, killed", surviving.killed, OWNERS_PAIR
-    for name, mode, *row in [
-        ("another's, which root replaces", 0o644, {}, 12345, 54321, 0o644, 12345, 54321),
-        ("its own", 0o644, AS_NOBODY, NOBODY, NOBODY, 0o664, NOBODY, NOBODY),
-        ("of another group", 0o604, AS_NOBODY, NOBODY, 54321, 0o664, NOBODY, NOBODY),
-        ("of another group that may not do what all others may", 0o600, AS_NOBODY, NOBODY, 54321, 0o606, NOBODY, NOBODY),
-        ("of another owner", 0o644, AS_NOBODY, 12345, NOBODY, 0o664, NOBODY, NOBODY),
-        ("of another owner and group", 0o606, AS_NOBODY, 12345, 54321, 0o666, NOBODY, NOBODY),
-    ]:
-        yield f"files that are {name}", surviving.in_fresh, surviving.keeps_owner, replace(REPLACED_PAIR, mode=mode), *row
+    for replaced in OLDER_PAIR:
+        def prepare(directory, name=replaced):
+            REPLACED_PAIR.make(directory)
+            return os.path.join(directory, name)
+
+        for name, *row in permission_cases(surviving, prepare, lambda _: KEYGEN, OWNERS):
+            yield f"{replaced}: {name}", *row
     for count in (1, 40, 200):
         yield f"{count} names that are taken", surviving.in_fresh, surviving.taken_names, REPLACED_PAIR, count
     yield "runs at once", surviving.at_once, NEW_SIGNATURE

@@ -3,11 +3,10 @@ is wrong."""
 
 import itertools
 import os
-import stat
 from dataclasses import replace
 
 import toy
-from running import (CLOSED, DIRECTORY, FULL, LOCKED, MISSING, NO_READER, OPENED_PIPE, UNOPENED_PIPE, Case, Link, expect, read,
+from running import (CLOSED, DIRECTORY, FULL, LOCKED, MISSING, NO_READER, OPENED_PIPE, UNOPENED_PIPE, Case, expect, files_in,
                      unreadable)
 from toy import READING_FAILED, WARNING
 
@@ -56,44 +55,24 @@ def refusing(lines, *rows, **how):
 
 class Leaves:
     """Looks at the directory that a run leaves. Each file has these bytes, or what judges them, or is such a link, or an empty directory,
-    and some have these modes; nothing else is there, but files that may be anything. A last judge gets the directory."""
+    and some have these modes; nothing else is there, but files that may be anything. A last judge gets all that `files_in` found."""
 
     def __init__(self, files, modes=None, others=(), judge=None):
         self.files, self.modes, self.others, self.judge = files, modes or {}, {*others}, judge
 
     def __call__(self, directory):
-        names = names_in(directory)
+        found = files_in(directory)
+        # (a directory in which something stands is named by that)
+        names = {*found} - {os.path.dirname(name) for name in found}
         expect(names >= {*self.files} - self.others and names <= {*self.files} | self.others,
                f"it left {sorted(names)} in place of {sorted(self.files)}")
         for name, mode in self.modes.items():
-            found = mode_of(directory, name)
-            expect(found == mode, f"{name} has the mode {found:o} in place of {mode:o}")
+            expect(found[name][0] == mode, f"{name} has the mode {found[name][0]:o} in place of {mode:o}")
         for name, wanted in self.files.items():
-            path = os.path.join(directory, name)
-            if isinstance(wanted, Link):
-                expect(os.path.islink(path) and os.readlink(path) == wanted.target, f"the link {name} is gone")
-            elif callable(wanted):
-                wanted(held_by(directory, name))
+            held = found[name][1]
+            if callable(wanted):
+                wanted(held)
             elif wanted not in (DIRECTORY, LOCKED):
-                held = held_by(directory, name)
-                expect(held == wanted, f"{name} holds {held[:200]} in place of {wanted[:200]}")
+                expect(held == wanted, f"{name} holds {held!r:.200} in place of {wanted!r:.200}")
         if self.judge:
-            self.judge(directory)
-
-
-def names_in(directory):
-    """The names of all files and links in a directory, and of all directories in it that are empty."""
-    return {os.path.relpath(os.path.join(at, name), directory) for at, below, names in os.walk(directory)
-            for name in (names if names or below or at == directory else ["."])}
-
-
-def mode_of(directory, name):
-    return stat.S_IMODE(os.stat(os.path.join(directory, name)).st_mode)
-
-
-def held_by(directory, name):
-    """What a file holds, whatever its mode."""
-    path = os.path.join(directory, name)
-    if not os.access(path, os.R_OK):
-        os.chmod(path, 0o600)
-    return read(path)
+            self.judge(found)

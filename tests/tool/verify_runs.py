@@ -65,9 +65,9 @@ VERDICTS = [
     ("no data", {FILE: b""}, REJECTED),
     ("more data", {FILE: b"abc\n"}, REJECTED),
     ("a letter more", {FILE: b"abcd"}, REJECTED),
-    ("a changed signature", signed(record=toy.changed(RECORD)), REJECTED),
+    ("a changed signature", signed(record=toy.turned(RECORD)), REJECTED),
     ("a changed trusted comment", {SIG: GOOD[SIG].replace(b"comment: t\n", b"comment: u\n")}, COMMENT_REJECTED),
-    ("a changed comment signature", signed(comment_signature=toy.changed(COMMENT)), COMMENT_REJECTED),
+    ("a changed comment signature", signed(comment_signature=toy.turned(COMMENT)), COMMENT_REJECTED),
     ("a short comment signature", signed(comment_signature=COMMENT[:63]), COMMENT_REJECTED),
     ("a longer comment signature", signed(comment_signature=COMMENT + b"\xff"), VERIFIED),
     ("another untrusted comment", signed(untrusted=b"u"), VERIFIED),
@@ -151,7 +151,7 @@ def holding(name, data):
 APPEND = os.O_WRONLY | os.O_APPEND
 # Data that another process changes.
 LONG = toy.some_data(2_000_000)
-CHANGED = toy.changed(LONG)
+CHANGED = toy.turned(LONG)
 
 
 def write_at(path, at, data):
@@ -255,7 +255,7 @@ RAW = [
         (FILE, [("a directory as data", DIRECTORY, READING_FAILED)]),
         (PK, [("another identifier", toy.OTHER_RECORD, OTHER_KEYNUM)]),
         (SIG, [("a signature that only says it is of the data itself", SAYS_LEGACY, LEGACY),
-               ("a changed signature", toy.changed(SIGNATURE), REJECTED)])),
+               ("a changed signature", toy.turned(SIGNATURE), REJECTED)])),
     # Each read fails in turn, also the one that finds the end: of the key, of the signature and of data that comes byte by byte. That comes
     # before any verdict, and with a short key before the bytes of the two files are tested.
     *(verify_raw(f"{name}, and a read fails", READING_FAILED, files={PK: key, FILE: BY_BYTES}, breaking="read")
