@@ -331,7 +331,7 @@ def check_edit(report, shown):
     edit = WrongBody(shown.split("/")[1], shown)
     file = f"crates/{edit.crate}/{edit.path}"
     if report.check(edit.why_not or os.path.isfile(os.path.join(ROOT, file)), shown, f"no file {file}") and not edit.why_not:
-        edit.places(read(file))
+        edit.places()
     report.check(not edit.why_not, shown, edit.why_not)
 
 
