@@ -99,18 +99,18 @@ class WrongBody:
             self.why_not = "it is no file .edit with first a line `why:`, one line `fn:`, `file:`, and `old:` and `new:`"
         if self.by and f"rejected by {self.by}" not in (GAVE_UP, APART):
             self.why_not = "nothing is rejected by what its line `by:` names"
+        if not self.why_not and not os.path.isfile(f"{ROOT}/crates/{crate}/{self.path}"):
+            self.why_not = f"its crate has no file {self.path}"
+        # Where in the text of its file each change begins and ends, with the new text.
+        self.places = [] if self.why_not else self.find_places(read_source(f"crates/{crate}/{self.path}"))
 
-    def source(self):
-        """The file of its function."""
-        return read_source(f"crates/{self.crate}/{self.path}")
-
-    def places(self):
-        """Returns where in the text of its file each change begins and ends, with the new text."""
-        found, left = [], self.source().text
+    def find_places(self, source):
+        """Returns the places of the changes, and takes the function that they stand in."""
+        found, left = [], source.text
         for old, new in self.changes:
             at, times = left.find(old), left.count(old)
             left = left.replace(old, "\0" * len(old))
-            function = next((item for item in functions_in(self.source()) if item.body < at < item.end), None)
+            function = next((item for item in functions_in(source) if item.body < at < item.end), None)
             ensured = [clause.name for clause in function.clauses if clause.kind == "ensures"] if function else []
             if times != 1:
                 self.why_not = f"its old text stands in {self.path} {times} times, and not once"
@@ -130,16 +130,15 @@ class WrongBody:
         """The function that is checked: the copy, or the function."""
         return self.function + self.suffix if self.copied else self.function
 
-    def pieces(self):
+    def pieces(self, text):
         """Returns what has to stand in place of what in the text of its file: a copy after the function, or the changes."""
-        changes, function = self.places(), self.copied
+        function = self.copied
         if not function:
-            return changes
-        changes.append((function.named, function.named, self.suffix))
-        changes += [(clause.begin, clause.end, "") for clause in function.clauses
-                    if self.clause and clause.kind == "ensures" and clause.name != self.clause]
-        text = self.source().text[:function.end]
-        return [(function.end, function.end, "\n\n" + replaced(text, changes)[function.begin:])]
+            return self.places
+        others = [(clause.begin, clause.end, "") for clause in function.clauses
+                  if self.clause and clause.kind == "ensures" and clause.name != self.clause]
+        copy = replaced(text[:function.end], [*self.places, (function.named, function.named, self.suffix), *others])
+        return [(function.end, function.end, "\n\n" + copy[function.begin:])]
 
     def copy_proof(self, directory):
         """Copies the written proof of its function, where it has one and is copied, in a crate's directory."""
@@ -249,8 +248,6 @@ class Trial:
     def begin(self, bodies, pool):
         """Has the crate proved as it stands, and begins to try the groups: what there is to say already, and the works that say
         the rest."""
-        for body in (body for body in bodies if not body.why_not):
-            body.places()
         whole = [body for body in bodies if not body.why_not]
         why = proved.supply(proved.crates()[self.crate].below) or self.lacks_proof(whole)
         said = [Verdict(body, FAILED, f"bad edit: {body.why_not}" if body.why_not else f"not tried: {why}")
@@ -277,7 +274,7 @@ class Trial:
             shutil.copytree(f"crates/{self.crate}/{part}", f"{directory}/{part}")
         for path in [os.path.relpath(file, directory) for file in files_below(f"{directory}/src")]:
             source = read_source(f"crates/{self.crate}/{path}")
-            pieces = [piece for body in group if body.path == path for piece in body.pieces()]
+            pieces = [piece for body in group if body.path == path for piece in body.pieces(source.text)]
             in_place = [begin for begin, end, _ in pieces if begin < end]
             write(directory, path, replaced(source.text, [*pieces, *loops(source, in_place)]).encode())
 
