@@ -97,7 +97,7 @@ def page_run(browser, pk, data, sig):
     before = processor_times(browser)
     with Watch(browser) as watch:
         begun = time.perf_counter()
-        browser.send("files", f"{data}\n{sig}")
+        browser.send("files", data, sig)
         verdict = browser.run(VERDICT)
         seconds = time.perf_counter() - begun
     if verdict != "good":

@@ -74,8 +74,8 @@ def files_below(directory, ending=""):
 
 
 # A `requires` or an `ensures`; the name is empty where it has none. With what stands in its braces, the whole as it stands, the
-# comment right above it, and whether a blank line stands above both.
-Clause = namedtuple("Clause", "kind name text whole comment is_apart")
+# comment right above it, whether a blank line stands above both, and where it begins and ends in the file.
+Clause = namedtuple("Clause", "kind name text whole comment is_apart begin end")
 # A `.rt` file: its items, nested ones too, and what its ghost code imports: by the name in the file the module, and the name there,
 # which is empty for a whole module.
 Source = namedtuple("Source", "file text items imports")
@@ -95,6 +95,11 @@ class Item:
     # The comment and the attributes above it, and all from there to its end.
     comment: str
     text: str = ""
+    # Where the comment begins in the file, its name ends, its body begins, if it is a function with one, and it ends.
+    begin: int = 0
+    named: int = 0
+    body: int = 0
+    end: int = 0
     # The name of the type, or of the trait, whose item it is, the trait that is implemented, and the header of the block.
     owner: str = ""
     trait: str = ""
@@ -204,7 +209,8 @@ class Reader:
         if word == "impl":
             item.trait, item.owner = trait_and_type(item.header)
             item.name = f"{item.trait} for {item.owner}"
-        item.text = self.lines(begin - len(comment.lstrip()), end)
+        item.begin, item.named, item.end = begin - len(comment.lstrip()), name.end() if name else begin, end
+        item.text = self.lines(item.begin, end)
         self.source.items.append(item)
         if word in ("impl", "trait", "mod") and has_body:
             blocks.append((end, item))
@@ -217,9 +223,10 @@ class Reader:
             above = self.above(ABOVE, begin)
             comment = (above["comment"].strip(), bool(above["blank"])) if above else ("", False)
             text, whole = self.text[found.end() + 1:at - 1].strip(), self.lines(begin, at)
-            item.clauses.append(Clause(found["kind"], found["name"], text, whole, *comment))
+            item.clauses.append(Clause(found["kind"], found["name"], text, whole, *comment, begin, at))
         at = re.compile(r"\s*").match(self.bare, at).end()
-        return self.closed[at] if self.bare.startswith("{", at) else at + 1
+        item.body = at if self.bare.startswith("{", at) else 0
+        return self.closed[at] if item.body else at + 1
 
 
 @functools.lru_cache(maxsize=None)

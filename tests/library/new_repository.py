@@ -5,9 +5,9 @@
 
 README.md or docs/GUIDE.md has the lines of crates.txt and the example, each in a block of its own. The libraries are
 those of this repository as they stand proved (tests/shared/proved.py). The caller's crate lists what the lines say
-and no more, and has the example, with the imports, the definition and the proof of `minisign_examples`. The caller in
-the CALLING.md of a library is the whole source of a crate, over that library and those that it names. The last line
-is `N passed, M failed`.
+and no more, and has the example, with the imports, the definition and the proof of `minisign_examples`. The callers in
+the CALLING.md of the libraries are modules of one more crate, over the libraries that they name: each start of the
+prover reads these anew. The last line is `N passed, M failed`.
 
 Needs Python 3.9 or later and the kit.
 """
@@ -31,6 +31,8 @@ EXAMPLES = "minisign_examples"
 MODULE = "updating"
 PARTS = (f"src/{MODULE}.rt", "specs/Updating.antt", f"proofs/{MODULE}", "proofs/Refusals.antt")
 CALLER = "your_crate"
+# The page of a library that shows a caller, and how the source of that begins.
+PAGE, TACTIC = "crates/{}/CALLING.md", "#![tactic(auto)]\n"
 
 
 def block_with(line):
@@ -49,7 +51,7 @@ def fill(directory):
         came, goes = os.path.join(proved.ROOT, "crates", EXAMPLES, part), os.path.join(directory, part)
         os.makedirs(os.path.dirname(goes), exist_ok=True)
         (shutil.copytree if os.path.isdir(came) else shutil.copyfile)(came, goes)
-    write(directory, "src/lib.rt", f"//! An updater.\n\n#![tactic(auto)]\n\npub mod {MODULE};\n".encode())
+    write(directory, "src/lib.rt", f"//! An updater.\n\n{TACTIC}\npub mod {MODULE};\n".encode())
     write(directory, "specs/Lib.antt", b"pub mod Updating\n")
     write(directory, "proofs/Lib.antt", b"mod Refusals\n")
     for path in files_below(directory):
@@ -79,21 +81,28 @@ def check_documents(directory):
     prove(directory, crate, f"{MODULE}::check_update")
 
 
-def check_page(directory, page):
-    """Proves the caller that a page shows."""
-    blocks = re.findall(r"(?ms)^```rust\n(.*?)^```$", read(page))
-    expect(len(blocks) == 1, f"{page} has {len(blocks)} blocks of Rattle, and not one")
-    own = page.split("/")[1]
-    named = [crate for crate in proved.crates() if crate == own or re.search(rf"\b{crate}(?:::|\.)", blocks[0])]
+def caller_of(library):
+    """The source of the caller that the page of a library shows, without how that begins."""
+    blocks = re.findall(r"(?ms)^```rust\n(.*?)^```$", read(PAGE.format(library)))
+    expect(len(blocks) == 1 and blocks[0].startswith(TACTIC), f"{PAGE.format(library)} has not one block, of a whole crate: {blocks}")
+    return blocks[0].removeprefix(TACTIC)
+
+
+def check_pages(directory, libraries):
+    """Proves the callers that pages show, each as a module of one crate over the libraries that they name."""
+    callers = {f"of_{library}": caller_of(library) for library in libraries}
+    text, modules = "".join(callers.values()), "".join(f"pub mod {name};\n" for name in callers)
+    named = [crate for crate in proved.crates() if crate in libraries or re.search(rf"\b{crate}(?:::|\.)", text)]
     os.makedirs(f"{directory}/src")
-    write(directory, "src/lib.rt", f"//! A caller.\n\n{blocks[0]}".encode())
-    prove(directory, proved.Crate(f"{CALLER}: {' '.join(named)}", proved.crates()), *re.findall(r"\bfn (\w+)", blocks[0]))
+    for name, source in {"lib": f"{TACTIC}\n{modules}", **callers}.items():
+        write(directory, f"src/{name}.rt", f"//! Callers.\n\n{source}".encode())
+    functions = [f"{name}::{function}" for name, caller in callers.items() for function in re.findall(r"\bfn (\w+)", caller)]
+    prove(directory, proved.Crate(f"{CALLER}: {' '.join(named)}", proved.crates()), *functions)
 
 
 def run_all(room):
-    pages = [page for crate in proved.crates() for page in [f"crates/{crate}/CALLING.md"] if os.path.exists(f"{proved.ROOT}/{page}")]
-    return run_cases([("the documents", check_documents, f"{room}/documents"),
-                      *((page, check_page, f"{room}/{number}", page) for number, page in enumerate(pages))])
+    libraries = [crate for crate in proved.crates() if os.path.exists(os.path.join(proved.ROOT, PAGE.format(crate)))]
+    return run_cases([("the documents", check_documents, f"{room}/documents"), ("the pages", check_pages, f"{room}/pages", libraries)])
 
 
 if __name__ == "__main__":

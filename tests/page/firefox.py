@@ -47,16 +47,23 @@ class Firefox(Person):
         return json.loads(self.answers.read(int(length)))
 
     def order(self, name, **arguments):
-        """Has the browser do something, and answers what that gives. (A script runs among the page's own.)"""
+        """Has the browser do something, and answers what that gives."""
         self.count += 1
-        own = {"sandbox": None} if name.startswith("Execute") else {}
         name = name if ":" in name else f"WebDriver:{name}"
-        message = json.dumps([0, self.count, name, {**arguments, **own}]).encode()
+        message = json.dumps([0, self.count, name, arguments]).encode()
         self.socket.sendall(str(len(message)).encode() + b":" + message)
         _, _, error, result = self.read()
         if error:
             raise RuntimeError(f"{name}: {error.get('error')}: {error.get('message')}")
         return result["value"] if isinstance(result, dict) and list(result) == ["value"] else result
+
+    def run(self, script, *arguments):
+        # (among the page's own scripts)
+        return self.order("ExecuteScript", script=script, args=arguments, sandbox=None)
+
+    def send(self, name, *paths):
+        found = self.order("FindElement", using="css selector", value=f"#{name}")
+        self.order("ElementSendKeys", id=next(iter(found.values())), text="\n".join(map(os.path.realpath, paths)))
 
     def see_in_window(self, what, *arguments):
         """What a function of in_page.js answers in the browser's own window, around the page."""
@@ -78,10 +85,8 @@ class Firefox(Person):
     def drop(self, place, *paths):
         # (an event with files that another place was given)
         self.see("addPlace", "dropped")
-        self.send("dropped", "\n".join(map(os.path.realpath, paths)))
-        self.see("dropFrom", place, "dropped")
-        self.taken()
+        self.send("dropped", *paths)
+        self.act("dropFrom", place, "dropped")
 
     def drop_text(self, place, text):
-        self.see("dropText", place, text)
-        self.taken()
+        self.act("dropText", place, text)

@@ -1,4 +1,6 @@
 // What keeps Firefox from asking for anything from outside, and from showing anything but the page. (`page.test`: ELSEWHERE of person.py)
+// Nobody looks: eight pictures a second do.
+user_pref("layout.frame_rate", 8);
 user_pref("marionette.port", 0);
 user_pref("browser.shell.checkDefaultBrowser", false);
 user_pref("datareporting.policy.dataSubmissionEnabled", false);

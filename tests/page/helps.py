@@ -119,11 +119,12 @@ def check_dragged(person):
 def check_pasted(person):
     """The text of a signature can be pasted, before the file and after it, and again; what is none is told."""
     path, (sig, other) = person.put("update.zip", b"data"), (person.sign(data, trusted="t").decode() for data in (b"data", b"x"))
+    person.open()
     for what, texts, wanted in (("as it is", [sig], 0), ("with blanks", [sig.replace("\n", "\n    ")], 0),
                                 ("with empty lines", ["\n" + sig.replace("\n", "\n\n\u00a0 ")], 0), ("without its end", [sig.rstrip()], 0),
                                 ("of other data", [other], 31), ("again", [other, sig], 0)):
         for is_file_first in (True, False):
-            person.begin(person.first.line, *[path] * is_file_first)
+            person.begin(person.first.line, *[path] * is_file_first, anew=False)
             for text in texts:
                 person.type_text("signature-text", text)
             if not is_file_first:
@@ -136,7 +137,7 @@ def check_pasted(person):
     person.expect_each("number", {"update.zip": 0, "one": 0, "two": 0}, "two files with pasted signatures")
     for text, words in ((person.first.line, "is a public key, and not a signature"), ("signature", "is not the text of a signature"),
                         (person.minisign.read("first.key").decode(), "is a secret key"), (PGP_SIGNATURE, "of PGP")):
-        person.open()
+        person.begin(anew=False)
         person.type_text("signature-text", text)
         person.says("files-said", "no signature that is pasted", words)
         person.same(person.rows(), [], f"{words}: the rows")

@@ -51,6 +51,28 @@ function isTaken() {
   return !(Number(document.documentElement.dataset.pending) > 0);
 }
 
+// Whether the page of this address, after `?`, can be used, or has said that it cannot. (While it is loaded it has no element for a
+// moment.)
+function isReady(search = location.search) {
+  return location.search === search && document.documentElement?.dataset.ready !== undefined && isTaken();
+}
+
+// Whether it has said what it thinks of a key.
+function isKeySaid() {
+  return isTaken() && document.getElementById("key-said").innerText !== "";
+}
+
+function click(name) {
+  document.getElementById(name).click();
+}
+
+// Leaves nothing in the fields and in the list.
+function empty() {
+  typeText("key-text", "");
+  typeText("signature-text", "");
+  click("clear");
+}
+
 // How far the page is, where something that a person did is still taken in, or a row is being verified or waits for others; else
 // true.
 function work() {

@@ -23,11 +23,11 @@ def check_keys(person):
     harmful = under_identifier(good, person.sign(b"harmful", key="second", trusted="t"))
     data, sig = person.pair("update.zip", b"harmful", harmful)
     theirs, my_key = (data, sig, person.put("minisign.pub", foreign, data)), person.put("my.pub", own.text)
-
+    person.open()
     for how, give, given, told in (("typed", person.type_key, own.line, "pasted or typed"),
                                    ("chosen", person.choose_key, my_key, "chose as the file my.pub")):
         what = f"a key that was {how}"
-        person.open()
+        person.begin(anew=False)
         give(given)
         person.drop("downloads", *theirs)
         person.only(f"{what}, and another among the files", number=31, cautions=[])
@@ -38,14 +38,14 @@ def check_keys(person):
         person.same(person.text_of("files-said"), "", f"{what}: what is said of new files")
 
     # With several files that come together it is taken, and with several keys none is.
-    person.open()
+    person.begin(anew=False)
     person.drop("downloads", *person.signed("a", b"a", trusted="of a"), *person.signed("d.pub", b"d", trusted="of d"), person.put("c", b"c"), my_key)
     person.expect_each("verdict comment", {"a": ("unchecked", "of a"), "d.pub": ("unchecked", "of d"), "c": ("waiting", None)},
                        "several files and the key")
 
     # No key is there: it is taken, and each verdict says whose it may be before anything else.
     what = "a key with the files"
-    person.open()
+    person.begin(anew=False)
     person.drop("downloads", *theirs)
     person.only(what, verdict="unchecked", has=[WITH_FILES, "came with the files as minisign.pub"])
     person.uses(Key(foreign, lines(foreign)[1].decode()), what)
@@ -72,10 +72,11 @@ def check_field(person):
     """What stands in the key's field stays, and while it does no key is taken that came with the files, which is said."""
     own, paths = person.first, person.signed("update.zip", b"update", trusted="t")
     keys = [person.put(name, own.text) for name in ("minisign.pub", "other.pub")]
+    person.open()
     for text in ("no key", "RWQ", "minisign -Vm update.zip", ".", own.line[:-1]):
         for given in (keys[:1], keys):
             what = f"{text!r} in the key's field, and {len(given)} keys among the files"
-            person.begin(text)
+            person.begin(text, anew=False)
             said = person.text_of("key-said")
             person.drop("downloads", *paths, *given)
             person.only(what, verdict="waiting", number=None)
@@ -113,7 +114,7 @@ def check_links(person):
     person.only(f"before {what}", number=0)
     person.run("document.documentElement.dataset.older = 'yes'; location.hash = arguments[0]", second)
     person.wait(lambda: person.run("return document.documentElement?.dataset.older === undefined"))
-    person.wait_ready()
+    person.wait(lambda: person.see("isReady"))
     person.expect_each("verdict", {}, what)
     person.says("key-said", what, "which the link to this page had")
     person.uses(person.second, what)

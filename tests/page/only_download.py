@@ -96,12 +96,14 @@ def check_asked(person, release):
 def check_names(person, release):
     """The signature is the one of the file's name, whatever of that is small; a file of another name is tried with each, and told."""
     zipped, tarred = release.files[ZIP], release.files[TAR]
+    person.open(release.own)
     for name, data, number, is_mild, other in (
             (TAR, tarred, 0, False, ""), ("app-1.0 (1).zip", zipped, 0, True, ""), ("APP-1.0.ZIP", zipped, 0, True, ""),
             ("new.pub", None, 0, False, ""), (ZIP, tarred, 31, False, ""), ("APP-1.0.ZIP", tarred, 31, False, ""),
             ("download", tarred, 0, False, TAR), ("app-0.9.zip", zipped, 0, False, ZIP), ("download", b"x", None, False, "")):
         what = f"{name} alone, number {number}"
-        row = release.drop(name, data, what, release.own, verdict="good" if number == 0 else "bad", number=number,
+        person.click("clear")
+        row = release.drop(name, data, what, verdict="good" if number == 0 else "bad", number=number,
                            has=["none of those that the signatures here are of. Do not use the file."] if number is None else [])
         told = "The signer's name of this file is "
         person.expect(row, what, **{"has": [told]} if is_mild or other else {"lacks": [told]})

@@ -19,7 +19,7 @@ import time
 import traceback
 
 HERE = os.path.dirname(os.path.realpath(__file__))
-sys.path += [os.path.join(HERE, "..", directory) for directory in ("shared", "verdicts", os.path.join("..", "page"))]
+sys.path += [os.path.join(HERE, "..", directory) for directory in ("shared", "verdicts", "bindings", os.path.join("..", "page"))]
 
 import build
 import ending

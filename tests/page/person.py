@@ -3,6 +3,7 @@ A subclass drives a browser without a window: `Chromium` of browser.py, or `Fire
 """
 
 import contextlib
+import itertools
 import operator
 import os
 import signal
@@ -74,9 +75,10 @@ def told(number, name):
 
 class Person:
     """What is the same in each browser. A subclass has `begin_session`, which answers None while nothing listens, and `end_session`;
-    `order`, which sends a command of the standard for drivers; `drop` and `drop_text`, of files together or a text on a part of the
-    page; `resize`, which gives the page so much room, or all of the window; `force_colours`, of the system on the page; and what the
-    command of a process has that shows a page."""
+    `order`, which sends a command of the standard for drivers; `run`, which answers what a script does, or, where that is a promise,
+    what it comes to; `send`, which chooses files in the field of this name; `drop` and `drop_text`, of files together or a text on a
+    part of the page; `resize`, which gives the page so much room, or all of the window; `force_colours`, of the system on the page;
+    and what the command of a process has that shows a page."""
 
     # Whether the browser is Chromium, whose own protocol shows and changes what a page cannot.
     is_chromium = False
@@ -85,6 +87,7 @@ class Person:
 
     def __init__(self, command, **environment):
         """Begins a browser or its driver, in a group of processes of its own, and a session once it listens."""
+        self.opened = itertools.count()
         self.process = subprocess.Popen(command, stdin=subprocess.DEVNULL, stdout=subprocess.DEVNULL, stderr=subprocess.DEVNULL,
                                         start_new_session=True, env=dict(os.environ, **environment))
         end = time.monotonic() + SECONDS
@@ -136,25 +139,18 @@ class Person:
         return self.pair(name, data, self.sign(data, **how))
 
     def sparse(self, name, length, *flags):
-        """Writes a file of so many zeros, and a signature of it; their paths."""
-        path = self.put(name, b"")
-        os.truncate(path, length)
-        self.minisign.run("-S", "-s", "first.key", "-m", path, "-x", f"{path}.minisig", "-t", f"{length} bytes", *flags)
+        """Writes a file of so many zeros, and a signature of it, once for both browsers; their paths."""
+        path = os.path.join(self.room, "sparse", name)
+        if not os.path.exists(path):
+            os.makedirs(os.path.dirname(path), exist_ok=True)
+            os.truncate(self.put(name, b"", path), length)
+            self.minisign.run("-S", "-s", "first.key", "-m", path, "-x", f"{path}.minisig", "-t", f"{length} bytes", *flags)
         return path, f"{path}.minisig"
 
     # How it is driven.
 
-    def run(self, script, *arguments):
-        """What a script answers, or, where that is a promise, what it comes to."""
-        return self.order("ExecuteScript", script=script, args=arguments)
-
     def go(self, address):
         self.order("Navigate", url=address)
-
-    def send(self, name, text):
-        """Types into the element of this name, or chooses files there."""
-        found = self.order("FindElement", using="css selector", value=f"#{name}")
-        self.order("ElementSendKeys", id=next(iter(found.values())), text=text)
 
     def press(self, keys, held=""):
         """Presses keys, one after another, wherever the focus is, while others are held."""
@@ -168,16 +164,11 @@ class Person:
 
     def open(self, address=None):
         """Opens the page anew, and waits until it can be used or says that it cannot."""
-        if "#" in (address or ""):
-            # (another part after # alone loads nothing)
-            self.go("about:blank")
-        self.go(address or self.address)
-        self.wait_ready()
-
-    def wait_ready(self):
-        # (a page that is loaded anew has no element for a moment)
-        self.wait(lambda: self.run("return document.documentElement?.dataset.ready !== undefined"))
-        self.taken()
+        address = address or self.address
+        # (another part after # alone loads nothing; and where that part stays a driver does not wait for the page)
+        search = f"?{next(self.opened)}" if "#" in address else ""
+        self.go(address.replace("#", f"{search}#"))
+        self.wait(lambda: self.see("isReady", search))
 
     def wait(self, look, seconds=SECONDS, pause=0.02):
         """Waits until a look at the page answers True: for so many seconds after it last answered something else than before."""
@@ -190,6 +181,11 @@ class Person:
                 raise TimeoutError(f"the page stands still for {seconds} s at {now!r:.300}: {shown[:300]}")
             time.sleep(pause)
 
+    def act(self, what, *arguments):
+        """Has a function of in_page.js do something, and waits until the page has taken it in."""
+        if self.run(f"{IN_PAGE}{what}(...arguments); return until(isTaken);", *arguments) is not True:
+            self.taken()
+
     def taken(self):
         """Waits until the page has taken in what a person did."""
         self.wait_seen("isTaken")
@@ -198,9 +194,13 @@ class Person:
         """Waits until a function of in_page.js answers true, as long as that answers something else than before."""
         self.wait(lambda: self.run(f"{IN_PAGE}return until({what});"), pause=0)
 
-    def begin(self, key, *paths, address=None):
-        """Opens the page anew, pastes this text as the key, if it is one, and chooses files together."""
-        self.open(address)
+    def begin(self, key="", *paths, address=None, anew=True):
+        """Opens the page anew, or empties the one that is open, which takes a tenth of the time; pastes this text as the key, if it is
+        one, and chooses files together."""
+        if anew:
+            self.open(address)
+        else:
+            self.act("empty")
         if key:
             self.type_key(key)
         if paths:
@@ -208,24 +208,21 @@ class Person:
 
     def type_text(self, name, text):
         """Has the field of this name hold this text, as if it were pasted."""
-        self.see("typeText", name, text)
-        self.taken()
+        self.act("typeText", name, text)
 
     def type_key(self, text):
         self.type_text("key-text", text)
 
     def choose_key(self, path):
-        self.send("key-file", os.path.realpath(path))
-        self.taken()
-        self.wait(lambda: self.text_of("key-said") != "")
+        self.send("key-file", path)
+        self.wait_seen("isKeySaid")
 
     def choose(self, *paths):
-        self.send("files", "\n".join(map(os.path.realpath, paths)))
+        self.send("files", *paths)
         self.taken()
 
     def click(self, name):
-        self.run("document.getElementById(arguments[0]).click()", name)
-        self.taken()
+        self.act("click", name)
 
     def tab(self, held=""):
         """Moves the focus on by the keyboard: what has it then."""

@@ -8,8 +8,7 @@ import re
 import build
 import edges
 import minisign_differences as differences
-import needs
-import static_library
+import shared_cases
 from cases import kept_cases, key_errors, signature_errors, typed_key_errors
 from keys import under_identifier
 from minisign_cases import pattern, random_cases
@@ -23,13 +22,10 @@ class Programs:
     """`c/minisign`, and what the library and the program say of each number of the header."""
 
     def __init__(self, room):
-        self.program = f"{room}/c/minisign"
-        static_library.run_make(f"OUT={room}/c", f"CC={needs.libsodium()}", self.program)
-        numbers = {name: int(number) for name, number in re.findall(r"(MINISIGN_\w+) = (\d+)", build.read("include/minisign.h"))}
-        texts, rows = build.read("tests/c/error_texts.c"), build.read("c/minisign/messages.c")
-        self.meaning = {numbers[name]: text for name, text in re.findall(r'\[(\w+)\] = "(.*)",', texts) if name in numbers}
-        own = {numbers[name]: text.replace('\\"', '"') for name, text in re.findall(r'\{ (MINISIGN_\w+), "(.*)" \}', rows)}
-        self.words = {**self.meaning, **own}
+        self.program, numbers = shared_cases.c_minisign(room), shared_cases.ERRORS
+        self.meaning = {numbers[name]: text for name, text in shared_cases.error_texts().items() if name in numbers}
+        own = re.findall(r'\{ MINISIGN_(\w+), "(.*)" \}', build.read("c/minisign/messages.c"))
+        self.words = {**self.meaning, **{numbers[name]: text.replace('\\"', '"') for name, text in own}}
 
     def is_same_verdict(self, case, number, comment, ran):
         """Whether the number and the comment of a row, and how the program ran, are one verdict for one reason."""
@@ -55,8 +51,7 @@ def check_texts(person):
     for text, some in by_key.items():
         key = person.put("some.pub", text)
         pairs = [(person.put(str(at), case.data, key), person.put(f"{at}.minisig", case.sig, key)) for at, case in enumerate(some)]
-        person.click("clear")
-        person.type_key("")
+        person.act("empty")
         person.choose_key(key)
         rejection = person.see("numberOfKey")
         if rejection == 0:
@@ -76,11 +71,12 @@ def check_made(person):
     sig, foreign = person.sign(data, trusted="version 2"), person.sign(data, key="second")
     key_id = lines(first.text)[0].rpartition(b" ")[2].decode().rjust(16, "0")
     paths, key_path, anything = person.pair("update.zip", data, sig), person.put("my.pub", first.text), person.put("anything", first.text)
+    person.open()
     for how, take, given in (("as text", person.type_key, [first.text.decode()]), ("as a line", person.type_key, [f"  {first.line}\n"]),
                              ("as a file", person.choose_key, [key_path]), ("dropped on the key", person.drop, ["key", anything]),
                              ("dropped among the files", person.drop, ["downloads", key_path])):
         what = f"a key {how}"
-        person.begin("", *paths)
+        person.begin("", *paths, anew=False)
         person.only(f"before {what}", verdict="waiting")
         take(*given)
         person.only(what, number=0, comment="version 2", has=[key_id])
@@ -98,11 +94,11 @@ def check_made(person):
             ("the signature of other data", 31, data, person.sign(b"other")),
             ("a legacy signature", 0, data, person.sign(data, legacy=True)),
             ("a legacy signature of other data", 31, data, person.sign(b"other", legacy=True))):
-        person.begin(first.line, *person.pair("update.zip", changed, text))
+        person.begin(first.line, *person.pair("update.zip", changed, text), anew=False)
         person.only(what, number=number)
     key, text = edges.texts_for_every_file()
     for some in (b"", b"data", data):
-        person.begin(key.decode(), *person.pair("data", some, text))
+        person.begin(key.decode(), *person.pair("data", some, text), anew=False)
         person.only("a signature that would fit every file", number=31)
 
 
@@ -126,17 +122,17 @@ def check_errors(person):
         said[number] = row.why
     person.same(len(set(said.values())), len(said), f"the number of different words: {said}")
     # A legacy signature of more than the page holds.
-    person.begin(person.first.line, *person.sparse("large", 64 * 1048576 + 1, "-l"))
+    person.begin(person.first.line, *person.sparse("large", 64 * 1048576 + 1, "-l"), anew=False)
     person.only("a large legacy file", number=30, has=["older kind", meaning[30]])
     # What is wrong with a file, and not with its texts.
     path, sig_path = person.signed("data", b"data")
-    person.begin("", path)
+    person.begin("", path, anew=False)
     person.settled("a file alone")
     os.remove(path)
     person.choose(sig_path)
     person.type_key(person.first.line)
     person.only("a file that is gone", verdict="bad", has=["cannot be read"])
-    person.begin(person.first.line, *person.pair("data", b"data", person.sign(b"data") + b"x" * 65536))
+    person.begin(person.first.line, *person.pair("data", b"data", person.sign(b"data") + b"x" * 65536), anew=False)
     person.only("a long signature", verdict="bad", has=["longer than a signature"])
 
 

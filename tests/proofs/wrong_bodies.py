@@ -39,7 +39,7 @@ sys.path += [os.path.join(HERE, "..", "shared"), os.path.join(HERE, "..", "..", 
 
 import proved
 from running import write
-from sources import ROOT, files_below, read
+from sources import ROOT, files_below, read, read_source
 
 LIST = "tests/proofs/wrong_bodies.txt"
 # Where a crate has its edits: those that are tried here, and those that `rt ci` tries.
@@ -58,7 +58,7 @@ GROUP = 40
 # What a check of a crate reads.
 PARTS = ("src", "specs", "proofs")
 # A body that is of each type and calls nothing, and a proof that is a hole: what calls such a function rests on its contract.
-LOOP = "\n{indent}    loop {{}}\n"
+LOOP = "{ loop {} }"
 HOLE = """use Rattle.{path}.Statement.{{statement}}
 
 pub {name}_spec : {{M : Type 1}} → statement M
@@ -66,11 +66,7 @@ pub {name}_spec : {{M : Type 1}} → statement M
 """
 # What is said of a function that is proved, where some of what it calls has a hole for its proof or none has.
 WELL = ("proved", "no holes", "depends on a hole in")
-# Where a function begins, with the attributes above it.
-HEADER = re.compile(r"(?m)^(?: *#\[.*\]\n)*(?P<indent> *)(?:pub(?:\(\w+\))? )?(?:const )?(?:unsafe )?"
-                    r'(?:extern "C" )?(?P<fn>fn) (?P<name>\w+)')
-# A clause that a function ensures, with its name where it has one; and the clause that a line `why:` names as false.
-ENSURES = re.compile(r"(?m)^ *ensures(?: (?P<name>\w+))? \{")
+# The clause that a line `why:` names as false.
 FALSE = re.compile(r"`(\w+)` is false")
 # The form of an edit, and what it says in its lines.
 FORM = re.compile(r"why: .+\n(?:(?:file|fn|by): .+\n|old: .+\nnew:.*\n)+")
@@ -90,7 +86,7 @@ class WrongBody:
     def __init__(self, crate, file, number=0, is_unchanged=False):
         self.crate, self.label, text = crate, f"{crate}/{os.path.basename(file).removesuffix('.edit')}", read(file)
         self.is_for_kit = os.path.basename(os.path.dirname(file)) == KIT_TRIED
-        # Where its function begins and ends in the file, if it is written into a copy of it, and what the name gets.
+        # Its function, if it is written into a copy of that, and what the name of the copy gets.
         self.copied, self.suffix = None, f"_with_wrong_body_{number}"
         said, self.is_unchanged = dict(SAID.findall(text)), is_unchanged
         self.changes = [(old, old if is_unchanged else new) for old, new in CHANGE.findall(text)]
@@ -103,22 +99,28 @@ class WrongBody:
             self.why_not = "it is no file .edit with first a line `why:`, one line `fn:`, `file:`, and `old:` and `new:`"
         if self.by and f"rejected by {self.by}" not in (GAVE_UP, APART):
             self.why_not = "nothing is rejected by what its line `by:` names"
+        if not self.why_not and not os.path.isfile(f"{ROOT}/crates/{crate}/{self.path}"):
+            self.why_not = f"its crate has no file {self.path}"
+        # Where in the text of its file each change begins and ends, with the new text.
+        self.places = [] if self.why_not else self.find_places(read_source(f"crates/{crate}/{self.path}"))
 
-    def places(self, text):
-        """Returns where in the text of its file each change begins and ends, with the new text."""
-        found, left = [], text
+    def find_places(self, source):
+        """Returns the places of the changes, and takes the function that they stand in."""
+        found, left = [], source.text
         for old, new in self.changes:
             at, times = left.find(old), left.count(old)
             left = left.replace(old, "\0" * len(old))
-            begin, end, name = function_at(text, at)
+            function = next((item for item in functions_in(source) if item.body < at < item.end), None)
+            ensured = [clause.name for clause in function.clauses if clause.kind == "ensures"] if function else []
             if times != 1:
                 self.why_not = f"its old text stands in {self.path} {times} times, and not once"
-            elif name != self.function.rpartition("::")[2]:
+            elif not function or function.name != self.function.rpartition("::")[2]:
                 self.why_not = f"it changes more than the body of {self.function}"
-            elif self.named and not re.search(rf"\bensures {self.named} \{{", text[begin:end]):
-                self.why_not = f"its function {name} has no clause `{self.named}`"
-            self.copied = (begin, end) if name and not is_of_trait(text, begin) else None
-            if self.copied and f" ensures {self.clause} {{" not in text[slice(*self.copied)]:
+            elif self.named and self.named not in ensured:
+                self.why_not = f"its function {function.name} has no clause `{self.named}`"
+            # (a method of a trait's impl has no second name)
+            self.copied = function if function and not function.trait else None
+            if self.copied and self.clause not in ensured:
                 self.clause = ""
             found.append((at, at + len(old), new))
         return found
@@ -130,16 +132,13 @@ class WrongBody:
 
     def pieces(self, text):
         """Returns what has to stand in place of what in the text of its file: a copy after the function, or the changes."""
-        places = self.places(text)
-        if not self.copied:
-            return places
-        begin, end = self.copied
-        copy = replaced(text[begin:end], [(one - begin, other - begin, new) for one, other, new in places])
-        if self.clause:
-            body = body_of(copy, HEADER.match(copy))[0]
-            copy = clause_alone(copy[:body], self.clause) + copy[body:]
-        name = HEADER.match(copy).end()
-        return [(end, end, f"\n\n{copy[:name]}{self.suffix}{copy[name:]}")]
+        function = self.copied
+        if not function:
+            return self.places
+        others = [(clause.begin, clause.end, "") for clause in function.clauses
+                  if self.clause and clause.kind == "ensures" and clause.name != self.clause]
+        copy = replaced(text[:function.end], [*self.places, (function.named, function.named, self.suffix), *others])
+        return [(function.end, function.end, "\n\n" + copy[function.begin:])]
 
     def copy_proof(self, directory):
         """Copies the written proof of its function, where it has one and is copied, in a crate's directory."""
@@ -189,15 +188,6 @@ def assume(directory, crate, functions):
         write(proof, "Proof.antt", HOLE.format(path=".".join([crate, "proofs", *path]), name=name).encode())
 
 
-def body_of(text, header):
-    """Returns where the body of a function begins and ends, after this match of HEADER, if it has one: by the layout of
-    `rt fmt`, in which its brackets end the line of the head and stand at the head's place."""
-    indent = header["indent"]
-    begin = re.compile(rf"(?m)(?:\A.*|^{indent}(?:\).*)?)\{{$").search(text[header.end():])
-    end = re.compile(rf"(?m)^{indent}\}}").search(text, header.end() + begin.end()) if begin else None
-    return (header.end() + begin.end(), end.start()) if end else None
-
-
 def is_searched(directory, clause):
     """Whether a search proves this clause of a function that has its written proof in this directory: all that is written is
     of other clauses."""
@@ -209,36 +199,16 @@ def is_searched(directory, clause):
     return all(re.fullmatch(rf"returns\S*-clause-(?!{clause}$)\w+", name) for name in written)
 
 
-def clause_alone(head, name):
-    """Returns the head of a function with the one of its clauses `ensures` alone that has this name."""
-    others = [match for match in ENSURES.finditer(head) if match["name"] != name]
-    return replaced(head, [(other.start(), end_of_braces(head, other.end()), "") for other in others])
+def functions_in(source):
+    """The functions of a source file that have a body."""
+    return [item for item in source.items if item.what == "fn" and item.body]
 
 
-def end_of_braces(text, at):
-    """Returns where the braces end that are open there."""
-    depth = 1
-    while depth:
-        depth += {"{": 1, "}": -1}.get(text[at], 0)
-        at += 1
-    return at
-
-
-def loops(text, changed):
+def loops(source, changed):
     """Returns what has to stand in place of what in the text of a file so that its functions are loops without an end, but
     for those that are changed where they stand."""
-    found, end = [], 0
-    headers = [*HEADER.finditer(text)]
-    for header, other in zip(headers, [*headers[1:], None]):
-        body = body_of(text, header)
-        # (a function that is declared without a body is followed by another function, or by the end of its trait)
-        is_there = body and not re.search(r"(?m)^\}", text[header.end() : body[0]]) and (not other or body[0] < other.start())
-        if header.start() < end or not is_there or "const fn" in header[0]:
-            continue
-        end = body[1]
-        if not any(header.start() < at < end for at in changed):
-            found.append((*body, LOOP.format(indent=header["indent"])))
-    return found
+    return [(item.body, item.end, LOOP) for item in functions_in(source)
+            if "const fn " not in item.header and not any(item.body < at < item.end for at in changed)]
 
 
 class Places:
@@ -278,8 +248,6 @@ class Trial:
     def begin(self, bodies, pool):
         """Has the crate proved as it stands, and begins to try the groups: what there is to say already, and the works that say
         the rest."""
-        for body in (body for body in bodies if not body.why_not):
-            body.places(read(f"crates/{self.crate}/{body.path}"))
         whole = [body for body in bodies if not body.why_not]
         why = proved.supply(proved.crates()[self.crate].below) or self.lacks_proof(whole)
         said = [Verdict(body, FAILED, f"bad edit: {body.why_not}" if body.why_not else f"not tried: {why}")
@@ -304,11 +272,11 @@ class Trial:
         """Copies the crate into a directory, with the changes of a group in place, and loops in place of all other bodies."""
         for part in [part for part in PARTS if os.path.isdir(f"crates/{self.crate}/{part}")]:
             shutil.copytree(f"crates/{self.crate}/{part}", f"{directory}/{part}")
-        for path in files_below(f"{directory}/src"):
-            text, name = read(path), os.path.relpath(path, directory)
-            pieces = [piece for body in group if body.path == name for piece in body.pieces(text)]
+        for path in [os.path.relpath(file, directory) for file in files_below(f"{directory}/src")]:
+            source = read_source(f"crates/{self.crate}/{path}")
+            pieces = [piece for body in group if body.path == path for piece in body.pieces(source.text)]
             in_place = [begin for begin, end, _ in pieces if begin < end]
-            write("", path, replaced(text, [*pieces, *loops(text, in_place)]).encode())
+            write(directory, path, replaced(source.text, [*pieces, *loops(source, in_place)]).encode())
 
     def try_group(self, group):
         """Tries a group, and alone once more each of it that was not rejected: what there is to say, and no more works."""
@@ -365,21 +333,6 @@ class Trial:
         if errors or line.startswith("not proved") and "it calls `" not in line:
             return Verdict(body, APART, (errors or [line])[0])
         return Verdict(body, FAILED, f"it is not rejected for a goal of its own: {line}")
-
-
-def function_at(text, at):
-    """Returns where the function begins and ends in whose body a place of a source file lies, and its name; where it lies in
-    none, no name."""
-    headers = [*HEADER.finditer(text, 0, max(at, 0))]
-    body = body_of(text, headers[-1]) if headers else None
-    is_there = body and body[0] <= at < body[1]
-    return (headers[-1].start(), text.index("}", body[1]) + 1, headers[-1]["name"]) if is_there else (0, 0, "")
-
-
-def is_of_trait(text, at):
-    """Returns whether the function that begins there is a method of a trait's impl."""
-    impls = re.findall(r"(?m)^impl\b[^{;]*", text[:at]) if text[at] == " " else []
-    return bool(impls) and " for " in impls[-1]
 
 
 def replaced(text, pieces):

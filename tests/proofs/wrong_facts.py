@@ -4,8 +4,8 @@ crates/*/proofs/Facts.antt.
 
 A fact says what a definition gives: `LEFT ≡ RIGHT`. This changes the last literal of RIGHT or, where it has none,
 that of a value of the same file that the fact names, in a copy of this value. All facts of a crate share a check,
-which has to reject each by its name because two values differ. Facts that join others are changed in a second check,
-in which the others stand as they are. What has no value, as a law, is not tried.
+which has to reject each by its name because two values differ. A fact that others name stands as it is, and a wrong
+one under another name beside it. What has no value, as a law, is not tried.
 
 Needs Python 3.9 or later and the kit.
 
@@ -31,12 +31,10 @@ FACTS = "proofs/Facts.antt"
 STATEMENT = re.compile(r"(?ms)^(?:pub )?\S+ :\s(?P<left>.*)≡(?P<right>.*?)(?=^unfolding |^\S+ = )")
 # What may end a value: a text, a number, a named error, an empty list that ends no other one.
 LITERAL = re.compile(r'"[^"]+"|\b0x[0-9A-Fa-f]+\b|(?<![\w.])\d+\b|(?<=\bNamed )[A-Z]\w+|(?<=\bnamed\.)\w+|(?<!∷ )\[\]')
-# A proof by computation alone.
-COMPUTED = re.compile(r"(?m)^\S+ = [(]?refl(?:, refl)*[)]?\Z")
 # The named errors that a file imports.
 IMPORTED = re.compile(r"TheVariants\.\{([^}]*)\}")
-# What is said of a fact whose value is another one.
-DIFFERS = re.compile(r"(?m)^\./proofs/Facts\.antt:\d+:\d+: error: `([^`]+)`: .*(?:\bdiffer only\b|\bexpected type\b)")
+# What is said of a fact whose value is another one, in its line or in those that belong to it and stand set in.
+DIFFERS = re.compile(r"(?m)^\./proofs/Facts\.antt:\d+:\d+: error: `([^`]+)`: (?:.*\bexpected type\b|(?:.*\n  )*?.*\bdiffer only\b)")
 
 
 class Facts:
@@ -45,11 +43,19 @@ class Facts:
     def __init__(self, crate):
         self.text = read(f"crates/{crate}/{FACTS}")
         definitions = read_module(f"{proved.ROOT}/crates/{crate}/{FACTS}").definitions
-        self.texts = {name: found.text for name, found in definitions.items()}
-        # By the name of each fact that has a value its text with another one, the facts that are computed, and the others.
-        self.wrong = {name: wrong for name in self.texts if (wrong := self.with_wrong_value(name))}
-        computed = {name for name in self.wrong if COMPUTED.search(self.texts[name])}
-        self.groups = [group for group in (computed, {*self.wrong} - computed) if group]
+        self.texts = {name: found.text.rstrip() for name, found in definitions.items()}
+        # By the name of each wrong fact the right one, and what stands in its place.
+        self.wrong = dict(filter(None, map(self.wrong_fact, self.texts)))
+
+    def wrong_fact(self, name):
+        """A wrong fact: its name, the right one, and what stands in its place; nothing of one without a value. A right one that others
+        name stays, and has the wrong one beside it."""
+        right, wrong = self.texts[name], self.with_wrong_value(name)
+        others = "\n".join(text for other, text in self.texts.items() if other != name)
+        if not wrong or not re.search(rf"(?<![^\s(]){re.escape(name)}(?![^\s)])", others):
+            return wrong and (name, (right, wrong))
+        copy = re.sub(rf"(?m)^((?:pub )?){re.escape(name)}(?= [:=])", rf"\g<1>{name}-wrong", wrong)
+        return f"{name}-wrong", (right, f"{right}\n\n{copy}")
 
     def with_wrong_value(self, name):
         """The text of a fact with a wrong value, and before it the wrong copy of what it names; nothing where it has none."""
@@ -83,12 +89,12 @@ class Facts:
         imported = re.findall(r"\w+", " ".join(IMPORTED.findall(self.text))) or ["OutOfMemory", "ReadingFailed"]
         return next(name for name in imported if name != literal)
 
-    def written(self, names):
-        """The text of the file in which these facts are wrong."""
+    def written(self):
+        """The text of the file in which the facts are wrong."""
         text = self.text
-        for name in names:
-            assert text.count(self.texts[name].rstrip()) == 1, name
-            text = text.replace(self.texts[name].rstrip(), self.wrong[name].rstrip())
+        for right, wrong in self.wrong.values():
+            assert text.count(right) == 1, right
+            text = text.replace(right, wrong)
         return text
 
 
@@ -96,7 +102,7 @@ def try_facts(report, crate):
     """Tries each fact of a crate with a wrong value. (As they stand `rt ci` proves them.) A check proves facts alone, for a
     function whose proof is written and then names them."""
     facts = Facts(crate)
-    if not facts.groups:
+    if not facts.wrong:
         return
     proved.wait_for([crate])
     why = proved.supply(proved.crates()[crate].below)
@@ -104,17 +110,18 @@ def try_facts(report, crate):
                 if "Answers.antt" in files)
     *_, function = names = path.split(os.sep)
     hole = HOLE.format(path=".".join([crate, "proofs", *names]), name=function)
-    for group in facts.groups if report.check(not why, crate, why) else []:
-        with tempfile.TemporaryDirectory(prefix="wrong-facts-") as room:
-            Trial(crate).copy_into(room, [])
-            for file in files_below(f"{room}/proofs/{path}"):
-                os.remove(file)
-            write(room, f"proofs/{path}/Proof.antt", f"use Rattle.{crate}.proofs.Facts\n{hole}".encode())
-            write(room, FACTS, facts.written(group).encode())
-            words = ("--allow-holes", "--only", "::".join(names))
-            said = proved.rattle("check", crate, room, *words, before=("nice", "-n", "19")).stdout
-        for name in sorted(group):
-            report.check(name in DIFFERS.findall(said), f"{crate}/{FACTS}", f"{name} is not rejected with a wrong value")
+    if not report.check(not why, crate, why):
+        return
+    with tempfile.TemporaryDirectory(prefix="wrong-facts-") as room:
+        Trial(crate).copy_into(room, [])
+        for file in files_below(f"{room}/proofs/{path}"):
+            os.remove(file)
+        write(room, f"proofs/{path}/Proof.antt", f"use Rattle.{crate}.proofs.Facts\n{hole}".encode())
+        write(room, FACTS, facts.written().encode())
+        words = ("--allow-holes", "--only", "::".join(names))
+        said = proved.rattle("check", crate, room, *words, before=("nice", "-n", "19")).stdout
+    for name in facts.wrong:
+        report.check(name in DIFFERS.findall(said), f"{crate}/{FACTS}", f"{name} is not rejected with a wrong value")
 
 
 def main(names):
