@@ -27,39 +27,40 @@ pub const TIED_TO_ABC: [u8; 32] = [
 
 /// The record of a public key.
 pub fn public_record(key_id: &[u8; 8], key: &[u8; 32]) -> [u8; 42] {
-    let mut record = [0u8; 42];
-    let (algorithm_part, rest) = record.split_at_mut(2);
-    let (key_id_part, key_part) = rest.split_at_mut(8);
-    algorithm_part.copy_from_slice(b"Ed");
-    key_id_part.copy_from_slice(key_id);
-    key_part.copy_from_slice(key);
-    record
+    joined(&[b"Ed", key_id, key])
 }
 
 /// The record of a signature that has 32 zeros in front of `tied`.
 pub fn signature_record(algorithm: &[u8; 2], key_id: &[u8; 8], tied: &[u8; 32]) -> [u8; 74] {
-    let mut record = [0u8; 74];
-    let (front, tied_part) = record.split_at_mut(42);
-    let (algorithm_part, rest) = front.split_at_mut(2);
-    let (key_id_part, _) = rest.split_at_mut(8);
-    algorithm_part.copy_from_slice(algorithm);
-    key_id_part.copy_from_slice(key_id);
-    tied_part.copy_from_slice(tied);
-    record
+    joined(&[algorithm, key_id, &[0; 32], tied])
 }
 
 /// Key A's secret record with this key derivation and this checksum. Salt, limits and seed are
 /// zeros.
 pub fn secret_record(kdf: &[u8; 2], checksum: &[u8; 32]) -> [u8; 158] {
-    let mut record = [0u8; 158];
-    let (front, back) = record.split_at_mut(62);
-    let (algorithms, rest) = front.split_at_mut(6);
-    let (_, key_id_part) = rest.split_at_mut(48);
-    let (secret, checksum_part) = back.split_at_mut(64);
-    let (_, public_part) = secret.split_at_mut(32);
-    algorithms.copy_from_slice(&[b'E', b'd', kdf[0], kdf[1], b'B', b'2']);
-    key_id_part.copy_from_slice(&KEY_ID);
-    public_part.copy_from_slice(&PUBLIC_BYTES);
-    checksum_part.copy_from_slice(checksum);
+    joined(&[
+        b"Ed",
+        kdf,
+        b"B2",
+        &[0; 48],
+        &KEY_ID,
+        &[0; 32],
+        &PUBLIC_BYTES,
+        checksum,
+    ])
+}
+
+// These parts one after another, in a record of so many bytes.
+fn joined<const N: usize>(parts: &[&[u8]]) -> [u8; N] {
+    let mut record = [0u8; N];
+    let mut at = 0usize;
+    for part in parts {
+        for byte in *part {
+            if at < N {
+                record[at] = *byte;
+                at += 1;
+            }
+        }
+    }
     record
 }

@@ -66,7 +66,7 @@ pub fn is_so_or_unwritten(answer: Result<bool>) -> bool {
 
 /// Whether these are the bytes of the record.
 pub fn gives_record(bytes: Result<Vec<u8>>, record: &[u8]) -> bool {
-    match &bytes {
+    match bytes {
         Ok(bytes) => bytes.as_slice() == record,
         Err(_) => false,
     }
