@@ -3,5 +3,5 @@
 
 mod kept_rows;
 mod key_derivation;
-mod passed_memory;
+pub mod passed_memory;
 mod refused_allocations;

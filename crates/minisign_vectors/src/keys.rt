@@ -1,6 +1,6 @@
 //! Keys: their boxes and records, sealed ones, and pairs that are made.
 
 mod generated;
-mod refused_allocations;
-mod sealed;
+pub mod refused_allocations;
+pub mod sealed;
 mod texts;

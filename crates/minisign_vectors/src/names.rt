@@ -1,7 +1,8 @@
 //! The names at the roots of the crates that a caller of `minisign` writes: its own, the devices,
 //! the scheme and the parameters, and `minisign_base` through it. Each is called, and gives the
-//! worked values. `hash` has those of `minisign_hash`.
+//! worked values. `hash` has those of `minisign_hash`, and `signatures::calls` those that sign and verify.
 
+use crate::signatures::calls::{signed_text, verified_texts};
 use minisign::minisign_base::{
     KeyId, fill_from, get_password, load_u64_le, put_and_flush, put_line, raw_scrypt_params,
     store_u64_le, unix_timestamp, write_all,
@@ -9,8 +10,8 @@ use minisign::minisign_base::{
 use minisign::{
     DEFAULT_COMMENT, DeviceFault, FileSource, FixedRandom, Params, Prompt, RandomSource,
     ReaderSource, Rereader, Result, SIG_DEFAULT_CONFIG_DIR, SIG_DEFAULT_CONFIG_DIR_ENV_VAR,
-    SIG_DEFAULT_PKFILE, SIG_DEFAULT_SKFILE, SIG_SUFFIX, Scheme, Sink, SliceSource, Source,
-    SourceRandom, ToyScheme, Triple, VecSink, WriterSink, sign_texts, verify_texts,
+    SIG_DEFAULT_PKFILE, SIG_DEFAULT_SKFILE, SIG_SUFFIX, Scheme, SliceSource, Source, SourceRandom,
+    ToyScheme, Triple, VecSink, VerifyOptions, WriterSink,
 };
 use minisign_fixtures::keys::KEY_ID;
 use minisign_fixtures::outcomes::Outcome::Accepted;
@@ -37,85 +38,38 @@ fn the_names_of_files_and_of_a_folder(rt: HostRuntime) {
 }
 
 // Key A signs the data, with the comments `c` and `t`.
-fn signed<S: Scheme, R: Source, Z: RandomSource>(
-    alloc: Global,
-    scheme: &S,
-    data: &mut R,
-    random: &mut Z,
-) -> Result<String> {
+fn signed<R: Source, Z: RandomSource>(alloc: Global, data: &mut R, random: &mut Z) -> bool {
     let mut prompt = Prompt::new(SliceSource::new(b""), VecSink::new(alloc));
-    sign_texts(
-        alloc,
-        scheme,
-        SECRET_TEXT,
-        None,
-        &mut prompt,
-        data,
-        Some("t"),
-        Some("c"),
-        random,
-        7,
-    )
-}
-
-// The text is verified, and the data copied.
-fn verified<S: Scheme, R: Rereader, W: Sink, O: Sink>(
-    alloc: Global,
-    scheme: &S,
-    data: &mut R,
-    status: &mut W,
-    out: &mut O,
-) -> Result<()> {
-    verify_texts(
-        alloc,
-        scheme,
-        KEY_TEXT,
-        SIGNATURE_TEXT,
-        data,
-        false,
-        true,
-        false,
-        status,
-        out,
-    )
+    let text = signed_text(alloc, SECRET_TEXT, None, &mut prompt, data, random);
+    gives_text(text, SIGNATURE_TEXT)
 }
 
 #[test]
 fn data_is_signed_over_each_source(rt: HostRuntime) {
     let alloc = rt.alloc();
-    let scheme = ToyScheme::new();
     let mut read = ReaderSource::new(b"abc".as_slice());
-    let mut fixed = FixedRandom::new(&ZEROS);
-    assert!(rt;
-        gives_text(
-            signed(alloc, &scheme, &mut read, &mut fixed),
-            SIGNATURE_TEXT
-        )
-    );
-    let mut slice = SliceSource::new(b"abc");
+    assert!(rt; signed(alloc, &mut read, &mut FixedRandom::new(&ZEROS)));
     let mut drawn = SourceRandom::new(SliceSource::new(&ZEROS));
-    assert!(rt;
-        gives_text(
-            signed(alloc, &scheme, &mut slice, &mut drawn),
-            SIGNATURE_TEXT
-        )
-    );
+    assert!(rt; signed(alloc, &mut SliceSource::new(b"abc"), &mut drawn));
 }
+
+// The status is said, the data is copied, and legacy signatures are not accepted.
+const STRICT: VerifyOptions = VerifyOptions {
+    quiet: false,
+    output: true,
+    allow_legacy: false,
+};
 
 // Whether a file is verified and copied, over a status that is a writer.
 fn is_copied(alloc: Global) -> bool {
-    let data: &[u8] = b"abc";
-    let mut status = Vec::new(alloc);
+    let mut data = FileSource::new(Cursor::new(b"abc".as_slice()));
+    let mut said = Vec::new(alloc);
+    let mut status = WriterSink::new(&mut said);
     let mut out = VecSink::new(alloc);
-    let answer = verified(
-        alloc,
-        &ToyScheme::new(),
-        &mut FileSource::new(Cursor::new(data)),
-        &mut WriterSink::new(&mut status),
-        &mut out,
-    );
+    let texts = (KEY_TEXT, SIGNATURE_TEXT);
+    let answer = verified_texts(alloc, texts, &mut data, STRICT, &mut status, &mut out);
     let came = ends_in(answer, Accepted);
-    came && status.as_slice() == SAID && out.as_slice() == b"abc".as_slice()
+    came && said.as_slice() == SAID && out.as_slice() == b"abc".as_slice()
 }
 
 #[test]

@@ -1,14 +1,15 @@
 //! Runs the small signing tool: the texts of a pair sealed under a password, and what its key
 //! signed.
 
-use minisign::{Result, SignatureBox};
+use crate::callers::checked;
+use crate::signatures::calls::{has_comments, read_box};
+use minisign::Result;
 use minisign_base::devices::random_sources::FixedRandom;
 use minisign_base::faults::NamedFault::{RandomSourceFailed, SignatureRefused};
 use minisign_base::toy::ToyScheme;
 use minisign_examples::releasing::{Release, sign_release};
-use minisign_examples::updating::check_update;
-use minisign_fixtures::outcomes::Outcome::{self, Accepted, Refused};
-use minisign_fixtures::outcomes::{comes_to, counted, holds, is_text};
+use minisign_fixtures::outcomes::Outcome::{Accepted, Refused};
+use minisign_fixtures::outcomes::{counted, ends_in, is_so};
 use minisign_fixtures::texts::COUNTED_PUBLIC_TEXT;
 use std::alloc::Global;
 
@@ -24,51 +25,20 @@ fn released(alloc: Global, random: &[u8]) -> Result<Release> {
     )
 }
 
-// The box that a text holds.
-fn read_box(alloc: Global, text: &str) -> Result<SignatureBox> {
-    SignatureBox::from_string(alloc, text)
-}
-
-// Whether the text of the signature has the default comments.
-fn has_comments(alloc: Global, sig_text: &str) -> bool {
-    let read = read_box(alloc, sig_text);
-    match &read {
-        Ok(signature_box) => {
-            is_from_rsign(alloc, signature_box) && is_dated(alloc, signature_box)
-        }
-        Err(_) => false,
-    }
-}
-
-// Whether the untrusted comment is the default one.
-fn is_from_rsign(alloc: Global, signature_box: &SignatureBox) -> bool {
-    let untrusted = signature_box.untrusted_comment(alloc);
-    is_text(&untrusted, "signature from rsign secret key")
-}
-
-// Whether the trusted comment is the default one at second 0.
-fn is_dated(alloc: Global, signature_box: &SignatureBox) -> bool {
-    let trusted = signature_box.trusted_comment(alloc);
-    is_text(&trusted, "timestamp:0")
-}
-
-// Whether checking the update with both texts comes out so.
-fn is_checked(alloc: Global, texts: (&str, &str), update: &str, expected: Outcome) -> bool {
-    let (pk_text, sig_text) = texts;
-    let toy = ToyScheme::new();
-    let name = "timestamp:0";
-    let checked = check_update(alloc, &toy, pk_text, sig_text, update.as_bytes(), name);
-    comes_to(&checked, expected)
+// Whether the text of the signature has the default comments, those of second 0.
+fn is_dated(alloc: Global, sig_text: &str) -> Result<bool> {
+    let signature_box = read_box(alloc, sig_text)?;
+    has_comments(alloc, &signature_box, "timestamp:0")
 }
 
 // Whether the two texts are those of the release: its update alone is accepted.
 fn are_released(alloc: Global, texts: (&str, &str)) -> bool {
-    let (pk_text, sig_text) = texts;
-    let refused = Refused(SignatureRefused);
-    pk_text == COUNTED_PUBLIC_TEXT
-        && has_comments(alloc, sig_text)
-        && is_checked(alloc, texts, "lorem ipsum", Accepted)
-        && is_checked(alloc, texts, "lorem ipsun", refused)
+    let dated = is_so(is_dated(alloc, texts.1));
+    let taken = checked(alloc, texts, b"lorem ipsum", "timestamp:0");
+    let other = checked(alloc, texts, b"lorem ipsun", "timestamp:0");
+    let is_taken = ends_in(taken, Accepted);
+    let is_refused = ends_in(other, Refused(SignatureRefused));
+    dated && is_taken && is_refused && texts.0 == COUNTED_PUBLIC_TEXT
 }
 
 // Whether it is so of the texts that are made.
@@ -79,11 +49,10 @@ fn is_verified(alloc: Global) -> Result<bool> {
 
 #[test]
 fn a_release_is_verified_with_its_texts(rt: HostRuntime) {
-    assert!(rt; holds(&is_verified(rt.alloc())));
+    assert!(rt; is_so(is_verified(rt.alloc())));
 }
 
 #[test]
 fn a_release_wants_all_its_random_bytes(rt: HostRuntime) {
-    let answer = released(rt.alloc(), &[7; 199]);
-    assert!(rt; comes_to(&answer, Refused(RandomSourceFailed)));
+    assert!(rt; ends_in(released(rt.alloc(), &[7; 199]), Refused(RandomSourceFailed)));
 }

@@ -3,11 +3,12 @@
 //! The block and what becomes of it: RFC 7914, sections 9 and 10. Keys: RFC 7914, section 12, and
 //! Python's hashlib (OpenSSL).
 
-ghost use Rattle.std.specs.Prelude.{◌≡◌, ◌<◌, ◌≤◌, IfOk, length, vec_len};
+ghost use Rattle.std.specs.Prelude.{◌≡◌, ◌<◌, ◌≤◌, length};
 
+use crate::kdf::passed_memory::{OF_NOTHING, OF_PASSWORD, words};
 use crate::shown::shows;
 use minisign_kdf::{KdfError, Params, Rows, mix_kept, scrypt_keeping};
-use std::alloc::{AllocError, Global};
+use std::alloc::Global;
 use std::test::Fail;
 
 // A part with r 1.
@@ -30,13 +31,6 @@ const MIXED: &str =
 const ROM_MIXED: &str =
     "79ccc193629debca047f0b70604bf6b62ce3dd4a9626e355fafc6198e6ea2b46d58413673b99b029d665c357601fb426a0b2f4bba200ee9f0a43d19b571a9c71ef1142e65d5a266fddca832ce59faa7cac0b9cf1be2bffca300d01ee387619c4ae12fd4438f203a0e4e1c47ec314861f4e9087cb33396a6873e8f9d2539a4b8e";
 
-// A buffer of so many words, each of another content.
-fn words(alloc: Global, len: usize) -> Result<Vec<u32>, AllocError>
-    ensures { IfOk result (λ v. vec_len v ≡ len) }
-{
-    vec![in alloc; 0x5c5c5c5cu32; len]
-}
-
 // The bytes of a row with r 1 whose words stand in diagonal order.
 fn bytes_of(row: &[u32]) -> [u8; 128]
     requires { length row.now ≡ 32 }
@@ -52,13 +46,6 @@ fn bytes_of(row: &[u32]) -> [u8; 128]
     bytes
 }
 
-// RFC 7914, 12, the smallest vector and that of several parts.
-const OF_NOTHING: &str =
-    "77d6576238657b203b19ca42c18a0497f16b4844e3074ae8dfdffa3fede21442fcd0069ded0948f8326a753a0fc81f17e8d3e0fb2e0d3628cf35e20c38d18906";
-
-const OF_PASSWORD: &str =
-    "fdbabe1c9d3472007856e7190d01e9fe7c6ad7cbc8237830e77376634b3731622eaf30d92e22a3886ff109279d9830dac727afb94a83ee6d8360cbdfa2cc0640";
-
 // The key of no password at the usual cost.
 const OF_USUAL_COST: &str =
     "2c804bf5d0ccb28051f20fb0b99bf7e9a45a67496650536018dd8839d9370748f1ac548a44dde14ef07f306c5fc7fe091054c6374d73d1a4f917a0fbcd8b88b8";
@@ -67,20 +54,22 @@ const OF_USUAL_COST: &str =
 fn keeps(
     alloc: Global,
     (password, salt): (&str, &str),
-    params: &Params,
+    (n_log2, r, p): (u8, u32, u32),
     (k, count): (u64, u64),
     expected: &str,
 ) -> bool {
+    let Ok(params) = Params::new(n_log2, r, p) else {
+        return false;
+    };
     let mut key = [0u8; 64];
     let (password, salt) = (password.as_bytes(), salt.as_bytes());
-    let kept = scrypt_keeping(alloc, password, salt, params, k.max(1), &mut key);
+    let kept = scrypt_keeping(alloc, password, salt, &params, k.max(1), &mut key);
     kept == Ok(count) && shows(alloc, &key, expected)
 }
 
 // The smallest vector, and how many rows are kept for it.
 #[test]
-fn keys_of_one_part(rt: HostRuntime) -> Result<(), Fail> {
-    let params = Params::new(4, 1, 1)?;
+fn keys_of_one_part(rt: HostRuntime) {
     for (k, count) in [
         (1u64, 16u64),
         (2, 8),
@@ -92,30 +81,28 @@ fn keys_of_one_part(rt: HostRuntime) -> Result<(), Fail> {
         (17, 1),
         (18446744073709551615, 1),
     ] {
-        let right = keeps(rt.alloc(), ("", ""), &params, (k, count), OF_NOTHING);
+        let right = keeps(rt.alloc(), ("", ""), (4, 1, 1), (k, count), OF_NOTHING);
         assert!(rt; right, "k {k}");
     }
-    Ok(())
 }
 
-// The vector of several parts.
+// The vector of several parts, and the usual cost, with a k that is no divisor of it.
 #[test]
-fn key_of_several_parts(rt: HostRuntime) -> Result<(), Fail> {
-    let params = Params::new(10, 8, 16)?;
+fn keys_of_several_parts_and_of_the_usual_cost(rt: HostRuntime) {
+    let alloc = rt.alloc();
     let of = ("password", "NaCl");
-    assert!(rt; keeps(rt.alloc(), of, &params, (100, 11), OF_PASSWORD));
-    Ok(())
+    assert!(rt; keeps(alloc, of, (10, 8, 16), (100, 11), OF_PASSWORD));
+    assert!(rt; keeps(alloc, ("", ""), (15, 8, 1), (3, 10923), OF_USUAL_COST));
+    assert!(rt; keeps(alloc, ("", ""), (15, 8, 1), (7, 4682), OF_USUAL_COST));
 }
 
-// The usual cost, with a k that is no divisor of it.
-#[test]
-fn keys_of_the_usual_cost(rt: HostRuntime) -> Result<(), Fail> {
-    let params = Params::new(15, 8, 1)?;
-    for (k, count) in [(3u64, 10923u64), (7, 4682)] {
-        let right = keeps(rt.alloc(), ("", ""), &params, (k, count), OF_USUAL_COST);
-        assert!(rt; right, "k {k}");
-    }
-    Ok(())
+// Rows of the published block.
+fn filled(alloc: Global, n_log2: u8, k: u64) -> Result<Rows, KdfError>
+    requires even { 1 ≤ n_log2 }
+    requires cost { n_log2 < 64 }
+    requires kept { 1 ≤ k }
+{
+    Rows::fill(alloc, &BLOCK, n_log2, k)
 }
 
 // Fills rows of the published block and mixes over them: what is mixed, and how many rows are kept.
@@ -147,15 +134,6 @@ fn rows_of_rfc_7914(rt: HostRuntime) -> Result<(), Fail> {
     Ok(())
 }
 
-// Rows of the published block.
-fn filled(alloc: Global, n_log2: u8, k: u64) -> Result<Rows, KdfError>
-    requires even { 1 ≤ n_log2 }
-    requires cost { n_log2 < 64 }
-    requires kept { 1 ≤ k }
-{
-    Rows::fill(alloc, &BLOCK, n_log2, k)
-}
-
 // Whether the words are two rows: the block, and what comes of mixing it.
 fn are_block_and_mixed(alloc: Global, words: &[u32]) -> bool {
     if words.len() != 64 {
@@ -165,12 +143,17 @@ fn are_block_and_mixed(alloc: Global, words: &[u32]) -> bool {
     bytes_of(first) == BLOCK && shows(alloc, &bytes_of(second), MIXED)
 }
 
+// Whether the words of these two rows stand in diagonal order.
+fn is_diagonal(alloc: Global) -> bool {
+    match filled(alloc, 1, 1) {
+        Ok(rows) => rows.len() == 2 && are_block_and_mixed(alloc, rows.words()),
+        Err(_) => false,
+    }
+}
+
 #[test]
-fn words_stand_in_diagonal_order(rt: HostRuntime) -> Result<(), Fail> {
-    let rows = filled(rt.alloc(), 1, 1)?;
-    assert!(rt; rows.len() == 2);
-    assert!(rt; are_block_and_mixed(rt.alloc(), rows.words()));
-    Ok(())
+fn words_stand_in_diagonal_order(rt: HostRuntime) {
+    assert!(rt; is_diagonal(rt.alloc()));
 }
 
 // Whether one row is kept, which is the block.
@@ -204,19 +187,6 @@ fn rows_of_the_greatest_cost(rt: HostRuntime) {
     assert!(rt; keeps_the_block(rt.alloc(), 63, 18446744073709551615));
 }
 
-// An output that no key can have is rejected whatever is kept, and a rejection leaves it.
-#[test]
-fn refusals_do_not_depend_on_the_number(rt: HostRuntime) -> Result<(), Fail> {
-    let params = Params::new(53, 8, 1)?;
-    for k in [1u64, 3, 18446744073709551615] {
-        assert!(rt; is_no_output(rt.alloc(), &params, k), "k {k}");
-    }
-    for k in [1u64, 1000] {
-        assert!(rt; wants_memory(rt.alloc(), &params, k), "k {k}");
-    }
-    Ok(())
-}
-
 // Whether an output of no bytes is rejected.
 fn is_no_output(alloc: Global, params: &Params, k: u64) -> bool {
     let refused = scrypt_keeping(alloc, b"pw", b"salt", params, k.max(1), &mut []);
@@ -228,4 +198,17 @@ fn wants_memory(alloc: Global, params: &Params, k: u64) -> bool {
     let mut key = [7u8; 32];
     let refused = scrypt_keeping(alloc, b"pw", b"salt", params, k.max(1), &mut key);
     refused == Err(KdfError::OutOfMemory) && key == [7; 32]
+}
+
+// An output that no key can have is rejected whatever is kept, and a rejection leaves it.
+#[test]
+fn refusals_do_not_depend_on_the_number(rt: HostRuntime) -> Result<(), Fail> {
+    let alloc = rt.alloc();
+    let params = Params::new(53, 8, 1)?;
+    assert!(rt; is_no_output(alloc, &params, 1));
+    assert!(rt; is_no_output(alloc, &params, 3));
+    assert!(rt; is_no_output(alloc, &params, 18446744073709551615));
+    assert!(rt; wants_memory(alloc, &params, 1));
+    assert!(rt; wants_memory(alloc, &params, 1000));
+    Ok(())
 }

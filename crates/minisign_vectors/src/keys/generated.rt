@@ -4,6 +4,8 @@
 
 use minisign::{KeyPair, Result};
 use minisign_base::devices::random_sources::FixedRandom;
+use minisign_base::devices::sinks::Sink;
+use minisign_base::devices::sources::Source;
 use minisign_base::faults::NamedFault::{NotUtf8, ReadingFailed, WritingFailed};
 use minisign_base::prompt::Prompt;
 use minisign_base::toy::ToyScheme;
@@ -33,12 +35,12 @@ fn prompt_of<'a>(typed: &'a [u8], reads: u64, writer: LimitedSink) -> Typed<'a> 
     Prompt::new(FailsAfter::new(typed, reads), writer)
 }
 
-// Makes a sealed pair of random bytes that count up from 0.
-fn made(
+/// Makes a sealed pair of random bytes that count up from 0, and writes both texts.
+pub fn wrote_sealed_over<R: Source, W: Sink, K: Sink>(
     alloc: Global,
-    prompt: &mut Typed<'_>,
-    public: &mut LimitedSink,
-    secret: &mut LimitedSink,
+    prompt: &mut Prompt<R, W>,
+    public: &mut K,
+    secret: &mut K,
 ) -> Result<KeyPair> {
     KeyPair::generate_and_write_encrypted_keypair(
         alloc,
@@ -59,7 +61,7 @@ fn key_sinks_that_take_one_byte_a_write(rt: HostRuntime) {
     let mut public = LimitedSink::new(alloc, 114).by(1).flushed(1);
     let mut secret = LimitedSink::new(alloc, 259).by(1).flushed(1);
     let mut prompt = prompt_of(b"p\np\n", 4, LimitedSink::new(alloc, 300));
-    let answer = made(alloc, &mut prompt, &mut public, &mut secret);
+    let answer = wrote_sealed_over(alloc, &mut prompt, &mut public, &mut secret);
     let came = ends_in(answer, Accepted);
     let written = public.as_slice() == COUNTED_PUBLIC_TEXT.as_bytes()
         && secret.as_slice() == SECRET_TEXT.as_bytes()
@@ -72,7 +74,7 @@ fn is_refused(alloc: Global, prompt: Typed<'_>, expected: Outcome, length: usize
     let mut prompt = prompt;
     let mut public = LimitedSink::new(alloc, 300);
     let mut secret = LimitedSink::new(alloc, 300);
-    let answer = made(alloc, &mut prompt, &mut public, &mut secret);
+    let answer = wrote_sealed_over(alloc, &mut prompt, &mut public, &mut secret);
     let came = ends_in(answer, expected);
     came && prompt.writer.as_slice() == beginning(SHOWN, length).as_bytes()
         && public.as_slice().is_empty()
@@ -99,20 +101,14 @@ fn prompts_that_cannot_be_written_to(rt: HostRuntime) {
 // derivation too: the pair that was made is not written.
 #[test]
 fn prompts_that_cannot_be_flushed_or_told_that_it_is_done(rt: HostRuntime) {
-    for (room, flushes, length) in [
-        (300usize, 0usize, 51usize),
-        (300, 1, 61),
-        (300, 2, 87),
-        (300, 3, 158),
-        (158, 9, 158),
-        (162, 9, 162),
-        (163, 4, 163),
-    ] {
-        assert!(rt;
-            shows(rt.alloc(), room, flushes, length),
-            "at {room}, {flushes}"
-        );
-    }
+    let alloc = rt.alloc();
+    assert!(rt; shows(alloc, 300, 0, 51));
+    assert!(rt; shows(alloc, 300, 1, 61));
+    assert!(rt; shows(alloc, 300, 2, 87));
+    assert!(rt; shows(alloc, 300, 3, 158));
+    assert!(rt; shows(alloc, 158, 9, 158));
+    assert!(rt; shows(alloc, 162, 9, 162));
+    assert!(rt; shows(alloc, 163, 4, 163));
 }
 
 // The prompt's reader fails at each of its reads, and gives what is not UTF-8.

@@ -3,7 +3,9 @@
 //! requests failing in turn. A buffer that cannot grow is a sink that fails, so that a call with
 //! one may fail to write too.
 
-use crate::keys::sealed::in_parts::sealed_in_parts;
+use crate::keys::generated::wrote_sealed_over;
+use crate::keys::sealed::calls::{Way, opened};
+use crate::keys::sealed::in_parts::SEALED_IN_PARTS;
 use crate::keys::texts::is_text_of;
 use crate::signatures::calls::has_text;
 use minisign::{KeyPair, PublicKey, Result, SecretKey, SecretKeyBox};
@@ -20,8 +22,8 @@ use minisign_fixtures::texts::{
 };
 use std::alloc::Global;
 
-// A prompt into which these bytes are typed, that asks for no memory.
-fn typed<'a>(bytes: &'a [u8]) -> Prompt<SliceSource<'a>, Counting> {
+/// A prompt into which these bytes are typed, that asks for no memory.
+pub fn typed<'a>(bytes: &'a [u8]) -> Prompt<SliceSource<'a>, Counting> {
     Prompt::new(SliceSource::new(bytes), Counting { bytes: 0 })
 }
 
@@ -67,8 +69,8 @@ fn has_records(pair: &KeyPair, public: &[u8], secret: &[u8]) -> Result<bool> {
     Ok(pk == pair.pk && sk == pair.sk)
 }
 
-// Whether this is the text of the pair that is sealed under the empty password.
-fn is_sealed_text(bytes: &[u8]) -> bool {
+/// Whether this is the text of the pair that is sealed under the empty password.
+pub fn is_sealed_text(bytes: &[u8]) -> bool {
     is_text_of(
         bytes,
         "rsign encrypted secret key",
@@ -93,16 +95,7 @@ fn made_sealed(alloc: Global) -> Result<bool> {
 fn wrote_sealed(alloc: Global) -> Result<bool> {
     let mut public = VecSink::new(alloc);
     let mut secret = VecSink::new(alloc);
-    KeyPair::generate_and_write_encrypted_keypair(
-        alloc,
-        &ToyScheme::new(),
-        &mut FixedRandom::new(&counted()),
-        &mut public,
-        &mut secret,
-        None,
-        None,
-        &mut typed(b"\n\n"),
-    )?;
+    wrote_sealed_over(alloc, &mut typed(b"\n\n"), &mut public, &mut secret)?;
     let written = public.as_slice() == COUNTED_PUBLIC_TEXT.as_bytes();
     Ok(written && is_sealed_text(secret.as_slice()))
 }
@@ -113,17 +106,10 @@ fn is_opened(key: &SecretKey) -> Result<bool> {
     Ok(*key == opened && !key.is_encrypted())
 }
 
-// Whether the text of key A, sealed, opens with every third row kept.
-fn opened_in_less_memory(alloc: Global) -> Result<bool> {
-    let sk_box = SecretKeyBox::from_string(alloc, SEALED)?;
-    let key = SecretKey::from_box_keeping(alloc, sk_box, None, &mut typed(b"password\n"), 3)?;
-    is_opened(&key)
-}
-
-// Whether key A opens that was sealed in many parts.
-fn opened_in_parts(alloc: Global) -> Result<bool> {
-    let sk_box = sealed_in_parts(alloc)?;
-    let key = SecretKey::from_box(alloc, sk_box, None, &mut typed(b"password\n"))?;
+// Whether the text of key A, sealed, opens so with a typed password.
+fn opens(alloc: Global, text: &str, way: Way) -> Result<bool> {
+    let sk_box = SecretKeyBox::from_string(alloc, text)?;
+    let key = opened(alloc, sk_box, None, &mut typed(b"password\n"), way)?;
     is_opened(&key)
 }
 
@@ -163,12 +149,12 @@ fn writing_a_sealed_pair(rt: HostRuntime) {
 
 #[test]
 fn opening_with_every_third_row(rt: HostRuntime) {
-    assert!(rt; is_so_or_out_of_memory(opened_in_less_memory(rt.alloc())));
+    assert!(rt; is_so_or_out_of_memory(opens(rt.alloc(), SEALED, Way::Keeping(3))));
 }
 
 #[test]
 fn opening_in_many_parts(rt: HostRuntime) {
-    assert!(rt; is_so_or_out_of_memory(opened_in_parts(rt.alloc())));
+    assert!(rt; is_so_or_out_of_memory(opens(rt.alloc(), SEALED_IN_PARTS, Way::AnyParts)));
 }
 
 #[test]

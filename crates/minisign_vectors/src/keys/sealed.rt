@@ -2,7 +2,7 @@
 //! the program `minisign_compare` can try of them; here is the rest: a bound on the work, rows that
 //! are not kept, and prompts that fail or are no lines of UTF-8.
 
-mod calls;
+pub mod calls;
 mod faults;
 pub mod in_parts;
 mod in_place;

@@ -1,18 +1,13 @@
 //! Signs and verifies for all tests, and tells what the call returned and what the sinks took.
 
 use minisign::{
-    PublicKey, Result, SecretKey, SignatureBox, VerifyOptions, sign, sign_texts, verify,
-    verify_texts,
+    Prompt, PublicKey, RandomSource, Rereader, Result, SecretKey, SignatureBox, Sink, Source,
+    ToyScheme, VerifyOptions, open_with_password, sign, sign_texts, verify, verify_texts,
 };
-use minisign_base::devices::random_sources::RandomSource;
-use minisign_base::devices::sinks::Sink;
-use minisign_base::devices::sources::{Rereader, Source};
-use minisign_base::prompt::Prompt;
-use minisign_base::scheme::Scheme;
-use minisign_base::toy::ToyScheme;
 use minisign_fixtures::devices::sinks::LimitedSink;
 use minisign_fixtures::keys::{CHECKSUM, KEY_ID, PUBLIC_BYTES, public_record, secret_record};
 use minisign_fixtures::outcomes::{Outcome, ends_in};
+use minisign_fixtures::texts::SIGNATURE_TEXT;
 use std::alloc::Global;
 
 /// The status is said, the data is copied, and legacy signatures are accepted.
@@ -46,15 +41,14 @@ pub fn ample(alloc: Global) -> Sinks {
 }
 
 /// Whether the sinks hold what was wanted, and the outcome is this one.
-fn is_wanted(answer: Result<()>, sinks: Sinks, wanted: Wanted) -> bool {
+fn is_wanted(answer: Result<()>, sinks: &Sinks, wanted: Wanted) -> bool {
     let came = ends_in(answer, wanted.outcome);
     came && sinks.status.as_slice() == wanted.said && sinks.out.as_slice() == wanted.copied
 }
 
 /// Verifies the data with two texts.
-pub fn verified_texts<S: Scheme, R: Rereader, W: Sink, O: Sink>(
+pub fn verified_texts<R: Rereader, W: Sink, O: Sink>(
     alloc: Global,
-    scheme: &S,
     texts: (&str, &str),
     data: &mut R,
     options: VerifyOptions,
@@ -64,7 +58,7 @@ pub fn verified_texts<S: Scheme, R: Rereader, W: Sink, O: Sink>(
     let (pk_text, sig_text) = texts;
     verify_texts(
         alloc,
-        scheme,
+        &ToyScheme::new(),
         pk_text,
         sig_text,
         data,
@@ -77,9 +71,8 @@ pub fn verified_texts<S: Scheme, R: Rereader, W: Sink, O: Sink>(
 }
 
 /// Whether verifying the data with two texts comes out as wanted.
-pub fn texts_come_out<S: Scheme, R: Rereader>(
+pub fn texts_come_out<R: Rereader>(
     alloc: Global,
-    scheme: &S,
     texts: (&str, &str),
     data: &mut R,
     options: VerifyOptions,
@@ -89,60 +82,50 @@ pub fn texts_come_out<S: Scheme, R: Rereader>(
     let mut sinks = sinks;
     let answer = verified_texts(
         alloc,
-        scheme,
         texts,
         data,
         options,
         &mut sinks.status,
         &mut sinks.out,
     );
-    is_wanted(answer, sinks, wanted)
+    is_wanted(answer, &sinks, wanted)
 }
 
-/// Whether verifying the data with a box comes out as wanted.
-pub fn box_comes_out<S: Scheme, R: Rereader>(
+/// Whether verifying the data under key A with the box that a text reads as comes out as wanted,
+/// where it is copied and legacy signatures are accepted.
+pub fn box_comes_out<R: Rereader>(
     alloc: Global,
-    scheme: &S,
-    parts: (&PublicKey, &SignatureBox),
+    text: &str,
     data: &mut R,
-    options: VerifyOptions,
     sinks: Sinks,
     wanted: Wanted,
 ) -> bool {
     let mut sinks = sinks;
-    let (pk, signature_box) = parts;
-    let answer = verify(
-        alloc,
-        scheme,
-        pk,
-        signature_box,
-        data,
-        options.quiet,
-        options.output,
-        options.allow_legacy,
-        &mut sinks.status,
-        &mut sinks.out,
-    );
-    is_wanted(answer, sinks, wanted)
+    let answer = verified_box(alloc, text, data, &mut sinks);
+    is_wanted(answer, &sinks, wanted)
 }
 
-/// Whether verifying the data under key A with the box that a text reads as comes out as wanted.
-pub fn read_box_comes_out<R: Rereader>(
+// Verifies the data under key A with the box that a text reads as.
+fn verified_box<R: Rereader>(
     alloc: Global,
     text: &str,
     data: &mut R,
-    options: VerifyOptions,
-    sinks: Sinks,
-    wanted: Wanted,
-) -> bool {
-    match (public_a(), read_box(alloc, text)) {
-        (Ok(pk), Ok(signature_box)) => {
-            let parts = (&pk, &signature_box);
-            let toy = ToyScheme::new();
-            box_comes_out(alloc, &toy, parts, data, options, sinks, wanted)
-        }
-        _ => false,
-    }
+    sinks: &mut Sinks,
+) -> Result<()> {
+    let pk = public_a()?;
+    let signature_box = read_box(alloc, text)?;
+    verify(
+        alloc,
+        &ToyScheme::new(),
+        &pk,
+        &signature_box,
+        data,
+        COPYING.quiet,
+        COPYING.output,
+        COPYING.allow_legacy,
+        &mut sinks.status,
+        &mut sinks.out,
+    )
 }
 
 /// Key A.
@@ -155,22 +138,19 @@ pub fn public_a() -> Result<PublicKey> {
     PublicKey::from_bytes(&public_record(&KEY_ID, &PUBLIC_BYTES))
 }
 
-/// What is signed beside the data: the trusted comment, the untrusted one, and the moment.
-#[derive(Clone, Copy)]
-pub struct Said<'a> {
-    pub trusted: Option<&'a str>,
-    pub untrusted: Option<&'a str>,
-    pub moment: u64,
+/// The key of a text, with this password where it is sealed.
+pub fn key_of(alloc: Global, sk_text: &str, password: &str) -> Result<SecretKey> {
+    open_with_password(alloc, sk_text, password)
 }
 
-/// Signs the data under the toy; a public key that is passed in is tested.
+/// Signs the data under the toy with the default comments; a public key that is passed in is tested.
 pub fn signed_from<R: Source, Z: RandomSource>(
     alloc: Global,
     pk: Option<&PublicKey>,
     sk: &SecretKey,
     data: &mut R,
-    said: Said,
     random: &mut Z,
+    moment: u64,
 ) -> Result<SignatureBox> {
     sign(
         alloc,
@@ -178,24 +158,23 @@ pub fn signed_from<R: Source, Z: RandomSource>(
         pk,
         sk,
         data,
-        said.trusted,
-        said.untrusted,
+        None,
+        None,
         random,
-        said.moment,
+        moment,
     )
 }
 
-/// Signs the data under the toy with the text of a secret key, with both comments and the moment 0.
+/// Signs the data under the toy with the text of a secret key, with the comments `t` and `c` and the
+/// moment 7.
 pub fn signed_text<P: Source, Q: Sink, R: Source, Z: RandomSource>(
     alloc: Global,
     sk_text: &str,
     password: Option<String>,
     prompt: &mut Prompt<P, Q>,
     data: &mut R,
-    comments: (&str, &str),
     random: &mut Z,
 ) -> Result<String> {
-    let (trusted, untrusted) = comments;
     sign_texts(
         alloc,
         &ToyScheme::new(),
@@ -203,10 +182,10 @@ pub fn signed_text<P: Source, Q: Sink, R: Source, Z: RandomSource>(
         password,
         prompt,
         data,
-        Some(trusted),
-        Some(untrusted),
+        Some("t"),
+        Some("c"),
         random,
-        0,
+        7,
     )
 }
 
@@ -219,4 +198,17 @@ pub fn read_box(alloc: Global, text: &str) -> Result<SignatureBox> {
 pub fn has_text(returned: Result<String>, text: &str) -> Result<bool> {
     let returned = returned?;
     Ok(returned.as_str() == text)
+}
+
+/// Whether this is the trusted comment of the box, and its untrusted one is the default one.
+pub fn has_comments(alloc: Global, signature_box: &SignatureBox, trusted: &str) -> Result<bool> {
+    let is_trusted = has_text(signature_box.trusted_comment(alloc), trusted)?;
+    let untrusted = signature_box.untrusted_comment(alloc);
+    Ok(has_text(untrusted, "signature from rsign secret key")? && is_trusted)
+}
+
+/// Whether the text is the worked one but for its untrusted comment, which is the default one.
+pub fn is_worked_out(text: &str) -> bool {
+    let lines = text.strip_prefix("untrusted comment: signature from rsign secret key");
+    lines == SIGNATURE_TEXT.strip_prefix("untrusted comment: c")
 }

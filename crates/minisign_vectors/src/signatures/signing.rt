@@ -2,26 +2,24 @@
 //! told.
 
 use crate::signatures::calls::signed_text;
-use minisign::Result;
 use minisign_base::devices::random_sources::FixedRandom;
 use minisign_base::faults::NamedFault::{
-    CorruptedKey, MissingEncodedSecretKey, MissingSecretKeyComment, ReadingFailed,
+    self, CorruptedKey, MissingEncodedSecretKey, MissingSecretKeyComment, ReadingFailed,
     SecretKeyNotBase64, UnsupportedEncryptionAlgorithm, WrongPassword,
 };
 use minisign_fixtures::devices::sources::FailsAfter;
-use minisign_fixtures::outcomes::Outcome::{self, Refused};
-use minisign_fixtures::outcomes::{ends_in, is_so};
-use minisign_fixtures::prompts::{bytes_left, handed, typed};
+use minisign_fixtures::outcomes::Outcome::Refused;
+use minisign_fixtures::outcomes::ends_in;
+use minisign_fixtures::prompts::{bytes_left, typed};
 use minisign_fixtures::texts::SEALED;
 use std::alloc::Global;
+use std::test::Fail;
 
 const SAID: &str =
     "Password: Deriving a key from the password and decrypting the secret key... done\n";
 
-// The random bytes of the texts here, whose comments are `t` and `c`.
+// The random bytes of the texts here.
 const ZEROS: [u8; 128] = [0; 128];
-
-const COMMENTS: (&str, &str) = ("t", "c");
 
 // Key A's secret texts with a checksum of zeros: under the key derivations `Xx` and `SC`, and under
 // none.
@@ -34,17 +32,29 @@ const UNDER_SC: &str =
 const CORRUPTED: &str =
     "c\nRWQAAEIyAAAAAAAAAAAAAAAAAAAAAAAAAAAAAAAAAAAAAAAAAAAAAAAAAAAAAAAAAAAAAAAAAQIDBAUGBwgAAAAAAAAAAAAAAAAAAAAAAAAAAAAAAAAAAAAAAAAAAFpaWlpaWlpaWlpaWlpaWlpaWlpaWlpaWlpaWlpaWlpaAAAAAAAAAAAAAAAAAAAAAAAAAAAAAAAAAAAAAAAAAAA=\n";
 
-// Whether signing over data that fails after so many reads is rejected so where a password is
-// typed, and the prompt is told this, and read where it is told anything.
-fn is_refused(
-    alloc: Global,
-    sk_text: &str,
-    password: Option<&str>,
-    reads: u64,
-    expected: Outcome,
-    told: &str,
-) -> Result<bool> {
-    let password = handed(alloc, password)?;
+// The text of a secret key, after how many reads the data fails, what comes of it, and what the prompt is
+// told.
+type Row = (&'static str, u64, NamedFault, &'static str);
+
+const ROWS: [Row; 7] = [
+    ("", 0, MissingSecretKeyComment, ""),
+    ("c\n", 0, MissingEncodedSecretKey, ""),
+    ("c\n!\n", 0, SecretKeyNotBase64, ""),
+    (UNDER_XX, 0, UnsupportedEncryptionAlgorithm, ""),
+    (UNDER_SC, 0, UnsupportedEncryptionAlgorithm, ""),
+    (CORRUPTED, 0, CorruptedKey, ""),
+    (SEALED, 2, ReadingFailed, SAID),
+];
+
+// The rows, so that no proof looks into all of them.
+fn rows() -> &'static [Row] {
+    &ROWS
+}
+
+// Whether signing is rejected so where a password is typed, and the prompt is told this, and read where
+// it is told anything.
+fn is_refused(alloc: Global, password: Option<String>, row: &Row) -> bool {
+    let (sk_text, reads, fault, told) = *row;
     let mut prompt = typed(alloc, b"password\n");
     let mut data = FailsAfter::new(b"abc", reads);
     let mut random = FixedRandom::new(&ZEROS);
@@ -54,30 +64,27 @@ fn is_refused(
         password,
         &mut prompt,
         &mut data,
-        COMMENTS,
         &mut random,
     );
-    let came = ends_in(answer, expected);
+    let came = ends_in(answer, Refused(fault));
     let unread = if told.is_empty() { 9 } else { 0 };
     let left = bytes_left(&mut prompt.reader) == unread;
-    Ok(came && left && prompt.writer.as_slice() == told.as_bytes())
+    came && left && prompt.writer.as_slice() == told.as_bytes()
 }
 
-// A text and a wrong password that is passed in are rejected before anything is read, and a failing
-// source comes after the prompt.
+// A text is rejected before anything is read, and a failing source comes after the prompt.
 #[test]
 fn refusals_come_in_their_order(rt: HostRuntime) {
-    for (sk_text, password, reads, fault, told) in [
-        ("", None, 0u64, MissingSecretKeyComment, ""),
-        ("c\n", None, 0, MissingEncodedSecretKey, ""),
-        ("c\n!\n", None, 0, SecretKeyNotBase64, ""),
-        (UNDER_XX, None, 0, UnsupportedEncryptionAlgorithm, ""),
-        (UNDER_SC, None, 0, UnsupportedEncryptionAlgorithm, ""),
-        (CORRUPTED, None, 0, CorruptedKey, ""),
-        (SEALED, Some("another"), 0, WrongPassword, ""),
-        (SEALED, None, 2, ReadingFailed, SAID),
-    ] {
-        let refused = is_refused(rt.alloc(), sk_text, password, reads, Refused(fault), told);
-        assert!(rt; is_so(refused), "at {fault:?}");
+    for row in rows() {
+        assert!(rt; is_refused(rt.alloc(), None, row), "at {:?}", row.2);
     }
+}
+
+// So is a wrong password that is passed in.
+#[test]
+fn a_wrong_password_is_refused_before_the_data(rt: HostRuntime) -> Result<(), Fail> {
+    let password = String::from_str(rt.alloc(), "another")?;
+    let row = (SEALED, 0, WrongPassword, "");
+    assert!(rt; is_refused(rt.alloc(), Some(password), &row));
+    Ok(())
 }

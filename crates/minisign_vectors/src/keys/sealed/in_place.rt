@@ -1,27 +1,12 @@
 //! Opening a sealed key in memory of the caller.
 
-ghost use Rattle.std.specs.Prelude.{◌≡◌, IfOk, vec_len};
-
+use crate::kdf::passed_memory::{bytes, words};
 use crate::keys::sealed::less_memory::{MADE, OPENED};
 use minisign::{Result, SecretKey, read_secret_key};
 use minisign_base::faults::NamedFault::{WorkTooHigh, WrongPassword};
 use minisign_fixtures::outcomes::Outcome::{self, Accepted, Refused};
 use minisign_fixtures::outcomes::{comes_to, is_so};
-use std::alloc::{AllocError, Global};
-
-// So many words, none of them 0.
-fn words(alloc: Global, len: usize) -> std::result::Result<Vec<u32>, AllocError>
-    ensures { IfOk result (λ v. vec_len v ≡ len) }
-{
-    vec![in alloc; 0x5c5c5c5cu32; len]
-}
-
-// So many bytes, none of them 0.
-fn bytes(alloc: Global, len: usize) -> std::result::Result<Vec<u8>, AllocError>
-    ensures { IfOk result (λ v. vec_len v ≡ len) }
-{
-    vec![in alloc; 0x5cu8; len]
-}
+use std::alloc::Global;
 
 // Whether the key comes out so, with every 16th row kept, and all of the memory then holds zeros.
 fn comes_out(alloc: Global, password: &str, max_p: u32, outcome: Outcome) -> Result<bool> {

@@ -51,27 +51,39 @@ fn limited_box(alloc: Global, memory: u64, operations: u64) -> Result<SecretKeyB
     SecretKey::from_bytes(&record)?.to_box(alloc, None)
 }
 
+// The limits of memory and of operations, a bound on the parts, and what opening comes to.
+const LIMITS: [(u64, u64, u32, Outcome); 12] = [
+    (0, u64::MAX, 16, TOO_MUCH_WORK),
+    (0, 0, 511, TOO_MUCH_WORK),
+    (0, 0, 512, WRONG),
+    (33554432, 1048576, 0, TOO_MUCH_WORK),
+    (1073741825, 0, 0, TOO_HIGH),
+    (0, 1099511627776, 0, INVALID),
+    (0, 1099511627776, u32::MAX, INVALID),
+    (1073741825, 0, u32::MAX, TOO_HIGH),
+    (u64::MAX, 0, u32::MAX, TOO_HIGH),
+    (1073741824, 0, u32::MAX, WRONG),
+    (1073741824, 0, 1, WRONG),
+    (1073741824, 0, 0, TOO_MUCH_WORK),
+];
+
+// The rows, so that no proof looks into all of them.
+fn limits() -> &'static [(u64, u64, u32, Outcome)] {
+    &LIMITS
+}
+
 // Whether opening with these limits and this bound has this outcome.
-fn is_bounded(alloc: Global, memory: u64, operations: u64, max_p: u32, expected: Outcome) -> bool {
+fn is_bounded(alloc: Global, row: &(u64, u64, u32, Outcome)) -> bool {
+    let (memory, operations, max_p, expected) = *row;
     let sk_box = limited_box(alloc, memory, operations);
     has_outcome(alloc, sk_box, "p", Way::Within(max_p), expected)
 }
 
 #[test]
 fn limits_and_work_are_bounded(rt: HostRuntime) {
-    let alloc = rt.alloc();
-    assert!(rt; is_bounded(alloc, 0, u64::MAX, 16, TOO_MUCH_WORK));
-    assert!(rt; is_bounded(alloc, 0, 0, 511, TOO_MUCH_WORK));
-    assert!(rt; is_bounded(alloc, 0, 0, 512, WRONG));
-    assert!(rt; is_bounded(alloc, 33554432, 1048576, 0, TOO_MUCH_WORK));
-    assert!(rt; is_bounded(alloc, 1073741825, 0, 0, TOO_HIGH));
-    assert!(rt; is_bounded(alloc, 0, 1099511627776, 0, INVALID));
-    assert!(rt; is_bounded(alloc, 0, 1099511627776, u32::MAX, INVALID));
-    assert!(rt; is_bounded(alloc, 1073741825, 0, u32::MAX, TOO_HIGH));
-    assert!(rt; is_bounded(alloc, u64::MAX, 0, u32::MAX, TOO_HIGH));
-    assert!(rt; is_bounded(alloc, 1073741824, 0, u32::MAX, WRONG));
-    assert!(rt; is_bounded(alloc, 1073741824, 0, 1, WRONG));
-    assert!(rt; is_bounded(alloc, 1073741824, 0, 0, TOO_MUCH_WORK));
+    for row in limits() {
+        assert!(rt; is_bounded(rt.alloc(), row), "at {row:?}");
+    }
 }
 
 #[test]
@@ -91,52 +103,67 @@ fn a_key_of_the_c_program_opens_in_less_memory(rt: HostRuntime) {
     assert!(rt; is_so(gives(alloc, sk_box, None, b"password\n", way, OPENED_AS_MINISIGN)));
 }
 
-// The limits and the bound are tested once the password is there, and before the derivation.
+// Whether they are so where the password is typed: once it is there, and before the derivation.
+fn is_bounded_late(
+    alloc: Global,
+    memory: u64,
+    operations: u64,
+    max_p: u32,
+    outcome: Outcome,
+) -> bool {
+    let sk_box = limited_box(alloc, memory, operations);
+    let wanted = Wanted {
+        outcome,
+        told: DERIVING,
+        unread: 0,
+    };
+    comes_out(alloc, sk_box, None, b"p\n", Way::Within(max_p), wanted)
+}
+
 #[test]
 fn limits_are_refused_behind_a_typed_password(rt: HostRuntime) {
     let alloc = rt.alloc();
-    for (memory, operations, max_p, outcome) in [
-        (1073741825, 0, u32::MAX, TOO_HIGH),
-        (0, 1099511627776, u32::MAX, INVALID),
-        (0, u64::MAX, 16, TOO_MUCH_WORK),
-    ] {
-        let sk_box = limited_box(alloc, memory, operations);
-        let wanted = Wanted {
-            outcome,
-            told: DERIVING,
-            unread: 0,
-        };
-        assert!(rt;
-            comes_out(alloc, sk_box, None, b"p\n", Way::Within(max_p), wanted),
-            "at {memory} {operations}"
-        );
-    }
+    assert!(rt; is_bounded_late(alloc, 1073741825, 0, u32::MAX, TOO_HIGH));
+    assert!(rt; is_bounded_late(alloc, 0, 1099511627776, u32::MAX, INVALID));
+    assert!(rt; is_bounded_late(alloc, 0, u64::MAX, 16, TOO_MUCH_WORK));
 }
 
-// Whether opening with so much room for what the prompt is told has this outcome, and the room is
-// filled.
-fn fills(alloc: Global, room: usize, memory: u64, bytes: &[u8], outcome: Outcome) -> bool {
+// The room for what the prompt is told, the limit of memory, what is typed, and what opening comes to. A
+// writer that fails at the line after the derivation is told before a wrong password, and after the
+// limits.
+const ROOMS: [(usize, u64, &str, Outcome); 9] = [
+    (4, 1048576, "p\n", UNWRITTEN),
+    (10, 1048576, "p\n", UNWRITTEN),
+    (75, 1048576, "p\n", UNWRITTEN),
+    (76, 1048576, "p\n", UNWRITTEN),
+    (80, 1048576, "p\n", UNWRITTEN),
+    (81, 1048576, "p\n", WRONG),
+    (76, 1073741825, "p\n", TOO_HIGH),
+    (75, 1073741825, "p\n", UNWRITTEN),
+    (10, 1048576, "", ENDED),
+];
+
+// The rows, so that no proof looks into all of them.
+fn rooms() -> &'static [(usize, u64, &'static str, Outcome)] {
+    &ROOMS
+}
+
+// Whether opening with so much room has this outcome, and the room is filled.
+fn fills(alloc: Global, row: &(usize, u64, &str, Outcome)) -> bool {
+    let (room, memory, line, outcome) = *row;
     let Ok(sk_box) = limited_box(alloc, memory, 0) else {
         return false;
     };
-    let mut prompt = Prompt::new(SliceSource::new(bytes), LimitedSink::new(alloc, room));
+    let writer = LimitedSink::new(alloc, room);
+    let mut prompt = Prompt::new(SliceSource::new(line.as_bytes()), writer);
     let answer = opened(alloc, sk_box, None, &mut prompt, Way::AnyParts);
     let came = ends_in(answer, outcome);
     came && prompt.writer.as_slice() == beginning(DONE, room).as_bytes()
 }
 
-// A writer that fails at the line after the derivation is told before a wrong password, and after
-// the limits.
 #[test]
 fn failing_writers_are_told_in_their_place(rt: HostRuntime) {
-    let alloc = rt.alloc();
-    assert!(rt; fills(alloc, 4, 1048576, b"p\n", UNWRITTEN));
-    assert!(rt; fills(alloc, 10, 1048576, b"p\n", UNWRITTEN));
-    assert!(rt; fills(alloc, 75, 1048576, b"p\n", UNWRITTEN));
-    assert!(rt; fills(alloc, 76, 1048576, b"p\n", UNWRITTEN));
-    assert!(rt; fills(alloc, 80, 1048576, b"p\n", UNWRITTEN));
-    assert!(rt; fills(alloc, 81, 1048576, b"p\n", WRONG));
-    assert!(rt; fills(alloc, 76, 1073741825, b"p\n", TOO_HIGH));
-    assert!(rt; fills(alloc, 75, 1073741825, b"p\n", UNWRITTEN));
-    assert!(rt; fills(alloc, 10, 1048576, b"", ENDED));
+    for row in rooms() {
+        assert!(rt; fills(rt.alloc(), row), "at {row:?}");
+    }
 }

@@ -3,19 +3,18 @@
 //! of its calls in turn, until a run meets no error. Data that fails at a read, for `sign`,
 //! `verify` and `verify_texts`, is in `tests/rows/failing_devices.py`.
 
+use crate::keys::sealed::calls::{Way, opened};
 use crate::signatures::calls::{
-    COPYING, Said, Sinks, Wanted, ample, key_a, read_box_comes_out, signed_from, signed_text,
-    texts_come_out,
+    COPYING, Sinks, Wanted, ample, box_comes_out, key_a, signed_from, signed_text, texts_come_out,
 };
 use minisign::reading::read_to_end;
-use minisign::{Result, SecretKey, SecretKeyBox};
+use minisign::{Result, SecretKeyBox};
 use minisign_base::devices::random_sources::RandomSource;
-use minisign_base::devices::sources::{Rereader, SliceSource};
+use minisign_base::devices::sources::SliceSource;
 use minisign_base::faults::NamedFault::{
     DataChanged, GoingBackFailed, RandomSourceFailed, ReadingFailed, WritingFailed,
 };
 use minisign_base::prompt::Prompt;
-use minisign_base::toy::ToyScheme;
 use minisign_fixtures::devices::random::FailingRandom;
 use minisign_fixtures::devices::sinks::LimitedSink;
 use minisign_fixtures::devices::sources::{Changes, FailingSource};
@@ -49,17 +48,6 @@ const ZEROS: [u8; 128] = [0; 128];
 // More calls than are made.
 const ALL: usize = 1000;
 
-// What verifies over devices.
-#[derive(Clone, Copy, PartialEq, Eq)]
-enum Call {
-    // `verify_texts`.
-    WithTexts,
-    // `verify`, with the key and the box that the texts read as.
-    WithBox,
-}
-
-const CALLS: [Call; 2] = [Call::WithTexts, Call::WithBox];
-
 // Which sink fails.
 #[derive(Clone, Copy)]
 enum Fails {
@@ -85,20 +73,22 @@ impl Fails {
     }
 }
 
-// Whether verifying the data under key A with output and legacy signatures allowed comes out so.
-fn verifies<R: Rereader>(
-    alloc: Global,
-    call: Call,
-    text: &str,
-    data: &mut R,
-    sinks: Sinks,
-    wanted: Wanted,
-) -> bool {
-    if call == Call::WithBox {
-        return read_box_comes_out(alloc, text, data, COPYING, sinks, wanted);
-    }
-    let toy = ToyScheme::new();
-    texts_come_out(alloc, &toy, (KEY_TEXT, text), data, COPYING, sinks, wanted)
+// Whether verifying `abc` by `verify_texts` comes out so where the data fails after so many calls,
+// and leaves this.
+fn texts_leave(alloc: Global, calls: usize, wanted: Wanted, left: &[u8]) -> bool {
+    let mut data = FailingSource::new(b"abc", calls);
+    let texts = (KEY_TEXT, SIGNATURE_TEXT);
+    let came = texts_come_out(alloc, texts, &mut data, COPYING, ample(alloc), wanted);
+    let rest = gives_record(read_to_end(alloc, &mut data), left);
+    came && rest
+}
+
+// The same by `verify`, with the key and the box that the texts read as.
+fn box_leaves(alloc: Global, calls: usize, wanted: Wanted, left: &[u8]) -> bool {
+    let mut data = FailingSource::new(b"abc", calls);
+    let came = box_comes_out(alloc, SIGNATURE_TEXT, &mut data, ample(alloc), wanted);
+    let rest = gives_record(read_to_end(alloc, &mut data), left);
+    came && rest
 }
 
 // Calls of data that is copied, in their order: the mark, four reads, going back, four reads. A mark
@@ -106,34 +96,26 @@ fn verifies<R: Rereader>(
 #[test]
 fn a_mark_and_going_back_fail(rt: HostRuntime) {
     let alloc = rt.alloc();
-    for call in CALLS {
-        for (calls, said, left) in [(0usize, 0usize, b"abc".as_slice()), (5, 60, b"")] {
-            let mut data = FailingSource::new(b"abc", calls);
-            let wanted = Wanted {
-                outcome: Refused(GoingBackFailed),
-                said: front(SAID, said),
-                copied: b"",
-            };
-            let came = verifies(alloc, call, SIGNATURE_TEXT, &mut data, ample(alloc), wanted);
-            assert!(rt; came, "at {calls}");
-            assert!(rt;
-                gives_record(read_to_end(alloc, &mut data), left),
-                "at {calls}"
-            );
-        }
+    for (calls, said, left) in [(0usize, 0usize, b"abc".as_slice()), (5, 60, b"")] {
+        let wanted = Wanted {
+            outcome: Refused(GoingBackFailed),
+            said: front(SAID, said),
+            copied: b"",
+        };
+        assert!(rt; texts_leave(alloc, calls, wanted, left), "at {calls}");
+        assert!(rt; box_leaves(alloc, calls, wanted, left), "at {calls}");
     }
 }
 
 // Whether verifying `abc` comes out so by both calls, where a second reading gives other data, and a
 // sink fails.
 fn comes_out(alloc: Global, text: &str, second: &[u8], fails: Fails, wanted: Wanted) -> bool {
-    for call in CALLS {
-        let mut data = Changes::new(b"abc", second);
-        if !verifies(alloc, call, text, &mut data, fails.sinks(alloc), wanted) {
-            return false;
-        }
-    }
-    true
+    let texts = (KEY_TEXT, text);
+    let mut data = Changes::new(b"abc", second);
+    let by_texts = texts_come_out(alloc, texts, &mut data, COPYING, fails.sinks(alloc), wanted);
+    let mut data = Changes::new(b"abc", second);
+    let by_box = box_comes_out(alloc, text, &mut data, fails.sinks(alloc), wanted);
+    by_texts && by_box
 }
 
 // The status is written and never flushed: 60 bytes one by one, or all at once.
@@ -200,16 +182,7 @@ fn is_signed(
     let mut prompt = prompt;
     let mut data = FailingSource::new(b"abc", reads);
     let mut random = FailingRandom::new(&ZEROS, draws);
-    let comments = ("t", "c");
-    let answer = signed_text(
-        alloc,
-        SEALED,
-        None,
-        &mut prompt,
-        &mut data,
-        comments,
-        &mut random,
-    );
+    let answer = signed_text(alloc, SEALED, None, &mut prompt, &mut data, &mut random);
     let text = answer.is_err() || is_text(&answer, SIGNATURE_TEXT);
     let came = ends_in(answer, expected);
     let told = prompt.writer.as_slice() == front(ASKED_AND_DONE, told);
@@ -218,6 +191,16 @@ fn is_signed(
     let undrawn = random.random.fill(&mut [0; 128]).is_ok();
     came && text && told && typed && read && undrawn == is_undrawn
 }
+
+// After how many calls the prompt's writer fails, how much it was told, and what is left of what is typed.
+const WRITES: [(usize, usize, usize); 6] = [
+    (0, 0, 10),
+    (1, 10, 10),
+    (2, 10, 1),
+    (3, 76, 1),
+    (4, 76, 1),
+    (5, 81, 1),
+];
 
 // Until a sealed key is opened its prompt alone is used. The reader is read up to the line feed, so
 // that an `x` after it is left, and the writer writes and flushes three texts.
@@ -232,14 +215,7 @@ fn the_prompt_of_signing_fails(rt: HostRuntime) {
         let came = is_signed(alloc, prompt, (ALL, ALL), UNREAD, 10, left, true);
         assert!(rt; came, "at {reads}");
     }
-    for (calls, told, typed_left) in [
-        (0usize, 0usize, 10usize),
-        (1, 10, 10),
-        (2, 10, 1),
-        (3, 76, 1),
-        (4, 76, 1),
-        (5, 81, 1),
-    ] {
+    for (calls, told, typed_left) in WRITES {
         let writer = LimitedSink::new(alloc, 100).failing_after(calls);
         let prompt = Prompt::new(FailingSource::new(typed, ALL), writer);
         let left = (typed_left, 3);
@@ -251,32 +227,46 @@ fn the_prompt_of_signing_fails(rt: HostRuntime) {
     assert!(rt; is_signed(alloc, prompt, (ALL, ALL), UNWRITTEN, 4, (10, 3), true));
 }
 
+// After how many reads the data fails, after how many draws the random bytes, what comes of it, what is left
+// of the data, and whether nothing was drawn.
+type Signing = (usize, usize, Outcome, usize, bool);
+
+const SIGNINGS: [Signing; 7] = [
+    (0, 0, UNREAD, 3, true),
+    (1, 0, UNREAD, 2, true),
+    (2, 0, UNREAD, 1, true),
+    (3, 0, UNREAD, 0, true),
+    (4, 0, UNDRAWN, 0, true),
+    (4, 1, UNDRAWN, 0, false),
+    (4, 2, Accepted, 0, false),
+];
+
+// The rows, so that no proof looks into all of them.
+fn signings() -> &'static [Signing] {
+    &SIGNINGS
+}
+
+// Whether signing comes out so once the prompt has opened the key.
+fn is_signed_over(alloc: Global, row: &Signing) -> bool {
+    let (reads, draws, expected, left, is_undrawn) = *row;
+    let reader = FailingSource::new(b"password\nx", ALL);
+    let prompt = Prompt::new(reader, LimitedSink::new(alloc, 100).failing_after(6));
+    is_signed(
+        alloc,
+        prompt,
+        (reads, draws),
+        expected,
+        81,
+        (1, left),
+        is_undrawn,
+    )
+}
+
 // Signing with a text reads four times and draws twice, once the text is opened.
 #[test]
 fn the_data_and_the_random_bytes_of_signing_fail(rt: HostRuntime) {
-    let alloc = rt.alloc();
-    for (reads, draws, expected, left, is_undrawn) in [
-        (0usize, 0usize, UNREAD, 3usize, true),
-        (1, 0, UNREAD, 2, true),
-        (2, 0, UNREAD, 1, true),
-        (3, 0, UNREAD, 0, true),
-        (4, 0, UNDRAWN, 0, true),
-        (4, 1, UNDRAWN, 0, false),
-        (4, 2, Accepted, 0, false),
-    ] {
-        let reader = FailingSource::new(b"password\nx", ALL);
-        let prompt = Prompt::new(reader, LimitedSink::new(alloc, 100).failing_after(6));
-        let left = (1, left);
-        let came = is_signed(
-            alloc,
-            prompt,
-            (reads, draws),
-            expected,
-            81,
-            left,
-            is_undrawn,
-        );
-        assert!(rt; came, "at {reads} {draws}");
+    for row in signings() {
+        assert!(rt; is_signed_over(rt.alloc(), row), "at {row:?}");
     }
 }
 
@@ -285,12 +275,7 @@ fn is_undrawn(alloc: Global, draws: usize) -> Result<bool> {
     let secret = key_a()?;
     let mut data = SliceSource::new(b"abc");
     let mut random = FailingRandom::new(&ZEROS, draws);
-    let said = Said {
-        trusted: None,
-        untrusted: None,
-        moment: 0,
-    };
-    let answer = signed_from(alloc, None, &secret, &mut data, said, &mut random);
+    let answer = signed_from(alloc, None, &secret, &mut data, &mut random, 0);
     let came = ends_in(answer, UNDRAWN);
     let undrawn = random.random.fill(&mut [0; 128]).is_ok();
     Ok(came && undrawn == (draws == 0))
@@ -304,68 +289,68 @@ fn the_random_bytes_of_a_raw_key_fail(rt: HostRuntime) {
 }
 
 // Whether opening the text, with a prompt of which the reader and the writer fail after so many
-// calls, has this outcome, and tells this.
+// calls, has this outcome, and tells so much of this.
 fn opens(
     alloc: Global,
-    (text, typed): (&str, &[u8]),
+    (text, typed, whole): (&str, &str, &[u8]),
     (reads, writes): (usize, usize),
     expected: Outcome,
-    told: &[u8],
+    told: usize,
 ) -> bool {
     let Ok(sk_box) = SecretKeyBox::from_string(alloc, text) else {
         return false;
     };
     let writer = LimitedSink::new(alloc, 100).failing_after(writes);
-    let mut prompt = Prompt::new(FailingSource::new(typed, reads), writer);
-    let answer = SecretKey::from_box(alloc, sk_box, None, &mut prompt);
+    let mut prompt = Prompt::new(FailingSource::new(typed.as_bytes(), reads), writer);
+    let answer = opened(alloc, sk_box, None, &mut prompt, Way::AnyParts);
     let came = ends_in(answer, expected);
-    came && prompt.writer.as_slice() == told
+    came && prompt.writer.as_slice() == front(whole, told)
 }
+
+// A sealed key, what is typed, and what is then told in all.
+const TYPED: (&str, &str, &[u8]) = (SEALED, "password\n", ASKED_AND_DONE);
+
+// The same where nothing is typed: it is told that it is empty, in a fourth text.
+const NOTHING: (&str, &str, &[u8]) = (SEALED_WITH_NOTHING, "\n", MARKED_AND_DONE);
+
+// After how many calls the prompt's writer fails, and how much it was told.
+const TOLD: [(usize, usize); 6] = [(0, 0), (1, 10), (2, 10), (3, 76), (4, 76), (5, 81)];
+
+const TOLD_OF_NOTHING: [(usize, usize); 8] = [
+    (0, 0),
+    (1, 10),
+    (2, 10),
+    (3, 18),
+    (4, 18),
+    (5, 84),
+    (6, 84),
+    (7, 89),
+];
 
 // The prompt where a password is typed: its reader is read up to the line feed, and its writer
 // writes and flushes three texts. After the last call the key opens.
 #[test]
 fn the_prompt_of_opening_fails(rt: HostRuntime) {
     let alloc = rt.alloc();
-    let (key, whole) = ((SEALED, b"password\n".as_slice()), ASKED_AND_DONE);
     for reads in 0..9usize {
-        let came = opens(alloc, key, (reads, ALL), UNREAD, front(whole, 10));
-        assert!(rt; came, "at {reads}");
+        assert!(rt; opens(alloc, TYPED, (reads, ALL), UNREAD, 10), "at {reads}");
     }
-    assert!(rt; opens(alloc, key, (9, ALL), Accepted, whole));
-    for (writes, expected, told) in [
-        (0usize, UNWRITTEN, 0usize),
-        (1, UNWRITTEN, 10),
-        (2, UNWRITTEN, 10),
-        (3, UNWRITTEN, 76),
-        (4, UNWRITTEN, 76),
-        (5, UNWRITTEN, 81),
-        (6, Accepted, 81),
-    ] {
-        let came = opens(alloc, key, (ALL, writes), expected, front(whole, told));
+    assert!(rt; opens(alloc, TYPED, (9, ALL), Accepted, 81));
+    for (writes, told) in TOLD {
+        let came = opens(alloc, TYPED, (ALL, writes), UNWRITTEN, told);
         assert!(rt; came, "at {writes} of the writer");
     }
+    assert!(rt; opens(alloc, TYPED, (ALL, 6), Accepted, 81));
 }
 
-// The same where an empty one is typed: it is told that it is empty, in a fourth text.
 #[test]
 fn the_prompt_of_opening_with_nothing_fails(rt: HostRuntime) {
     let alloc = rt.alloc();
-    let (key, whole) = ((SEALED_WITH_NOTHING, b"\n".as_slice()), MARKED_AND_DONE);
-    assert!(rt; opens(alloc, key, (0, ALL), UNREAD, front(whole, 10)));
-    assert!(rt; opens(alloc, key, (1, ALL), Accepted, whole));
-    for (writes, expected, told) in [
-        (0usize, UNWRITTEN, 0usize),
-        (1, UNWRITTEN, 10),
-        (2, UNWRITTEN, 10),
-        (3, UNWRITTEN, 18),
-        (4, UNWRITTEN, 18),
-        (5, UNWRITTEN, 84),
-        (6, UNWRITTEN, 84),
-        (7, UNWRITTEN, 89),
-        (8, Accepted, 89),
-    ] {
-        let came = opens(alloc, key, (ALL, writes), expected, front(whole, told));
+    assert!(rt; opens(alloc, NOTHING, (0, ALL), UNREAD, 10));
+    assert!(rt; opens(alloc, NOTHING, (1, ALL), Accepted, 89));
+    for (writes, told) in TOLD_OF_NOTHING {
+        let came = opens(alloc, NOTHING, (ALL, writes), UNWRITTEN, told);
         assert!(rt; came, "at {writes} of the writer");
     }
+    assert!(rt; opens(alloc, NOTHING, (ALL, 8), Accepted, 89));
 }

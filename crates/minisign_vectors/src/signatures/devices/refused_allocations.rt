@@ -3,18 +3,18 @@
 //! failing in turn. A buffer that cannot grow is a sink that fails, so that a call with one may
 //! fail to write too.
 
+use crate::callers::example;
+use crate::keys::refused_allocations::typed;
 use crate::signatures::calls::{
-    COPYING, Said, has_text, key_a, public_a, read_box, signed_from, signed_text, verified_texts,
+    COPYING, has_comments, has_text, key_a, read_box, signed_from, signed_text, verified_texts,
 };
 use minisign::{PublicKey, Result, SignatureBones, SignatureBox};
 use minisign_base::devices::random_sources::FixedRandom;
-use minisign_base::devices::sinks::{Sink, VecSink};
+use minisign_base::devices::sinks::VecSink;
 use minisign_base::devices::sources::SliceSource;
 use minisign_base::prompt::Prompt;
-use minisign_base::toy::ToyScheme;
-use minisign_examples::example::sign_and_verify;
 use minisign_fixtures::devices::sinks::Counting;
-use minisign_fixtures::keys::{KEY_ID, TIED_TO_ABC, signature_record};
+use minisign_fixtures::keys::{KEY_ID, PUBLIC_BYTES, TIED_TO_ABC, signature_record};
 use minisign_fixtures::outcomes::{is_so_or_out_of_memory, is_so_or_unwritten};
 use minisign_fixtures::texts::{KEY_TEXT, LEGACY_TEXT, SAID, SEALED, SECRET_TEXT, SIGNATURE_TEXT};
 use std::alloc::Global;
@@ -22,58 +22,22 @@ use std::alloc::Global;
 // The random bytes of the texts here.
 const ZEROS: [u8; 128] = [0; 128];
 
-// A prompt into which these bytes are typed.
-fn typed<'a>(bytes: &'a [u8]) -> Prompt<SliceSource<'a>, Counting> {
-    Prompt::new(SliceSource::new(bytes), Counting { bytes: 0 })
-}
-
-// Verifies `abc` with the text under key A, with output and legacy signatures accepted.
-fn verified<W: Sink, O: Sink>(
-    alloc: Global,
-    sig_text: &str,
-    status: &mut W,
-    out: &mut O,
-) -> Result<()> {
-    let mut data = SliceSource::new(b"abc");
-    verified_texts(
-        alloc,
-        &ToyScheme::new(),
-        (KEY_TEXT, sig_text),
-        &mut data,
-        COPYING,
-        status,
-        out,
-    )
-}
-
-// Whether the status took 60 bytes and the output three.
+// Whether verifying `abc` with the text under key A tells the status 60 bytes, and the output three.
 fn copied(alloc: Global, sig_text: &str) -> Result<bool> {
+    let mut data = SliceSource::new(b"abc");
     let mut status = Counting { bytes: 0 };
     let mut out = Counting { bytes: 0 };
-    verified(alloc, sig_text, &mut status, &mut out)?;
+    let texts = (KEY_TEXT, sig_text);
+    verified_texts(alloc, texts, &mut data, COPYING, &mut status, &mut out)?;
     Ok(status.bytes == 60 && out.bytes == 3)
-}
-
-// The text over `abc` that the text of a secret key signs, with the comments `t` and `c`.
-fn text_signed<Q: Sink>(
-    alloc: Global,
-    sk_text: &str,
-    prompt: &mut Prompt<SliceSource<'_>, Q>,
-) -> Result<String> {
-    signed_text(
-        alloc,
-        sk_text,
-        None,
-        prompt,
-        &mut SliceSource::new(b"abc"),
-        ("t", "c"),
-        &mut FixedRandom::new(&ZEROS),
-    )
 }
 
 // Whether signing with the text and a typed password gives the text that was worked out.
 fn signed(alloc: Global, sk_text: &str) -> Result<bool> {
-    let text = text_signed(alloc, sk_text, &mut typed(b"password\n"));
+    let mut prompt = typed(b"password\n");
+    let mut data = SliceSource::new(b"abc");
+    let mut random = FixedRandom::new(&ZEROS);
+    let text = signed_text(alloc, sk_text, None, &mut prompt, &mut data, &mut random);
     has_text(text, SIGNATURE_TEXT)
 }
 
@@ -81,32 +45,15 @@ fn signed(alloc: Global, sk_text: &str) -> Result<bool> {
 fn made_by_default(alloc: Global) -> Result<SignatureBox> {
     let secret = key_a()?;
     let public = PublicKey::from_secret_key(&secret)?;
-    let said = Said {
-        trusted: None,
-        untrusted: None,
-        moment: 7,
-    };
-    signed_from(
-        alloc,
-        Some(&public),
-        &secret,
-        &mut SliceSource::new(b"abc"),
-        said,
-        &mut FixedRandom::new(&ZEROS),
-    )
+    let mut data = SliceSource::new(b"abc");
+    let mut random = FixedRandom::new(&ZEROS);
+    signed_from(alloc, Some(&public), &secret, &mut data, &mut random, 7)
 }
 
 // The box that is read from the text of a copy.
 fn read_again(alloc: Global, made: Result<SignatureBox>) -> Result<SignatureBox> {
     let text = made?.try_clone(alloc)?.into_string(alloc)?;
     read_box(alloc, text.as_str())
-}
-
-// Whether this is the trusted comment of the box, and its untrusted one is the default one.
-fn has_comments(alloc: Global, signature_box: &SignatureBox, trusted: &str) -> Result<bool> {
-    let is_trusted = has_text(signature_box.trusted_comment(alloc), trusted)?;
-    let untrusted = signature_box.untrusted_comment(alloc);
-    Ok(has_text(untrusted, "signature from rsign secret key")? && is_trusted)
 }
 
 // Whether a box that is made with a public key to test, and with the default comments, has its
@@ -116,24 +63,9 @@ fn made(alloc: Global) -> Result<bool> {
     has_comments(alloc, &again, "timestamp:7")
 }
 
-// The text of the example of a caller, that is verified too.
-fn text_verified(alloc: Global) -> Result<String> {
-    let secret = key_a()?;
-    let public = public_a()?;
-    sign_and_verify(
-        alloc,
-        &ToyScheme::new(),
-        &secret,
-        &public,
-        b"abc",
-        &mut FixedRandom::new(&ZEROS),
-        1555779966,
-    )
-}
-
-// The box of that text.
+// The box of the text of the example of a caller, that is verified too.
 fn box_verified(alloc: Global) -> Result<SignatureBox> {
-    let sig_text = text_verified(alloc)?;
+    let sig_text = example(alloc, &PUBLIC_BYTES)?;
     read_box(alloc, sig_text.as_str())
 }
 
@@ -155,16 +87,20 @@ fn signed_and_verified(alloc: Global) -> Result<bool> {
 // Whether signing with a sealed key tells a prompt over a buffer that grows, and gives the text.
 fn signed_and_told(alloc: Global) -> Result<bool> {
     let mut prompt = Prompt::new(SliceSource::new(b"password\n"), VecSink::new(alloc));
-    let text = text_signed(alloc, SEALED, &mut prompt)?;
+    let mut data = SliceSource::new(b"abc");
+    let mut random = FixedRandom::new(&ZEROS);
+    let text = signed_text(alloc, SEALED, None, &mut prompt, &mut data, &mut random);
     let told = prompt.writer.as_slice().len() == 81;
-    Ok(told && text.as_str() == SIGNATURE_TEXT)
+    Ok(has_text(text, SIGNATURE_TEXT)? && told)
 }
 
 // Whether the status and the output are taken by buffers that grow.
 fn copied_and_kept(alloc: Global) -> Result<bool> {
+    let mut data = SliceSource::new(b"abc");
     let mut status = VecSink::new(alloc);
     let mut out = VecSink::new(alloc);
-    verified(alloc, SIGNATURE_TEXT, &mut status, &mut out)?;
+    let texts = (KEY_TEXT, SIGNATURE_TEXT);
+    verified_texts(alloc, texts, &mut data, COPYING, &mut status, &mut out)?;
     Ok(status.as_slice() == SAID && out.as_slice() == b"abc".as_slice())
 }
 
