@@ -1,13 +1,11 @@
 #!/usr/bin/env python3
-"""Builds the programs of `c/` with -DPOSIX_ONLY, which takes nothing that Linux alone has, and runs the tests of files of both.
+"""Builds the programs of `c/` with -DPOSIX_ONLY, which takes nothing that Linux alone has, and runs all tests of both.
 
     tests/c/posix_only.py
 
-That changes the opening of files, their permissions and their replacing alone; of all else these scripts try the same
-code without it. All cases of `tests/installer/real_installing.py`, and those of `tests/command_line/command_line.py`
-that open and replace files, pass, but for those that this names, each with what is weaker there; one of these that
-passes is a failure too. In none of them a stranger gets a key. It prints a line for each failure; the last line is
-`N passed, M failed`.
+All cases of `tests/command_line/command_line.py` and `tests/installer/real_installing.py` pass, but for those that
+this names, each with what is weaker there; one of these that passes is a failure too. In none of them a stranger gets
+a key. It prints a line for each failure; the last line is `N passed, M failed`.
 
 Needs what these two scripts need, and installs what is missing if it may.
 """
@@ -23,7 +21,6 @@ import ending
 import needs
 import static_library
 from process import run
-from rooms import ROOMS, files_of
 
 LISTS = "POSIX has no access control lists: none is copied, and one that a directory gives stays"
 EXCHANGE = "no two names are exchanged, so a failure or a signal leaves the first of a pair in place of an older one"
@@ -45,8 +42,6 @@ WEAKER = {
     },
 }
 
-# The files that it changes.
-CHANGED = {"handles.c", "permissions.c", "stages.c"}
 # Calls that Linux alone has.
 OF_LINUX = {"renameat2", "syscall", "sync_file_range", "getrandom", "fstatfs", "getxattr", "fgetxattr", "fsetxattr", "fremovexattr"}
 
@@ -73,8 +68,6 @@ def check_script(checks, script, *arguments):
 
 def run_all(checks, room):
     os.chmod(room, 0o711)
-    changed = {os.path.basename(path) for name in ROOMS for path, text in files_of(name).items() if "POSIX_ONLY" in text}
-    checks.same(changed, CHANGED, "the files that -DPOSIX_ONLY changes")
     programs = [f"{room}/c/minisign", f"{room}/c/minisign-install"]
     static_library.run_make(f"OUT={room}/c", f"CC={needs.libsodium()}", "CPPFLAGS=-D_FORTIFY_SOURCE=2 -DPOSIX_ONLY", "C_CALLS=",
                             "-j4", *programs)
