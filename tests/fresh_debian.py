@@ -5,19 +5,20 @@
     tests/fresh_debian.py SCRIPT ..  these
     tests/fresh_debian.py --all      all that need no kit
 
-It makes the system by mmdebstrap, and has a new user, who has the repository at home, run `make -C c check` over the
+It makes the system by debootstrap, and has a new user, who has the repository at home, run `make -C c check` over the
 scripts. They install nothing, and find no newer compiler. The marked scripts build and install as the documents say,
 by the compilers and tools that those name. The others need root, other compilers, or much more to install.
 
 If no fresh Debian can be had, since only root may make one and a mirror has to answer, it says why, and runs the
 marked scripts here. The last line is `N passed, M failed`.
 
-Needs Python 3.9 or later, mmdebstrap, unshare, and root; it installs mmdebstrap if it may.
+Needs Python 3.9 or later, debootstrap, unshare, and root; it installs debootstrap if it may.
 """
 
 import functools
 import os
 import re
+import shutil
 import subprocess
 import sys
 import tempfile
@@ -54,9 +55,12 @@ def make_debian(root, is_all):
         raise NotBuilt("only root makes a Debian")
     hold(["unshare", "--mount", "--pid", "--fork", "true"])
     sites = re.findall(r"https?://\S+/debian/?(?=\s|$)", hold(["apt-get", "indextargets", "--format", "$(SITE)"]))
+    hold([needs.program("debootstrap", "debootstrap"), "--variant=minbase", SUITE, root, [*sites, MIRROR][0]])
+    shutil.copy("/etc/resolv.conf", f"{root}/etc/resolv.conf")
+    shutil.copytree("/etc/apt/apt.conf.d", f"{root}/etc/apt/apt.conf.d", dirs_exist_ok=True)
     names = [name for name in read(HERE, "packages.txt").decode().split() if is_all or not LEFT_OUT.search(name)]
-    hold([needs.program("mmdebstrap", "mmdebstrap"), "--mode=root", "--variant=minbase", f"--include={','.join(names)}", SUITE, root,
-          [*sites, MIRROR][0]])
+    hold(in_debian(root, "root", "apt-get -q update && DEBIAN_FRONTEND=noninteractive apt-get install -q -y "
+                                 f"--no-install-recommends {' '.join(names)} && apt-get clean"))
     hold(["chroot", root, "useradd", "-m", "-d", HOME, "-s", "/bin/bash", USER])
     copy_tree(f"{root}{HOME}/minisign")
     hold(["chroot", root, "chown", "-R", f"{USER}:", HOME])

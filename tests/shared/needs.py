@@ -18,7 +18,7 @@ from process import run
 SECONDS = 600
 # Scripts that install hold this file: apt-get does not wait for another one that renews the list of packages.
 LOCK = os.path.join(tempfile.gettempdir(), "minisign-installing-packages")
-# Where Debian's packages have their programs, and those that only root has in PATH.
+# Where Debian's packages have their programs, and those that only root has in PATH, as debootstrap.
 DEBIAN = "/usr/bin"
 OF_ROOT = "/usr/sbin"
 
