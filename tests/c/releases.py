@@ -36,8 +36,10 @@ from copies import TOP, Tree, files_below, listed
 from packaging import make
 from process import run
 from running import read
-from texts import CORPUS
 
+CORPUS = os.path.join(TOP, "tests", "corpus")
+# How what was published is verified by a program in CORPUS.
+VERIFYING = ("-V", "-p", "published.pub", "-x", "published.minisig", "-m", "DATA")
 # Sources of what is built in a release, of which no part has a sum.
 SOURCES = ("tools/wasm_to_c.py", "tools/dist.py", "bindings/javascript/index.js")
 # A document, as a text names it: by a link in another document, or by its path from the top.
@@ -77,11 +79,10 @@ def release(checks, out, *words):
     return archive_in(out)
 
 
-def check_verifying(checks, what, program):
-    """A program verifies what was published, and not with other data."""
+def check_verifying(checks, what, *command):
+    """A command verifies what was published, and not with other data."""
     for data, status in (("test", 0), ("hello", 1)):
-        command = [program, "-V", "-p", "published.pub", "-x", "published.minisig", "-m", data]
-        checks.ended(f"{what} on {data}", run(command, CORPUS), status)
+        checks.ended(f"{what} on {data}", run([data if word == "DATA" else word for word in command], CORPUS), status)
 
 
 def check_release(checks, room):
@@ -171,8 +172,12 @@ def check_compiler(checks, room, top, name):
             said = checks.ended(f"a release by {name}, {goal}", tree.run(f"make -C c CC={name} OUT={place}/out {goal}"))
             checks.check("warning:" not in said, f"a release by {name}, {goal}: {said[-800:]}")
             checks.check(goal != "check" or static_library.VERIFIED.search(said), f"a release by {name}, {goal}: {said[-300:]}")
-    check_verifying(checks, f"the program by {name}", f"{place}/dest/usr/bin/minisign")
-    return tree, f"{place}/dest/usr"
+    root, example = f"{place}/dest/usr", f"{place}/verify"
+    building = [compiler, "-I", f"{root}/include", "-o", example, f"{top}/c/examples/verify.c", f"{root}/lib/libminisign.a", "-lsodium"]
+    checks.ended(f"the example over what {name} installed", run(building))
+    check_verifying(checks, f"the example by {name}", example, "published.pub", "DATA", "published.minisig")
+    check_verifying(checks, f"the program by {name}", f"{root}/bin/minisign", *VERIFYING)
+    return tree, root
 
 
 def check_same(checks, room, root):
@@ -208,7 +213,7 @@ def check_debian(checks, room, archive):
         run(["dpkg", "-x", package, f"{place}/unpacked"])
     checks.ended("dpkg -I", run(["dpkg", "-I", packages[0]]), says="Maintainer: Nobody & Co <nobody@example.org>")
     program = f"{place}/unpacked/usr/bin/minisign-proved"
-    check_verifying(checks, "Debian's program", program)
+    check_verifying(checks, "Debian's program", program, *VERIFYING)
     checks.ended("Debian's program loads libsodium", run(["readelf", "-d", program]), says="libsodium.so")
     for name in OF_DEBIAN:
         checks.check(glob.glob(f"{place}/unpacked/{name}"), f"Debian's packages have no {name}")
@@ -241,7 +246,7 @@ def check_others(checks, room, top):
     checks.check(archives[0] == archives[1], "packaging/others packs other bytes")
     os.mkdir(f"{room}/unpacked")
     run(["tar", "-xzf", archive_in(f"{room}/others"), "-C", f"{room}/unpacked"])
-    check_verifying(checks, "the program of packaging/others", f"{room}/unpacked/usr/of-minisign/bin/minisign")
+    check_verifying(checks, "the program of packaging/others", f"{room}/unpacked/usr/of-minisign/bin/minisign", *VERIFYING)
     checks.ended("packaging/others, clean", run([*words, "clean"]))
     checks.check(not os.path.exists(f"{room}/others"), "packaging/others, clean, leaves something")
 
