@@ -39,7 +39,7 @@ USER = "ann"
 HOME = f"/srv/{USER}"
 # What packages.txt names, and no marked script needs: browsers, other compilers and systems, emulators, and what makes packages.
 LEFT_OUT = re.compile(r"acl|chromium|firefox|fonts|lintian|debhelper|dpkg-dev|win|mingw|s390x|riscv64|arm|aarch64|qemu|tcc|"
-                      r"clang|lld|musl|mandoc|mypy|black|rustfmt|typescript|golang|binaryen|nodejs")
+                      r"clang|lld|musl|mandoc|mypy|black|rustfmt|typescript|go-minisign|binaryen|nodejs")
 
 
 def in_debian(root, user, line):

@@ -9,13 +9,13 @@ but a C compiler, make, binutils and what every Debian has: no kit and no Python
 has changed since `dist/` was made, or an archive is damaged, make stops with a sentence and installs nothing.
 
 Make checks, installs and releases `c/` (`releases.py` builds what is released), packs packages of `bindings/` and
-builds the example in Rust; a wheel is built too, and a page from that of `dist/`. `make uninstall` and `make clean`
-remove what was installed or built, and nothing else: files of others stand beside it, and where a path would lead that
-falls apart at its blanks. An OUT that make cannot have in a target is rejected before anything is written or removed.
-It prints a line for each failure; the last line is `N passed, M failed`.
+builds the example in Rust; a wheel and a Go module are built too, and a page from that of `dist/`. `make uninstall`
+and `make clean` remove what was installed or built, and nothing else: files of others stand beside it, and where a path
+would lead that falls apart at its blanks. An OUT that make cannot have in a target is rejected before anything is
+written or removed. It prints a line for each failure; the last line is `N passed, M failed`.
 
-Needs git where this is a clone, make, binutils, pkg-config, groff, a C compiler, rustc, cargo, libsodium with its
-header, and Debian's Python with pip, setuptools and wheel, and installs what is missing if it may.
+Needs git where this is a clone, make, binutils, pkg-config, groff, a C compiler, rustc, cargo, golang-go, libsodium with
+its header, and Debian's Python with pip, setuptools and wheel, and installs what is missing if it may.
 """
 
 import os
@@ -68,12 +68,14 @@ class Copy:
 
     def __init__(self, checks, room):
         self.checks, self.room, self.top = checks, room, os.path.join(room, PLACE)
-        self.cargo, self.python = needs.program("cargo", "cargo"), python()
+        self.cargo, self.go, self.python = needs.program("cargo", "cargo"), needs.program("go", "golang-go"), python()
+        temporary = os.path.join(room, "tem p")
         # (C is compiled without optimizing, to take less time)
-        self.environment = {"PATH": static_library.path_without_kit(), "TMPDIR": os.path.join(room, "tem p"), "CFLAGS": "-O0",
-                            "RUSTC": needs.rust_compiler(), "CARGO_NET_OFFLINE": "true"}
+        self.environment = {"PATH": static_library.path_without_kit(), "TMPDIR": temporary, "CFLAGS": "-O0", "CGO_CFLAGS": "-O0",
+                            "RUSTC": needs.rust_compiler(), "CARGO_NET_OFFLINE": "true", "GOCACHE": f"{temporary}/go", "GOPROXY": "off",
+                            "GOFLAGS": "", "GOTOOLCHAIN": "local"}
         copy_tree(self.top)
-        os.mkdir(self.environment["TMPDIR"])
+        os.mkdir(temporary)
         self.put(room, *(f"{name}/{FILE}" for name in NEIGHBOURS))
 
     def path(self, *names):
@@ -224,9 +226,12 @@ def check_installing(checks, copy):
 
 
 def check_packages(checks, copy):
-    """The package for Python is packed, and built. (`check_cleaning` packs those for Rust, which cargo builds then, and for Go.)"""
-    copy.make("bindings", "python", f"PYTHON={copy.python}")
-    (archive,) = [name for name in files_below(copy.path("bindings/out")) if name.endswith(".tar.gz")]
+    """The packages for Go and for Python are packed, and built. (`check_cleaning` packs that for Rust, which cargo builds then.)"""
+    copy.make("bindings", "go", "python", f"PYTHON={copy.python}")
+    archives = sorted(name for name in files_below(copy.path("bindings/out")) if name.endswith(".tar.gz"))
+    (module,), (archive,) = ([name for name in archives if ("go" in name) == is_module] for is_module in (True, False))
+    copy.ended("tar", "-xf", copy.path("bindings/out", module), "--one-top-level=a module", "--strip-components=1")
+    copy.ended(copy.go, "test", at="a module", says="ok")
     copy.ended(copy.python, "-m", "pip", "wheel", "-q", "--no-index", "--no-build-isolation", "--no-deps", "-w", copy.path("a wheel"),
                copy.path("bindings/out", archive))
     checks.check(len(os.listdir(copy.path("a wheel"))) == 1, "no wheel was built")
