@@ -10,9 +10,8 @@ installation at each of its calls (`installations.c`), memory from malloc, which
 (`allocations.c`), each allocation failing (`out_of_memory.c`), buffers beside pages without access (`guard_pages.c`),
 threads (`threads.c`), and random calls beside a model (`random_calls.c`); each program also with sanitizers, where the
 compiler has them. The library is built over `dist/` (`static_library.py`), once more with the copy of the calls for
-processors without AVX2 alone, and once more with -DMINISIGN_NO_THREADS, for the programs about memory, which alone
-that changes: such a library names no call for threads. It prints a line for each failure; the last line is
-`N passed, M failed`.
+processors without AVX2 alone, and once more with -DMINISIGN_NO_THREADS: such a library names no call for threads. It
+prints a line for each failure; the last line is `N passed, M failed`.
 
 Needs binutils, a C compiler and a C++ compiler, and installs what is missing if it may.
 """
@@ -40,14 +39,12 @@ PROGRAMS = {"usage_errors": [], "asked_texts": WRAPPED, "error_texts": [], "inst
             "allocations": [*WRAPPED, "-Wl,--wrap=madvise"], "threads": ["-pthread"],
             "out_of_memory": [*WRAPPED, "-Wl,--wrap=madvise", "-Wl,--wrap=pthread_create"]}
 only = lambda *names: {name: PROGRAMS[name] for name in names}
-# With these the programs do less of what takes long; once they do all of it.
+# With these the programs do less of what takes long, which they do here.
 LESS = ["-DIS_EMULATED"]
-# The libraries, with what make is told of each, the flags that the programs are built with once each, and which programs these are.
+# The libraries, with what make is told of each, and the flags that the programs are built with once each.
 NO_THREADS = "-DMINISIGN_NO_THREADS"
-LIBRARIES = {"both copies": ([], ([], [*LESS, *SANITIZED]), PROGRAMS),
-             "for x86-64-v2": ([f"V3={static_library.DIST}/calls-x86-64-v2.a"], (LESS,), PROGRAMS),
-             "without threads": (["C_CALLS=", f"CPPFLAGS=-D_FORTIFY_SOURCE=2 {NO_THREADS}"], ([NO_THREADS],),
-                                 only("allocations", "out_of_memory", "threads"))}
+LIBRARIES = {"both copies": ([], ([], SANITIZED)), "for x86-64-v2": ([f"V3={static_library.DIST}/calls-x86-64-v2.a"], ([],)),
+             "without threads": (["C_CALLS=", f"CPPFLAGS=-D_FORTIFY_SOURCE=2 {NO_THREADS}"], ([NO_THREADS],))}
 
 
 def compiled(checks, what, name, compiler, library, *flags):
@@ -77,15 +74,15 @@ def check_declarations(checks, room):
 def run_all(checks, room):
     compiler = needs.c_compiler()
     check_declarations(checks, room)
-    for number, (what, (words, kinds, programs)) in enumerate(LIBRARIES.items()):
+    for number, (what, (words, kinds)) in enumerate(LIBRARIES.items()):
         library = static_library.library(os.path.join(room, str(number)), *words)
         named = {*re.findall(r"\w*pthread\w*", run([needs.program("nm", "binutils"), "--undefined-only", library])[1])}
         checks.check(bool(named) != (what == "without threads"), f"{what}: the library calls for threads {named}")
         for flags in kinds:
-            if SANITIZED[0] in flags and not needs.compiles(compiler, needs.HELLO, SANITIZED):
+            if flags == SANITIZED and not needs.compiles(compiler, needs.HELLO, SANITIZED):
                 print("skipped: the programs with sanitizers, which the compiler lacks")
             else:
-                check_programs(checks, what, programs, compiler, library, *flags)
+                check_programs(checks, what, PROGRAMS, compiler, library, *flags)
 
 
 if __name__ == "__main__":
