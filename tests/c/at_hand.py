@@ -228,8 +228,8 @@ def check_installing(checks, copy):
 def check_packages(checks, copy):
     """The packages for Go and for Python are packed, and built. (`check_cleaning` packs that for Rust, which cargo builds then.)"""
     copy.make("bindings", "go", "python", f"PYTHON={copy.python}")
-    archives = sorted(name for name in files_below(copy.path("bindings/out")) if name.endswith(".tar.gz"))
-    (module,), (archive,) = ([name for name in archives if ("go" in name) == is_module] for is_module in (True, False))
+    archives = filter(re.compile(r"\.tar\.gz$").search, files_below(copy.path("bindings/out")))
+    module, archive = sorted(archives, key=lambda name: "go" not in name)
     copy.ended("tar", "-xf", copy.path("bindings/out", module), "--one-top-level=a module", "--strip-components=1")
     copy.ended(copy.go, "test", at="a module", says="ok")
     copy.ended(copy.python, "-m", "pip", "wheel", "-q", "--no-index", "--no-build-isolation", "--no-deps", "-w", copy.path("a wheel"),

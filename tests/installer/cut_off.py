@@ -80,10 +80,7 @@ def each_broken(directory, judge, prepare=None, options=(), **how):
             prepare(fresh)
         return fresh.arguments("new", *options)
 
-    def judge_in(ran, path):
-        judge(Directory(path, directory.installing), ran)
-
-    return directory.installing.break_each(make, judge_in, **how)
+    return directory.installing.break_each(make, lambda ran, path: judge(Directory(path, directory.installing), ran), **how)
 
 
 @cut_off_cases.table("killed at each call")

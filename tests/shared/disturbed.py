@@ -4,7 +4,6 @@ at once.
 
 import contextlib
 import errno
-import functools
 import os
 import resource
 import shutil
@@ -14,30 +13,22 @@ import tempfile
 from dataclasses import dataclass, replace
 
 from process import Ran, run_program, told
-from running import SECONDS, Failure, Skip, build_preload, expect, files_in, in_turn, read
+from running import SECONDS, Failure, Program, Skip, expect, files_in, in_turn, read
 
-class Disturbing:
+class Disturbing(Program):
     """A program that is run in fresh directories. It stands elsewhere, as what is in memory may not be run everywhere."""
 
     # After so many seconds a run has failed.
     seconds = 4 * SECONDS
 
     def __init__(self, program, room):
-        self.program, self.room = program, room
+        super().__init__(program, room)
         # (in memory where that can be had, since each run brings its files to the disk)
         self.place = "/dev/shm" if os.access("/dev/shm", os.W_OK) else room
-
-    @functools.cached_property
-    def preload(self):
-        return build_preload(self.room, "disturbed_calls")
 
     def run(self, directory, arguments, environment=None, program=None, **how):
         return run_program([program or self.program, *arguments], directory,
                            **{"seconds": self.seconds, "env": environment or {}, **how})
-
-    def breaking(self, **how):
-        """An environment in which `disturbed_calls.c` breaks a call, as it is told."""
-        return {"LD_PRELOAD": self.preload, **{f"BREAK_{name}": str(value) for name, value in how.items()}}
 
     def run_broken(self, directory, arguments, how, **more):
         """A run with a call broken: also whether it came to that."""

@@ -201,8 +201,8 @@ def in_turn(place, attempt):
     raise Failure(f"it made {MAX_CALLS} calls")
 
 
-class Runner:
-    """Runs a program in fresh directories below a temporary one."""
+class Program:
+    """A program, and what breaks its calls, which is built in a directory."""
 
     def __init__(self, program, room):
         self.program, self.room = program, room
@@ -211,14 +211,21 @@ class Runner:
     def preload(self):
         return build_preload(self.room, "disturbed_calls")
 
+    def breaking(self, **how):
+        """An environment in which `disturbed_calls.c` breaks a call, as it is told."""
+        return {"LD_PRELOAD": self.preload, **{f"BREAK_{name}": str(value) for name, value in how.items()}}
+
+
+class Runner(Program):
+    """Runs a program in fresh directories below a temporary one."""
+
     def run(self, case):
         """Makes the run, or all runs of a case that is disturbed, and raises a `Failure` or a `Skip`."""
         is_forbidding = any(kind == LOCKED or isinstance(kind, WithMode) for kind in case.files.values())
         if is_forbidding and os.geteuid() == 0:
             raise Skip("root may read and write every file")
         if case.rejecting:
-            rest = {"BREAK_REST": "1"} if case.rejecting == "all" else {}
-            self.run_each(case, "memory", errno.ENOMEM, **rest)
+            self.run_each(case, "memory", errno.ENOMEM, **({"REST": 1} if case.rejecting == "all" else {}))
         elif case.breaking:
             self.run_each(case, case.breaking, errno.EIO)
         elif case.sources:
@@ -229,11 +236,9 @@ class Runner:
 
     def run_each(self, case, calls, error, **more):
         """Runs with each of these calls, or requests for memory, failing in turn with the number of this error."""
-        environment = {"LD_PRELOAD": self.preload, "BREAK_CALLS": calls, "BREAK_ERRNO": str(error), **more}
-
         def failure_of(number, directory, says):
             try:
-                self.run_in(directory, case, {**environment, "BREAK_AT": str(number), "BREAK_SAYS": str(says)}, [says])
+                self.run_in(directory, case, self.breaking(CALLS=calls, ERRNO=error, AT=number, SAYS=says, **more), [says])
             except Failure as failure:
                 return failure
             return None
