@@ -11,7 +11,7 @@ import shutil
 import signal
 import subprocess
 import tempfile
-from dataclasses import dataclass
+from dataclasses import dataclass, replace
 from functools import partial
 
 import disturbed
@@ -56,7 +56,7 @@ PAIR = {PK: check_public, SK: check_secret}
 OLDER_PAIR = {PK: toy.public_text(), SK: toy.sealed_text(b"older")}
 TO_SIGN = {SK: OPEN_KEY, FILE: b"abc"}
 
-REPLACED_PAIR = Task("a pair over an older one for its owner alone", KEYGEN, OLDER_PAIR, PAIR, mode=0o600)
+REPLACED_PAIR = Task("a pair over an older one", KEYGEN, OLDER_PAIR, PAIR)
 NEW_SIGNATURE = Task("a new signature", SIGN, TO_SIGN, {SIG: is_signature})
 LINKS = {PK: Link("kept/" + PK), SK: Link("chain"), "chain": Link("./kept/" + SK)}
 TASKS = [
@@ -177,6 +177,7 @@ def cases(program, room):
     for task in TASKS:
         for name, run, *given in of_task(surviving, task):
             yield f"{task.name}, {name}", run, task, *given
+    yield "a pair over an older one for its owner alone, killed", surviving.killed, replace(REPLACED_PAIR, mode=0o600)
     for replaced in OLDER_PAIR:
         def prepare(directory, name=replaced):
             REPLACED_PAIR.make(directory)
