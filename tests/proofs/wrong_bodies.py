@@ -54,7 +54,7 @@ BESIDE, FREE = 3, 5_000_000_000
 REJECTED, GAVE_UP, APART, FAILED, PROVED = ("rejected", "rejected by a search that gave up at a limit",
                                             "rejected by its written proof alone", "FAILED", "proved, unchanged")
 # How many wrong bodies share a check at the most.
-GROUP = 40
+GROUP = 80
 # What a check of a crate reads.
 PARTS = ("src", "specs", "proofs")
 # A body that is of each type and calls nothing, and a proof that is a hole: what calls such a function rests on its contract.
