@@ -42,8 +42,8 @@ LINES = 500
 # What tools/bindings.py makes.
 MADE = ("errors.go", "header.go")
 # How many pages of 4 KiB may be in memory after so many calls, or keys, that were not after a tenth of them.
-CALLS, PAGES = 20_000, 256
-KEYS, PAGES_OF_KEYS = 8_000, 512
+CALLS, PAGES = 50_000, 256
+KEYS, PAGES_OF_KEYS = 20_000, 512
 # go-minisign, as Debian has it, below a directory of sources.
 SOURCES, GO_MINISIGN = "/usr/share/gocode", "github.com/jedisct1/go-minisign"
 # Of the changes of go/changed.go go-minisign, which does not look at the first line, says that these are good.
@@ -264,8 +264,8 @@ def check_own_tests(checks, go, package):
     for AArch64 in an emulator."""
     checks.check(go.run(package, "vet", "./...") == "", "go vet has words")
     arm = emulated.AARCH64
-    in_emulator = [QUICKLY, "-exec", " ".join(emulated.emulator(arm))], {"GOARCH": "arm64", "CC": emulated.compiler(arm)}
-    for words, environment in ((["-race", "-tags", "amd64.v3"], {}), in_emulator):
+    in_emulator = [QUICKLY, "-exec", " ".join(["env -u GOGC", *emulated.emulator(arm)])], {"GOARCH": "arm64", "CC": emulated.compiler(arm)}
+    for words, environment in ((["-exec", "env -u GOGC", "-race", "-tags", "amd64.v3"], {}), in_emulator):
         said = go.run(package, "test", "-count=1", "-vet=off", "-v", *words, "./...", **environment)
         checks.check(said.count("--- PASS: ") >= 6 and "--- SKIP" not in said, f"go test {words}: {said[-500:]}")
 

@@ -157,8 +157,9 @@ def ask_readings(program, minisign, _):
 
     for words, allow_legacy in ((["read"], False), (["read", "legacy"], True)):
         program.ask_readings(words, form)
-    rows = [(case, name) for case, name in shared_cases.rejections() if case.signature != PUBLISHED.signature]
-    program.ask_reasons(["read"], rows, lambda name: rf"([0-9A-F]{{16}} [0-9A-F]{{16}} (true|false) )?rejected {name}")
+        rows = [(case, name) for case, name in shared_cases.rejections()
+                if case.signature != PUBLISHED.signature and not (allow_legacy and name == "LEGACY_NOT_ACCEPTED")]
+        program.ask_reasons(words, rows, lambda name: rf"([0-9A-F]{{16}} [0-9A-F]{{16}} (true|false) )?rejected {name}")
 
 
 # All that is asked of the programs that verify.

@@ -109,7 +109,7 @@ def check_builds(checks, archive, room):
         status, why, library = build(sources, programs, CC=compiler, MINISIGN_PORTABLE=is_portable)
         if checks.check(status == 0, f"{what}: it was not built: {why[-1000:]}"):
             check_loaded(checks, what, compiler, library, before, **windows.variables)
-            checks.check("v3_minisign_update" not in shared.names_in(library), f"{what}: the archives")
+            checks.check(("aarch64_minisign_update" in shared.names_in(library)) == (what == "AArch64"), f"{what}: the archives")
             wheel, = os.listdir(os.path.join(sources, "made"))
             checks.check(wheel.endswith(f"-none-{machine}.whl"), f"{what}: the wheel is {wheel}")
     windows.end()

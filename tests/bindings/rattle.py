@@ -1,8 +1,8 @@
 #!/usr/bin/env python3
 """Builds the caller of examples/rattle in a copy, over the libraries as they stand proved (tests/shared/proved.py),
 and verifies files with keys of Minisign's own program: it accepts signed files, and rejects changed ones. The commands
-of its README.md run as they stand between the fences, but that in place of `rt run`, which would prove all crates anew,
-the program that was built is run, by the same words.
+of its README.md are those that are tried: the copy is made by the first, and in place of `rt run`, which would prove all
+crates anew, the program that was built is run, by the same words.
 
     tests/bindings/rattle.py
 

@@ -41,6 +41,7 @@ CRATE = os.path.join(TOP, "bindings", "rust")
 BY_HAND = ["build.rs", "src/lib.rs", "src/signing.rs", "src/raw.rs", "src/raw/sodium.rs"]
 MADE = "src/raw/header.rs"
 LINES = 650
+NO_SODIUM = dict.fromkeys(("crypto_sign", "sodium_init", "randombytes"), False)
 # How many pages of 4 KiB may be in memory after so many calls that were not after a tenth of them.
 CALLS, PAGES = 10_000, 16
 
@@ -237,7 +238,7 @@ def check_here(checks, programs, crate, room):
     """In a path with blanks, and without make; over the archives, and as C, with no libsodium; and as a git dependency."""
     place = Place(programs, room, "a user's crate", ALONE.format(crate=crate))
     for what, has_archives, portable in (("the archives", True, ""), ("C alone", False, "1")):
-        place.check(checks, f"without make, {what}", {"v3_minisign_update": has_archives, "crypto_sign": False}, MINISIGN_PORTABLE=portable)
+        place.check(checks, f"without make, {what}", {"v3_minisign_update": has_archives, **NO_SODIUM}, MINISIGN_PORTABLE=portable)
     status, why = place.build(CC="cl", MINISIGN_PORTABLE="")
     checks.check(status != 0 and NO_COMPILER + "x86_64-unknown-linux-gnu: name one in CC_x86_64_unknown_linux_gnu (tried: cl)\n" in why,
                  f"a compiler without GNU's options: {why[-500:]}")

@@ -69,13 +69,12 @@ class Copy:
     def __init__(self, checks, room):
         self.checks, self.room, self.top = checks, room, os.path.join(room, PLACE)
         self.cargo, self.go, self.python = needs.program("cargo", "cargo"), needs.program("go", "golang-go"), python()
-        temporary = os.path.join(room, "tem p")
         # (C is compiled without optimizing, to take less time)
-        self.environment = {"PATH": static_library.path_without_kit(), "TMPDIR": temporary, "CFLAGS": "-O0", "CGO_CFLAGS": "-O0",
-                            "RUSTC": needs.rust_compiler(), "CARGO_NET_OFFLINE": "true", "GOCACHE": f"{temporary}/go", "GOPROXY": "off",
-                            "GOFLAGS": "", "GOTOOLCHAIN": "local"}
+        self.environment = {"PATH": static_library.path_without_kit(), "TMPDIR": os.path.join(room, "tem p"), "CFLAGS": "-O0",
+                            "CGO_CFLAGS": "-O0", "RUSTC": needs.rust_compiler(), "CARGO_NET_OFFLINE": "true", "GOPROXY": "off",
+                            "GOCACHE": os.path.join(room, "tem p", "go"), "GOFLAGS": "", "GOTOOLCHAIN": "local"}
         copy_tree(self.top)
-        os.mkdir(temporary)
+        os.mkdir(self.environment["TMPDIR"])
         self.put(room, *(f"{name}/{FILE}" for name in NEIGHBOURS))
 
     def path(self, *names):

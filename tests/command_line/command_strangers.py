@@ -156,8 +156,7 @@ class Strangers(Programs):
 
     def made_meanwhile(self, arguments, typed, standing, status, said):
         """Without -f, what is made while the password is typed, or where none is while the key is drawn, is not written to."""
-        directory, path = self.around()
-        found = []
+        (directory, path), found = self.around(), []
         make = lambda: found.extend((standing.make(path, OLDER), everything(directory)))
         if typed:
             at = self.asked(directory, *arguments)

@@ -141,7 +141,7 @@ class Person:
     def sparse(self, name, length, *flags):
         """Writes a file of so many zeros, and a signature of it, once for both browsers; their paths."""
         path = os.path.join(self.room, "sparse", name)
-        if not os.path.exists(path):
+        if not os.path.exists(f"{path}.minisig"):
             os.makedirs(os.path.dirname(path), exist_ok=True)
             os.truncate(self.put(name, b"", path), length)
             self.minisign.run("-S", "-s", "first.key", "-m", path, "-x", f"{path}.minisig", "-t", f"{length} bytes", *flags)

@@ -15,6 +15,7 @@ from dataclasses import dataclass, replace
 from process import Ran, run_program, told
 from running import SECONDS, Failure, Program, Skip, expect, files_in, in_turn, read
 
+
 class Disturbing(Program):
     """A program that is run in fresh directories. It stands elsewhere, as what is in memory may not be run everywhere."""
 
@@ -70,8 +71,8 @@ class Disturbing(Program):
 
 @dataclass(frozen=True)
 class Task:
-    """A run that replaces files: what stands in its directory before it, as `make` makes it; a judge of each file that it writes, in the
-    order in which they are replaced; and how many may be new where a write fails."""
+    """A run that replaces files: what stands in its directory before it; a judge of each file that it writes, in the order in which
+    they are replaced; and how many may be new where a write fails. A kind of tasks has `make`, `may_have`, and `stage`, how stages begin."""
 
     name: str
     arguments: list

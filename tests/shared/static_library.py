@@ -31,7 +31,7 @@ def path_without_kit():
 # The object of dist/calls.c, which takes seven seconds to compile, by a sum over all that decides what it is: scripts share it.
 KEPT = os.path.join(proved.ROOT, "out", "kept-objects")
 # What decides it beside the compiler and what that compiles: words of make, and what they mean to it.
-DECIDING = ("CFLAGS", "HAS_PAGES")
+DECIDING = ("CFLAGS", "HAS_PAGES", "WARNINGS")
 MAKEFILE = f"{DIRECTORY}/Makefile"
 
 
@@ -45,8 +45,7 @@ def sum_of(words):
 
 @contextlib.contextmanager
 def kept_object(words, is_taken=True):
-    """Puts the object where make builds it, if it was built before and is to be taken; or keeps it, while nobody else builds the same.
-    (No warning changes it.)"""
+    """Puts the object where make builds it, if it was built before and is to be taken; or keeps it, while nobody else builds the same."""
     out = os.path.join(DIRECTORY, words.get("OUT", ""))
     made = os.path.join(out, "portable-calls.o")
     # (another file is compiled, or none)

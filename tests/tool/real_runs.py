@@ -99,7 +99,7 @@ def run_all(room):
     for program in sys.argv[1:] or built_programs():
         place = tempfile.mkdtemp(dir=room)
         copy = shutil.copy(program, os.path.join(place, "program"))
-        if os.geteuid() == 0:
+        with contextlib.suppress(OSError):
             os.chown(place, NOBODY, NOBODY)
         with concurrent.futures.ProcessPoolExecutor(1) as pool:
             beside = pool.submit(run_as_nobody, copy, place)

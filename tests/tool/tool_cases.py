@@ -70,7 +70,7 @@ class Leaves:
             expect(found[name][0] == mode, f"{name} has the mode {found[name][0]:o} in place of {mode:o}")
         for name, wanted in self.files.items():
             held = found[name][1]
-            if callable(wanted):
+            if callable(wanted) and isinstance(held, bytes):
                 wanted(held)
             elif wanted not in (DIRECTORY, LOCKED):
                 expect(held == wanted, f"{name} holds {held!r:.200} in place of {wanted!r:.200}")
