@@ -23,7 +23,7 @@
 /* The rows of a key that are such a block, and how many times as great the next alignment is that is asked for: with
  * -DIS_EMULATED the smallest, and fewer of them. */
 #define LARGE_ROWS (IS_EMULATED ? LARGE_BYTES : (size_t) 16 << 20)
-#define NEXT_ALIGNMENT (IS_EMULATED ? 4096 : 4)
+#define NEXT_ALIGNMENT (IS_EMULATED ? 64 : 4)
 
 #include <errno.h>
 #include <time.h>

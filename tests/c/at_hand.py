@@ -118,9 +118,9 @@ def check_building(checks, tree):
     checks.check(status != 0, f"another file was verified: {said}")
 
 
-def check_stops(checks, tree, what, words):
+def check_stops(checks, tree, what, words, *more):
     """make stops with a sentence, and installs nothing."""
-    for command in (MAKE, f"{MAKE} install-library DESTDIR=../installed", f"{MAKE} install DESTDIR=../installed"):
+    for command in (MAKE, f"{MAKE} install-library DESTDIR=../installed", f"{MAKE} install DESTDIR=../installed", *more):
         checks.ended(f"{what}, {command}", tree.run(command), status=2, says=words)
     checks.check(not os.path.exists(os.path.join(tree.top, "installed")), f"{what}: something was installed")
 
@@ -149,7 +149,7 @@ def check_damaged(checks, tree):
     for name in ("dist/calls-x86-64-v2.a", "dist/calls-x86-64-v3.a", "dist/calls.c"):
         data = read(tree.top, name)
         write(tree.top, name, turned(data, 5000))
-        check_stops(checks, tree, f"a damaged {name}", DAMAGED)
+        check_stops(checks, tree, f"a damaged {name}", DAMAGED, *[f"{MAKE} PORTABLE=1 OUT=../other library"] * name.endswith(".c"))
         write(tree.top, name, data)
 
 

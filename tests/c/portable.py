@@ -89,7 +89,7 @@ def check_here(checks, room, answers):
         made = f"{room}/{what}/libminisign.a"
         static_library.run_make("CC=gcc", "PORTABLE=1", f"OUT={room}/{what}", *words, made)
         answers.check(what, compiler, made, *LESS, *flags)
-        check_programs(checks, what, programs, compiler, made, *LESS, *flags)
+        check_programs(checks, what, programs, compiler, made, *(LESS if what != "gcc" else []), *flags)
     static_library.run_make("PORTABLE=1", f"OUT={room}/musl", *of_musl, "all")
     checks.ended("musl: the programs", run(["sh", "check.sh", f"{room}/musl/minisign"], C), says=" passed, 0 failed")
     check_strict(checks, room)
