@@ -306,14 +306,14 @@ class Trial:
     def judged(self, body, said):
         """Judges a body by what a check said of its function: by its line, those above it that belong to it, and the
         errors in its written proof."""
-        found = re.search(rf"(?m)^((?:(?!fn ).*\n)*)fn {re.escape(self.crate)}::{re.escape(body.checked)}: (.*)$", said)
+        found = re.search(rf"(?m)^fn {re.escape(f'{self.crate}::{body.checked}')}: (.*)$", said)
         if not found or not re.search(r"(?m)^only=", said):
             return Verdict(body, FAILED, f"bad edit: it did not reach the prover: {proved.first_of(said)}")
-        line = found[2]
+        line, before = found[1], f"\nfn \n{said[:found.start()]}".rpartition("\nfn ")[2]
         if line.startswith(WELL) or body.is_unchanged:
             is_well = line.startswith(WELL) and body.is_unchanged
             return Verdict(body, PROVED if is_well else FAILED, f"the function is {line}")
-        above = [note for note in re.findall(r"(?m)^note: .*", found[1]) if SEARCHED.search(note)]
+        above = [note for note in re.findall(r"(?m)^note: .*", before) if SEARCHED.search(note)]
         proof = f"./proofs/{body.checked.replace('::', '/')}/"
         # (what belongs to an error stands set in after it)
         of_proof = "\n".join(re.findall(rf"(?m)^{re.escape(proof)}.*(?:\n  .*)*", said)).split("\n")
