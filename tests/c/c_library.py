@@ -38,7 +38,7 @@ WRAPPED = ["-Wl,--wrap=malloc", "-Wl,--wrap=realloc", "-Wl,--wrap=free"]
 PROGRAMS = {"usage_errors": [], "asked_texts": WRAPPED, "error_texts": [], "installations": WRAPPED, "guard_pages": [], "random_calls": [],
             "allocations": [*WRAPPED, "-Wl,--wrap=madvise"], "threads": ["-pthread"],
             "out_of_memory": [*WRAPPED, "-Wl,--wrap=madvise", "-Wl,--wrap=pthread_create"]}
-only = lambda *names: {name: PROGRAMS[name] for name in names}
+programs_named = lambda *names: {name: PROGRAMS[name] for name in names}
 # With these the programs do less of what takes long, which they do here.
 LESS = ["-DIS_EMULATED"]
 # The libraries, with what make is told of each, and the flags that the programs are built with once each.

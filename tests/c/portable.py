@@ -37,7 +37,7 @@ import emulated
 import ending
 import needs
 import static_library
-from c_library import INCLUDE, LESS, NO_THREADS, PROGRAMS, SANITIZED, STRICT, check_programs, compiled, only
+from c_library import INCLUDE, LESS, NO_THREADS, PROGRAMS, SANITIZED, STRICT, check_programs, compiled, programs_named
 from emulated import Kind
 from minisign_cases import random_cases
 from process import run, run_apart
@@ -85,7 +85,7 @@ def check_here(checks, room, answers):
             ("sanitized", [f"CFLAGS=-O1 {' '.join(SANITIZED)}", "CPPFLAGS=", "LDFLAGS="], gcc, SANITIZED, PROGRAMS),
             ("tcc", [f"CC={tcc}", "TARGET=x86_64-linux", "LD=ld", "OBJCOPY=objcopy", "AR=ar", "CFLAGS=", "CPPFLAGS=", "HAS_PAGES="],
              gcc, [NO_THREADS], OF_MALLOC),
-            ("musl", of_musl, emulated.musl_compiler(), ["-static"], only("usage_errors", "asked_texts", "random_calls"))):
+            ("musl", of_musl, emulated.musl_compiler(), ["-static"], programs_named("usage_errors", "asked_texts", "random_calls"))):
         made = f"{room}/{what}/libminisign.a"
         static_library.run_make("CC=gcc", "PORTABLE=1", f"OUT={room}/{what}", *words, made)
         answers.check(what, compiler, made, *LESS, *flags)
@@ -194,7 +194,7 @@ def check_windows(checks, room, answers):
     for library in ("libminisign.a", "libminisign.dll.a"):
         what, over = f"Windows, {library}", (compiler, f"{place}/{library}", *LESS, "-w", "-D__USE_MINGW_ANSI_STDIO=1")
         answers.check(what, *over, before=before)
-        check_programs(checks, what, only("usage_errors", "asked_texts", "error_texts", "random_calls"), *over, before=before)
+        check_programs(checks, what, programs_named("usage_errors", "asked_texts", "error_texts", "random_calls"), *over, before=before)
     windows.end()
 
 

@@ -30,7 +30,7 @@ import ending
 import needs
 import proved
 import static_library
-from c_library import LESS, check_programs, only
+from c_library import LESS, check_programs, programs_named
 from commands import has_secret_key
 from copies import TOP, Tree, files_below, listed
 from packaging import make
@@ -233,7 +233,7 @@ def check_alpine(checks, room, top):
     for file in OF_ALPINE:
         checks.check(os.path.exists(f"{place}/pkg/{file}"), f"Alpine's package has no {file}")
     compiler, library = emulated.musl_compiler(), f"{place}/src/{name}/c/out/libminisign.a"
-    check_programs(checks, "musl", only("asked_texts", "usage_errors"), compiler, library, "-static", *LESS)
+    check_programs(checks, "musl", programs_named("asked_texts", "usage_errors"), compiler, library, "-static", *LESS)
 
 
 def check_others(checks, room, top):
