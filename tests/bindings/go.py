@@ -254,8 +254,8 @@ def check_readme(checks, go, room, package, minisign):
 
 # All that Debian's Go runs to build the module and a program over it: no make.
 NEEDED = ("go", "gcc", "ld", "as", "git")
-# For another system all of Go's own library is compiled, which takes less time without optimizing.
-QUICKLY = "-gcflags=all=-N -l"
+# For another system all of Go's own library is compiled, which takes less time without optimizing, but for what an emulator computes.
+QUICKLY = ["-gcflags=all=-N -l -dwarf=false", "-gcflags=crypto/...=-dwarf=false", "-ldflags=-w"]
 NO_CGO = "minisign calls C: set CGO_ENABLED=1, and CC to a C compiler for this system"
 
 
@@ -264,7 +264,7 @@ def check_own_tests(checks, go, package):
     for AArch64 in an emulator."""
     checks.check(go.run(package, "vet", "./...") == "", "go vet has words")
     arm = emulated.AARCH64
-    in_emulator = [QUICKLY, "-exec", " ".join(["env -u GOGC", *emulated.emulator(arm)])], {"GOARCH": "arm64", "CC": emulated.compiler(arm)}
+    in_emulator = [*QUICKLY, "-exec", " ".join(["env -u GOGC", *emulated.emulator(arm)])], {"GOARCH": "arm64", "CC": emulated.compiler(arm)}
     for words, environment in ((["-exec", "env -u GOGC", "-race", "-tags", "amd64.v3"], {}), in_emulator):
         said = go.run(package, "test", "-count=1", "-vet=off", "-v", *words, "./...", **environment)
         checks.check(said.count("--- PASS: ") >= 6 and "--- SKIP" not in said, f"go test {words}: {said[-500:]}")
@@ -276,8 +276,8 @@ def check_as_c(checks, go, room, package, minisign):
     arm = next(kind for kind in portable.KINDS if kind.debian == "armhf")
     for what, before, words, environment in (
             ("as C", [], ["-tags", "portable"], {}),
-            ("for ARM", emulated.emulator(arm), [QUICKLY], {"GOOS": "linux", "GOARCH": "arm", "CC": emulated.compiler(arm)}),
-            ("for Windows", [windows.program], [QUICKLY], {"GOOS": "windows", "CC": mingw})):
+            ("for ARM", emulated.emulator(arm), QUICKLY, {"GOOS": "linux", "GOARCH": "arm", "CC": emulated.compiler(arm)}),
+            ("for Windows", [windows.program], QUICKLY, {"GOOS": "windows", "CC": mingw})):
         program = go.build("answers.go", os.path.join(room, what.replace(" ", "-")), package, *words, **environment)
         asked = Program(checks, *before, program, name=what, **windows.variables)
         asked.ask_answers(minisign, shared_cases.corpus(), (["verify"], True))

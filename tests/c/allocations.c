@@ -35,7 +35,10 @@ static int is_cleared(const char *block, size_t len)
 {
     size_t first = 0, front = len >= LARGE_BYTES ? LARGE_FRONT_BYTES : sizeof(struct heading);
 
-    while (first < len && block[first] == 0) {
+    if (is_zeros(block, len)) {
+        return 1;
+    }
+    while (block[first] == 0) {
         first++;
     }
     first = first / sizeof(struct heading) * sizeof(struct heading);
@@ -86,27 +89,26 @@ static int is_held(long blocks)
     return held == blocks && uncleared == 0;
 }
 
-/* A pattern that differs from byte to byte, and is nowhere zero. */
-static char painted(size_t at)
-{
-    return (char) (1 + at * 31 % 251);
-}
+/* A pattern that differs from byte to byte, is nowhere zero, and comes again after so many bytes. */
+enum { PERIOD = 251 };
 
 static void paint(char *block, size_t len)
 {
-    for (size_t at = 0; at < len; at++) {
-        block[at] = painted(at);
+    for (size_t at = 0; at < len && at < PERIOD; at++) {
+        block[at] = (char) (1 + at * 31 % PERIOD);
+    }
+    for (size_t at = PERIOD; at < len; at += PERIOD) {
+        memcpy(block + at, block, len - at < PERIOD ? len - at : PERIOD);
     }
 }
 
 static int is_painted(const char *block, size_t len)
 {
-    size_t at = 0;
+    char front[PERIOD];
 
-    while (at < len && block[at] == painted(at)) {
-        at++;
-    }
-    return at == len;
+    paint(front, PERIOD);
+    return len <= PERIOD ? memcmp(block, front, len) == 0
+                         : memcmp(block, front, PERIOD) == 0 && memcmp(block, block + PERIOD, len - PERIOD) == 0;
 }
 
 /* One block that is used whole, and grows and shrinks to another length. */

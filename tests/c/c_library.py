@@ -50,7 +50,7 @@ LIBRARIES = {"both copies": ([], ([], SANITIZED)), "for x86-64-v2": ([f"V3={stat
 def compiled(checks, what, name, compiler, library, *flags):
     """The path of a program of this directory that is built over a library, beside which it stands."""
     program, source = os.path.join(os.path.dirname(library), name), os.path.join(HERE, f"{name}.c")
-    command = [compiler, "-std=c11", *STRICT, "-g", "-O1", "-I", INCLUDE, "-o", program, source, library, *flags]
+    command = [compiler, "-std=c11", *STRICT, "-O1", "-I", INCLUDE, "-o", program, source, library, *flags]
     checks.ended(f"{what}: {name}.c", run(command))
     return program
 

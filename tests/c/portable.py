@@ -79,10 +79,11 @@ def check_here(checks, room, answers):
     """By the compilers that are here; the programs over musl verify the kept signatures."""
     gcc, clang, tcc = (needs.program(name, name) for name in ("gcc", "clang", "tcc"))
     of_musl = emulated.musl_words(room)
-    # (with -g gcc takes twice as long for the calls; without -O1 all that is run takes several times as long)
+    # (with -g gcc takes twice as long for the calls, as with checks that call nothing; without -O1 all takes several times as long)
     for what, words, compiler, flags, programs in (
             ("gcc", [], gcc, [], PROGRAMS), ("clang", [f"CC={clang}"], gcc, [], PROGRAMS),
-            ("sanitized", [f"CFLAGS=-O1 {' '.join(SANITIZED)}", "CPPFLAGS=", "LDFLAGS="], gcc, SANITIZED, PROGRAMS),
+            ("sanitized", [f"CFLAGS=-O1 {' '.join(SANITIZED)} --param=asan-instrumentation-with-call-threshold=0", "CPPFLAGS=",
+                           "LDFLAGS="], gcc, SANITIZED, PROGRAMS),
             ("tcc", [f"CC={tcc}", "TARGET=x86_64-linux", "LD=ld", "OBJCOPY=objcopy", "AR=ar", "CFLAGS=", "CPPFLAGS=", "HAS_PAGES="],
              gcc, [NO_THREADS], OF_MALLOC),
             ("musl", of_musl, emulated.musl_compiler(), ["-static"], programs_named("usage_errors", "asked_texts", "random_calls"))):
@@ -128,7 +129,7 @@ def check_archives(checks, room, _):
         data, out = read(static_library.DIST, name), f"{room}/wrong-{wrong}"
         for value, other in INITIAL.items():
             data = data.replace(value, other)
-        static_library.run_make(*of_musl, f"OUT={out}", f"{wrong}={write(room, name, data)}", f"{out}/minisign")
+        static_library.run_make(*of_musl, f"OUT={out}", "CFLAGS=-O0", f"{wrong}={write(room, name, data)}", f"{out}/minisign")
         for copy, (_, processors) in COPIES.items():
             for processor in processors.split():
                 ran = run([emulator, "-cpu", processor, f"{out}/minisign", *verifying], CORPUS)

@@ -54,7 +54,7 @@ BESIDE, FREE = 3, 5_000_000_000
 REJECTED, GAVE_UP, APART, FAILED, PROVED = ("rejected", "rejected by a search that gave up at a limit",
                                             "rejected by its written proof alone", "FAILED", "proved, unchanged")
 # How many wrong bodies share a check at the most.
-GROUP = 80
+GROUP = 40
 # What a check of a crate reads.
 PARTS = ("src", "specs", "proofs")
 # A body that is of each type and calls nothing, and a proof that is a hole: what calls such a function rests on its contract.
@@ -301,7 +301,7 @@ class Trial:
         words = [word for function in sorted(functions) for word in ("--only", function)]
         with self.places.place(), tempfile.TemporaryDirectory(prefix="wrong-bodies-kept-") as kept:
             words += ["--allow-holes", "--incremental", kept]
-            return proved.rattle("check", self.crate, directory, *words, before=("nice", "-n", "19")).stdout
+            return proved.rattle("check", self.crate, directory, *words, before=("nice", "-n", "10")).stdout
 
     def judged(self, body, said):
         """Judges a body by what a check said of its function: by its line, those above it that belong to it, and the
@@ -384,8 +384,7 @@ def main(words):
     found = {name for crate in bodies for name in (crate, *(body.label for body in bodies[crate]))}
     wrong = wrong_numbers(bodies, names) + [f"no wrong body is named {name}" for name in names if name not in found]
     is_tried = lambda crate, body: body.label in names or not body.is_for_kit and (not names or crate in names)
-    tasks = {crate: [body for body in bodies[crate] if is_tried(crate, body)] for crate in bodies}
-    tasks = {crate: tried for crate, tried in tasks.items() if tried}
+    tasks = {crate: tried for crate in bodies if (tried := [body for body in bodies[crate] if is_tried(crate, body)])}
     outcomes, passed = {crate: Counter() for crate in tasks}, 0
     for verdict in try_all(tasks):
         print(verdict.text, flush=True)

@@ -52,6 +52,11 @@ static void search(const uint8_t *from, const uint8_t *to, bool is_undumped)
         begins[needles[n].masked[0]] = true;
     }
     for (const volatile uint8_t *at = from; at < to; at++) {
+        /* (most are zeros, with which no needle begins; a range is of whole pages) */
+        if ((uintptr_t) at % 8 == 0 && !begins[MASK] && *(const volatile uint64_t *) at == 0) {
+            at += 7;
+            continue;
+        }
         for (size_t n = 0; begins[*at ^ MASK] && n < NEEDLES; n++) {
             const struct needle *needle = &needles[n];
             size_t i = 0;

@@ -1,11 +1,12 @@
 //! Requests for hashes, derived keys, limits, numbers, the clock and a typed password.
 
-ghost use Rattle.std.specs.Prelude.{◌≡◌, ◌≤◌, ℕ, List, ◌++◌, false, OnOk};
+ghost use Rattle.std.specs.Prelude.{◌≡◌, ◌≤◌, ℕ, List, ◌++◌, false, OnOk, length};
 ghost use Rattle.minisign_hash.specs.Fed.{IsFed, has_finalized, output_length};
 
 use crate::devices::typed_prompt;
 use crate::refusals::Refusal;
 use crate::replies::{Fields, Reply};
+use crate::requests::BlockRequest;
 use crate::words::{bytes_of, number_of, typed_lines_of, word};
 use minisign::base::devices::sinks::Sink;
 use minisign::base::devices::sources::Source;
@@ -21,32 +22,42 @@ use std::io;
 use std::time::{Clock, Duration};
 
 /// Answers any request that is not of keys, signatures, pairs or a table.
-pub fn answer(alloc: Global, name: &str, line: &str, reply: &mut Reply) -> Result<(), Refusal> {
-    match name {
-        "raw_scrypt_params" => answer_limits(line, reply),
-        "blake2b" => answer_blake2b(alloc, line, reply),
-        "scrypt" => answer_scrypt(alloc, line, reply),
-        "fixed_time_eq" => answer_equal(alloc, line, reply),
-        "store_u64_le" => answer_store(line, reply),
-        "load_u64_le" => answer_load(alloc, line, reply),
-        "unix_timestamp" => answer_timestamp(line, reply),
-        "get_password" => answer_password(alloc, line, reply),
-        _ => Err(Refusal::BadRequest),
+pub fn answer(
+    alloc: Global,
+    request: &BlockRequest,
+    line: &str,
+    reply: &mut Reply,
+) -> Result<(), Refusal> {
+    match request {
+        BlockRequest::Limits => answer_limits(line, reply),
+        BlockRequest::Blake2b => answer_blake2b(alloc, line, reply),
+        BlockRequest::Scrypt => answer_scrypt(alloc, line, reply),
+        BlockRequest::Equal => answer_equal(alloc, line, reply),
+        BlockRequest::Store => answer_store(line, reply),
+        BlockRequest::Load => answer_load(alloc, line, reply),
+        BlockRequest::Timestamp => answer_timestamp(line, reply),
+        BlockRequest::Password => answer_password(alloc, line, reply),
     }
 }
 
 fn answer_limits(line: &str, reply: &mut Reply) -> Result<(), Refusal> {
     let memlimit = number_of(word(line, 1))?;
     let opslimit = number_of(word(line, 2))?;
-    let params = raw_scrypt_params(memlimit, opslimit, number_of(word(line, 3))?)?;
-    show_params(&params, &mut reply.fields)
+    let n_log2_max = number_of(word(line, 3))?;
+    show_params(raw_scrypt_params(memlimit, opslimit, n_log2_max), reply);
+    Ok(())
 }
 
-// The fields of the parameters of key derivation.
-fn show_params(params: &Params, fields: &mut Fields) -> Result<(), Refusal> {
-    fields.number("n_log2", params.n_log2() as u64)?;
-    fields.number("r", params.r() as u64)?;
-    fields.number("p", params.p() as u64)
+// The fields of the parameters of key derivation that a call returned.
+fn show_params(returned: minisign::Result<Params>, reply: &mut Reply) {
+    match returned {
+        Ok(params) => {
+            reply.fields.number("n_log2", params.n_log2() as u64);
+            reply.fields.number("r", params.r() as u64);
+            reply.fields.number("p", params.p() as u64);
+        }
+        Err(fault) => reply.keep(fault),
+    }
 }
 
 fn answer_blake2b(alloc: Global, line: &str, reply: &mut Reply) -> Result<(), Refusal> {
@@ -55,26 +66,35 @@ fn answer_blake2b(alloc: Global, line: &str, reply: &mut Reply) -> Result<(), Re
     if outlen == 0 || outlen > 64 {
         return Err(Refusal::OutsideConditions);
     }
-    show_digests(outlen, word(line, 2), &bytes, &mut reply.fields)
+    let mut room = [0u8; 64];
+    show_digests(
+        &mut room[..outlen],
+        word(line, 2),
+        &bytes,
+        &mut reply.fields,
+    )
 }
 
-// The fields of a digest: of the bytes as a whole, and in pieces, as the state tells it first and
-// again.
-fn show_digests(outlen: usize, cuts: &str, bytes: &[u8], fields: &mut Fields) -> Result<(), Refusal>
-    requires some { 1 ≤ outlen }
-    requires fits { outlen ≤ 64 }
+// The fields of a digest, for each of which there is this room: of the bytes as a whole, and in
+// pieces, as the state tells it first and again.
+fn show_digests(
+    room: &mut [u8],
+    cuts: &str,
+    bytes: &[u8],
+    fields: &mut Fields,
+) -> Result<(), Refusal>
+    requires some { 1 ≤ length room.old }
+    requires fits { length room.old ≤ 64 }
 {
-    let mut whole = [0u8; 64];
-    Blake2b::blake2b(&mut whole[..outlen], bytes);
-    let mut state = Blake2b::new(outlen);
+    let mut state = Blake2b::new(room.len());
     feed(&mut state, cuts, bytes)?;
-    let mut pieces = [0u8; 64];
-    state.finalize(&mut pieces[..outlen]);
-    let mut again = [0u8; 64];
-    state.finalize(&mut again[..outlen]);
-    fields.bytes("whole", &whole[..outlen])?;
-    fields.bytes("pieces", &pieces[..outlen])?;
-    fields.bytes("again", &again[..outlen])
+    Blake2b::blake2b(room, bytes);
+    fields.bytes("whole", room);
+    state.finalize(room);
+    fields.bytes("pieces", room);
+    state.finalize(room);
+    fields.bytes("again", room);
+    Ok(())
 }
 
 // Feeds a state all of the bytes: `-` at once, otherwise cut at places parted by commas.
@@ -98,23 +118,30 @@ fn feed(state: &mut Blake2b, cuts: &str, bytes: &[u8]) -> Result<(), Refusal>
 }
 
 fn answer_scrypt(alloc: Global, line: &str, reply: &mut Reply) -> Result<(), Refusal> {
-    let numbers = (
-        number_of(word(line, 1))?,
-        number_of(word(line, 2))?,
-        number_of(word(line, 3))?,
-    );
-    let length = number_of(word(line, 4))?;
     let password = bytes_of(alloc, word(line, 5))?;
     let salt = bytes_of(alloc, word(line, 6))?;
-    let key = derived(alloc, &password, &salt, numbers, length);
-    reply.fields.returned_bytes("out", key)
+    answer_derived(alloc, line, (&password, &salt), reply)
+}
+
+// The key that is derived, once the numbers are read.
+fn answer_derived(
+    alloc: Global,
+    line: &str,
+    texts: (&[u8], &[u8]),
+    reply: &mut Reply,
+) -> Result<(), Refusal> {
+    let n_log2 = number_of(word(line, 1))?;
+    let r = number_of(word(line, 2))?;
+    let p = number_of(word(line, 3))?;
+    let length = number_of(word(line, 4))?;
+    reply.returned_bytes("out", derived(alloc, texts, (n_log2, r, p), length));
+    Ok(())
 }
 
 // The key of so many bytes, by the parameters of these numbers.
 fn derived(
     alloc: Global,
-    password: &[u8],
-    salt: &[u8],
+    (password, salt): (&[u8], &[u8]),
     (n_log2, r, p): (u8, u32, u32),
     length: usize,
 ) -> minisign::Result<Vec<u8>> {
@@ -127,12 +154,14 @@ fn derived(
 fn answer_equal(alloc: Global, line: &str, reply: &mut Reply) -> Result<(), Refusal> {
     let first = bytes_of(alloc, word(line, 1))?;
     let second = bytes_of(alloc, word(line, 2))?;
-    reply.fields.flag("eq", fixed_time_eq(&first, &second))
+    reply.fields.flag("eq", fixed_time_eq(&first, &second));
+    Ok(())
 }
 
 fn answer_store(line: &str, reply: &mut Reply) -> Result<(), Refusal> {
     let number = number_of(word(line, 1))?;
-    reply.fields.bytes("out", &store_u64_le(number))
+    reply.fields.bytes("out", &store_u64_le(number));
+    Ok(())
 }
 
 fn answer_load(alloc: Global, line: &str, reply: &mut Reply) -> Result<(), Refusal> {
@@ -140,7 +169,8 @@ fn answer_load(alloc: Global, line: &str, reply: &mut Reply) -> Result<(), Refus
     if bytes.len() < 8 {
         return Err(Refusal::OutsideConditions);
     }
-    reply.fields.number("out", load_u64_le(&bytes))
+    reply.fields.number("out", load_u64_le(&bytes));
+    Ok(())
 }
 
 // A clock that shows one moment, or can't be read.
@@ -170,8 +200,11 @@ fn clock_of(word: &str) -> Result<Shows, Refusal> {
 
 fn answer_timestamp(line: &str, reply: &mut Reply) -> Result<(), Refusal> {
     let clock = clock_of(word(line, 1))?;
-    let moment = unix_timestamp(&clock)?;
-    reply.fields.number("out", moment)
+    match unix_timestamp(&clock) {
+        Ok(moment) => reply.fields.number("out", moment),
+        Err(fault) => reply.keep(fault),
+    }
+    Ok(())
 }
 
 // What the call that asks for a password returns.
@@ -183,6 +216,7 @@ fn answer_password(alloc: Global, line: &str, reply: &mut Reply) -> Result<(), R
     let typed = typed_lines_of(alloc, word(line, 1))?;
     let mut prompt = typed_prompt(alloc, &typed);
     let password = asked(alloc, &mut prompt);
-    reply.end_prompt(alloc, prompt)?;
-    reply.fields.returned_text("out", password)
+    reply.end_prompt(alloc, prompt);
+    reply.returned_text("out", password);
+    Ok(())
 }

@@ -1,6 +1,6 @@
 //! Devices that a request describes, which count what is done with them.
 
-ghost use Rattle.std.specs.Prelude.{◌≡◌, ◌≤◌, IfOk, Some, length};
+ghost use Rattle.std.specs.Prelude.{◌≡◌, ◌≤◌, Some, length};
 ghost use Rattle.std.specs.Option.{is_some};
 
 use crate::refusals::Refusal;
@@ -54,11 +54,19 @@ impl DataWord {
         let Some((name, value)) = part.split_once('=') else {
             return Err(Refusal::BadRequest);
         };
+        if name == "second" {
+            self.second = Some(bytes_of(alloc, value)?);
+            return Ok(());
+        }
+        self.set(name, number_of(value)?)
+    }
+
+    // Takes the number of a part. There is no read of 0 bytes.
+    fn set(&mut self, name: &str, number: usize) -> Result<(), Refusal> {
         match name {
-            "pos" => self.place = number_of(value)?,
-            "chunk" => self.chunk = chunk_of(value)?,
-            "fail" => self.failing_read = number_of(value)?,
-            "second" => self.second = Some(bytes_of(alloc, value)?),
+            "pos" => self.place = number,
+            "chunk" if number > 0 => self.chunk = number,
+            "fail" => self.failing_read = number as u64,
             _ => return Err(Refusal::BadRequest),
         }
         Ok(())
@@ -79,16 +87,6 @@ impl DataWord {
             reads: 0,
             faults: 0,
         }
-    }
-}
-
-// How many bytes a read gives at the most, which is not 0.
-fn chunk_of(word: &str) -> Result<usize, Refusal>
-    ensures { IfOk result (λ chunk. 1 ≤ chunk) }
-{
-    match number_of(word)? {
-        0 => Err(Refusal::BadRequest),
-        chunk => Ok(chunk),
     }
 }
 
@@ -119,12 +117,6 @@ impl<'a> CountedSource<'a> {
         ensures { result ≡ self.now.place }
     {
         self.place
-    }
-
-    // One more error.
-    fn fail(&mut self) -> DeviceFault {
-        self.faults = self.faults.saturating_add(1);
-        DeviceFault
     }
 }
 

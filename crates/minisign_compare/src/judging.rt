@@ -1,108 +1,62 @@
 //! Requests that sign and verify.
 
 use crate::devices::{CountedRandom, CountedSource, DataWord, random_bytes};
-use crate::public_keys::key_of;
+use crate::public_keys::{key_of, key_of_text};
 use crate::refusals::Refusal;
 use crate::replies::Reply;
+use crate::requests::Request;
+use crate::secret_keys;
 use crate::signatures::{box_of, show_returned};
 use crate::table::Table;
-use crate::words::{bytes_of, flag_of, number_of, text_of, text_or_none_of, word};
+use crate::words::{flag_of, number_of, text_or_none_of, word};
 use minisign::base::devices::sinks::VecSink;
 use minisign::base::toy::{ToyScheme, Triple};
-use minisign::{PublicKey, PublicKeyBox, SecretKey, SignatureBox, sign, verify};
+use minisign::{PublicKey, SecretKey, SignatureBox, sign, verify};
 use std::alloc::Global;
 
-// The words of a request to sign.
-#[derive(Clone, Copy)]
-struct SignWords<'a> {
-    pk: &'a str,
-    sk: &'a str,
-    data: &'a str,
-    trusted_comment: &'a str,
-    untrusted_comment: &'a str,
-    random: &'a str,
-    moment: u64,
-}
-
-impl<'a> SignWords<'a> {
-    // All of the line.
-    fn read(line: &'a str) -> Result<SignWords<'a>, Refusal> {
-        let moment = number_of(word(line, 7))?;
-        Ok(SignWords {
-            pk: word(line, 1),
-            sk: word(line, 2),
-            data: word(line, 3),
-            trusted_comment: word(line, 4),
-            untrusted_comment: word(line, 5),
-            random: word(line, 6),
-            moment,
-        })
-    }
-}
-
-// What is signed with: the bytes of a secret key, the data, and random bytes.
-type Given<'a> = (&'a [u8], &'a DataWord, &'a [u8]);
-
-/// Answers `sign`, `verify` or `verify_texts`.
-pub fn answer(
+/// Answers `sign`.
+pub fn answer_sign(
     alloc: Global,
     table: &Table,
-    name: &str,
     line: &str,
     reply: &mut Reply,
 ) -> Result<(), Refusal> {
-    match name {
-        "sign" => answer_sign(alloc, table, line, reply),
-        "verify" => answer_verify(alloc, table, line, reply),
-        "verify_texts" => answer_verify_texts(alloc, table, line, reply),
-        _ => Err(Refusal::BadRequest),
-    }
+    let data = DataWord::read(alloc, word(line, 3))?;
+    let random = random_bytes(alloc, word(line, 6))?;
+    sign_with_comments(alloc, table, line, (&data, &random), reply)
 }
 
-fn answer_sign(alloc: Global, table: &Table, line: &str, reply: &mut Reply) -> Result<(), Refusal> {
-    let asked = SignWords::read(line)?;
-    let sk_bytes = bytes_of(alloc, asked.sk)?;
-    let data = DataWord::read(alloc, asked.data)?;
-    let bytes = random_bytes(alloc, asked.random)?;
-    sign_with_comments(alloc, table, asked, (&sk_bytes, &data, &bytes), reply)
-}
-
-// Signs, once the comments are read.
+// Signs data with random bytes, once the comments are read.
 fn sign_with_comments(
     alloc: Global,
     table: &Table,
-    asked: SignWords<'_>,
-    given: Given<'_>,
+    line: &str,
+    given: (&DataWord, &[u8]),
     reply: &mut Reply,
 ) -> Result<(), Refusal> {
-    let trusted = text_or_none_of(alloc, asked.trusted_comment)?;
-    let untrusted = text_or_none_of(alloc, asked.untrusted_comment)?;
+    let moment = number_of(word(line, 7))?;
+    let trusted = text_or_none_of(alloc, word(line, 4))?;
+    let untrusted = text_or_none_of(alloc, word(line, 5))?;
     let comments = (trusted.as_deref(), untrusted.as_deref());
-    sign_with_keys(alloc, table, asked, given, comments, reply)
+    sign_with_keys(alloc, table, line, given, comments, moment, reply)
 }
 
 // Signs, once the keys are read.
 fn sign_with_keys(
     alloc: Global,
     table: &Table,
-    asked: SignWords<'_>,
-    (sk_bytes, data, bytes): Given<'_>,
+    line: &str,
+    given: (&DataWord, &[u8]),
     comments: (Option<&str>, Option<&str>),
+    moment: u64,
     reply: &mut Reply,
 ) -> Result<(), Refusal> {
-    let sk = SecretKey::from_bytes(sk_bytes)?;
-    let pk = key_or_none(alloc, asked.pk)?;
+    let sk = secret_keys::key_of(alloc, word(line, 2))?;
+    let pk = key_or_none(alloc, word(line, 1))?;
     let triples = table.triples(alloc)?;
     let keys = (pk.as_ref(), &sk);
-    sign_data(
-        alloc,
-        &triples,
-        keys,
-        (data, bytes),
-        comments,
-        asked.moment,
-        reply,
-    )
+    sign_data(alloc, &triples, keys, given, comments, moment, reply);
+    Ok(())
 }
 
 // Signs the data with random bytes.
@@ -114,7 +68,7 @@ fn sign_data(
     comments: (Option<&str>, Option<&str>),
     moment: u64,
     reply: &mut Reply,
-) -> Result<(), Refusal> {
+) {
     let mut source = data.source();
     let mut random = CountedRandom::new(bytes);
     let signed = signed(
@@ -126,9 +80,9 @@ fn sign_data(
         &mut random,
         moment,
     );
-    reply.tail.number("drawn", random.drawn())?;
-    show_reads(&source, reply)?;
-    show_returned(alloc, signed, &mut reply.fields)
+    reply.tail.number("drawn", random.drawn());
+    show_reads(&source, reply);
+    show_returned(alloc, signed, reply);
 }
 
 // What the call that signs returns.
@@ -154,37 +108,20 @@ fn signed(
     )
 }
 
-fn answer_verify(
+/// Answers `verify` or `verify_texts`.
+pub fn answer_verify(
     alloc: Global,
     table: &Table,
+    request: &Request,
     line: &str,
     reply: &mut Reply,
 ) -> Result<(), Refusal> {
-    let pk = key_of(alloc, word(line, 1))?;
-    judge(alloc, table, &pk, line, reply)
-}
-
-fn answer_verify_texts(
-    alloc: Global,
-    table: &Table,
-    line: &str,
-    reply: &mut Reply,
-) -> Result<(), Refusal> {
-    let text = text_of(alloc, word(line, 1))?;
-    let pk = PublicKeyBox::from_string(alloc, text.as_str())?.into_public_key(alloc)?;
-    judge(alloc, table, &pk, line, reply)
-}
-
-// Verifies with a key and what the words of the request say.
-fn judge(
-    alloc: Global,
-    table: &Table,
-    pk: &PublicKey,
-    line: &str,
-    reply: &mut Reply,
-) -> Result<(), Refusal> {
+    let pk = match request {
+        Request::VerifyTexts => key_of_text(alloc, word(line, 1))?,
+        _ => key_of(alloc, word(line, 1))?,
+    };
     let signature_box = box_of(alloc, word(line, 2))?;
-    judge_box(alloc, table, (pk, &signature_box), line, reply)
+    judge_box(alloc, table, (&pk, &signature_box), line, reply)
 }
 
 // Verifies with a key, a box and what the words of the request say.
@@ -195,14 +132,18 @@ fn judge_box(
     line: &str,
     reply: &mut Reply,
 ) -> Result<(), Refusal> {
-    let flags = (
-        flag_of(word(line, 4))?,
-        flag_of(word(line, 5))?,
-        flag_of(word(line, 6))?,
-    );
+    let flags = flags_of(line)?;
     let data = DataWord::read(alloc, word(line, 3))?;
     let triples = table.triples(alloc)?;
-    judge_data(alloc, &triples, texts, &data, flags, reply)
+    judge_data(alloc, &triples, texts, &data, flags, reply);
+    Ok(())
+}
+
+// The flags of a request: quiet, output, legacy.
+fn flags_of(line: &str) -> Result<(bool, bool, bool), Refusal> {
+    let quiet = flag_of(word(line, 4))?;
+    let output = flag_of(word(line, 5))?;
+    Ok((quiet, output, flag_of(word(line, 6))?))
 }
 
 // Verifies the data.
@@ -213,7 +154,7 @@ fn judge_data(
     data: &DataWord,
     flags: (bool, bool, bool),
     reply: &mut Reply,
-) -> Result<(), Refusal> {
+) {
     let mut source = data.source();
     let mut status = VecSink::new(alloc);
     let mut out = VecSink::new(alloc);
@@ -228,8 +169,10 @@ fn judge_data(
     );
     reply.stdout = out.into_vec();
     reply.stderr = status.into_vec();
-    show_reads(&source, reply)?;
-    Ok(verdict?)
+    show_reads(&source, reply);
+    if let Err(fault) = verdict {
+        reply.keep(fault);
+    }
 }
 
 // What the call that verifies returns.
@@ -257,9 +200,9 @@ fn verified(
 }
 
 // How the data was read.
-fn show_reads(source: &CountedSource<'_>, reply: &mut Reply) -> Result<(), Refusal> {
-    reply.tail.number("reads", source.reads())?;
-    reply.tail.number("pos", source.place())
+fn show_reads(source: &CountedSource<'_>, reply: &mut Reply) {
+    reply.tail.number("reads", source.reads());
+    reply.tail.number("pos", source.place());
 }
 
 // The record of a public key, or none where the word is `-`.

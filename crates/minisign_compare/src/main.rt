@@ -19,7 +19,7 @@ mod words;
 use minisign::PError;
 use refusals::Refusal;
 use replies::Reply;
-use requests::is_request;
+use requests::{Request, request_of};
 use std::io::{self, BufRead, BufReader, BufWriter, Write};
 use std::process::ExitCode;
 use table::Table;
@@ -35,19 +35,28 @@ fn main(rt: HostRuntime) -> io::Result<ExitCode> {
 fn answer_all<W: Write>(rt: &HostRuntime, answers: &mut W) -> io::Result<ExitCode> {
     let mut table = Table::new(rt.alloc());
     for line in BufReader::new(rt.alloc(), rt.reader())?.lines(rt.alloc()) {
-        let line = line?;
-        if !answer_line(rt, &mut table, line.as_str(), answers)? {
-            return refuse(rt, answers, line.as_str());
+        if !answer_read(rt, &mut table, line, answers)? {
+            return Ok(ExitCode::from(3));
         }
     }
     Ok(ExitCode::SUCCESS)
 }
 
-// Says that a line is no request, after the answers to those before it.
-fn refuse<W: Write>(rt: &HostRuntime, answers: &mut W, line: &str) -> io::Result<ExitCode> {
-    answers.flush()?;
-    eprintln!(rt; "bad request: {line}")?;
-    Ok(ExitCode::from(3))
+// Answers a line that was read or was not. It is false of what is no request, which is said after
+// the answers to the lines before.
+fn answer_read<W: Write>(
+    rt: &HostRuntime,
+    table: &mut Table,
+    line: io::Result<String>,
+    answers: &mut W,
+) -> io::Result<bool> {
+    let line = line?;
+    let is_answered = answer_line(rt, table, line.as_str(), answers)?;
+    if !is_answered {
+        answers.flush()?;
+        eprintln!(rt; "bad request: {line}")?;
+    }
+    Ok(is_answered)
 }
 
 // Answers one line; an empty one and a comment get no answer. It is false of what is no request.
@@ -60,38 +69,37 @@ fn answer_line<W: Write>(
     if line.is_empty() || line.starts_with("#") {
         return Ok(true);
     }
+    let Some(request) = request_of(line) else {
+        return Ok(false);
+    };
     let mut reply = Reply::new(rt.alloc());
-    let answer = answer(rt, table, line, &mut reply);
-    print(rt, answers, &answer, &reply)
+    let answer = answer(rt, table, request, line, &mut reply);
+    print(rt, answers, answer, &mut reply)
 }
 
 // Answers one request.
 fn answer(
     rt: &HostRuntime,
     table: &mut Table,
+    request: &Request,
     line: &str,
     reply: &mut Reply,
 ) -> Result<(), Refusal> {
-    let name = before(line, ' ');
-    if !is_request(name, line) {
-        return Err(Refusal::BadRequest);
-    }
-    match before(name, '_') {
-        "pk" => public_keys::answer(rt, name, line, reply),
-        "sk" => secret_keys::answer(rt, name, line, reply),
-        "sig" | "bones" => signatures::answer(rt, name, line, reply),
-        "gen" => pairs::answer(rt.alloc(), name, line, reply),
-        "table" => table.answer(rt.alloc(), name, line),
-        "sign" | "verify" => judging::answer(rt.alloc(), table, name, line, reply),
-        _ => building_blocks::answer(rt.alloc(), name, line, reply),
-    }
-}
-
-// The text up to this character: a request's name, or what the name says that it is about.
-fn before(text: &str, end: char) -> &str {
-    match text.split_once(end) {
-        Some((front, _)) => front,
-        None => text,
+    match request {
+        Request::PublicKey(asked) => public_keys::answer(rt, asked, line, reply),
+        Request::SecretKey(asked) => secret_keys::answer(rt, asked, line, reply),
+        Request::Signature(asked) => signatures::answer(rt, asked, line, reply),
+        Request::Pair(asked) => pairs::answer(rt.alloc(), asked, line, reply),
+        Request::Block(asked) => building_blocks::answer(rt.alloc(), asked, line, reply),
+        Request::Sign => judging::answer_sign(rt.alloc(), table, line, reply),
+        Request::Verify | Request::VerifyTexts => {
+            judging::answer_verify(rt.alloc(), table, request, line, reply)
+        }
+        Request::TableAdd => table.add(rt.alloc(), line),
+        Request::TableClear => {
+            table.clear();
+            Ok(())
+        }
     }
 }
 
@@ -99,16 +107,18 @@ fn before(text: &str, end: char) -> &str {
 fn print<W: Write>(
     rt: &HostRuntime,
     answers: &mut W,
-    answer: &Result<(), Refusal>,
-    reply: &Reply,
+    answer: Result<(), Refusal>,
+    reply: &mut Reply,
 ) -> io::Result<bool> {
-    match answer {
-        Ok(()) => print_fields(answers, reply.fields.as_str())?,
-        Err(Refusal::Fault(fault)) => print_fault(rt, answers, fault)?,
-        Err(Refusal::OutsideConditions) => write!(answers, "outside")?,
+    let printed = match reply.end(answer) {
+        Ok(()) => print_fields(answers, reply.fields.as_str()),
+        Err(Refusal::Fault(fault)) => print_fault(rt, answers, &fault),
+        Err(Refusal::OutsideConditions) => write!(answers, "outside"),
         Err(Refusal::BadRequest) => return Ok(false),
-    }
-    print_deeds(rt, answers, reply)?;
+    };
+    printed?;
+    let (tail, deeds) = (reply.tail.as_str(), reply.deeds.as_str());
+    writeln!(answers, " | {tail} {deeds}")?;
     Ok(true)
 }
 
@@ -125,16 +135,4 @@ fn print_fault<W: Write>(rt: &HostRuntime, answers: &mut W, fault: &PError) -> i
     let text = format!(in rt.alloc(); "{fault}")?;
     let digits = hex::encode(rt.alloc(), text.as_bytes())?;
     write!(answers, "err {:?} x{digits}", fault.kind())
-}
-
-// Prints what a call did besides.
-fn print_deeds<W: Write>(rt: &HostRuntime, answers: &mut W, reply: &Reply) -> io::Result<()> {
-    let stdout = hex::encode(rt.alloc(), &reply.stdout)?;
-    let stderr = hex::encode(rt.alloc(), &reply.stderr)?;
-    writeln!(
-        answers,
-        " | {} stdout=x{stdout} stderr=x{stderr} typed_left={}",
-        reply.tail.as_str(),
-        reply.typed_left
-    )
 }

@@ -2,7 +2,8 @@
 
 use crate::devices::{CountedRandom, SinkWord, random_bytes, typed_prompt};
 use crate::refusals::Refusal;
-use crate::replies::{Fields, Reply};
+use crate::replies::Reply;
+use crate::requests::PairRequest;
 use crate::words::{text_or_none_of, typed_lines_of, word};
 use minisign::KeyPair;
 use minisign::base::devices::sinks::VecSink;
@@ -12,176 +13,155 @@ use minisign::base::toy::ToyScheme;
 use minisign_fixtures::devices::sinks::LimitedSink;
 use std::alloc::Global;
 
+// The devices of a call that makes a pair.
+#[derive(Drop)]
+struct Devices<'a> {
+    random: CountedRandom<'a>,
+    prompt: Prompt<SliceSource<'a>, VecSink>,
+    pk_sink: LimitedSink,
+    sk_sink: LimitedSink,
+}
+
 /// Answers a request whose name begins with `gen_`.
-pub fn answer(alloc: Global, name: &str, line: &str, reply: &mut Reply) -> Result<(), Refusal> {
-    match name {
-        "gen_plain" => plain(alloc, line, reply),
-        "gen_sealed" => sealed(alloc, line, reply),
-        "gen_write_plain" => write_plain(alloc, line, reply),
-        "gen_write_sealed" => write_sealed(alloc, line, reply),
-        _ => Err(Refusal::BadRequest),
+pub fn answer(
+    alloc: Global,
+    request: &PairRequest,
+    line: &str,
+    reply: &mut Reply,
+) -> Result<(), Refusal> {
+    let numbers = numbers_of(request);
+    let pk_sink = SinkWord::read(given(line, numbers[0]))?;
+    let sk_sink = SinkWord::read(given(line, numbers[1]))?;
+    let random = random_bytes(alloc, word(line, 1))?;
+    let typed = typed_lines_of(alloc, given(line, numbers[4]))?;
+    let devices = Devices {
+        random: CountedRandom::new(&random),
+        prompt: typed_prompt(alloc, &typed),
+        pk_sink: pk_sink.sink(alloc),
+        sk_sink: sk_sink.sink(alloc),
+    };
+    answer_over(alloc, request, line, devices, reply)
+}
+
+// The numbers of a request's words: those of two sinks, of a comment, a password and typed lines.
+// It is 0 for what the request has no word of.
+fn numbers_of(request: &PairRequest) -> &'static [usize; 5] {
+    match request {
+        PairRequest::Plain => &[0, 0, 0, 0, 0],
+        PairRequest::Sealed => &[0, 0, 0, 2, 3],
+        PairRequest::WritePlain => &[2, 3, 0, 0, 0],
+        PairRequest::WriteSealed => &[2, 3, 4, 5, 6],
     }
 }
 
-fn plain(alloc: Global, line: &str, reply: &mut Reply) -> Result<(), Refusal> {
-    let bytes = random_bytes(alloc, word(line, 1))?;
-    let mut random = CountedRandom::new(&bytes);
-    let pair = generated_plain(&mut random);
-    reply.tail.number("drawn", random.drawn())?;
-    show(alloc, pair, &mut reply.fields)
+// The word with this number, or `-`.
+fn given(line: &str, number: usize) -> &str {
+    match number {
+        0 => "-",
+        number => word(line, number),
+    }
 }
 
-// What the call that makes a pair without a password returns.
-fn generated_plain(random: &mut CountedRandom<'_>) -> minisign::Result<KeyPair> {
-    KeyPair::generate_unencrypted_keypair(&ToyScheme::new(), random)
-}
-
-fn sealed(alloc: Global, line: &str, reply: &mut Reply) -> Result<(), Refusal> {
-    let bytes = random_bytes(alloc, word(line, 1))?;
-    let typed = typed_lines_of(alloc, word(line, 3))?;
-    let password = text_or_none_of(alloc, word(line, 2))?;
-    seal(alloc, (&bytes, &typed), password, reply)
-}
-
-// Makes a sealed pair of these random bytes, where these lines are typed.
-fn seal(
+// Makes the pair over these devices, once the comment and the password are read.
+fn answer_over(
     alloc: Global,
-    (bytes, typed): (&[u8], &[u8]),
-    password: Option<String>,
+    request: &PairRequest,
+    line: &str,
+    mut devices: Devices<'_>,
     reply: &mut Reply,
 ) -> Result<(), Refusal> {
-    let mut random = CountedRandom::new(bytes);
-    let mut prompt = typed_prompt(alloc, typed);
-    let pair = generated_sealed(alloc, &mut random, password, &mut prompt);
-    reply.end_prompt(alloc, prompt)?;
-    reply.tail.number("drawn", random.drawn())?;
-    show(alloc, pair, &mut reply.fields)
+    let numbers = numbers_of(request);
+    let comment = text_or_none_of(alloc, given(line, numbers[2]))?;
+    let password = text_or_none_of(alloc, given(line, numbers[3]))?;
+    let pair = made(alloc, request, &mut devices, comment.as_deref(), password);
+    show_devices(alloc, request, devices, reply);
+    show(alloc, pair, reply);
+    Ok(())
 }
 
-// What the call that makes a sealed pair returns.
+// What the call that makes a pair returns.
+fn made(
+    alloc: Global,
+    request: &PairRequest,
+    devices: &mut Devices<'_>,
+    comment: Option<&str>,
+    password: Option<String>,
+) -> minisign::Result<KeyPair> {
+    match request {
+        PairRequest::Plain => generated_plain(devices),
+        PairRequest::Sealed => generated_sealed(alloc, devices, password),
+        PairRequest::WritePlain => written_plain(alloc, devices),
+        PairRequest::WriteSealed => written_sealed(alloc, devices, comment, password),
+    }
+}
+
+fn generated_plain(devices: &mut Devices<'_>) -> minisign::Result<KeyPair> {
+    KeyPair::generate_unencrypted_keypair(&ToyScheme::new(), &mut devices.random)
+}
+
 fn generated_sealed(
     alloc: Global,
-    random: &mut CountedRandom<'_>,
+    devices: &mut Devices<'_>,
     password: Option<String>,
-    prompt: &mut Prompt<SliceSource<'_>, VecSink>,
 ) -> minisign::Result<KeyPair> {
-    KeyPair::generate_encrypted_keypair(alloc, &ToyScheme::new(), random, password, prompt)
+    KeyPair::generate_encrypted_keypair(
+        alloc,
+        &ToyScheme::new(),
+        &mut devices.random,
+        password,
+        &mut devices.prompt,
+    )
 }
 
-fn write_plain(alloc: Global, line: &str, reply: &mut Reply) -> Result<(), Refusal> {
-    let pk_sink = SinkWord::read(word(line, 2))?;
-    let sk_sink = SinkWord::read(word(line, 3))?;
-    let bytes = random_bytes(alloc, word(line, 1))?;
-    let mut random = CountedRandom::new(&bytes);
-    let (mut pk_sink, mut sk_sink) = (pk_sink.sink(alloc), sk_sink.sink(alloc));
-    let pair = written_plain(alloc, &mut random, &mut pk_sink, &mut sk_sink);
-    show_tail(&random, &pk_sink, &sk_sink, &mut reply.tail)?;
-    show(alloc, pair, &mut reply.fields)
-}
-
-// What the call that writes a pair without a password returns.
-fn written_plain(
-    alloc: Global,
-    random: &mut CountedRandom<'_>,
-    pk_sink: &mut LimitedSink,
-    sk_sink: &mut LimitedSink,
-) -> minisign::Result<KeyPair> {
+fn written_plain(alloc: Global, devices: &mut Devices<'_>) -> minisign::Result<KeyPair> {
     KeyPair::generate_and_write_unencrypted_keypair(
         alloc,
         &ToyScheme::new(),
-        random,
-        pk_sink,
-        sk_sink,
+        &mut devices.random,
+        &mut devices.pk_sink,
+        &mut devices.sk_sink,
     )
 }
 
-fn write_sealed(alloc: Global, line: &str, reply: &mut Reply) -> Result<(), Refusal> {
-    let sinks = (
-        SinkWord::read(word(line, 2))?,
-        SinkWord::read(word(line, 3))?,
-    );
-    let bytes = random_bytes(alloc, word(line, 1))?;
-    let typed = typed_lines_of(alloc, word(line, 6))?;
-    let comment = text_or_none_of(alloc, word(line, 4))?;
-    let password = text_or_none_of(alloc, word(line, 5))?;
-    seal_and_write(
-        alloc,
-        (&bytes, &typed),
-        sinks,
-        comment.as_deref(),
-        password,
-        reply,
-    )
-}
-
-// Makes a sealed pair of these random bytes, where these lines are typed, and writes it.
-fn seal_and_write(
-    alloc: Global,
-    (bytes, typed): (&[u8], &[u8]),
-    (pk_sink, sk_sink): (SinkWord, SinkWord),
-    comment: Option<&str>,
-    password: Option<String>,
-    reply: &mut Reply,
-) -> Result<(), Refusal> {
-    let mut random = CountedRandom::new(bytes);
-    let mut prompt = typed_prompt(alloc, typed);
-    let (mut pk_sink, mut sk_sink) = (pk_sink.sink(alloc), sk_sink.sink(alloc));
-    let pair = written_sealed(
-        alloc,
-        &mut random,
-        &mut pk_sink,
-        &mut sk_sink,
-        comment,
-        password,
-        &mut prompt,
-    );
-    reply.end_prompt(alloc, prompt)?;
-    show_tail(&random, &pk_sink, &sk_sink, &mut reply.tail)?;
-    show(alloc, pair, &mut reply.fields)
-}
-
-// What the call that writes a sealed pair returns.
 fn written_sealed(
     alloc: Global,
-    random: &mut CountedRandom<'_>,
-    pk_sink: &mut LimitedSink,
-    sk_sink: &mut LimitedSink,
+    devices: &mut Devices<'_>,
     comment: Option<&str>,
     password: Option<String>,
-    prompt: &mut Prompt<SliceSource<'_>, VecSink>,
 ) -> minisign::Result<KeyPair> {
     KeyPair::generate_and_write_encrypted_keypair(
         alloc,
         &ToyScheme::new(),
-        random,
-        pk_sink,
-        sk_sink,
+        &mut devices.random,
+        &mut devices.pk_sink,
+        &mut devices.sk_sink,
         comment,
         password,
-        prompt,
+        &mut devices.prompt,
     )
 }
 
-// What was drawn, and what the two sinks took.
-fn show_tail(
-    random: &CountedRandom<'_>,
-    pk_sink: &LimitedSink,
-    sk_sink: &LimitedSink,
-    tail: &mut Fields,
-) -> Result<(), Refusal> {
-    tail.number("drawn", random.drawn())?;
-    tail.bytes("sink1", pk_sink.as_slice())?;
-    tail.bytes("sink2", sk_sink.as_slice())
+// What the prompt was told, what was drawn and, where the pair was written, what the two sinks took.
+fn show_devices(alloc: Global, request: &PairRequest, devices: Devices<'_>, reply: &mut Reply) {
+    reply.end_prompt(alloc, devices.prompt);
+    reply.tail.number("drawn", devices.random.drawn());
+    if let PairRequest::WritePlain | PairRequest::WriteSealed = request {
+        reply.tail.bytes("sink1", devices.pk_sink.as_slice());
+        reply.tail.bytes("sink2", devices.sk_sink.as_slice());
+    }
 }
 
 // The fields of the pair that a call returned.
-fn show(
-    alloc: Global,
-    returned: minisign::Result<KeyPair>,
-    fields: &mut Fields,
-) -> Result<(), Refusal> {
-    let pair = returned?;
-    fields.returned_bytes("pk", pair.pk.to_bytes(alloc))?;
-    fields.returned_bytes("sk", pair.sk.to_bytes(alloc))?;
-    fields.flag("encrypted", pair.sk.is_encrypted())
+fn show(alloc: Global, returned: minisign::Result<KeyPair>, reply: &mut Reply) {
+    match returned {
+        Ok(pair) => show_pair(alloc, &pair, reply),
+        Err(fault) => reply.keep(fault),
+    }
+}
+
+// The fields of a pair.
+fn show_pair(alloc: Global, pair: &KeyPair, reply: &mut Reply) {
+    reply.returned_bytes("pk", pair.pk.to_bytes(alloc));
+    reply.returned_bytes("sk", pair.sk.to_bytes(alloc));
+    reply.fields.flag("encrypted", pair.sk.is_encrypted());
 }

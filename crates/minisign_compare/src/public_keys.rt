@@ -1,66 +1,86 @@
 //! Requests for public keys.
 
 use crate::refusals::Refusal;
-use crate::replies::{Fields, Reply};
+use crate::replies::Reply;
+use crate::requests::PublicKeyRequest;
 use crate::words::{bytes_of, text_of, word};
 use minisign::{PublicKey, PublicKeyBox, SecretKey};
 use std::alloc::Global;
 
 /// Answers a request whose name begins with `pk_`.
-pub fn answer(rt: &HostRuntime, name: &str, line: &str, reply: &mut Reply) -> Result<(), Refusal> {
+pub fn answer(
+    rt: &HostRuntime,
+    request: &PublicKeyRequest,
+    line: &str,
+    reply: &mut Reply,
+) -> Result<(), Refusal> {
     let alloc = rt.alloc();
-    match name {
-        "pk_from_box" => from_box(alloc, line, reply),
-        "pk_from_base64" => from_base64(alloc, line, reply),
-        "pk_from_file" => from_file(rt, line, reply),
-        "pk_from_bytes" => from_bytes(alloc, line, reply),
-        "pk_from_secret_key" => from_secret_key(alloc, line, reply),
-        "pk_to_box" => to_box(alloc, line, reply),
-        "pk_eq" => equal(alloc, line, reply),
-        _ => Err(Refusal::BadRequest),
+    let key = key_read(rt, request, word(line, 1))?;
+    match request {
+        PublicKeyRequest::ToBox => reply.returned_text("text", text_in_box(alloc, &key)),
+        PublicKeyRequest::Equal => {
+            let second = key_of(alloc, word(line, 2))?;
+            reply.fields.flag("eq", key == second);
+        }
+        _ => show(alloc, &key, reply),
+    }
+    Ok(())
+}
+
+// The key that the first word of a request tells.
+fn key_read(
+    rt: &HostRuntime,
+    request: &PublicKeyRequest,
+    word: &str,
+) -> Result<PublicKey, Refusal> {
+    match request {
+        PublicKeyRequest::FromBox | PublicKeyRequest::FromBase64 | PublicKeyRequest::FromFile =>
+            key_told(rt, request, word),
+        PublicKeyRequest::FromSecretKey => key_of_secret(rt.alloc(), word),
+        _ => key_of(rt.alloc(), word),
     }
 }
 
-fn from_box(alloc: Global, line: &str, reply: &mut Reply) -> Result<(), Refusal> {
-    let text = text_of(alloc, word(line, 1))?;
-    let key_box = PublicKeyBox::from_string(alloc, text.as_str())?;
-    let key = PublicKey::from_box(alloc, key_box)?;
-    show(alloc, &key, &mut reply.fields)
+// The key that a text, its base64 or the file of a text tells.
+fn key_told(
+    rt: &HostRuntime,
+    request: &PublicKeyRequest,
+    word: &str,
+) -> Result<PublicKey, Refusal> {
+    let text = text_of(rt.alloc(), word)?;
+    let key = match request {
+        PublicKeyRequest::FromBox => key_in_box(rt.alloc(), text.as_str()),
+        PublicKeyRequest::FromBase64 => PublicKey::from_base64(rt.alloc(), text.as_str()),
+        _ => PublicKey::from_file(rt, rt.alloc(), text.as_str()),
+    };
+    Ok(key?)
 }
 
-fn from_base64(alloc: Global, line: &str, reply: &mut Reply) -> Result<(), Refusal> {
-    let text = text_of(alloc, word(line, 1))?;
-    let key = PublicKey::from_base64(alloc, text.as_str())?;
-    show(alloc, &key, &mut reply.fields)
+/// The key of a text, as its box reads it.
+pub fn key_of_text(alloc: Global, word: &str) -> Result<PublicKey, Refusal> {
+    let text = text_of(alloc, word)?;
+    Ok(key_out_of_box(alloc, text.as_str())?)
 }
 
-fn from_file(rt: &HostRuntime, line: &str, reply: &mut Reply) -> Result<(), Refusal> {
-    let path = text_of(rt.alloc(), word(line, 1))?;
-    let key = PublicKey::from_file(rt, rt.alloc(), path.as_str())?;
-    show(rt.alloc(), &key, &mut reply.fields)
+// The key that a box of this text turns into.
+fn key_out_of_box(alloc: Global, text: &str) -> minisign::Result<PublicKey> {
+    PublicKeyBox::from_string(alloc, text)?.into_public_key(alloc)
 }
 
-fn from_bytes(alloc: Global, line: &str, reply: &mut Reply) -> Result<(), Refusal> {
-    let key = key_of(alloc, word(line, 1))?;
-    show(alloc, &key, &mut reply.fields)
+// The key of a box of this text.
+fn key_in_box(alloc: Global, text: &str) -> minisign::Result<PublicKey> {
+    PublicKey::from_box(alloc, PublicKeyBox::from_string(alloc, text)?)
 }
 
-fn from_secret_key(alloc: Global, line: &str, reply: &mut Reply) -> Result<(), Refusal> {
-    let bytes = bytes_of(alloc, word(line, 1))?;
-    let key = PublicKey::from_secret_key(&SecretKey::from_bytes(&bytes)?)?;
-    show(alloc, &key, &mut reply.fields)
+// The public key of the record of a secret one.
+fn key_of_secret(alloc: Global, word: &str) -> Result<PublicKey, Refusal> {
+    let bytes = bytes_of(alloc, word)?;
+    Ok(public_half(&bytes)?)
 }
 
-fn to_box(alloc: Global, line: &str, reply: &mut Reply) -> Result<(), Refusal> {
-    let key = key_of(alloc, word(line, 1))?;
-    let text = key.to_box(alloc)?.into_string();
-    reply.fields.bytes("text", text.as_bytes())
-}
-
-fn equal(alloc: Global, line: &str, reply: &mut Reply) -> Result<(), Refusal> {
-    let first = key_of(alloc, word(line, 1))?;
-    let second = key_of(alloc, word(line, 2))?;
-    reply.fields.flag("eq", first == second)
+// The public key of a secret one.
+fn public_half(bytes: &[u8]) -> minisign::Result<PublicKey> {
+    PublicKey::from_secret_key(&SecretKey::from_bytes(bytes)?)
 }
 
 /// The public key of a record.
@@ -69,9 +89,14 @@ pub fn key_of(alloc: Global, word: &str) -> Result<PublicKey, Refusal> {
     Ok(PublicKey::from_bytes(&bytes)?)
 }
 
+// The text of a key, in its box.
+fn text_in_box(alloc: Global, key: &PublicKey) -> minisign::Result<String> {
+    Ok(key.to_box(alloc)?.into_string())
+}
+
 // The fields of a public key.
-fn show(alloc: Global, key: &PublicKey, fields: &mut Fields) -> Result<(), Refusal> {
-    fields.returned_bytes("raw", key.to_bytes(alloc))?;
-    fields.bytes("keynum", key.keynum())?;
-    fields.returned_text("base64", key.to_base64(alloc))
+fn show(alloc: Global, key: &PublicKey, reply: &mut Reply) {
+    reply.returned_bytes("raw", key.to_bytes(alloc));
+    reply.fields.bytes("keynum", key.keynum());
+    reply.returned_text("base64", key.to_base64(alloc));
 }

@@ -1,22 +1,25 @@
 //! The answer to a request: what the call returned, wrote, read and drew.
 
-ghost use Rattle.std.specs.Prelude.{◌≡◌, [], ◌++◌, OnOk, codes, if◌then◌else◌, string_bytes};
+ghost use Rattle.std.specs.Prelude.{◌≡◌, [], ◌++◌, false, OnOk, codes, if◌then◌else◌, string_bytes};
 ghost use Rattle.hex.specs.Hex.{encode_lower};
 ghost use Rattle.minisign_compare.specs.Fields.{begun};
 
 use crate::refusals::Refusal;
 use crate::words::times_in;
+use minisign::PError;
+use minisign::base::NamedFault;
 use minisign::base::devices::sinks::VecSink;
 use minisign::base::devices::sources::SliceSource;
 use minisign::base::prompt::Prompt;
 use minisign::reading::read_to_end;
-use std::alloc::Global;
+use std::alloc::{AllocError, Global};
 
-/// Fields `NAME=VALUE`, parted by single spaces.
+/// Fields `NAME=VALUE`, parted by single spaces. They keep whether memory was out for one of them.
 #[derive(Drop)]
 pub struct Fields {
     alloc: Global,
     text: String,
+    is_short: bool,
 }
 
 impl Fields {
@@ -27,6 +30,7 @@ impl Fields {
         Fields {
             alloc,
             text: String::new(alloc),
+            is_short: false,
         }
     }
 
@@ -38,66 +42,54 @@ impl Fields {
     }
 
     /// A field of bytes: an `x`, and two lower hexadecimal digits for each.
-    pub fn bytes(&mut self, name: &str, bytes: &[u8]) -> Result<(), Refusal>
-        ensures { OnOk result (string_bytes self.new.text
-            ≡ begun (string_bytes self.old.text) name.now ++ codes "x" ++ encode_lower bytes.now) }
+    pub fn bytes(&mut self, name: &str, bytes: &[u8])
+        ensures { self.new.is_short ≡ false → string_bytes self.new.text
+            ≡ begun (string_bytes self.old.text) name.now ++ codes "x" ++ encode_lower bytes.now }
     {
-        let digits = hex::encode(self.alloc, bytes)?;
-        self.begin(name)?;
-        self.text.push_str("x")?;
-        self.text.push_str(digits.as_str())?;
-        Ok(())
+        match hex::encode(self.alloc, bytes) {
+            Ok(digits) => self.put(name, "x", digits.as_str()),
+            Err(_) => self.is_short = true,
+        }
     }
 
     /// A field of a decimal number.
-    pub fn number(&mut self, name: &str, number: u64) -> Result<(), Refusal> {
-        let digits = format!(in self.alloc; "{number}")?;
-        self.begin(name)?;
-        self.text.push_str(digits.as_str())?;
-        Ok(())
+    pub fn number(&mut self, name: &str, number: u64) {
+        match format!(in self.alloc; "{number}") {
+            Ok(digits) => self.put(name, "", digits.as_str()),
+            Err(_) => self.is_short = true,
+        }
     }
 
     /// A field of a flag: 1 or 0.
-    pub fn flag(&mut self, name: &str, flag: bool) -> Result<(), Refusal>
-        ensures { OnOk result (string_bytes self.new.text
-            ≡ begun (string_bytes self.old.text) name.now ++ (if flag then codes "1" else codes "0")) }
+    pub fn flag(&mut self, name: &str, flag: bool)
+        ensures { self.new.is_short ≡ false → string_bytes self.new.text
+            ≡ begun (string_bytes self.old.text) name.now ++ (if flag then codes "1" else codes "0") }
     {
-        self.begin(name)?;
-        self.text.push_str(if flag { "1" } else { "0" })?;
-        Ok(())
+        self.put(name, "", if flag { "1" } else { "0" });
     }
 
-    /// A field of the bytes that a call returned.
-    pub fn returned_bytes(
-        &mut self,
-        name: &str,
-        returned: minisign::Result<Vec<u8>>,
-    ) -> Result<(), Refusal> {
-        let bytes = returned?;
-        self.bytes(name, &bytes)
+    // A field, whose value has a mark in front.
+    fn put(&mut self, name: &str, mark: &str, value: &str)
+        ensures { self.new.is_short ≡ false → string_bytes self.new.text
+            ≡ begun (string_bytes self.old.text) name.now ++ mark.now ++ value.now }
+    {
+        if self.push(name, mark, value).is_err() {
+            self.is_short = true;
+        }
     }
 
-    /// A field of the bytes of the text that a call returned.
-    pub fn returned_text(
-        &mut self,
-        name: &str,
-        returned: minisign::Result<String>,
-    ) -> Result<(), Refusal> {
-        let text = returned?;
-        self.bytes(name, text.as_bytes())
-    }
-
-    // A field's name.
-    fn begin(&mut self, name: &str) -> Result<(), Refusal>
-        ensures text { OnOk result
-            (string_bytes self.new.text ≡ begun (string_bytes self.old.text) name.now) }
+    // Writes a field, unless memory is out.
+    fn push(&mut self, name: &str, mark: &str, value: &str) -> Result<(), AllocError>
+        ensures text { OnOk result (string_bytes self.new.text
+            ≡ begun (string_bytes self.old.text) name.now ++ mark.now ++ value.now) }
     {
         if !self.text.is_empty() {
             self.text.push_str(" ")?;
         }
         self.text.push_str(name)?;
         self.text.push_str("=")?;
-        Ok(())
+        self.text.push_str(mark)?;
+        self.text.push_str(value)
     }
 }
 
@@ -108,12 +100,16 @@ pub struct Reply {
     pub fields: Fields,
     /// The fields of what the call did besides.
     pub tail: Fields,
+    /// The fields of what the call wrote, and of how much was left of what was typed.
+    pub deeds: Fields,
     /// What the call wrote to standard output in the Rust crate: a prompt's texts, or a copy.
     pub stdout: Vec<u8>,
     /// What the call wrote to standard error in the Rust crate: the status.
     pub stderr: Vec<u8>,
     /// How many typed lines were left.
     pub typed_left: u64,
+    // The first error of a value that was to be a field.
+    fault: Option<PError>,
 }
 
 impl Reply {
@@ -122,22 +118,58 @@ impl Reply {
         Reply {
             fields: Fields::new(alloc),
             tail: Fields::new(alloc),
+            deeds: Fields::new(alloc),
             stdout: Vec::new(alloc),
             stderr: Vec::new(alloc),
             typed_left: 0,
+            fault: None,
+        }
+    }
+
+    /// A field of the bytes that a call returned.
+    pub fn returned_bytes(&mut self, name: &str, returned: minisign::Result<Vec<u8>>) {
+        match returned {
+            Ok(bytes) => self.fields.bytes(name, &bytes),
+            Err(fault) => self.keep(fault),
+        }
+    }
+
+    /// A field of the bytes of the text that a call returned.
+    pub fn returned_text(&mut self, name: &str, returned: minisign::Result<String>) {
+        match returned {
+            Ok(text) => self.fields.bytes(name, text.as_bytes()),
+            Err(fault) => self.keep(fault),
+        }
+    }
+
+    /// Keeps the error that a call returned, unless there was one before.
+    pub fn keep(&mut self, fault: PError) {
+        if self.fault.is_none() {
+            self.fault = Some(fault);
         }
     }
 
     /// Keeps what a prompt was told, and how many lines are left of those that were typed.
-    pub fn end_prompt(
-        &mut self,
-        alloc: Global,
-        prompt: Prompt<SliceSource<'_>, VecSink>,
-    ) -> Result<(), Refusal> {
+    pub fn end_prompt(&mut self, alloc: Global, prompt: Prompt<SliceSource<'_>, VecSink>) {
         let (mut reader, writer) = prompt.into_parts();
-        let rest = read_to_end(alloc, &mut reader)?;
         self.stdout = writer.into_vec();
-        self.typed_left = times_in(&rest, b'\n');
-        Ok(())
+        match read_to_end(alloc, &mut reader) {
+            Ok(rest) => self.typed_left = times_in(&rest, b'\n'),
+            Err(fault) => self.keep(fault),
+        }
+    }
+
+    /// The answer, or the error that was kept in its place, once all fields are written.
+    pub fn end(&mut self, answer: Result<(), Refusal>) -> Result<(), Refusal> {
+        self.deeds.bytes("stdout", &self.stdout);
+        self.deeds.bytes("stderr", &self.stderr);
+        self.deeds.number("typed_left", self.typed_left);
+        if self.fields.is_short || self.tail.is_short || self.deeds.is_short {
+            return Err(Refusal::Fault(NamedFault::OutOfMemory.into()));
+        }
+        match self.fault.take() {
+            Some(fault) => Err(Refusal::Fault(fault)),
+            None => answer,
+        }
     }
 }

@@ -1,59 +1,191 @@
 //! The requests, by their names.
 
-use crate::words::times_in;
+use crate::words::{times_in, word};
 
-// Each request, and how many words stand after its name.
-const REQUESTS: [(&str, u64); 36] = [
-    ("pk_from_box", 1),
-    ("pk_from_base64", 1),
-    ("pk_from_file", 1),
-    ("pk_from_bytes", 1),
-    ("pk_from_secret_key", 1),
-    ("pk_to_box", 1),
-    ("pk_eq", 2),
-    ("sk_open", 3),
-    ("sk_from_file", 3),
-    ("sk_plain", 1),
-    ("sk_from_bytes", 1),
-    ("sk_to_box", 2),
-    ("sk_eq", 2),
-    ("sig_from_string", 1),
-    ("sig_from_file", 1),
-    ("sig_from_bytes", 1),
-    ("bones_untrusted", 1),
-    ("bones_trusted", 1),
-    ("bones_to_string", 1),
-    ("gen_plain", 1),
-    ("gen_sealed", 3),
-    ("gen_write_plain", 3),
-    ("gen_write_sealed", 6),
-    ("table_add", 3),
-    ("table_clear", 0),
-    ("sign", 7),
-    ("verify", 6),
-    ("verify_texts", 6),
-    ("raw_scrypt_params", 3),
-    ("blake2b", 3),
-    ("scrypt", 6),
-    ("fixed_time_eq", 2),
-    ("store_u64_le", 1),
-    ("load_u64_le", 1),
-    ("unix_timestamp", 1),
-    ("get_password", 1),
+/// What a request asks for.
+pub enum Request {
+    /// A public key.
+    PublicKey(PublicKeyRequest),
+    /// A secret key.
+    SecretKey(SecretKeyRequest),
+    /// A signature or its text.
+    Signature(SignatureRequest),
+    /// A pair of keys.
+    Pair(PairRequest),
+    /// One more triple in the table, `table_add`.
+    TableAdd,
+    /// An empty table, `table_clear`.
+    TableClear,
+    /// A new signature, `sign`.
+    Sign,
+    /// A verdict over a record, `verify`.
+    Verify,
+    /// A verdict over a text, `verify_texts`.
+    VerifyTexts,
+    /// A hash, a derived key, a limit, a number, the clock or a typed password.
+    Block(BlockRequest),
+}
+
+/// The requests whose names begin with `pk_`.
+pub enum PublicKeyRequest {
+    FromBox,
+    FromBase64,
+    FromFile,
+    FromBytes,
+    FromSecretKey,
+    ToBox,
+    Equal,
+}
+
+/// The requests whose names begin with `sk_`.
+pub enum SecretKeyRequest {
+    Open,
+    FromFile,
+    Plain,
+    FromBytes,
+    ToBox,
+    Equal,
+}
+
+/// The requests whose names begin with `sig_` or `bones_`.
+pub enum SignatureRequest {
+    FromString,
+    FromFile,
+    FromBytes,
+    UntrustedComment,
+    TrustedComment,
+    ToString,
+}
+
+/// The requests whose names begin with `gen_`.
+pub enum PairRequest {
+    Plain,
+    Sealed,
+    WritePlain,
+    WriteSealed,
+}
+
+/// The other requests.
+pub enum BlockRequest {
+    Limits,
+    Blake2b,
+    Scrypt,
+    Equal,
+    Store,
+    Load,
+    Timestamp,
+    Password,
+}
+
+// Each request, how many words stand after its name, and what it asks for.
+const REQUESTS: [(&str, u64, Request); 36] = [
+    (
+        "pk_from_box",
+        1,
+        Request::PublicKey(PublicKeyRequest::FromBox),
+    ),
+    (
+        "pk_from_base64",
+        1,
+        Request::PublicKey(PublicKeyRequest::FromBase64),
+    ),
+    (
+        "pk_from_file",
+        1,
+        Request::PublicKey(PublicKeyRequest::FromFile),
+    ),
+    (
+        "pk_from_bytes",
+        1,
+        Request::PublicKey(PublicKeyRequest::FromBytes),
+    ),
+    (
+        "pk_from_secret_key",
+        1,
+        Request::PublicKey(PublicKeyRequest::FromSecretKey),
+    ),
+    ("pk_to_box", 1, Request::PublicKey(PublicKeyRequest::ToBox)),
+    ("pk_eq", 2, Request::PublicKey(PublicKeyRequest::Equal)),
+    ("sk_open", 3, Request::SecretKey(SecretKeyRequest::Open)),
+    (
+        "sk_from_file",
+        3,
+        Request::SecretKey(SecretKeyRequest::FromFile),
+    ),
+    ("sk_plain", 1, Request::SecretKey(SecretKeyRequest::Plain)),
+    (
+        "sk_from_bytes",
+        1,
+        Request::SecretKey(SecretKeyRequest::FromBytes),
+    ),
+    ("sk_to_box", 2, Request::SecretKey(SecretKeyRequest::ToBox)),
+    ("sk_eq", 2, Request::SecretKey(SecretKeyRequest::Equal)),
+    (
+        "sig_from_string",
+        1,
+        Request::Signature(SignatureRequest::FromString),
+    ),
+    (
+        "sig_from_file",
+        1,
+        Request::Signature(SignatureRequest::FromFile),
+    ),
+    (
+        "sig_from_bytes",
+        1,
+        Request::Signature(SignatureRequest::FromBytes),
+    ),
+    (
+        "bones_untrusted",
+        1,
+        Request::Signature(SignatureRequest::UntrustedComment),
+    ),
+    (
+        "bones_trusted",
+        1,
+        Request::Signature(SignatureRequest::TrustedComment),
+    ),
+    (
+        "bones_to_string",
+        1,
+        Request::Signature(SignatureRequest::ToString),
+    ),
+    ("gen_plain", 1, Request::Pair(PairRequest::Plain)),
+    ("gen_sealed", 3, Request::Pair(PairRequest::Sealed)),
+    ("gen_write_plain", 3, Request::Pair(PairRequest::WritePlain)),
+    (
+        "gen_write_sealed",
+        6,
+        Request::Pair(PairRequest::WriteSealed),
+    ),
+    ("table_add", 3, Request::TableAdd),
+    ("table_clear", 0, Request::TableClear),
+    ("sign", 7, Request::Sign),
+    ("verify", 6, Request::Verify),
+    ("verify_texts", 6, Request::VerifyTexts),
+    ("raw_scrypt_params", 3, Request::Block(BlockRequest::Limits)),
+    ("blake2b", 3, Request::Block(BlockRequest::Blake2b)),
+    ("scrypt", 6, Request::Block(BlockRequest::Scrypt)),
+    ("fixed_time_eq", 2, Request::Block(BlockRequest::Equal)),
+    ("store_u64_le", 1, Request::Block(BlockRequest::Store)),
+    ("load_u64_le", 1, Request::Block(BlockRequest::Load)),
+    ("unix_timestamp", 1, Request::Block(BlockRequest::Timestamp)),
+    ("get_password", 1, Request::Block(BlockRequest::Password)),
 ];
 
 // The rows, so that no proof looks into all of them.
-fn requests() -> &'static [(&'static str, u64)] {
+fn requests() -> &'static [(&'static str, u64, Request)] {
     &REQUESTS
 }
 
-/// Whether the line has the name of a request, and as many words after it as belong to that one.
-pub fn is_request(name: &str, line: &str) -> bool {
+/// The request of a line, unless no request has its name and as many words after it.
+pub fn request_of(line: &str) -> Option<&'static Request> {
+    let name = word(line, 0);
     let words = times_in(line.as_bytes(), b' ');
-    for (request, count) in requests() {
-        if *request == name {
-            return *count == words;
+    for (wanted, count, request) in requests() {
+        if *wanted == name && *count == words {
+            return Some(request);
         }
     }
-    false
+    None
 }

@@ -2,8 +2,9 @@
 
 use crate::devices::typed_prompt;
 use crate::refusals::Refusal;
-use crate::replies::{Fields, Reply};
-use crate::words::{bytes_of, text_of, text_or_none_of, typed_lines_of, word};
+use crate::replies::Reply;
+use crate::requests::SecretKeyRequest;
+use crate::words::{bytes_of, text_in, text_or_none_of, typed_lines_of, word};
 use minisign::base::devices::sinks::VecSink;
 use minisign::base::devices::sources::SliceSource;
 use minisign::base::prompt::Prompt;
@@ -11,91 +12,127 @@ use minisign::{SecretKey, SecretKeyBox};
 use std::alloc::Global;
 
 /// Answers a request whose name begins with `sk_`.
-pub fn answer(rt: &HostRuntime, name: &str, line: &str, reply: &mut Reply) -> Result<(), Refusal> {
-    let alloc = rt.alloc();
-    match name {
-        "sk_open" => open(alloc, line, reply),
-        "sk_from_file" => from_file(rt, line, reply),
-        "sk_plain" => plain(alloc, line, reply),
-        "sk_from_bytes" => from_bytes(alloc, line, reply),
-        "sk_to_box" => to_box(alloc, line, reply),
-        "sk_eq" => equal(alloc, line, reply),
-        _ => Err(Refusal::BadRequest),
+pub fn answer(
+    rt: &HostRuntime,
+    request: &SecretKeyRequest,
+    line: &str,
+    reply: &mut Reply,
+) -> Result<(), Refusal> {
+    let bytes = bytes_of(rt.alloc(), word(line, 1))?;
+    match request {
+        SecretKeyRequest::Open | SecretKeyRequest::FromFile => {
+            answer_opened(rt, request, text_in(&bytes)?, line, reply)
+        }
+        SecretKeyRequest::Plain => answer_plain(rt.alloc(), &bytes, reply),
+        SecretKeyRequest::ToBox => answer_text(rt.alloc(), &bytes, line, reply),
+        SecretKeyRequest::Equal => answer_equal(rt.alloc(), &bytes, line, reply),
+        SecretKeyRequest::FromBytes => answer_record(rt.alloc(), &bytes, reply),
     }
 }
 
-fn open(alloc: Global, line: &str, reply: &mut Reply) -> Result<(), Refusal> {
-    let typed = typed_lines_of(alloc, word(line, 3))?;
-    let password = text_or_none_of(alloc, word(line, 2))?;
-    let key_box = box_of(alloc, word(line, 1))?;
-    let mut prompt = typed_prompt(alloc, &typed);
-    let key = key_box.into_secret_key(alloc, password, &mut prompt);
-    show_opened(alloc, key, prompt, reply)
+// The fields of the key that a text or the file of a text holds, where lines are typed.
+fn answer_opened(
+    rt: &HostRuntime,
+    request: &SecretKeyRequest,
+    text: &str,
+    line: &str,
+    reply: &mut Reply,
+) -> Result<(), Refusal> {
+    let typed = typed_lines_of(rt.alloc(), word(line, 3))?;
+    let password = text_or_none_of(rt.alloc(), word(line, 2))?;
+    let mut prompt = typed_prompt(rt.alloc(), &typed);
+    let key = opened(rt, request, text, password, &mut prompt);
+    reply.end_prompt(rt.alloc(), prompt);
+    show_returned(rt.alloc(), key, reply);
+    Ok(())
 }
 
-fn from_file(rt: &HostRuntime, line: &str, reply: &mut Reply) -> Result<(), Refusal> {
-    let alloc = rt.alloc();
-    let typed = typed_lines_of(alloc, word(line, 3))?;
-    let path = text_of(alloc, word(line, 1))?;
-    let password = text_or_none_of(alloc, word(line, 2))?;
-    let mut prompt = typed_prompt(alloc, &typed);
-    let key = SecretKey::from_file(rt, alloc, path.as_str(), password, &mut prompt);
-    show_opened(alloc, key, prompt, reply)
+// What the call returns that opens a key.
+fn opened(
+    rt: &HostRuntime,
+    request: &SecretKeyRequest,
+    text: &str,
+    password: Option<String>,
+    prompt: &mut Prompt<SliceSource<'_>, VecSink>,
+) -> minisign::Result<SecretKey> {
+    match request {
+        SecretKeyRequest::FromFile => {
+            SecretKey::from_file(rt, rt.alloc(), text, password, prompt)
+        }
+        _ => opened_text(rt.alloc(), text, password, prompt),
+    }
 }
 
-fn plain(alloc: Global, line: &str, reply: &mut Reply) -> Result<(), Refusal> {
-    let key_box = box_of(alloc, word(line, 1))?;
-    let key = key_box.into_unencrypted_secret_key()?;
-    show(alloc, &key, &mut reply.fields)
+// What the call returns that opens the key of a box of this text.
+fn opened_text(
+    alloc: Global,
+    text: &str,
+    password: Option<String>,
+    prompt: &mut Prompt<SliceSource<'_>, VecSink>,
+) -> minisign::Result<SecretKey> {
+    let key_box = SecretKeyBox::from_string(alloc, text)?;
+    key_box.into_secret_key(alloc, password, prompt)
 }
 
-fn from_bytes(alloc: Global, line: &str, reply: &mut Reply) -> Result<(), Refusal> {
-    let key = key_of(alloc, word(line, 1))?;
-    show(alloc, &key, &mut reply.fields)
+fn answer_plain(alloc: Global, bytes: &[u8], reply: &mut Reply) -> Result<(), Refusal> {
+    let text = text_in(bytes)?;
+    show_returned(alloc, plain_key(alloc, text), reply);
+    Ok(())
 }
 
-fn to_box(alloc: Global, line: &str, reply: &mut Reply) -> Result<(), Refusal> {
+// What the call returns that reads a key without a password.
+fn plain_key(alloc: Global, text: &str) -> minisign::Result<SecretKey> {
+    SecretKeyBox::from_string(alloc, text)?.into_unencrypted_secret_key()
+}
+
+fn answer_record(alloc: Global, bytes: &[u8], reply: &mut Reply) -> Result<(), Refusal> {
+    let key = SecretKey::from_bytes(bytes)?;
+    show(alloc, &key, reply);
+    Ok(())
+}
+
+fn answer_text(alloc: Global, bytes: &[u8], line: &str, reply: &mut Reply) -> Result<(), Refusal> {
     let comment = text_or_none_of(alloc, word(line, 2))?;
-    let key = key_of(alloc, word(line, 1))?;
-    let text = key.to_box(alloc, comment.as_deref())?.into_string();
-    reply.fields.bytes("text", text.as_bytes())
+    reply.returned_text("text", text_of_record(alloc, bytes, comment.as_deref()));
+    Ok(())
 }
 
-fn equal(alloc: Global, line: &str, reply: &mut Reply) -> Result<(), Refusal> {
-    let first = key_of(alloc, word(line, 1))?;
+// The text of the key of a record, in its box.
+fn text_of_record(alloc: Global, bytes: &[u8], comment: Option<&str>) -> minisign::Result<String> {
+    let key = SecretKey::from_bytes(bytes)?;
+    Ok(key.to_box(alloc, comment)?.into_string())
+}
+
+fn answer_equal(alloc: Global, bytes: &[u8], line: &str, reply: &mut Reply) -> Result<(), Refusal> {
+    let first = SecretKey::from_bytes(bytes)?;
     let second = key_of(alloc, word(line, 2))?;
-    reply.fields.flag("eq", first == second)
+    reply.fields.flag("eq", first == second);
+    Ok(())
 }
 
-// The box of a text.
-fn box_of(alloc: Global, word: &str) -> Result<SecretKeyBox, Refusal> {
-    let text = text_of(alloc, word)?;
-    Ok(SecretKeyBox::from_string(alloc, text.as_str())?)
-}
-
-// The secret key of a record.
-fn key_of(alloc: Global, word: &str) -> Result<SecretKey, Refusal> {
+/// The secret key of a record.
+pub fn key_of(alloc: Global, word: &str) -> Result<SecretKey, Refusal> {
     let bytes = bytes_of(alloc, word)?;
     Ok(SecretKey::from_bytes(&bytes)?)
 }
 
-// The fields of the secret key that a call returned, and what its prompt was told.
-fn show_opened(
-    alloc: Global,
-    returned: minisign::Result<SecretKey>,
-    prompt: Prompt<SliceSource<'_>, VecSink>,
-    reply: &mut Reply,
-) -> Result<(), Refusal> {
-    reply.end_prompt(alloc, prompt)?;
-    let key = returned?;
-    show(alloc, &key, &mut reply.fields)
+// The fields of the secret key that a call returned.
+fn show_returned(alloc: Global, returned: minisign::Result<SecretKey>, reply: &mut Reply) {
+    match returned {
+        Ok(key) => show(alloc, &key, reply),
+        Err(fault) => reply.keep(fault),
+    }
 }
 
 // The fields of a secret key.
-fn show(alloc: Global, key: &SecretKey, fields: &mut Fields) -> Result<(), Refusal> {
-    fields.returned_bytes("raw", key.to_bytes(alloc))?;
-    fields.bytes("keynum", key.keynum())?;
-    fields.flag("encrypted", key.is_encrypted())?;
-    let debug = format!(in alloc; "{key:?}")?;
-    fields.bytes("debug", debug.as_bytes())
+fn show(alloc: Global, key: &SecretKey, reply: &mut Reply) {
+    reply.returned_bytes("raw", key.to_bytes(alloc));
+    reply.fields.bytes("keynum", key.keynum());
+    reply.fields.flag("encrypted", key.is_encrypted());
+    reply.returned_text("debug", printed(alloc, key));
+}
+
+// A secret key as it is printed for debugging.
+fn printed(alloc: Global, key: &SecretKey) -> minisign::Result<String> {
+    Ok(format!(in alloc; "{key:?}")?)
 }

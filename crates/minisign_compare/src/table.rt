@@ -27,20 +27,13 @@ impl Table {
         }
     }
 
-    /// Answers a request whose name begins with `table_`.
-    pub fn answer(&mut self, alloc: Global, name: &str, line: &str) -> Result<(), Refusal> {
-        match name {
-            "table_add" => self.add(alloc, line),
-            "table_clear" => {
-                self.listed.clear();
-                Ok(())
-            }
-            _ => Err(Refusal::BadRequest),
-        }
+    /// Answers `table_clear`: no triple is left.
+    pub fn clear(&mut self) {
+        self.listed.clear();
     }
 
-    // Adds a triple.
-    fn add(&mut self, alloc: Global, line: &str) -> Result<(), Refusal> {
+    /// Answers `table_add`: adds a triple.
+    pub fn add(&mut self, alloc: Global, line: &str) -> Result<(), Refusal> {
         let public_key = array_of::<32>(alloc, word(line, 2))?;
         let signature = array_of::<64>(alloc, word(line, 3))?;
         let message = bytes_of(alloc, word(line, 1))?;

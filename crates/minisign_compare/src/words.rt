@@ -54,6 +54,16 @@ pub fn text_of(alloc: Global, word: &str) -> Result<String, Refusal>
     }
 }
 
+/// The text of which these bytes are the UTF-8.
+pub fn text_in(bytes: &[u8]) -> Result<&str, Refusal>
+    ensures { IfOk result (λ t. t.now ≡ bytes.now) }
+{
+    match str::from_utf8(bytes) {
+        Ok(text) => Ok(text),
+        Err(_) => Err(Refusal::BadRequest),
+    }
+}
+
 /// The text, or none where the word is `-`.
 pub fn text_or_none_of(alloc: Global, word: &str) -> Result<Option<String>, Refusal> {
     match word {
@@ -75,9 +85,9 @@ pub fn typed_lines_of(alloc: Global, word: &str) -> Result<Vec<u8>, Refusal> {
 
 // Puts one line and its line feed after those that are there.
 fn type_line(alloc: Global, word: &str, typed: &mut Vec<u8>) -> Result<(), Refusal> {
-    let line = text_of(alloc, word)?;
+    let mut line = text_of(alloc, word)?;
+    line.push_str("\n")?;
     typed.extend_from_slice(line.as_bytes())?;
-    typed.push(b'\n')?;
     Ok(())
 }
 

@@ -5,4 +5,3 @@ mod faults;
 mod lines;
 mod prompts;
 mod reading;
-mod seeking;

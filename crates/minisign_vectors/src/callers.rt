@@ -1,16 +1,16 @@
 //! The calls for callers and the examples over them, run on the worked texts under the toy.
 
 use crate::passwords::sign_with_password;
-use crate::signatures::calls::{has_text, is_worked_out, key_a, key_of};
+use crate::signatures::calls::{key_a, key_of, signs_so, tells};
 use minisign::{
-    ErrorKind, PublicKey, Result, SecretKey, copy_verified, sign_bytes, verify_bytes, verify_file,
+    ErrorKind, PublicKey, Result, SecretKey, copy_verified, sign_bytes, verify_bytes,
     verify_in_place,
 };
 use minisign_base::devices::random_sources::FixedRandom;
 use minisign_base::devices::sinks::VecSink;
 use minisign_base::devices::sources::{ReaderSource, Rereader, SliceSource};
 use minisign_base::faults::NamedFault::{
-    GoingBackFailed, LegacyNotAccepted, MissingPublicKeyComment, MissingSignature, ReadingFailed,
+    GoingBackFailed, LegacyNotAccepted, MissingPublicKeyComment, MissingSignature,
     SignatureRefused, WrongPassword,
 };
 use minisign_base::toy::ToyScheme;
@@ -18,14 +18,11 @@ use minisign_examples::example::sign_and_verify;
 use minisign_examples::rotating::{NewKey, check_with_new_key};
 use minisign_examples::small_device::open_in_little_memory;
 use minisign_examples::updating::check_update;
-use minisign_fixtures::folders::{folder_path, make_empty, put};
 use minisign_fixtures::keys::{KEY_ID, PUBLIC_BYTES, public_record};
 use minisign_fixtures::outcomes::Outcome::{self, Accepted, Refused};
-use minisign_fixtures::outcomes::{comes_to, ends_in, gives_record, gives_text, is_so};
+use minisign_fixtures::outcomes::{comes_to, ends_in, gives_record, gives_text};
 use minisign_fixtures::texts::{KEY_TEXT, LEGACY_TEXT, SEALED, SECRET_TEXT, SIGNATURE_TEXT};
 use std::alloc::Global;
-use std::fs;
-use std::test::Fail;
 
 const REFUSED: Outcome = Refused(SignatureRefused);
 
@@ -36,14 +33,6 @@ const WORKED: (&str, &str) = (KEY_TEXT, SIGNATURE_TEXT);
 fn verified(alloc: Global, texts: (&str, &str), message: &[u8]) -> Result<String> {
     let (pk_text, sig_text) = texts;
     verify_bytes(alloc, &ToyScheme::new(), pk_text, sig_text, message)
-}
-
-// Whether this comes of verifying: the comment `t`, or a rejection.
-fn tells(answer: &Result<String>, expected: Outcome) -> bool {
-    match answer {
-        Ok(comment) => expected == Accepted && comment.as_str() == "t",
-        Err(_) => comes_to(answer, expected),
-    }
 }
 
 // The texts of a key and of a signature, what they are to vouch for, whether a legacy signature may, and
@@ -91,69 +80,23 @@ fn is_told_in_place(alloc: Global, row: &Told) -> bool {
     }
 }
 
-// Whether a row comes out of the call that accepts no legacy signature, where it says so too.
+// Whether a row comes out so, and of the call that accepts no legacy signature too, where it says so.
 fn is_told(alloc: Global, row: &Told) -> bool {
+    let in_place = is_told_in_place(alloc, row);
     let (pk_text, sig_text, message, allow_legacy, expected) = *row;
     if allow_legacy {
-        return true;
+        return in_place;
     }
     let answer = verified(alloc, (pk_text, sig_text), message.as_bytes());
-    tells(&answer, expected)
+    let told = tells(answer, expected);
+    in_place && told
 }
 
 #[test]
 fn the_comment_of_bytes_is_told(rt: HostRuntime) {
     for row in told() {
-        assert!(rt; is_told(rt.alloc(), row), "at {:?}", row.4);
-        assert!(rt;
-            is_told_in_place(rt.alloc(), row),
-            "in place, at {:?}",
-            row.4
-        );
+        assert!(rt; is_told(rt.alloc(), row), "at {row:?}");
     }
-}
-
-// Verifies a file with key A and the text in another one.
-fn file_verified(rt: &HostRuntime, sig_path: &str, data_path: &str) -> Result<String> {
-    let toy = ToyScheme::new();
-    verify_file(rt, rt.alloc(), &toy, KEY_TEXT, sig_path, data_path)
-}
-
-// Whether this comes of verifying a file of the directory.
-fn is_file_told(
-    rt: &HostRuntime,
-    folder: &str,
-    (sig, file): (&str, &str),
-    expected: Outcome,
-) -> bool {
-    let Ok(sig_path) = format!(in rt.alloc(); "{folder}/{sig}") else {
-        return false;
-    };
-    let Ok(data_path) = format!(in rt.alloc(); "{folder}/{file}") else {
-        return false;
-    };
-    let answer = file_verified(rt, sig_path.as_str(), data_path.as_str());
-    tells(&answer, expected)
-}
-
-// Makes a directory with a signature and the data.
-fn make_signed(rt: &HostRuntime, folder: &str) -> std::result::Result<(), Fail> {
-    make_empty(rt, folder)?;
-    put(rt, folder, "abc.sig", SIGNATURE_TEXT.as_bytes())?;
-    put(rt, folder, "abc", b"abc")
-}
-
-#[test]
-fn the_comment_of_files_is_returned(rt: HostRuntime) -> std::result::Result<(), Fail> {
-    let folder = folder_path(&rt, "callers")?;
-    make_signed(&rt, folder.as_str())?;
-    let folder = folder.as_str();
-    assert!(rt; is_file_told(&rt, folder, ("abc.sig", "abc"), Accepted));
-    assert!(rt; is_file_told(&rt, folder, ("missing", "abc"), Refused(ReadingFailed)));
-    assert!(rt; is_file_told(&rt, folder, ("abc.sig", "missing"), Refused(ReadingFailed)));
-    assert!(rt; is_file_told(&rt, folder, ("abc.sig", "abc.sig"), REFUSED));
-    fs::remove_dir_all(&rt, folder)?;
-    Ok(())
 }
 
 // Whether this comes of copying the data if the worked texts vouch for it, and this is what was copied.
@@ -161,7 +104,7 @@ fn is_copied<R: Rereader>(alloc: Global, data: &mut R, expected: Outcome, left: 
     let mut out = VecSink::new(alloc);
     let toy = ToyScheme::new();
     let answer = copy_verified(alloc, &toy, KEY_TEXT, SIGNATURE_TEXT, data, &mut out);
-    let told = tells(&answer, expected);
+    let told = tells(answer, expected);
     told && out.as_slice() == left
 }
 
@@ -169,10 +112,11 @@ fn is_copied<R: Rereader>(alloc: Global, data: &mut R, expected: Outcome, left: 
 #[test]
 fn what_is_vouched_for_is_copied(rt: HostRuntime) {
     let alloc = rt.alloc();
-    assert!(rt; is_copied(alloc, &mut SliceSource::new(b"abc"), Accepted, b"abc"));
-    assert!(rt; is_copied(alloc, &mut SliceSource::new(b"abd"), REFUSED, b""));
+    let copied = is_copied(alloc, &mut SliceSource::new(b"abc"), Accepted, b"abc");
+    let rejected = is_copied(alloc, &mut SliceSource::new(b"abd"), REFUSED, b"");
     let mut read_once = ReaderSource::new(b"abc".as_slice());
-    assert!(rt; is_copied(alloc, &mut read_once, Refused(GoingBackFailed), b""));
+    let unmarked = is_copied(alloc, &mut read_once, Refused(GoingBackFailed), b"");
+    assert!(rt; copied && rejected && unmarked);
 }
 
 // The text over the bytes that the key of a text signs, with random bytes that are zeros.
@@ -191,11 +135,10 @@ fn signed_with(
 
 // Whether the key of the text signs `abc` as it was worked out.
 fn signs(alloc: Global, sk_text: &str) -> bool {
-    let text = signed_with(alloc, (sk_text, "password"), b"abc", "t");
-    match &text {
-        Ok(text) => is_worked_out(text.as_str()),
-        Err(_) => false,
-    }
+    signs_so(
+        signed_with(alloc, (sk_text, "password"), b"abc", "t"),
+        Accepted,
+    )
 }
 
 #[test]
@@ -216,11 +159,10 @@ fn record(alloc: Global, opened: Result<SecretKey>) -> Result<Vec<u8>> {
 
 // Whether the sealed key is the same in little memory.
 fn is_opened_alike(alloc: Global) -> bool {
-    let whole = record(alloc, key_of(alloc, SEALED, "password"));
-    match &whole {
-        Ok(whole) => gives_record(record(alloc, opened_in_little(alloc, "password")), whole),
-        Err(_) => false,
-    }
+    let Ok(whole) = record(alloc, key_of(alloc, SEALED, "password")) else {
+        return false;
+    };
+    gives_record(record(alloc, opened_in_little(alloc, "password")), &whole)
 }
 
 // Another password is rejected by the same error.
@@ -238,23 +180,47 @@ pub fn checked(alloc: Global, texts: (&str, &str), update: &[u8], name: &str) ->
     check_update(alloc, &ToyScheme::new(), pk_text, sig_text, update, name)
 }
 
+// The update and its name, and what comes of it; or none, where it is an error that has no name of the
+// library's.
+type Update = (&'static str, &'static str, Option<Outcome>);
+
+const UPDATES: [Update; 6] = [
+    ("abc", "t", Some(Accepted)),
+    ("abc", "T", None),
+    ("abc", "", None),
+    ("abc", "t ", None),
+    ("abc", "tt", None),
+    ("abd", "t", Some(REFUSED)),
+];
+
+// The rows, so that no proof looks into all of them.
+fn updates() -> &'static [Update] {
+    &UPDATES
+}
+
 // Whether the update is rejected for its name, by an error that has no name of the library's.
-fn is_refused_for_its_name(alloc: Global, name: &str) -> bool {
-    let answer = checked(alloc, WORKED, b"abc", name);
-    match &answer {
+fn is_refused_for_its_name(answer: &Result<()>) -> bool {
+    match answer {
         Ok(()) => false,
         Err(fault) => fault.named().is_none() && *fault.kind() == ErrorKind::Verify,
     }
 }
 
+// Whether the update is taken so.
+fn is_taken(alloc: Global, row: &Update) -> bool {
+    let (update, name, expected) = *row;
+    let answer = checked(alloc, WORKED, update.as_bytes(), name);
+    match expected {
+        Some(outcome) => comes_to(&answer, outcome),
+        None => is_refused_for_its_name(&answer),
+    }
+}
+
 #[test]
 fn an_update_is_taken_under_its_name_alone(rt: HostRuntime) {
-    let alloc = rt.alloc();
-    assert!(rt; ends_in(checked(alloc, WORKED, b"abc", "t"), Accepted));
-    for other in ["T", "", "t ", "tt"] {
-        assert!(rt; is_refused_for_its_name(alloc, other), "as {other:?}");
+    for row in updates() {
+        assert!(rt; is_taken(rt.alloc(), row), "at {row:?}");
     }
-    assert!(rt; ends_in(checked(alloc, WORKED, b"abd", "t"), REFUSED));
 }
 
 // Whether this comes of the update under a new key, which this text has to vouch for.
@@ -272,10 +238,10 @@ fn is_checked(alloc: Global, sig_text: &str, update: &[u8], expected: Outcome) -
 fn is_vouched_by_the_old(alloc: Global, update: &[u8], expected: Outcome) -> bool {
     let old = (SECRET_TEXT, "");
     let text = signed_with(alloc, old, KEY_TEXT.as_bytes(), "key of 2027");
-    match &text {
-        Ok(text) => is_checked(alloc, text.as_str(), update, expected),
-        Err(_) => false,
-    }
+    let Ok(text) = text else {
+        return false;
+    };
+    is_checked(alloc, text.as_str(), update, expected)
 }
 
 #[test]
@@ -287,30 +253,26 @@ fn a_new_key_is_vouched_for_by_the_old_one(rt: HostRuntime) {
 
 // The text over `abc` that the sealed key signs under a password, with random bytes that are zeros.
 fn signed_under(alloc: Global, password: &str) -> Result<String> {
-    sign_with_password(
-        alloc,
-        &ToyScheme::new(),
-        SEALED,
-        String::from_str(alloc, password)?,
-        b"abc",
-        &mut FixedRandom::new(&[0u8; 128]),
-        7,
-    )
+    let password = String::from_str(alloc, password)?;
+    let zeros = [0u8; 128];
+    let mut random = FixedRandom::new(&zeros);
+    let toy = ToyScheme::new();
+    sign_with_password(alloc, &toy, SEALED, password, b"abc", &mut random, 7)
 }
 
 // Whether what it signs verifies under the key's public text, with the moment as the comment.
-fn is_signed_to_verify(alloc: Global) -> Result<bool> {
-    let text = signed_under(alloc, "password")?;
-    has_text(
-        verified(alloc, (KEY_TEXT, text.as_str()), b"abc"),
-        "timestamp:7",
-    )
+fn is_signed_to_verify(alloc: Global) -> bool {
+    let Ok(text) = signed_under(alloc, "password") else {
+        return false;
+    };
+    let comment = verified(alloc, (KEY_TEXT, text.as_str()), b"abc");
+    gives_text(comment, "timestamp:7")
 }
 
 // It signs nothing under another password.
 #[test]
 fn what_a_sealed_key_signs_verifies(rt: HostRuntime) {
-    assert!(rt; is_so(is_signed_to_verify(rt.alloc())));
+    assert!(rt; is_signed_to_verify(rt.alloc()));
     assert!(rt; ends_in(signed_under(rt.alloc(), "passwore"), Refused(WrongPassword)));
 }
 

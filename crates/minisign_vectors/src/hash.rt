@@ -7,39 +7,49 @@ use minisign::minisign_hash::{
     BLAKE2B_SALTBYTES, WriteExt, copy_memory, read_u64v_le, write_u32_le, write_u64_le,
     write_u64v_le,
 };
+use std::alloc::Global;
 use std::io;
-use std::test::Fail;
 
 #[test]
 fn numbers_are_little_endian(rt: HostRuntime) {
     let mut four = [9u8; 4];
     write_u32_le(&mut four, 0x01020304);
-    assert!(rt; four == [4, 3, 2, 1]);
+    let is_four = four == [4, 3, 2, 1];
     let mut eight = [9u8; 8];
     write_u64_le(&mut eight, 0x0102030405060708);
-    assert!(rt; eight == [8, 7, 6, 5, 4, 3, 2, 1]);
+    let is_eight = eight == [8, 7, 6, 5, 4, 3, 2, 1];
+    let mut three = [9u8; 3];
+    copy_memory(&[1, 2], &mut three);
+    let is_copied = three == [1, 2, 9];
+    assert!(rt; is_four && is_eight && is_copied);
+    assert!(rt; are_read_and_written());
+}
+
+// Whether two numbers are read, and written again.
+fn are_read_and_written() -> bool {
     let bytes = [
         1, 0, 0, 0, 0, 0, 0, 0, 255, 255, 255, 255, 255, 255, 255, 255,
     ];
     let mut numbers = [9u64; 2];
     read_u64v_le(&mut numbers, &bytes);
-    assert!(rt; numbers == [1, 18446744073709551615]);
+    let are_read = numbers == [1, 18446744073709551615];
     let mut sixteen = [9u8; 16];
     write_u64v_le(&mut sixteen, &numbers);
-    assert!(rt; sixteen == bytes);
-    let mut three = [9u8; 3];
-    copy_memory(&[1, 2], &mut three);
-    assert!(rt; three == [1, 2, 9]);
+    are_read && sixteen == bytes
+}
+
+// Whether a writer takes a number of each width.
+fn are_taken(alloc: Global) -> bool {
+    let mut bytes: Vec<u8> = Vec::new(alloc);
+    let one = bytes.write_u8(0xab).is_ok();
+    let four = bytes.write_u32_le(0x01020304).is_ok();
+    let eight = bytes.write_u64_le(0x1112131415161718).is_ok();
+    one && four && eight && bytes.as_slice() == WRITTEN.as_slice()
 }
 
 #[test]
-fn writers_take_numbers(rt: HostRuntime) -> Result<(), Fail> {
-    let mut bytes: Vec<u8> = Vec::new(rt.alloc());
-    bytes.write_u8(0xab)?;
-    bytes.write_u32_le(0x01020304)?;
-    bytes.write_u64_le(0x1112131415161718)?;
-    assert!(rt; bytes.as_slice() == WRITTEN.as_slice());
-    Ok(())
+fn writers_take_numbers(rt: HostRuntime) {
+    assert!(rt; are_taken(rt.alloc()));
 }
 
 const WRITTEN: [u8; 13] = [

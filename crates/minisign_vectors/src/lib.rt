@@ -13,6 +13,8 @@ mod base;
 #[cfg(test)]
 mod callers;
 #[cfg(test)]
+mod files;
+#[cfg(test)]
 mod hash;
 #[cfg(test)]
 mod kdf;

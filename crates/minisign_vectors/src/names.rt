@@ -15,7 +15,7 @@ use minisign::{
 };
 use minisign_fixtures::keys::KEY_ID;
 use minisign_fixtures::outcomes::Outcome::Accepted;
-use minisign_fixtures::outcomes::{ends_in, gives_text, is_so};
+use minisign_fixtures::outcomes::{ends_in, gives_text};
 use minisign_fixtures::texts::{KEY_TEXT, SAID, SECRET_TEXT, SIGNATURE_TEXT};
 use std::alloc::Global;
 use std::io::Cursor;
@@ -23,17 +23,25 @@ use std::io::Cursor;
 // The random bytes of the text.
 const ZEROS: [u8; 128] = [0; 128];
 
+// The names of files and of a folder, and what they are.
+const NAMES: [(&str, &str); 6] = [
+    (SIG_DEFAULT_CONFIG_DIR_ENV_VAR, "RSIGN_CONFIG_DIR"),
+    (SIG_DEFAULT_CONFIG_DIR, ".rsign"),
+    (SIG_DEFAULT_PKFILE, "rsign.pub"),
+    (SIG_DEFAULT_SKFILE, "rsign.key"),
+    (SIG_SUFFIX, ".minisig"),
+    (DEFAULT_COMMENT, "signature from rsign secret key"),
+];
+
+// The rows, so that no proof looks into all of them.
+fn names() -> &'static [(&'static str, &'static str)] {
+    &NAMES
+}
+
 #[test]
 fn the_names_of_files_and_of_a_folder(rt: HostRuntime) {
-    for (name, expected) in [
-        (SIG_DEFAULT_CONFIG_DIR_ENV_VAR, "RSIGN_CONFIG_DIR"),
-        (SIG_DEFAULT_CONFIG_DIR, ".rsign"),
-        (SIG_DEFAULT_PKFILE, "rsign.pub"),
-        (SIG_DEFAULT_SKFILE, "rsign.key"),
-        (SIG_SUFFIX, ".minisig"),
-        (DEFAULT_COMMENT, "signature from rsign secret key"),
-    ] {
-        assert!(rt; name == expected, "at {expected}");
+    for (name, expected) in names() {
+        assert!(rt; *name == *expected, "at {expected}");
     }
 }
 
@@ -48,9 +56,10 @@ fn signed<R: Source, Z: RandomSource>(alloc: Global, data: &mut R, random: &mut 
 fn data_is_signed_over_each_source(rt: HostRuntime) {
     let alloc = rt.alloc();
     let mut read = ReaderSource::new(b"abc".as_slice());
-    assert!(rt; signed(alloc, &mut read, &mut FixedRandom::new(&ZEROS)));
+    let by_reader = signed(alloc, &mut read, &mut FixedRandom::new(&ZEROS));
     let mut drawn = SourceRandom::new(SliceSource::new(&ZEROS));
-    assert!(rt; signed(alloc, &mut SliceSource::new(b"abc"), &mut drawn));
+    let by_source = signed(alloc, &mut SliceSource::new(b"abc"), &mut drawn);
+    assert!(rt; by_reader && by_source);
 }
 
 // The status is said, the data is copied, and legacy signatures are not accepted.
@@ -69,7 +78,9 @@ fn is_copied(alloc: Global) -> bool {
     let texts = (KEY_TEXT, SIGNATURE_TEXT);
     let answer = verified_texts(alloc, texts, &mut data, STRICT, &mut status, &mut out);
     let came = ends_in(answer, Accepted);
-    came && said.as_slice() == SAID && out.as_slice() == b"abc".as_slice()
+    let is_said = said.as_slice() == SAID;
+    let is_out = out.as_slice() == b"abc".as_slice();
+    came && is_said && is_out
 }
 
 #[test]
@@ -77,18 +88,23 @@ fn data_is_verified_and_copied(rt: HostRuntime) {
     assert!(rt; is_copied(rt.alloc()));
 }
 
-#[test]
-fn a_table_and_a_reader(rt: HostRuntime) {
+// Whether a table accepts its triple alone.
+fn is_in_the_table() -> bool {
     let triples = [Triple {
         message: b"m",
         public_key: [1; 32],
         signature: [2; 64],
     }];
     let scheme = ToyScheme::with_table(&triples);
-    assert!(rt; scheme.verify(b"m", &[1; 32], &[2; 64]));
-    assert!(rt; !scheme.verify(b"n", &[1; 32], &[2; 64]));
+    let is_own = scheme.verify(b"m", &[1; 32], &[2; 64]);
+    let is_other = scheme.verify(b"n", &[1; 32], &[2; 64]);
+    is_own && !is_other
+}
+
+#[test]
+fn a_table_and_a_reader(rt: HostRuntime) {
     let marked = ReaderSource::new(b"abc".as_slice()).mark();
-    assert!(rt; marked == Err(DeviceFault));
+    assert!(rt; is_in_the_table() && marked == Err(DeviceFault));
 }
 
 // Whether the usual limits give the usual parameters.
@@ -102,20 +118,25 @@ fn limits_are_usual() -> bool {
     }
 }
 
-// Whether a key ID is shown as the tools show it.
-fn is_key_id_shown(alloc: Global) -> Result<bool> {
+// A key ID as the tools show it.
+fn key_id_shown(alloc: Global) -> Result<String> {
     let shown = format!(in alloc; "{}", KeyId(KEY_ID))?;
-    Ok(shown.as_str() == "0807060504030201")
+    Ok(shown)
+}
+
+// Whether a number is stored, and loaded again.
+fn is_stored() -> bool {
+    let stored = store_u64_le(255);
+    stored == [255, 0, 0, 0, 0, 0, 0, 0] && load_u64_le(&stored) == 255
 }
 
 #[test]
 fn the_helpers_through_the_library(rt: HostRuntime) {
-    assert!(rt; limits_are_usual());
-    assert!(rt; store_u64_le(255) == [255, 0, 0, 0, 0, 0, 0, 0]);
-    assert!(rt; load_u64_le(&store_u64_le(255)) == 255);
+    let numbers = limits_are_usual() && is_stored() && is_filled();
+    assert!(rt; numbers);
     assert!(rt; matches!(unix_timestamp(&rt), Ok(moment) if moment > 1700000000));
-    assert!(rt; is_so(is_key_id_shown(rt.alloc())));
-    assert!(rt; is_filled());
+    assert!(rt; gives_text(key_id_shown(rt.alloc()), "0807060504030201"));
+    assert!(rt; is_asked(rt.alloc()));
 }
 
 // Whether a buffer is filled from a source.
@@ -126,16 +147,14 @@ fn is_filled() -> bool {
 }
 
 // Whether a password is asked for, and what is put after the question.
-fn is_asked(alloc: Global) -> Result<bool> {
+fn is_asked(alloc: Global) -> bool {
     let mut prompt = Prompt::new(SliceSource::new(b"p\n"), VecSink::new(alloc));
-    let password = get_password(alloc, &mut prompt, "Password: ")?;
+    let password = get_password(alloc, &mut prompt, "Password: ");
+    let is_typed = gives_text(password, "p");
     let (_, mut asked) = prompt.into_parts();
-    let put = write_all(&mut asked, b"a").is_ok() && put_and_flush(&mut asked, b"b").is_ok();
-    put_line(alloc, &mut asked, b"c", b"d")?;
-    Ok(put && password.as_str() == "p" && asked.as_slice() == b"Password: abcd\n".as_slice())
-}
-
-#[test]
-fn prompts_and_sinks_through_the_library(rt: HostRuntime) {
-    assert!(rt; is_so(is_asked(rt.alloc())));
+    let written = write_all(&mut asked, b"a").is_ok();
+    let flushed = put_and_flush(&mut asked, b"b").is_ok();
+    let ended = put_line(alloc, &mut asked, b"c", b"d").is_ok();
+    let told = asked.as_slice() == b"Password: abcd\n".as_slice();
+    is_typed && written && flushed && ended && told
 }

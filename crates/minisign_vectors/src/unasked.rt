@@ -1,43 +1,26 @@
-//! Calls for callers that prompt nobody: signing files and readers, making pairs under a password,
-//! and the silent prompt.
+//! Calls for callers that prompt nobody: signing what a reader has, making pairs under a password, and the
+//! silent prompt. `files` signs files.
 
-use crate::keys::refused_allocations::is_sealed_text;
+use crate::keys::refused_allocations::{has_sealed_text, public_text};
 use crate::keys::sealed::calls::{Way, opened};
-use crate::signatures::calls::{is_worked_out, key_of};
-use minisign::{KeyPair, Result, SecretKey, SecretKeyBox, sign_file, sign_reader};
+use crate::signatures::calls::{key_of, signs_so};
+use minisign::{KeyPair, Result, SecretKey, SecretKeyBox, sign_reader};
 use minisign_base::devices::random_sources::FixedRandom;
 use minisign_base::devices::sinks::Sink;
 use minisign_base::devices::sources::Source;
 use minisign_base::faults::NamedFault::{
-    EncryptedKeyRefused, EndOfInput, PasswordTooLong, RandomSourceFailed, ReadingFailed,
+    EndOfInput, PasswordTooLong, RandomSourceFailed, ReadingFailed,
 };
 use minisign_base::helpers::get_password;
 use minisign_base::prompt::Prompt;
 use minisign_base::toy::ToyScheme;
 use minisign_fixtures::devices::sources::{FailsAfter, OneByOne};
-use minisign_fixtures::folders::{folder_path, make_empty, path_of, put};
 use minisign_fixtures::outcomes::Outcome::{self, Accepted, Refused};
-use minisign_fixtures::outcomes::{comes_to, counted, ends_in, is_so};
+use minisign_fixtures::outcomes::{comes_to, counted, ends_in, gives_text, is_so};
 use minisign_fixtures::texts::{COUNTED_PUBLIC_TEXT, SEALED, SECRET_TEXT};
 use std::alloc::Global;
-use std::fs;
-use std::test::Fail;
 
 const ZEROS: [u8; 128] = [0; 128];
-
-// What the key signs of a file with these random bytes.
-fn file_signed(rt: &HostRuntime, sk: &SecretKey, path: &str, random: &[u8]) -> Result<String> {
-    let toy = ToyScheme::new();
-    let mut random = FixedRandom::new(random);
-    sign_file(rt, rt.alloc(), &toy, sk, path, Some("t"), &mut random, 0)
-}
-
-// Whether the key of the text signs the file, as it was worked out.
-fn signs_file(rt: &HostRuntime, sk_text: &str, path: &str) -> Result<bool> {
-    let sk = key_of(rt.alloc(), sk_text, "password")?;
-    let text = file_signed(rt, &sk, path, &ZEROS)?;
-    Ok(is_worked_out(text.as_str()))
-}
 
 // The pair of these random bytes.
 fn pair_under(alloc: Global, password: &str, random: &[u8]) -> Result<KeyPair> {
@@ -45,50 +28,10 @@ fn pair_under(alloc: Global, password: &str, random: &[u8]) -> Result<KeyPair> {
     KeyPair::generate_with_password(alloc, &ToyScheme::new(), &mut random, password)
 }
 
-// Whether an opened key rejects a file that is not there, and random bytes that do not come.
-fn rejects_files(rt: &HostRuntime, there: &str, missing: &str) -> Result<bool> {
-    let opened = key_of(rt.alloc(), SECRET_TEXT, "password")?;
-    let unread = file_signed(rt, &opened, missing, &[]);
-    let undrawn = file_signed(rt, &opened, there, &ZEROS[..127]);
-    let is_unread = ends_in(unread, Refused(ReadingFailed));
-    Ok(ends_in(undrawn, Refused(RandomSourceFailed)) && is_unread)
-}
-
-// Whether a sealed key rejects each file, and first of all.
-fn is_locked(rt: &HostRuntime, there: &str, missing: &str) -> Result<bool> {
-    let pair = pair_under(rt.alloc(), "", &counted())?;
-    let of_none = file_signed(rt, &pair.sk, missing, &[]);
-    let of_one = file_signed(rt, &pair.sk, there, &ZEROS);
-    let is_none = ends_in(of_none, Refused(EncryptedKeyRefused));
-    Ok(ends_in(of_one, Refused(EncryptedKeyRefused)) && is_none)
-}
-
-// Whether the file is signed by both keys, the rejections come, and no signature stands beside it.
-fn is_signed(rt: &HostRuntime, folder: &str) -> std::result::Result<bool, Fail> {
-    let there = path_of(rt, folder, "abc")?;
-    let missing = path_of(rt, folder, "missing")?;
-    let beside = path_of(rt, folder, "abc.minisig")?;
-    let right = is_signed_alone(rt, there.as_str(), missing.as_str());
-    Ok(!fs::exists(rt, beside.as_str())? && right)
-}
-
-// Whether the file is signed by both keys, and the rejections come.
-fn is_signed_alone(rt: &HostRuntime, there: &str, missing: &str) -> bool {
-    let unsealed = is_so(signs_file(rt, SECRET_TEXT, there));
-    let sealed = is_so(signs_file(rt, SEALED, there));
-    let rejected = is_so(rejects_files(rt, there, missing));
-    let locked = is_so(is_locked(rt, there, missing));
-    unsealed && sealed && rejected && locked
-}
-
-#[test]
-fn a_file_is_signed_by_its_name(rt: HostRuntime) -> std::result::Result<(), Fail> {
-    let folder = folder_path(&rt, "unasked")?;
-    make_empty(&rt, folder.as_str())?;
-    put(&rt, folder.as_str(), "abc", b"abc")?;
-    assert!(rt; is_signed(&rt, folder.as_str())?);
-    fs::remove_dir_all(&rt, folder.as_str())?;
-    Ok(())
+/// The sealed key of the pair under the empty password.
+pub fn sealed_pair_key(alloc: Global) -> Result<SecretKey> {
+    let pair = pair_under(alloc, "", &counted())?;
+    Ok(pair.sk)
 }
 
 // What key A signs of what a reader has ahead.
@@ -99,34 +42,28 @@ fn reader_signed<R: Source>(alloc: Global, data: &mut R) -> Result<String> {
     sign_reader(alloc, &toy, &sk, data, Some("t"), &mut random, 0)
 }
 
-// Whether it signs a reader that gives one byte a read, as it was worked out.
-fn signs_reader(alloc: Global) -> bool {
-    let text = reader_signed(alloc, &mut OneByOne::new(b"abc"));
-    match &text {
-        Ok(text) => is_worked_out(text.as_str()),
-        Err(_) => false,
-    }
-}
-
+// It signs a reader that gives one byte a read, as it was worked out.
 #[test]
 fn what_a_reader_has_is_signed(rt: HostRuntime) {
-    let alloc = rt.alloc();
-    assert!(rt; signs_reader(alloc));
-    let mut failing = FailsAfter::new(b"abc", 1);
-    assert!(rt; ends_in(reader_signed(alloc, &mut failing), Refused(ReadingFailed)));
+    let whole = reader_signed(rt.alloc(), &mut OneByOne::new(b"abc"));
+    assert!(rt; signs_so(whole, Accepted));
+    let cut = reader_signed(rt.alloc(), &mut FailsAfter::new(b"abc", 1));
+    assert!(rt; signs_so(cut, Refused(ReadingFailed)));
 }
 
 // Whether the texts of the pair under the empty password are the known ones.
-fn is_known_pair(alloc: Global) -> Result<bool> {
-    let pair = pair_under(alloc, "", &counted())?;
-    let pk_text = pair.pk.to_box(alloc)?.into_string();
-    let sk_text = pair.sk.to_box(alloc, None)?.into_string();
-    Ok(pk_text.as_str() == COUNTED_PUBLIC_TEXT && is_sealed_text(sk_text.as_bytes()))
+fn is_known_pair(alloc: Global) -> bool {
+    let Ok(pair) = pair_under(alloc, "", &counted()) else {
+        return false;
+    };
+    let public = gives_text(public_text(alloc, &pair.pk), COUNTED_PUBLIC_TEXT);
+    let sealed = is_so(has_sealed_text(alloc, &pair.sk));
+    public && sealed
 }
 
 #[test]
 fn a_pair_under_a_password_has_the_known_texts(rt: HostRuntime) {
-    assert!(rt; is_so(is_known_pair(rt.alloc())));
+    assert!(rt; is_known_pair(rt.alloc()));
 }
 
 // A password of so many letters.

@@ -1,80 +1,66 @@
 //! The devices that bytes come from and go to.
 
-use super::reading::Call::{FailsToRead, GoesBack, Marks, Reads};
-use super::reading::follows;
+use super::reading::Call::{self, FailsToRead, GoesBack, Marks, Reads};
+use super::reading::{FailsOnce, follows};
 use minisign_base::devices::random_sources::{FixedRandom, RandomSource, SourceRandom};
 use minisign_base::devices::sinks::{Sink, VecSink, WriterSink, write_all};
-use minisign_base::devices::sources::{ReaderSource, SliceSource};
-use std::io;
-use std::io::{Read, Write};
-use std::test::Fail;
+use minisign_base::devices::sources::{FileSource, ReaderSource, SliceSource};
+use std::alloc::Global;
+use std::io::Cursor;
 
-// A reader that gives one byte a read, fails at its second read, and then goes on.
-#[derive(Drop)]
-struct FailsOnce {
-    reads: u8,
-}
+// What comes of the calls on `abcde`, by a source that goes back.
+const READ_AGAIN: [Call; 11] = [
+    GoesBack(false),
+    Reads(2, *b"ab"),
+    Marks(true),
+    Reads(2, *b"cd"),
+    Reads(1, *b"ed"),
+    Reads(0, *b"ed"),
+    GoesBack(true),
+    Reads(2, *b"cd"),
+    Reads(1, *b"ed"),
+    Reads(0, *b"ed"),
+    GoesBack(true),
+];
 
-impl Read for FailsOnce {
-    fn read(&mut self, buf: &mut [u8]) -> io::Result<usize> {
-        self.reads = self.reads.wrapping_add(1);
-        if self.reads == 2 {
-            return Err(io::Error::from(io::ErrorKind::Other));
-        }
-        if buf.is_empty() {
-            return Ok(0);
-        }
-        buf[0] = self.reads;
-        Ok(1)
-    }
-}
+// The same of `abc`, by a source that does not.
+const READ_ONCE: [Call; 5] = [
+    Reads(2, *b"ab"),
+    Reads(1, *b"cb"),
+    Reads(0, *b"cb"),
+    Marks(false),
+    GoesBack(false),
+];
 
-// A writer that takes nothing.
-#[derive(Drop)]
-struct TakesNothing;
-
-impl Write for TakesNothing {
-    fn write(&mut self, _buf: &[u8]) -> io::Result<usize> {
-        Ok(0)
-    }
-
-    fn flush(&mut self) -> io::Result<()> {
-        Err(io::Error::from(io::ErrorKind::Other))
-    }
-}
+// The same by a reader that fails.
+const FAILING: [Call; 3] = [Reads(1, [1, 0]), FailsToRead, Reads(1, [3, 0])];
 
 #[test]
-fn slices_are_read_and_read_again(rt: HostRuntime) {
-    let calls = [
-        GoesBack(false),
-        Reads(2, *b"ab"),
-        Marks(true),
-        Reads(2, *b"cd"),
-        Reads(1, *b"ed"),
-        Reads(0, *b"ed"),
-        GoesBack(true),
-        Reads(2, *b"cd"),
-    ];
-    assert!(rt; follows(&mut SliceSource::new(b"abcde"), &calls));
+fn slices_and_files_are_read_again_from_the_mark(rt: HostRuntime) {
+    assert!(rt; follows(&mut SliceSource::new(b"abcde"), &READ_AGAIN));
+    let mut file = FileSource::new(Cursor::new(b"abcde".as_slice()));
+    assert!(rt; follows(&mut file, &READ_AGAIN));
 }
 
+// They go on behind a fault.
 #[test]
 fn readers_are_read_and_never_go_back(rt: HostRuntime) {
-    let calls = [
-        Reads(2, *b"ab"),
-        Reads(1, *b"cb"),
-        Reads(0, *b"cb"),
-        Marks(false),
-        GoesBack(false),
-    ];
-    assert!(rt; follows(&mut ReaderSource::new(b"abc".as_slice()), &calls));
+    assert!(rt; follows(&mut ReaderSource::new(b"abc".as_slice()), &READ_ONCE));
+    assert!(rt; follows(&mut ReaderSource::new(FailsOnce::new(None)), &FAILING));
+}
+
+// Whether a file whose place is sought so is marked, and goes back or not.
+fn is_reached(place: Option<u64>, reached: bool) -> bool {
+    let mut source = FileSource::new(FailsOnce::new(place));
+    follows(&mut source, &[Marks(true), GoesBack(reached)])
 }
 
 #[test]
-fn readers_go_on_behind_a_fault(rt: HostRuntime) {
-    let calls = [Reads(1, [1, 0]), FailsToRead, Reads(1, [3, 0])];
-    let mut failing = ReaderSource::new(FailsOnce { reads: 0 });
-    assert!(rt; follows(&mut failing, &calls));
+fn a_place_that_is_not_reached_is_a_fault(rt: HostRuntime) {
+    let is_sought = is_reached(None, false);
+    let is_other = is_reached(Some(4), false);
+    let is_place = is_reached(Some(5), true);
+    assert!(rt; is_sought && is_other && is_place);
 }
 
 // Whether the sink takes each of the parts, and is flushed.
@@ -87,56 +73,58 @@ fn takes<S: Sink>(sink: &mut S, parts: &[&[u8]]) -> bool {
     sink.flush().is_ok()
 }
 
+// Whether a buffer shows and gives what it took.
+fn is_kept(alloc: Global) -> bool {
+    let mut sink = VecSink::new(alloc);
+    let taken = takes(&mut sink, &[b"abc", b"", b"de"]);
+    let shown = sink.as_slice() == b"abcde".as_slice();
+    let kept = sink.into_vec();
+    let given = kept.as_slice() == b"abcde".as_slice();
+    taken && shown && given
+}
+
+// Whether a writer takes it behind what it has.
+fn is_written(alloc: Global) -> bool {
+    let Ok(mut held) = vec![in alloc; b'a'; 1] else {
+        return false;
+    };
+    let taken = takes(&mut WriterSink::new(&mut held), &[b"bc"]);
+    let written = held.as_slice() == b"abc".as_slice();
+    taken && written
+}
+
 #[test]
 fn sinks_take_all_that_is_put(rt: HostRuntime) {
-    let mut sink = VecSink::new(rt.alloc());
-    assert!(rt; takes(&mut sink, &[b"abc", b"", b"de"]));
-    assert!(rt; sink.as_slice() == b"abcde".as_slice());
-    assert!(rt; sink.into_vec().as_slice() == b"abcde".as_slice());
+    assert!(rt; is_kept(rt.alloc()));
+    assert!(rt; is_written(rt.alloc()));
 }
 
-#[test]
-fn writers_take_all_that_is_put(rt: HostRuntime) -> Result<(), Fail> {
-    let mut held = vec![in rt.alloc(); b'a']?;
-    assert!(rt; takes(&mut WriterSink::new(&mut held), &[b"bc"]));
-    assert!(rt; held.as_slice() == b"abc".as_slice());
-    Ok(())
+// Whether each of these is drawn in turn, three bytes at the most; where one is empty, three bytes are
+// not drawn.
+fn draws<R: RandomSource>(random: &mut R, draws: &[&[u8]]) -> bool {
+    for expected in draws {
+        if !is_drawn(random, expected) {
+            return false;
+        }
+    }
+    true
 }
 
-#[test]
-fn a_writer_that_takes_nothing_is_a_fault(rt: HostRuntime) {
-    let mut nothing = WriterSink::new(TakesNothing);
-    assert!(rt; write_all(&mut nothing, b"a").is_err());
-    assert!(rt; nothing.write(b"") == Ok(0));
-    assert!(rt; nothing.flush().is_err());
-}
-
-// Whether these bytes are drawn, of which there are three at the most.
-fn draws<R: RandomSource>(random: &mut R, expected: &[u8]) -> bool {
+// Whether these bytes are drawn, or none where these are none.
+fn is_drawn<R: RandomSource>(random: &mut R, expected: &[u8]) -> bool {
     let mut buf = [0u8; 3];
+    if expected.is_empty() {
+        return random.fill(&mut buf).is_err();
+    }
     let (drawn, _) = buf.split_at_mut(expected.len().min(3));
     random.fill(drawn).is_ok() && *drawn == *expected
 }
 
-// Whether three bytes are not drawn.
-fn draws_nothing<R: RandomSource>(random: &mut R) -> bool {
-    random.fill(&mut [0; 3]).is_err()
-}
-
 #[test]
 fn random_bytes_come_in_order(rt: HostRuntime) {
-    let mut fixed = FixedRandom::new(b"abcde");
-    assert!(rt; draws(&mut fixed, b"abc"));
-    assert!(rt; draws_nothing(&mut fixed));
-    assert!(rt; draws(&mut fixed, b"de"));
-}
-
-#[test]
-fn random_bytes_come_from_a_source(rt: HostRuntime) {
+    assert!(rt; draws(&mut FixedRandom::new(b"abcde"), &[b"abc", b"", b"de"]));
     let mut drawn = SourceRandom::new(SliceSource::new(b"abcd"));
-    assert!(rt; draws(&mut drawn, b"abc"));
-    assert!(rt; draws_nothing(&mut drawn));
-    let mut failing = SourceRandom::new(ReaderSource::new(FailsOnce { reads: 0 }));
-    assert!(rt; draws_nothing(&mut failing));
-    assert!(rt; draws(&mut failing, &[3, 4, 5]));
+    assert!(rt; draws(&mut drawn, &[b"abc", b""]));
+    let mut failing = SourceRandom::new(ReaderSource::new(FailsOnce::new(None)));
+    assert!(rt; draws(&mut failing, &[b"", &[3, 4, 5]]));
 }

@@ -46,11 +46,10 @@ fn shown() -> &'static [(NamedFault, &'static str)] {
 
 // Whether this is what is shown of it.
 fn says<T: fmt::Display>(alloc: Global, fault: &T, text: &str) -> bool {
-    let shown = format!(in alloc; "{fault}");
-    match &shown {
-        Ok(shown) => shown.as_str() == text,
-        Err(_) => false,
-    }
+    let Ok(shown) = format!(in alloc; "{fault}") else {
+        return false;
+    };
+    shown.as_str() == text
 }
 
 // Whether this is its text, without allocating.
@@ -59,17 +58,20 @@ fn is_text(fault: &PError, text: &str) -> bool {
     fault.text(&mut room) == text.as_bytes()
 }
 
-// Whether the error that calls return says the same of it, and tells its name.
-fn is_returned(alloc: Global, named: NamedFault, text: &str) -> bool {
+// Whether the error and the one that calls return, which tells its name, say the same.
+fn is_shown(alloc: Global, row: &(NamedFault, &str)) -> bool {
+    let (named, text) = *row;
+    let named_says = says(alloc, &named, text);
     let fault = PError::from(named);
-    says(alloc, &fault, text) && is_text(&fault, text) && fault.named() == Some(named)
+    let says_so = says(alloc, &fault, text);
+    let has_text = is_text(&fault, text);
+    named_says && says_so && has_text && fault.named() == Some(named)
 }
 
 #[test]
 fn named_errors_are_shown(rt: HostRuntime) {
-    for (named, text) in shown() {
-        assert!(rt; says(rt.alloc(), named, text), "at {text}");
-        assert!(rt; is_returned(rt.alloc(), *named, text), "at {text}");
+    for row in shown() {
+        assert!(rt; is_shown(rt.alloc(), row), "at {row:?}");
     }
 }
 
@@ -81,53 +83,48 @@ fn is(fault: PError, named: NamedFault) -> bool {
 #[test]
 fn faults_of_std_become_named_ones(rt: HostRuntime) {
     let device = io::Error::from(io::ErrorKind::Other);
-    assert!(rt; is(PError::from(AllocError), OutOfMemory));
-    assert!(rt; is(PError::from(AllocFailed { value: 0u8 }), OutOfMemory));
-    assert!(rt; is(PError::from(device), InputOrOutputFailed));
-    assert!(rt; is(PError::from(fmt::Error), FormattingFailed));
+    let refused = is(PError::from(AllocError), OutOfMemory);
+    let given_back = is(PError::from(AllocFailed { value: 0u8 }), OutOfMemory);
+    let failed = is(PError::from(device), InputOrOutputFailed);
+    let unformatted = is(PError::from(fmt::Error), FormattingFailed);
+    assert!(rt; refused && given_back && failed && unformatted);
+    assert!(rt; is_no_text(rt.alloc()));
 }
 
 // Whether 0xff is no text, which is such an error.
-fn is_no_text(alloc: Global) -> Result<bool, Fail> {
-    let bytes = vec![in alloc; 0xffu8]?;
+fn is_no_text(alloc: Global) -> bool {
+    let Ok(bytes) = vec![in alloc; 0xffu8; 1] else {
+        return false;
+    };
     match String::from_utf8(bytes) {
-        Ok(_) => Ok(false),
-        Err(fault) => Ok(is(PError::from(fault), InvalidUtf8)),
+        Ok(_) => false,
+        Err(fault) => is(PError::from(fault), InvalidUtf8),
     }
 }
 
 #[test]
-fn no_text_is_a_fault(rt: HostRuntime) -> Result<(), Fail> {
-    assert!(rt; is_no_text(rt.alloc())?);
-    Ok(())
-}
-
-#[test]
-fn faults_of_key_derivation_become_named_ones(rt: HostRuntime) {
-    assert!(rt; is(PError::from(InvalidParams), InvalidParameters));
-    assert!(rt; is(PError::from(InvalidOutputLen), InvalidOutputLength));
-    assert!(rt;
-        is(
-            PError::from(KdfError::InvalidOutputLen),
-            InvalidOutputLength
-        )
+fn faults_of_key_derivation_and_of_base64_become_named_ones(rt: HostRuntime) {
+    let params = is(PError::from(InvalidParams), InvalidParameters);
+    let len = is(PError::from(InvalidOutputLen), InvalidOutputLength);
+    let len_of_key = is(
+        PError::from(KdfError::InvalidOutputLen),
+        InvalidOutputLength,
     );
-    assert!(rt; is(PError::from(KdfError::OutOfMemory), OutOfMemory));
-}
-
-#[test]
-fn faults_of_base64_become_named_ones(rt: HostRuntime) {
+    let memory = is(PError::from(KdfError::OutOfMemory), OutOfMemory);
+    assert!(rt; params && len && len_of_key && memory);
     let padding = DecodeAllocError::DecodeError(DecodeError::InvalidPadding);
-    assert!(rt; is(PError::from(padding), SecretKeyNotBase64));
-    assert!(rt; is(PError::from(DecodeAllocError::OutOfMemory), OutOfMemory));
+    let no_base64 = is(PError::from(padding), SecretKeyNotBase64);
+    let memory = is(PError::from(DecodeAllocError::OutOfMemory), OutOfMemory);
+    assert!(rt; no_base64 && memory);
 }
 
 // Whether the error says what reading says where it fails, and is not the named one.
 fn is_only_worded(alloc: Global, fault: PError) -> bool {
-    let worded = says(alloc, &fault, "reading failed") && *fault.kind() == Io;
-    let unnamed = fault.named() == None;
+    let worded = says(alloc, &fault, "reading failed");
+    let is_so = *fault.kind() == Io && fault.named() == None;
     let answer: Result<(), PError> = Err(fault);
-    worded && unnamed && !comes_to(&answer, Refused(ReadingFailed))
+    let named = comes_to(&answer, Refused(ReadingFailed));
+    worded && is_so && !named
 }
 
 // The words of a named error make none.

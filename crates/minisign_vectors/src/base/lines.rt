@@ -1,6 +1,6 @@
-//! Lines that are written to a sink.
+//! Lines that are written to a sink, and a writer that takes nothing.
 
-use minisign_base::devices::sinks::{Sink, VecSink, WriterSink, put_line};
+use minisign_base::devices::sinks::{Sink, VecSink, WriterSink, put_line, write_all};
 use minisign_base::faults::NamedFault::WritingFailed;
 use minisign_fixtures::outcomes::Outcome::{self, Accepted, Refused};
 use minisign_fixtures::outcomes::comes_to;
@@ -8,12 +8,14 @@ use std::alloc::Global;
 use std::io;
 use std::io::Write;
 
-// A writer that counts its calls, and fails once it was called so often.
+// A writer that counts its calls, and fails once it was called so often. It takes all, or nothing; then
+// it is not flushed.
 #[derive(Drop)]
 struct Counting {
     calls: u8,
     allowed: u8,
     last: u8,
+    takes: bool,
 }
 
 impl Write for Counting {
@@ -22,6 +24,9 @@ impl Write for Counting {
         if self.calls > self.allowed {
             return Err(io::Error::from(io::ErrorKind::Other));
         }
+        if !self.takes {
+            return Ok(0);
+        }
         if let Some(last) = buf.last() {
             self.last = *last;
         }
@@ -29,7 +34,20 @@ impl Write for Counting {
     }
 
     fn flush(&mut self) -> io::Result<()> {
-        Ok(())
+        if self.takes {
+            return Ok(());
+        }
+        Err(io::Error::from(io::ErrorKind::Other))
+    }
+}
+
+// A writer that was not called, and may be so often.
+fn uncalled(allowed: u8, takes: bool) -> Counting {
+    Counting {
+        calls: 0,
+        allowed,
+        last: 0,
+        takes,
     }
 }
 
@@ -44,26 +62,41 @@ fn is_put<W: Sink>(
     comes_to(&answer, expected)
 }
 
+// Whether three lines are put one after another.
+fn lines_are_put(alloc: Global) -> bool {
+    let mut sink = VecSink::new(alloc);
+    let first = is_put(alloc, &mut sink, ("error: ", "reading failed"), Accepted);
+    let second = is_put(alloc, &mut sink, ("", ""), Accepted);
+    let third = is_put(alloc, &mut sink, ("warning", ""), Accepted);
+    let told = sink.as_slice() == b"error: reading failed\n\nwarning\n".as_slice();
+    first && second && third && told
+}
+
 #[test]
 fn lines_have_a_label_a_text_and_a_line_feed(rt: HostRuntime) {
-    let mut sink = VecSink::new(rt.alloc());
-    for line in [("error: ", "reading failed"), ("", ""), ("warning", "")] {
-        assert!(rt; is_put(rt.alloc(), &mut sink, line, Accepted));
-    }
-    assert!(rt; sink.as_slice() == b"error: reading failed\n\nwarning\n".as_slice());
+    assert!(rt; lines_are_put(rt.alloc()));
 }
 
 #[test]
 fn a_line_is_one_write(rt: HostRuntime) {
-    let mut writer = Counting {
-        calls: 0,
-        allowed: 1,
-        last: 0,
-    };
+    let mut writer = uncalled(1, true);
     let mut sink = WriterSink::new(&mut writer);
     let line = ("a label ", "a text");
-    assert!(rt; is_put(rt.alloc(), &mut sink, line, Accepted));
-    assert!(rt; is_put(rt.alloc(), &mut sink, line, Refused(WritingFailed)));
-    assert!(rt; writer.calls == 2);
-    assert!(rt; writer.last == b'\n');
+    let first = is_put(rt.alloc(), &mut sink, line, Accepted);
+    let second = is_put(rt.alloc(), &mut sink, line, Refused(WritingFailed));
+    assert!(rt; first && second && writer.calls == 2 && writer.last == b'\n');
+}
+
+// Whether a sink over a writer that takes nothing takes nothing but nothing, and is not flushed.
+fn is_a_fault() -> bool {
+    let mut nothing = WriterSink::new(uncalled(9, false));
+    let unwritten = write_all(&mut nothing, b"a").is_err();
+    let empty = nothing.write(b"") == Ok(0);
+    let unflushed = nothing.flush().is_err();
+    unwritten && empty && unflushed
+}
+
+#[test]
+fn a_writer_that_takes_nothing_is_a_fault(rt: HostRuntime) {
+    assert!(rt; is_a_fault());
 }

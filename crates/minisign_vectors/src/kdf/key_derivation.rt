@@ -86,21 +86,29 @@ fn is_accepted(n_log2: u8, r: u32, p: u32) -> bool {
     }
 }
 
+// The logarithm of N, r and p.
+const PARAMETERS: [(u8, u32, u32); 11] = [
+    (1, 1, 1),
+    (15, 1, 1),
+    (31, 2, 1),
+    (20, 8, 512),
+    (1, 32768, 32767),
+    (1, 1073741823, 1),
+    (1, 1, 1073741823),
+    (53, 8, 1),
+    (54, 7, 1),
+    (54, 4, 1),
+    (1, 8, 134217727),
+];
+
+// The rows, so that no proof looks into all of them.
+fn parameters() -> &'static [(u8, u32, u32)] {
+    &PARAMETERS
+}
+
 #[test]
 fn accepted_parameters(rt: HostRuntime) {
-    for (n_log2, r, p) in [
-        (1u8, 1u32, 1u32),
-        (15, 1, 1),
-        (31, 2, 1),
-        (20, 8, 512),
-        (1, 32768, 32767),
-        (1, 1073741823, 1),
-        (1, 1, 1073741823),
-        (53, 8, 1),
-        (54, 7, 1),
-        (54, 4, 1),
-        (1, 8, 134217727),
-    ] {
-        assert!(rt; is_accepted(n_log2, r, p), "at {n_log2}, {r}, {p}");
+    for row in parameters() {
+        assert!(rt; is_accepted(row.0, row.1, row.2), "at {row:?}");
     }
 }

@@ -3,12 +3,11 @@
 //!
 //! Keys: RFC 7914, section 12.
 
-ghost use Rattle.std.specs.Prelude.{◌≡◌, ◌≤◌, IfOk, vec_len};
+ghost use Rattle.std.specs.Prelude.{◌≡◌, IfOk, vec_len};
 
 use crate::shown::shows;
 use minisign_kdf::{Params, scrypt_in};
 use std::alloc::{AllocError, Global};
-use std::test::Fail;
 
 // The smallest vector and that of several parts.
 pub const OF_NOTHING: &str =
@@ -31,10 +30,49 @@ pub fn bytes(alloc: Global, len: usize) -> Result<Vec<u8>, AllocError>
     vec![in alloc; 0x5cu8; len]
 }
 
+/// Whether all of the memory holds zeros.
+pub fn are_zeros(words: &[u32], bytes: &[u8]) -> bool {
+    for word in words {
+        if *word != 0 {
+            return false;
+        }
+    }
+    for byte in bytes {
+        if *byte != 0 {
+            return false;
+        }
+    }
+    true
+}
+
+// The password, the salt and the parameters, every how many-th row is kept, and the key.
+type Row = (
+    &'static str,
+    &'static str,
+    (u8, u32, u32),
+    u64,
+    &'static str,
+);
+
+const ROWS: [Row; 4] = [
+    ("", "", (4, 1, 1), 1, OF_NOTHING),
+    ("", "", (4, 1, 1), 3, OF_NOTHING),
+    ("", "", (4, 1, 1), 17, OF_NOTHING),
+    ("password", "NaCl", (10, 8, 16), 3, OF_PASSWORD),
+];
+
+// The rows, so that no proof looks into all of them.
+fn rows() -> &'static [Row] {
+    &ROWS
+}
+
 // Whether the key is this where every k-th row is kept, and all of the memory then holds zeros.
-fn derives(alloc: Global, of: (&str, &str), params: &Params, k: u64, expected: &str) -> bool
-    requires { 1 ≤ k }
-{
+fn derives(alloc: Global, row: &Row) -> bool {
+    let (password, salt, (n_log2, r, p), k, expected) = *row;
+    let Ok(params) = Params::new(n_log2, r, p) else {
+        return false;
+    };
+    let k = k.max(1);
     let Ok(mut words) = words(alloc, params.wanted_words(k) as usize) else {
         return false;
     };
@@ -42,20 +80,16 @@ fn derives(alloc: Global, of: (&str, &str), params: &Params, k: u64, expected: &
         return false;
     };
     let mut key = [0u8; 64];
-    let (password, salt) = (of.0.as_bytes(), of.1.as_bytes());
-    scrypt_in(password, salt, params, k, &mut words, &mut bytes, &mut key);
-    let are_zeros = words.iter().all(|word| *word == 0) && bytes.iter().all(|byte| *byte == 0);
-    are_zeros && shows(alloc, &key, expected)
+    let (password, salt) = (password.as_bytes(), salt.as_bytes());
+    scrypt_in(password, salt, &params, k, &mut words, &mut bytes, &mut key);
+    let are_left_zeros = are_zeros(&words, &bytes);
+    let is_key = shows(alloc, &key, expected);
+    are_left_zeros && is_key
 }
 
 #[test]
-fn keys_in_passed_memory(rt: HostRuntime) -> Result<(), Fail> {
-    let alloc = rt.alloc();
-    let one_part = Params::new(4, 1, 1)?;
-    assert!(rt; derives(alloc, ("", ""), &one_part, 1, OF_NOTHING));
-    assert!(rt; derives(alloc, ("", ""), &one_part, 3, OF_NOTHING));
-    assert!(rt; derives(alloc, ("", ""), &one_part, 17, OF_NOTHING));
-    let parts = Params::new(10, 8, 16)?;
-    assert!(rt; derives(alloc, ("password", "NaCl"), &parts, 3, OF_PASSWORD));
-    Ok(())
+fn keys_in_passed_memory(rt: HostRuntime) {
+    for row in rows() {
+        assert!(rt; derives(rt.alloc(), row), "at {row:?}");
+    }
 }

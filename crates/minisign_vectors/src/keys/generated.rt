@@ -54,71 +54,83 @@ pub fn wrote_sealed_over<R: Source, W: Sink, K: Sink>(
     )
 }
 
-// A sink takes its text however few bytes at once, and is flushed once.
-#[test]
-fn key_sinks_that_take_one_byte_a_write(rt: HostRuntime) {
-    let alloc = rt.alloc();
+// Whether a sink takes its text however few bytes at once, and is flushed once.
+fn is_taken(alloc: Global) -> bool {
     let mut public = LimitedSink::new(alloc, 114).by(1).flushed(1);
     let mut secret = LimitedSink::new(alloc, 259).by(1).flushed(1);
     let mut prompt = prompt_of(b"p\np\n", 4, LimitedSink::new(alloc, 300));
     let answer = wrote_sealed_over(alloc, &mut prompt, &mut public, &mut secret);
     let came = ends_in(answer, Accepted);
-    let written = public.as_slice() == COUNTED_PUBLIC_TEXT.as_bytes()
-        && secret.as_slice() == SECRET_TEXT.as_bytes()
-        && prompt.writer.as_slice() == SHOWN.as_bytes();
-    assert!(rt; came && written);
+    let has_public = public.as_slice() == COUNTED_PUBLIC_TEXT.as_bytes();
+    let has_secret = secret.as_slice() == SECRET_TEXT.as_bytes();
+    let is_told = prompt.writer.as_slice() == SHOWN.as_bytes();
+    came && has_public && has_secret && is_told
 }
 
-// Whether generation over this prompt is rejected so, with so much shown and no key written.
-fn is_refused(alloc: Global, prompt: Typed<'_>, expected: Outcome, length: usize) -> bool {
-    let mut prompt = prompt;
+#[test]
+fn key_sinks_that_take_one_byte_a_write(rt: HostRuntime) {
+    assert!(rt; is_taken(rt.alloc()));
+}
+
+// What is typed, after how many reads its reader fails, the room of the prompt's writer, how often that
+// is flushed, how much it then shows, and what comes of it.
+type Fails = (&'static str, u64, usize, usize, usize, Outcome);
+
+// The writer fails at each flush before the derivation: the text before it is whole. It fails after the
+// derivation too: the pair that was made is not written. The reader fails at each of its reads.
+const FAILING: [Fails; 11] = [
+    ("p\np\n", 9, 300, 0, 51, UNWRITTEN),
+    ("p\np\n", 9, 300, 1, 61, UNWRITTEN),
+    ("p\np\n", 9, 300, 2, 87, UNWRITTEN),
+    ("p\np\n", 9, 300, 3, 158, UNWRITTEN),
+    ("p\np\n", 9, 158, 9, 158, UNWRITTEN),
+    ("p\np\n", 9, 162, 9, 162, UNWRITTEN),
+    ("p\np\n", 9, 163, 4, 163, UNWRITTEN),
+    ("p\np\n", 0, 300, 9, 61, UNREAD),
+    ("p\np\n", 1, 300, 9, 61, UNREAD),
+    ("p\np\n", 2, 300, 9, 87, UNREAD),
+    ("p\np\n", 3, 300, 9, 87, UNREAD),
+];
+
+// The rows, so that no proof looks into all of them.
+fn failing() -> &'static [Fails] {
+    &FAILING
+}
+
+// Whether generation is rejected so, with so much shown and no key written. A writer that is to fail
+// takes nine bytes a write.
+fn is_refused(alloc: Global, typed: &[u8], row: &Fails) -> bool {
+    let (_, reads, room, flushes, length, expected) = *row;
+    let most = if expected == UNWRITTEN { 9 } else { usize::MAX };
+    let writer = LimitedSink::new(alloc, room).by(most).flushed(flushes);
+    let mut prompt = prompt_of(typed, reads, writer);
     let mut public = LimitedSink::new(alloc, 300);
     let mut secret = LimitedSink::new(alloc, 300);
     let answer = wrote_sealed_over(alloc, &mut prompt, &mut public, &mut secret);
     let came = ends_in(answer, expected);
-    came && prompt.writer.as_slice() == beginning(SHOWN, length).as_bytes()
-        && public.as_slice().is_empty()
-        && secret.as_slice().is_empty()
+    let shown = prompt.writer.as_slice() == beginning(SHOWN, length).as_bytes();
+    came && shown && public.as_slice().is_empty() && secret.as_slice().is_empty()
 }
 
-// Whether a failed write is told where the prompt's writer has this room and is flushed so many
-// times, with so much shown and no key written.
-fn shows(alloc: Global, room: usize, flushes: usize, length: usize) -> bool {
-    let writer = LimitedSink::new(alloc, room).by(9).flushed(flushes);
-    let prompt = prompt_of(b"p\np\n", 9, writer);
-    is_refused(alloc, prompt, UNWRITTEN, length)
+#[test]
+fn prompts_that_fail(rt: HostRuntime) {
+    for row in failing() {
+        assert!(rt; is_refused(rt.alloc(), row.0.as_bytes(), row), "at {row:?}");
+    }
 }
 
 // The prompt's writer fails at each byte before the derivation: it holds what comes before.
 #[test]
 fn prompts_that_cannot_be_written_to(rt: HostRuntime) {
     for room in 0..158usize {
-        assert!(rt; shows(rt.alloc(), room, 9, room), "at {room}");
+        let row = ("", 9, room, 9, room, UNWRITTEN);
+        assert!(rt; is_refused(rt.alloc(), b"p\np\n", &row), "at {room}");
     }
 }
 
-// It fails at each flush before the derivation: the text before it is whole. It fails after the
-// derivation too: the pair that was made is not written.
+// It gives what is not UTF-8.
 #[test]
-fn prompts_that_cannot_be_flushed_or_told_that_it_is_done(rt: HostRuntime) {
-    let alloc = rt.alloc();
-    assert!(rt; shows(alloc, 300, 0, 51));
-    assert!(rt; shows(alloc, 300, 1, 61));
-    assert!(rt; shows(alloc, 300, 2, 87));
-    assert!(rt; shows(alloc, 300, 3, 158));
-    assert!(rt; shows(alloc, 158, 9, 158));
-    assert!(rt; shows(alloc, 162, 9, 162));
-    assert!(rt; shows(alloc, 163, 4, 163));
-}
-
-// The prompt's reader fails at each of its reads, and gives what is not UTF-8.
-#[test]
-fn prompts_that_cannot_be_read(rt: HostRuntime) {
-    let alloc = rt.alloc();
-    for (reads, length) in [(0u64, 61usize), (1, 61), (2, 87), (3, 87)] {
-        let prompt = prompt_of(b"p\np\n", reads, LimitedSink::new(alloc, 300));
-        assert!(rt; is_refused(alloc, prompt, UNREAD, length), "at {reads}");
-    }
-    let prompt = prompt_of(b"\xff\n", 9, LimitedSink::new(alloc, 300));
-    assert!(rt; is_refused(alloc, prompt, Refused(NotUtf8), 61));
+fn prompts_that_give_no_text(rt: HostRuntime) {
+    let row = ("", 9, 300, 9, 61, Refused(NotUtf8));
+    assert!(rt; is_refused(rt.alloc(), b"\xff\n", &row));
 }

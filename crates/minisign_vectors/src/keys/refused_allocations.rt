@@ -27,14 +27,14 @@ pub fn typed<'a>(bytes: &'a [u8]) -> Prompt<SliceSource<'a>, Counting> {
     Prompt::new(SliceSource::new(bytes), Counting { bytes: 0 })
 }
 
-// The text of a public key.
-fn public_text(alloc: Global, key: &PublicKey) -> Result<String> {
+/// The text of a public key.
+pub fn public_text(alloc: Global, key: &PublicKey) -> Result<String> {
     let pk_box = key.to_box(alloc)?;
     Ok(pk_box.into_string())
 }
 
-// The text of a secret key, with the default comment.
-fn secret_text(alloc: Global, key: &SecretKey) -> Result<String> {
+/// The text of a secret key, with the default comment.
+pub fn secret_text(alloc: Global, key: &SecretKey) -> Result<String> {
     let sk_box = key.to_box(alloc, None)?;
     Ok(sk_box.into_string())
 }
@@ -44,8 +44,8 @@ fn made_raw(alloc: Global) -> Result<bool> {
     let scheme = ToyScheme::new();
     let pair = KeyPair::generate_unencrypted_keypair(&scheme, &mut FixedRandom::new(&counted()))?;
     let copy = pair.clone()?;
-    let copied = copy.sk == pair.sk;
-    Ok(copied && has_text(public_text(alloc, &copy.pk), COUNTED_PUBLIC_TEXT)?)
+    let public = has_text(public_text(alloc, &copy.pk), COUNTED_PUBLIC_TEXT)?;
+    Ok(public && copy.sk == pair.sk)
 }
 
 // The same, written to two buffers.
@@ -69,13 +69,19 @@ fn has_records(pair: &KeyPair, public: &[u8], secret: &[u8]) -> Result<bool> {
     Ok(pk == pair.pk && sk == pair.sk)
 }
 
-/// Whether this is the text of the pair that is sealed under the empty password.
-pub fn is_sealed_text(bytes: &[u8]) -> bool {
+// Whether this is the text of the pair that is sealed under the empty password.
+fn is_sealed_text(bytes: &[u8]) -> bool {
     is_text_of(
         bytes,
         "rsign encrypted secret key",
         COUNTED_SEALED_UNDER_NOTHING,
     )
+}
+
+/// Whether the key has that text.
+pub fn has_sealed_text(alloc: Global, key: &SecretKey) -> Result<bool> {
+    let text = secret_text(alloc, key)?;
+    Ok(is_sealed_text(text.as_bytes()))
 }
 
 // Whether a sealed pair is made with an empty password that is typed.
@@ -87,8 +93,7 @@ fn made_sealed(alloc: Global) -> Result<bool> {
         None,
         &mut typed(b"\n\n"),
     )?;
-    let text = secret_text(alloc, &pair.sk)?;
-    Ok(is_sealed_text(text.as_bytes()))
+    has_sealed_text(alloc, &pair.sk)
 }
 
 // The same, written to two buffers.
@@ -128,13 +133,12 @@ fn secret_written_again(alloc: Global) -> Result<bool> {
 }
 
 #[test]
-fn making_a_raw_pair(rt: HostRuntime) {
-    assert!(rt; is_so_or_out_of_memory(made_raw(rt.alloc())));
-}
-
-#[test]
-fn writing_a_raw_pair(rt: HostRuntime) {
-    assert!(rt; is_so_or_unwritten(wrote_raw(rt.alloc())));
+fn raw_pairs_and_texts_of_keys(rt: HostRuntime) {
+    let made = is_so_or_out_of_memory(made_raw(rt.alloc()));
+    let wrote = is_so_or_unwritten(wrote_raw(rt.alloc()));
+    let public = is_so_or_out_of_memory(public_written(rt.alloc()));
+    let secret = is_so_or_out_of_memory(secret_written_again(rt.alloc()));
+    assert!(rt; made && wrote && public && secret);
 }
 
 #[test]
@@ -155,10 +159,4 @@ fn opening_with_every_third_row(rt: HostRuntime) {
 #[test]
 fn opening_in_many_parts(rt: HostRuntime) {
     assert!(rt; is_so_or_out_of_memory(opens(rt.alloc(), SEALED_IN_PARTS, Way::AnyParts)));
-}
-
-#[test]
-fn texts_of_keys(rt: HostRuntime) {
-    assert!(rt; is_so_or_out_of_memory(public_written(rt.alloc())));
-    assert!(rt; is_so_or_out_of_memory(secret_written_again(rt.alloc())));
 }

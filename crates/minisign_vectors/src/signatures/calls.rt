@@ -6,7 +6,8 @@ use minisign::{
 };
 use minisign_fixtures::devices::sinks::LimitedSink;
 use minisign_fixtures::keys::{CHECKSUM, KEY_ID, PUBLIC_BYTES, public_record, secret_record};
-use minisign_fixtures::outcomes::{Outcome, ends_in};
+use minisign_fixtures::outcomes::Outcome::{self, Accepted};
+use minisign_fixtures::outcomes::{comes_to, ends_in};
 use minisign_fixtures::texts::SIGNATURE_TEXT;
 use std::alloc::Global;
 
@@ -194,6 +195,23 @@ pub fn read_box(alloc: Global, text: &str) -> Result<SignatureBox> {
     SignatureBox::from_string(alloc, text)
 }
 
+/// Whether this comes of verifying the worked texts: the comment `t`, or an error.
+pub fn tells(answer: Result<String>, expected: Outcome) -> bool {
+    match &answer {
+        Ok(comment) => expected == Accepted && comment.as_str() == "t",
+        Err(_) => comes_to(&answer, expected),
+    }
+}
+
+/// Whether this comes of signing as it was worked out: the text with the default untrusted comment, or
+/// an error.
+pub fn signs_so(answer: Result<String>, expected: Outcome) -> bool {
+    match &answer {
+        Ok(text) => expected == Accepted && is_worked_out(text.as_str()),
+        Err(_) => comes_to(&answer, expected),
+    }
+}
+
 /// Whether this is the text that a call returned, or its error.
 pub fn has_text(returned: Result<String>, text: &str) -> Result<bool> {
     let returned = returned?;
@@ -207,8 +225,8 @@ pub fn has_comments(alloc: Global, signature_box: &SignatureBox, trusted: &str) 
     Ok(has_text(untrusted, "signature from rsign secret key")? && is_trusted)
 }
 
-/// Whether the text is the worked one but for its untrusted comment, which is the default one.
-pub fn is_worked_out(text: &str) -> bool {
+// Whether the text is the worked one but for its untrusted comment, which is the default one.
+fn is_worked_out(text: &str) -> bool {
     let lines = text.strip_prefix("untrusted comment: signature from rsign secret key");
     lines == SIGNATURE_TEXT.strip_prefix("untrusted comment: c")
 }

@@ -6,18 +6,20 @@ use minisign::VerifyOptions;
 use minisign::reading::read_to_end;
 use minisign_base::devices::sources::ReaderSource;
 use minisign_base::faults::NamedFault::{
-    self, DataChanged, GoingBackFailed, LegacyNotAccepted, MissingPublicKeyComment,
+    DataChanged, GoingBackFailed, LegacyNotAccepted, MissingPublicKeyComment,
     MissingUntrustedComment, SignatureRefused,
 };
 use minisign_fixtures::devices::sinks::BufferedSink;
 use minisign_fixtures::devices::sources::Changes;
 use minisign_fixtures::outcomes::Outcome::{self, Accepted, Refused};
 use minisign_fixtures::outcomes::{ends_in, gives_record};
-use minisign_fixtures::texts::{KEY_TEXT, LEGACY_TEXT, SAID, SIGNATURE_TEXT};
+use minisign_fixtures::texts::{
+    KEY_TEXT as KEY, LEGACY_TEXT as LEGACY, SAID, SIGNATURE_TEXT as SIGNED,
+};
 use std::alloc::Global;
 
 // Key A's bytes under another key ID.
-const RENAMED_KEY_TEXT: &str =
+const OTHER_KEY: &str =
     "untrusted comment: minisign public key: E7620F1842B4E81F\nRWQf6LRCGA9i51paWlpaWlpaWlpaWlpaWlpaWlpaWlpaWlpaWlpaWlpa\n";
 
 const CHANGED: Outcome = Refused(DataChanged);
@@ -31,14 +33,15 @@ fn is_buffered(
     passed_on: &[u8],
     waiting: &[u8],
 ) -> bool {
-    let texts = (KEY_TEXT, SIGNATURE_TEXT);
+    let texts = (KEY, SIGNED);
     let mut data = Changes::new(b"abc", second);
     let mut status = BufferedSink::new(alloc);
     let mut out = BufferedSink::new(alloc);
     let answer = verified_texts(alloc, texts, &mut data, COPYING, &mut status, &mut out);
-    let unsaid = status.passed_on().is_empty() && status.waiting() == SAID;
     let came = ends_in(answer, outcome);
-    came && unsaid && out.passed_on() == passed_on && out.waiting() == waiting
+    let unsaid = status.passed_on().is_empty() && status.waiting() == SAID;
+    let copied = out.passed_on() == passed_on && out.waiting() == waiting;
+    came && unsaid && copied
 }
 
 // The copy is flushed once the digests are compared, and the status never.
@@ -50,84 +53,79 @@ fn data_that_changed_is_not_flushed(rt: HostRuntime) {
     assert!(rt; is_buffered(alloc, b"", CHANGED, b"", b""));
 }
 
-// Whether verifying data that cannot be read again comes out so, and leaves this.
-fn is_read_once(
-    alloc: Global,
-    texts: (&str, &str),
-    message: &[u8],
-    (output, allow_legacy): (bool, bool),
-    wanted: Wanted,
-    left: &[u8],
-) -> bool {
-    let mut data = ReaderSource::new(message);
+// The texts of a key and of a signature, the data, whether it is copied, and whether a legacy signature
+// may vouch for it; what comes of it, what is copied, and what it leaves of the data. What is accepted
+// is said.
+type ReadOnce = (
+    &'static str,
+    &'static str,
+    &'static str,
+    bool,
+    bool,
+    Outcome,
+    &'static str,
+    &'static str,
+);
+
+const UNMARKED: Outcome = Refused(GoingBackFailed);
+
+const UNACCEPTED: Outcome = Refused(LegacyNotAccepted);
+
+const REFUSED: Outcome = Refused(SignatureRefused);
+
+const NO_KEY: Outcome = Refused(MissingPublicKeyComment);
+
+const NO_SIGNATURE: Outcome = Refused(MissingUntrustedComment);
+
+// What cannot be read again is rejected at the mark, before a byte is read, and only where it would
+// be read again. A text that is rejected, the key's before the signature's, leaves all of the data.
+const READ_ONCE: [ReadOnce; 15] = [
+    (KEY, SIGNED, "abc", true, true, UNMARKED, "", "abc"),
+    (OTHER_KEY, SIGNED, "abc", true, true, UNMARKED, "", "abc"),
+    (KEY, SIGNED, "abc", false, true, Accepted, "", ""),
+    (KEY, LEGACY, "abc", true, true, Accepted, "abc", ""),
+    (KEY, LEGACY, "abc", false, true, Accepted, "", ""),
+    (KEY, LEGACY, "abc", false, false, UNACCEPTED, "", ""),
+    (KEY, LEGACY, "abcd", true, true, REFUSED, "", ""),
+    ("", "", "abc", false, true, NO_KEY, "", "abc"),
+    ("", "", "abc", true, true, NO_KEY, "", "abc"),
+    ("", SIGNED, "abc", false, true, NO_KEY, "", "abc"),
+    ("", SIGNED, "abc", true, true, NO_KEY, "", "abc"),
+    (KEY, "", "abc", false, true, NO_SIGNATURE, "", "abc"),
+    (KEY, "", "abc", true, true, NO_SIGNATURE, "", "abc"),
+    (OTHER_KEY, "", "abc", false, true, NO_SIGNATURE, "", "abc"),
+    (OTHER_KEY, "", "abc", true, true, NO_SIGNATURE, "", "abc"),
+];
+
+// The rows, so that no proof looks into all of them.
+fn read_once() -> &'static [ReadOnce] {
+    &READ_ONCE
+}
+
+// Whether verifying data that cannot be read again comes out so.
+fn is_read_once(alloc: Global, row: &ReadOnce) -> bool {
+    let (pk_text, sig_text, message, output, allow_legacy, outcome, copied, left) = *row;
+    let mut data = ReaderSource::new(message.as_bytes());
     let options = VerifyOptions {
         quiet: false,
         output,
         allow_legacy,
     };
+    let said = if outcome == Accepted { SAID } else { b"" };
+    let wanted = Wanted {
+        outcome,
+        said,
+        copied: copied.as_bytes(),
+    };
+    let texts = (pk_text, sig_text);
     let came = texts_come_out(alloc, texts, &mut data, options, ample(alloc), wanted);
-    let rest = gives_record(read_to_end(alloc, &mut data), left);
+    let rest = gives_record(read_to_end(alloc, &mut data), left.as_bytes());
     came && rest
 }
 
-// The texts of a prehashed signature and of a legacy one, and the first with another key.
-const PREHASHED: (&str, &str) = (KEY_TEXT, SIGNATURE_TEXT);
-
-const LEGACY: (&str, &str) = (KEY_TEXT, LEGACY_TEXT);
-
-const RENAMED: (&str, &str) = (RENAMED_KEY_TEXT, SIGNATURE_TEXT);
-
-// What is wanted where the data is accepted, copied or not.
-const ACCEPTED: Wanted<'static> = Wanted {
-    outcome: Accepted,
-    said: SAID,
-    copied: b"",
-};
-
-const COPIED: Wanted<'static> = Wanted {
-    outcome: Accepted,
-    said: SAID,
-    copied: b"abc",
-};
-
-// What is wanted where nothing is said and nothing is copied.
-fn rejected(fault: NamedFault) -> Wanted<'static> {
-    Wanted {
-        outcome: Refused(fault),
-        said: b"",
-        copied: b"",
-    }
-}
-
-// What cannot be read again is rejected at the mark, before a byte is read, and only where it would
-// be read again.
 #[test]
 fn data_that_cannot_be_read_again(rt: HostRuntime) {
-    let alloc = rt.alloc();
-    let unmarked = rejected(GoingBackFailed);
-    assert!(rt; is_read_once(alloc, PREHASHED, b"abc", (true, true), unmarked, b"abc"));
-    assert!(rt; is_read_once(alloc, RENAMED, b"abc", (true, true), unmarked, b"abc"));
-    assert!(rt; is_read_once(alloc, PREHASHED, b"abc", (false, true), ACCEPTED, b""));
-    assert!(rt; is_read_once(alloc, LEGACY, b"abc", (true, true), COPIED, b""));
-    assert!(rt; is_read_once(alloc, LEGACY, b"abc", (false, true), ACCEPTED, b""));
-    let unaccepted = rejected(LegacyNotAccepted);
-    assert!(rt; is_read_once(alloc, LEGACY, b"abc", (false, false), unaccepted, b""));
-    let refused = rejected(SignatureRefused);
-    assert!(rt; is_read_once(alloc, LEGACY, b"abcd", (true, true), refused, b""));
-}
-
-// A text that is rejected, the key's before the signature's, leaves all of the data.
-#[test]
-fn a_refused_text_leaves_the_data(rt: HostRuntime) {
-    let alloc = rt.alloc();
-    let no_key = rejected(MissingPublicKeyComment);
-    let no_signature = rejected(MissingUntrustedComment);
-    for output in [false, true] {
-        let flags = (output, true);
-        assert!(rt; is_read_once(alloc, ("", ""), b"abc", flags, no_key, b"abc"));
-        assert!(rt; is_read_once(alloc, ("", SIGNATURE_TEXT), b"abc", flags, no_key, b"abc"));
-        assert!(rt; is_read_once(alloc, (KEY_TEXT, ""), b"abc", flags, no_signature, b"abc"));
-        let renamed = (RENAMED_KEY_TEXT, "");
-        assert!(rt; is_read_once(alloc, renamed, b"abc", flags, no_signature, b"abc"));
+    for row in read_once() {
+        assert!(rt; is_read_once(rt.alloc(), row), "at {row:?}");
     }
 }

@@ -4,7 +4,6 @@ use crate::keys::sealed::calls::{Way, gives, has_outcome};
 use minisign::SecretKeyBox;
 use minisign_base::faults::NamedFault::WorkTooHigh;
 use minisign_fixtures::outcomes::Outcome::{self, Accepted, Refused};
-use minisign_fixtures::outcomes::is_so;
 use std::alloc::Global;
 
 const TOO_MUCH_WORK: Outcome = Refused(WorkTooHigh);
@@ -28,7 +27,7 @@ fn a_key_in_many_parts_opens(rt: HostRuntime) {
     for k in [1u64, 2, 3] {
         let sk_box = SecretKeyBox::from_string(alloc, SEALED_IN_PARTS);
         let way = Way::Keeping(k);
-        assert!(rt; is_so(gives(alloc, sk_box, Some("password"), b"", way, OPENED)));
+        assert!(rt; gives(alloc, sk_box, Some("password"), b"", way, OPENED));
     }
 }
 

@@ -4,8 +4,8 @@ use crate::keys::sealed::calls::{Wanted, Way, comes_out, gives};
 use minisign::SecretKeyBox;
 use minisign_base::faults::NamedFault::WrongPassword;
 use minisign_fixtures::outcomes::Outcome::{self, Accepted, Refused};
-use minisign_fixtures::outcomes::is_so;
 use minisign_fixtures::texts::SEALED;
+use std::alloc::Global;
 
 const WRONG: Outcome = Refused(WrongPassword);
 
@@ -21,45 +21,40 @@ pub const MADE: &str =
 pub const OPENED: &str =
     "untrusted comment: rsign encrypted secret key\nRWRTY0IyCQkJCQkJCQkJCQkJCQkJCQkJCQkJCQkJCQkJCQkJCQkAABAAAAAAAAAAAAIAAAAACQkJCQkJCQkJCQkJCQkJCQkJCQkJCQkJCQkJCQkJCQkJCQkJCQkJCVNTU1NTU1NTU1NTU1NTU1NTU1NTU1NTU1NTU1NTU1NTl01hHj4yTh1EA1233vng2mdcEMYAlvnZumxtDRWM800=\n";
 
-// With a password that is passed in and with a typed one.
-#[test]
-fn opens_to_the_same_key(rt: HostRuntime) {
-    let alloc = rt.alloc();
-    for k in [1u64, 7, 16] {
-        let way = Way::Keeping(k);
-        let sk_box = SecretKeyBox::from_string(alloc, MADE);
-        assert!(rt;
-            is_so(gives(alloc, sk_box, Some("password"), b"", way, OPENED)),
-            "k {k}"
-        );
-        let sk_box = SecretKeyBox::from_string(alloc, MADE);
-        assert!(rt;
-            is_so(gives(alloc, sk_box, None, b"password\n", way, OPENED)),
-            "k {k}"
-        );
-    }
+// Whether it opens to the same key with every k-th row kept, with a password that is passed in and with
+// a typed one.
+fn opens(alloc: Global, k: u64) -> bool {
+    let way = Way::Keeping(k);
+    let sk_box = SecretKeyBox::from_string(alloc, MADE);
+    let passed = gives(alloc, sk_box, Some("password"), b"", way, OPENED);
+    let sk_box = SecretKeyBox::from_string(alloc, MADE);
+    let typed = gives(alloc, sk_box, None, b"password\n", way, OPENED);
+    passed && typed
 }
 
-// The same of a password that is typed, with the key that `from_box` opens in other tests.
+#[test]
+fn opens_to_the_same_key(rt: HostRuntime) {
+    assert!(rt; opens(rt.alloc(), 1));
+    assert!(rt; opens(rt.alloc(), 7));
+    assert!(rt; opens(rt.alloc(), 16));
+}
+
+// Whether another key, that `from_box` opens in other tests, comes out so with what is typed.
+fn comes_out_typed(alloc: Global, k: u64, bytes: &[u8], outcome: Outcome) -> bool {
+    let sk_box = SecretKeyBox::from_string(alloc, SEALED);
+    let wanted = Wanted {
+        outcome,
+        told: TOLD,
+        unread: 0,
+    };
+    comes_out(alloc, sk_box, None, bytes, Way::Keeping(k), wanted)
+}
+
 #[test]
 fn opens_with_a_typed_password(rt: HostRuntime) {
     let alloc = rt.alloc();
-    let rows: [(u64, &[u8], Outcome); 4] = [
-        (1, b"password\n", Accepted),
-        (7, b"password\n", Accepted),
-        (100, b"password\n", Accepted),
-        (16, b"Password\n", WRONG),
-    ];
-    for (k, bytes, outcome) in rows {
-        let sk_box = SecretKeyBox::from_string(alloc, SEALED);
-        let wanted = Wanted {
-            outcome,
-            told: TOLD,
-            unread: 0,
-        };
-        assert!(rt;
-            comes_out(alloc, sk_box, None, bytes, Way::Keeping(k), wanted),
-            "k {k}"
-        );
-    }
+    assert!(rt; comes_out_typed(alloc, 1, b"password\n", Accepted));
+    assert!(rt; comes_out_typed(alloc, 7, b"password\n", Accepted));
+    assert!(rt; comes_out_typed(alloc, 100, b"password\n", Accepted));
+    assert!(rt; comes_out_typed(alloc, 16, b"Password\n", WRONG));
 }

@@ -10,7 +10,7 @@ use minisign_base::prompt::Prompt;
 use minisign_fixtures::devices::sinks::LimitedSink;
 use minisign_fixtures::keys::{CHECKSUM, secret_record};
 use minisign_fixtures::outcomes::Outcome::{self, Refused};
-use minisign_fixtures::outcomes::{beginning, ends_in, is_so};
+use minisign_fixtures::outcomes::{beginning, ends_in};
 use minisign_fixtures::texts::{SEALED_AS_MINISIGN, SEALED_AS_USUAL};
 use std::alloc::Global;
 
@@ -91,7 +91,7 @@ fn a_key_with_the_usual_limits_opens_within_one_part(rt: HostRuntime) {
     let alloc = rt.alloc();
     let sk_box = SecretKeyBox::from_string(alloc, SEALED_AS_USUAL);
     let way = Way::Within(1);
-    assert!(rt; is_so(gives(alloc, sk_box, Some("password"), b"", way, OPENED_AS_USUAL)));
+    assert!(rt; gives(alloc, sk_box, Some("password"), b"", way, OPENED_AS_USUAL));
 }
 
 // The limits that the C program writes take 1 GiB of rows; with every 16th kept it is 64 MiB.
@@ -100,7 +100,7 @@ fn a_key_of_the_c_program_opens_in_less_memory(rt: HostRuntime) {
     let alloc = rt.alloc();
     let sk_box = SecretKeyBox::from_string(alloc, SEALED_AS_MINISIGN);
     let way = Way::Keeping(16);
-    assert!(rt; is_so(gives(alloc, sk_box, None, b"password\n", way, OPENED_AS_MINISIGN)));
+    assert!(rt; gives(alloc, sk_box, None, b"password\n", way, OPENED_AS_MINISIGN));
 }
 
 // Whether they are so where the password is typed: once it is there, and before the derivation.

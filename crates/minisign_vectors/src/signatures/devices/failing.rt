@@ -19,7 +19,7 @@ use minisign_fixtures::devices::random::FailingRandom;
 use minisign_fixtures::devices::sinks::LimitedSink;
 use minisign_fixtures::devices::sources::{Changes, FailingSource};
 use minisign_fixtures::outcomes::Outcome::{self, Accepted, Refused};
-use minisign_fixtures::outcomes::{ends_in, front, gives_record, is_so, is_text};
+use minisign_fixtures::outcomes::{comes_to, ends_in, front, gives_record};
 use minisign_fixtures::prompts::bytes_left;
 use minisign_fixtures::texts::{
     KEY_TEXT, LEGACY_TEXT, SAID, SEALED, SEALED_WITH_NOTHING, SIGNATURE_TEXT,
@@ -48,255 +48,263 @@ const ZEROS: [u8; 128] = [0; 128];
 // More calls than are made.
 const ALL: usize = 1000;
 
-// Which sink fails.
-#[derive(Clone, Copy)]
-enum Fails {
-    // The status, which takes so many bytes a write, after so many calls.
-    Status(usize, usize),
-    // The output, which takes one byte a write, after so many calls.
-    Out(usize),
-}
-
-impl Fails {
-    // Sinks that fail so.
-    fn sinks(self, alloc: Global) -> Sinks {
-        let mut sinks = ample(alloc);
-        match self {
-            Fails::Status(most, calls) => {
-                sinks.status = sinks.status.by(most).failing_after(calls);
-            }
-            Fails::Out(calls) => {
-                sinks.out = sinks.out.by(1).failing_after(calls);
-            }
-        }
-        sinks
-    }
-}
-
-// Whether verifying `abc` by `verify_texts` comes out so where the data fails after so many calls,
-// and leaves this.
-fn texts_leave(alloc: Global, calls: usize, wanted: Wanted, left: &[u8]) -> bool {
+// Whether verifying `abc` by both calls, where the data fails after so many calls, is rejected where it
+// would go back, says so much, copies nothing, and leaves this.
+fn cannot_go_back(alloc: Global, calls: usize, said: usize, left: &[u8]) -> bool {
+    let wanted = Wanted {
+        outcome: Refused(GoingBackFailed),
+        said: front(SAID, said),
+        copied: b"",
+    };
     let mut data = FailingSource::new(b"abc", calls);
     let texts = (KEY_TEXT, SIGNATURE_TEXT);
-    let came = texts_come_out(alloc, texts, &mut data, COPYING, ample(alloc), wanted);
-    let rest = gives_record(read_to_end(alloc, &mut data), left);
-    came && rest
-}
-
-// The same by `verify`, with the key and the box that the texts read as.
-fn box_leaves(alloc: Global, calls: usize, wanted: Wanted, left: &[u8]) -> bool {
+    let by_texts = texts_come_out(alloc, texts, &mut data, COPYING, ample(alloc), wanted);
+    let of_texts = gives_record(read_to_end(alloc, &mut data), left);
     let mut data = FailingSource::new(b"abc", calls);
-    let came = box_comes_out(alloc, SIGNATURE_TEXT, &mut data, ample(alloc), wanted);
-    let rest = gives_record(read_to_end(alloc, &mut data), left);
-    came && rest
+    let by_box = box_comes_out(alloc, SIGNATURE_TEXT, &mut data, ample(alloc), wanted);
+    let of_box = gives_record(read_to_end(alloc, &mut data), left);
+    by_texts && of_texts && by_box && of_box
 }
 
 // Calls of data that is copied, in their order: the mark, four reads, going back, four reads. A mark
 // that fails leaves all of the data, and going back comes once all of it was read.
 #[test]
 fn a_mark_and_going_back_fail(rt: HostRuntime) {
-    let alloc = rt.alloc();
-    for (calls, said, left) in [(0usize, 0usize, b"abc".as_slice()), (5, 60, b"")] {
-        let wanted = Wanted {
-            outcome: Refused(GoingBackFailed),
-            said: front(SAID, said),
-            copied: b"",
-        };
-        assert!(rt; texts_leave(alloc, calls, wanted, left), "at {calls}");
-        assert!(rt; box_leaves(alloc, calls, wanted, left), "at {calls}");
-    }
+    assert!(rt; cannot_go_back(rt.alloc(), 0, 0, b"abc"));
+    assert!(rt; cannot_go_back(rt.alloc(), 5, 60, b""));
 }
 
-// Whether verifying `abc` comes out so by both calls, where a second reading gives other data, and a
-// sink fails.
-fn comes_out(alloc: Global, text: &str, second: &[u8], fails: Fails, wanted: Wanted) -> bool {
-    let texts = (KEY_TEXT, text);
-    let mut data = Changes::new(b"abc", second);
-    let by_texts = texts_come_out(alloc, texts, &mut data, COPYING, fails.sinks(alloc), wanted);
-    let mut data = Changes::new(b"abc", second);
-    let by_box = box_comes_out(alloc, text, &mut data, fails.sinks(alloc), wanted);
-    by_texts && by_box
-}
+// The text of a signature, what a second reading gives, how many bytes the status takes a write where
+// that fails, or else none, how many calls of what fails are made, and what comes of it after them.
+type Failing = (&'static str, &'static [u8], usize, usize, Outcome);
 
-// The status is written and never flushed: 60 bytes one by one, or all at once.
-#[test]
-fn the_status_fails(rt: HostRuntime) {
-    let alloc = rt.alloc();
-    for (text, most, writes) in [
-        (SIGNATURE_TEXT, 1usize, 60usize),
-        (SIGNATURE_TEXT, 100, 1),
-        (LEGACY_TEXT, 1, 60),
-    ] {
-        for calls in 0..=writes {
-            let fails = Fails::Status(most, calls);
-            let is_written = calls == writes;
-            let wanted = Wanted {
-                outcome: if is_written { Accepted } else { UNWRITTEN },
-                said: if is_written { SAID } else { front(SAID, calls) },
-                copied: if is_written { b"abc" } else { b"" },
-            };
-            let came = comes_out(alloc, text, b"abc", fails, wanted);
-            assert!(rt; came, "at {calls} by {most}");
-        }
-    }
-}
-
-// The output is written, one byte a write, and then flushed, but for data that changed: the flush
-// would be its fourth call. Each row: the text, what a second reading gives, what is copied in all,
-// how many calls there are, and what comes of it after them.
-#[test]
-fn the_output_fails(rt: HostRuntime) {
-    let alloc = rt.alloc();
-    let rows: [(&str, &[u8], &[u8], usize, Outcome); 4] = [
-        (SIGNATURE_TEXT, b"abc", b"abc", 4, Accepted),
-        (LEGACY_TEXT, b"abc", b"abc", 4, Accepted),
-        (LEGACY_TEXT, b"abd", b"abc", 4, Accepted),
-        (SIGNATURE_TEXT, b"abd", b"abd", 3, CHANGED),
-    ];
-    for (text, second, whole, writes, answer) in rows {
-        for calls in 0..=4usize {
-            let fails = Fails::Out(calls);
-            let wanted = Wanted {
-                outcome: if calls < writes { UNWRITTEN } else { answer },
-                said: SAID,
-                copied: front(whole, calls),
-            };
-            let came = comes_out(alloc, text, second, fails, wanted);
-            assert!(rt; came, "at {calls} of {writes}");
-        }
-    }
-}
-
-// Whether signing with a text and this prompt, over data that fails after so many reads and random
-// bytes that fail after so many draws, has this outcome, tells so much, leaves so many bytes of what
-// is typed and of the data, and draws nothing where that is said.
-fn is_signed(
-    alloc: Global,
-    prompt: Prompt<FailingSource<'_>, LimitedSink>,
-    (reads, draws): (usize, usize),
-    expected: Outcome,
-    told: usize,
-    (typed_left, left): (usize, usize),
-    is_undrawn: bool,
-) -> bool {
-    let mut prompt = prompt;
-    let mut data = FailingSource::new(b"abc", reads);
-    let mut random = FailingRandom::new(&ZEROS, draws);
-    let answer = signed_text(alloc, SEALED, None, &mut prompt, &mut data, &mut random);
-    let text = answer.is_err() || is_text(&answer, SIGNATURE_TEXT);
-    let came = ends_in(answer, expected);
-    let told = prompt.writer.as_slice() == front(ASKED_AND_DONE, told);
-    let typed = bytes_left(&mut prompt.reader) == typed_left;
-    let read = bytes_left(&mut data) == left;
-    let undrawn = random.random.fill(&mut [0; 128]).is_ok();
-    came && text && told && typed && read && undrawn == is_undrawn
-}
-
-// After how many calls the prompt's writer fails, how much it was told, and what is left of what is typed.
-const WRITES: [(usize, usize, usize); 6] = [
-    (0, 0, 10),
-    (1, 10, 10),
-    (2, 10, 1),
-    (3, 76, 1),
-    (4, 76, 1),
-    (5, 81, 1),
-];
-
-// Until a sealed key is opened its prompt alone is used. The reader is read up to the line feed, so
-// that an `x` after it is left, and the writer writes and flushes three texts.
-#[test]
-fn the_prompt_of_signing_fails(rt: HostRuntime) {
-    let alloc = rt.alloc();
-    let typed = b"password\nx";
-    for reads in 0..9usize {
-        let reader = FailingSource::new(typed, reads);
-        let prompt = Prompt::new(reader, LimitedSink::new(alloc, 100));
-        let left = (10usize.saturating_sub(reads), 3);
-        let came = is_signed(alloc, prompt, (ALL, ALL), UNREAD, 10, left, true);
-        assert!(rt; came, "at {reads}");
-    }
-    for (calls, told, typed_left) in WRITES {
-        let writer = LimitedSink::new(alloc, 100).failing_after(calls);
-        let prompt = Prompt::new(FailingSource::new(typed, ALL), writer);
-        let left = (typed_left, 3);
-        let came = is_signed(alloc, prompt, (ALL, ALL), UNWRITTEN, told, left, true);
-        assert!(rt; came, "at {calls} of the writer");
-    }
-    let writer = LimitedSink::new(alloc, 4).flushed(0);
-    let prompt = Prompt::new(FailingSource::new(typed, ALL), writer);
-    assert!(rt; is_signed(alloc, prompt, (ALL, ALL), UNWRITTEN, 4, (10, 3), true));
-}
-
-// After how many reads the data fails, after how many draws the random bytes, what comes of it, what is left
-// of the data, and whether nothing was drawn.
-type Signing = (usize, usize, Outcome, usize, bool);
-
-const SIGNINGS: [Signing; 7] = [
-    (0, 0, UNREAD, 3, true),
-    (1, 0, UNREAD, 2, true),
-    (2, 0, UNREAD, 1, true),
-    (3, 0, UNREAD, 0, true),
-    (4, 0, UNDRAWN, 0, true),
-    (4, 1, UNDRAWN, 0, false),
-    (4, 2, Accepted, 0, false),
+// The status is written and never flushed: 60 bytes one by one, or all at once. The output is written,
+// one byte a write, and then flushed, but for data that changed: the flush would be its fourth call.
+const FAILING: [Failing; 7] = [
+    (SIGNATURE_TEXT, b"abc", 1, 60, Accepted),
+    (SIGNATURE_TEXT, b"abc", 100, 1, Accepted),
+    (LEGACY_TEXT, b"abc", 1, 60, Accepted),
+    (SIGNATURE_TEXT, b"abc", 0, 4, Accepted),
+    (LEGACY_TEXT, b"abc", 0, 4, Accepted),
+    (LEGACY_TEXT, b"abd", 0, 4, Accepted),
+    (SIGNATURE_TEXT, b"abd", 0, 3, CHANGED),
 ];
 
 // The rows, so that no proof looks into all of them.
-fn signings() -> &'static [Signing] {
+fn failing() -> &'static [Failing] {
+    &FAILING
+}
+
+// Sinks of which the one that is to fail does so after so many calls.
+fn sinks(alloc: Global, most: usize, calls: usize) -> Sinks {
+    let mut sinks = ample(alloc);
+    if most == 0 {
+        sinks.out = sinks.out.by(1).failing_after(calls);
+    } else {
+        sinks.status = sinks.status.by(most).failing_after(calls);
+    }
+    sinks
+}
+
+// What is wanted where it fails after so many calls. A legacy signature is over what is read first, and
+// the output of another one is what is read again.
+fn wanted(row: &Failing, calls: usize) -> Wanted<'static> {
+    let (text, second, most, writes, answer) = *row;
+    let whole = if text == LEGACY_TEXT {
+        b"abc".as_slice()
+    } else {
+        second
+    };
+    let is_made = calls >= writes;
+    let outcome = if is_made { answer } else { UNWRITTEN };
+    if most == 0 {
+        return Wanted {
+            outcome,
+            said: SAID,
+            copied: front(whole, calls),
+        };
+    }
+    Wanted {
+        outcome,
+        said: front(SAID, calls.saturating_mul(most)),
+        copied: if is_made { whole } else { b"" },
+    }
+}
+
+// Whether verifying `abc` comes out so by both calls.
+fn comes_out(alloc: Global, row: &Failing, calls: usize) -> bool {
+    let (text, second, most, _, _) = *row;
+    let wanted = wanted(row, calls);
+    let texts = (KEY_TEXT, text);
+    let mut data = Changes::new(b"abc", second);
+    let failing = sinks(alloc, most, calls);
+    let by_texts = texts_come_out(alloc, texts, &mut data, COPYING, failing, wanted);
+    let mut data = Changes::new(b"abc", second);
+    let failing = sinks(alloc, most, calls);
+    let by_box = box_comes_out(alloc, text, &mut data, failing, wanted);
+    by_texts && by_box
+}
+
+// It fails at each of its calls, of which there are 60 at the most, and then at none.
+#[test]
+fn the_status_and_the_output_fail(rt: HostRuntime) {
+    for row in failing() {
+        for calls in 0..62usize {
+            assert!(rt; comes_out(rt.alloc(), row, calls), "at {calls} of {row:?}");
+        }
+    }
+}
+
+// Of what signing with a text meets: after how many calls the reader of its prompt fails and how often
+// its writer is flushed and after how many calls it fails; after how many reads the data fails, and
+// after how many draws the random bytes.
+type Fails = (usize, usize, usize, usize, usize);
+
+// What comes of it, how much the prompt is told, how many bytes are left of what is typed and of the
+// data, and whether nothing was drawn.
+type Comes = (Outcome, usize, usize, usize, bool);
+
+// Until a sealed key is opened its prompt alone is used. The reader is read up to the line feed, so
+// that an `x` after it is left, and the writer writes and flushes three texts; one that is never
+// flushed has room for four bytes. Signing then reads four times and draws twice.
+const SIGNINGS: [(Fails, Comes); 23] = [
+    ((0, ALL, ALL, ALL, ALL), (UNREAD, 10, 10, 3, true)),
+    ((1, ALL, ALL, ALL, ALL), (UNREAD, 10, 9, 3, true)),
+    ((2, ALL, ALL, ALL, ALL), (UNREAD, 10, 8, 3, true)),
+    ((3, ALL, ALL, ALL, ALL), (UNREAD, 10, 7, 3, true)),
+    ((4, ALL, ALL, ALL, ALL), (UNREAD, 10, 6, 3, true)),
+    ((5, ALL, ALL, ALL, ALL), (UNREAD, 10, 5, 3, true)),
+    ((6, ALL, ALL, ALL, ALL), (UNREAD, 10, 4, 3, true)),
+    ((7, ALL, ALL, ALL, ALL), (UNREAD, 10, 3, 3, true)),
+    ((8, ALL, ALL, ALL, ALL), (UNREAD, 10, 2, 3, true)),
+    ((ALL, ALL, 0, ALL, ALL), (UNWRITTEN, 0, 10, 3, true)),
+    ((ALL, ALL, 1, ALL, ALL), (UNWRITTEN, 10, 10, 3, true)),
+    ((ALL, ALL, 2, ALL, ALL), (UNWRITTEN, 10, 1, 3, true)),
+    ((ALL, ALL, 3, ALL, ALL), (UNWRITTEN, 76, 1, 3, true)),
+    ((ALL, ALL, 4, ALL, ALL), (UNWRITTEN, 76, 1, 3, true)),
+    ((ALL, ALL, 5, ALL, ALL), (UNWRITTEN, 81, 1, 3, true)),
+    ((ALL, 0, ALL, ALL, ALL), (UNWRITTEN, 4, 10, 3, true)),
+    ((ALL, ALL, 6, 0, 0), (UNREAD, 81, 1, 3, true)),
+    ((ALL, ALL, 6, 1, 0), (UNREAD, 81, 1, 2, true)),
+    ((ALL, ALL, 6, 2, 0), (UNREAD, 81, 1, 1, true)),
+    ((ALL, ALL, 6, 3, 0), (UNREAD, 81, 1, 0, true)),
+    ((ALL, ALL, 6, 4, 0), (UNDRAWN, 81, 1, 0, true)),
+    ((ALL, ALL, 6, 4, 1), (UNDRAWN, 81, 1, 0, false)),
+    ((ALL, ALL, 6, 4, 2), (Accepted, 81, 1, 0, false)),
+];
+
+// The rows, so that no proof looks into all of them.
+fn signings() -> &'static [(Fails, Comes)] {
     &SIGNINGS
 }
 
-// Whether signing comes out so once the prompt has opened the key.
-fn is_signed_over(alloc: Global, row: &Signing) -> bool {
-    let (reads, draws, expected, left, is_undrawn) = *row;
-    let reader = FailingSource::new(b"password\nx", ALL);
-    let prompt = Prompt::new(reader, LimitedSink::new(alloc, 100).failing_after(6));
-    is_signed(
-        alloc,
-        prompt,
-        (reads, draws),
-        expected,
-        81,
-        (1, left),
-        is_undrawn,
-    )
+// Whether this comes of signing: the worked text, or an error.
+fn is_text_or(answer: Result<String>, expected: Outcome) -> bool {
+    match &answer {
+        Ok(text) => expected == Accepted && text.as_str() == SIGNATURE_TEXT,
+        Err(_) => comes_to(&answer, expected),
+    }
 }
 
-// Signing with a text reads four times and draws twice, once the text is opened.
+// Whether signing comes out so.
+fn is_signed(alloc: Global, row: &(Fails, Comes)) -> bool {
+    let ((reads, flushes, writes, data_reads, draws), comes) = *row;
+    let (expected, told, typed_left, left, is_undrawn) = comes;
+    let room = if flushes == 0 { 4 } else { 100 };
+    let writer = LimitedSink::new(alloc, room)
+        .flushed(flushes)
+        .failing_after(writes);
+    let mut prompt = Prompt::new(FailingSource::new(b"password\nx", reads), writer);
+    let mut data = FailingSource::new(b"abc", data_reads);
+    let mut random = FailingRandom::new(&ZEROS, draws);
+    let answer = signed_text(alloc, SEALED, None, &mut prompt, &mut data, &mut random);
+    let came = is_text_or(answer, expected);
+    let is_told = prompt.writer.as_slice() == front(ASKED_AND_DONE, told);
+    let typed = bytes_left(&mut prompt.reader) == typed_left;
+    let read = bytes_left(&mut data) == left;
+    let undrawn = random.random.fill(&mut [0; 128]).is_ok();
+    came && is_told && typed && read && undrawn == is_undrawn
+}
+
 #[test]
-fn the_data_and_the_random_bytes_of_signing_fail(rt: HostRuntime) {
+fn each_device_of_signing_fails(rt: HostRuntime) {
     for row in signings() {
-        assert!(rt; is_signed_over(rt.alloc(), row), "at {row:?}");
+        assert!(rt; is_signed(rt.alloc(), row), "at {row:?}");
     }
 }
 
 // Whether signing with a raw key is rejected where random bytes fail after so many draws.
-fn is_undrawn(alloc: Global, draws: usize) -> Result<bool> {
-    let secret = key_a()?;
+fn is_undrawn(alloc: Global, draws: usize) -> bool {
+    let Ok(secret) = key_a() else {
+        return false;
+    };
     let mut data = SliceSource::new(b"abc");
     let mut random = FailingRandom::new(&ZEROS, draws);
     let answer = signed_from(alloc, None, &secret, &mut data, &mut random, 0);
     let came = ends_in(answer, UNDRAWN);
     let undrawn = random.random.fill(&mut [0; 128]).is_ok();
-    Ok(came && undrawn == (draws == 0))
+    came && undrawn == (draws == 0)
 }
 
 // A draw that fails is not tried again.
 #[test]
 fn the_random_bytes_of_a_raw_key_fail(rt: HostRuntime) {
-    assert!(rt; is_so(is_undrawn(rt.alloc(), 0)));
-    assert!(rt; is_so(is_undrawn(rt.alloc(), 1)));
+    assert!(rt; is_undrawn(rt.alloc(), 0));
+    assert!(rt; is_undrawn(rt.alloc(), 1));
 }
 
-// Whether opening the text, with a prompt of which the reader and the writer fail after so many
-// calls, has this outcome, and tells so much of this.
-fn opens(
-    alloc: Global,
-    (text, typed, whole): (&str, &str, &[u8]),
-    (reads, writes): (usize, usize),
-    expected: Outcome,
-    told: usize,
-) -> bool {
+// A sealed key, what is typed, and what is then told in all.
+const TYPED: (&str, &str, &[u8]) = (SEALED, "password\n", ASKED_AND_DONE);
+
+// The same where nothing is typed: it is told that it is empty, in a fourth text.
+const NOTHING: (&str, &str, &[u8]) = (SEALED_WITH_NOTHING, "\n", MARKED_AND_DONE);
+
+// Whether a password is typed, after how many calls the prompt's reader fails and its writer, what comes
+// of opening, and how much the writer was told.
+type Opening = (bool, usize, usize, Outcome, usize);
+
+// The reader is read up to the line feed, and the writer writes and flushes three texts, or four. After
+// the last call the key opens.
+const OPENINGS: [Opening; 28] = [
+    (true, 0, ALL, UNREAD, 10),
+    (true, 1, ALL, UNREAD, 10),
+    (true, 2, ALL, UNREAD, 10),
+    (true, 3, ALL, UNREAD, 10),
+    (true, 4, ALL, UNREAD, 10),
+    (true, 5, ALL, UNREAD, 10),
+    (true, 6, ALL, UNREAD, 10),
+    (true, 7, ALL, UNREAD, 10),
+    (true, 8, ALL, UNREAD, 10),
+    (true, 9, ALL, Accepted, 81),
+    (true, ALL, 0, UNWRITTEN, 0),
+    (true, ALL, 1, UNWRITTEN, 10),
+    (true, ALL, 2, UNWRITTEN, 10),
+    (true, ALL, 3, UNWRITTEN, 76),
+    (true, ALL, 4, UNWRITTEN, 76),
+    (true, ALL, 5, UNWRITTEN, 81),
+    (true, ALL, 6, Accepted, 81),
+    (false, 0, ALL, UNREAD, 10),
+    (false, 1, ALL, Accepted, 89),
+    (false, ALL, 0, UNWRITTEN, 0),
+    (false, ALL, 1, UNWRITTEN, 10),
+    (false, ALL, 2, UNWRITTEN, 10),
+    (false, ALL, 3, UNWRITTEN, 18),
+    (false, ALL, 4, UNWRITTEN, 18),
+    (false, ALL, 5, UNWRITTEN, 84),
+    (false, ALL, 6, UNWRITTEN, 84),
+    (false, ALL, 7, UNWRITTEN, 89),
+    (false, ALL, 8, Accepted, 89),
+];
+
+// The rows, so that no proof looks into all of them.
+fn openings() -> &'static [Opening] {
+    &OPENINGS
+}
+
+// Whether opening comes out so.
+fn opens(alloc: Global, row: &Opening) -> bool {
+    let (is_typed, reads, writes, expected, told) = *row;
+    let (text, typed, whole) = if is_typed { TYPED } else { NOTHING };
     let Ok(sk_box) = SecretKeyBox::from_string(alloc, text) else {
         return false;
     };
@@ -307,50 +315,9 @@ fn opens(
     came && prompt.writer.as_slice() == front(whole, told)
 }
 
-// A sealed key, what is typed, and what is then told in all.
-const TYPED: (&str, &str, &[u8]) = (SEALED, "password\n", ASKED_AND_DONE);
-
-// The same where nothing is typed: it is told that it is empty, in a fourth text.
-const NOTHING: (&str, &str, &[u8]) = (SEALED_WITH_NOTHING, "\n", MARKED_AND_DONE);
-
-// After how many calls the prompt's writer fails, and how much it was told.
-const TOLD: [(usize, usize); 6] = [(0, 0), (1, 10), (2, 10), (3, 76), (4, 76), (5, 81)];
-
-const TOLD_OF_NOTHING: [(usize, usize); 8] = [
-    (0, 0),
-    (1, 10),
-    (2, 10),
-    (3, 18),
-    (4, 18),
-    (5, 84),
-    (6, 84),
-    (7, 89),
-];
-
-// The prompt where a password is typed: its reader is read up to the line feed, and its writer
-// writes and flushes three texts. After the last call the key opens.
 #[test]
 fn the_prompt_of_opening_fails(rt: HostRuntime) {
-    let alloc = rt.alloc();
-    for reads in 0..9usize {
-        assert!(rt; opens(alloc, TYPED, (reads, ALL), UNREAD, 10), "at {reads}");
+    for row in openings() {
+        assert!(rt; opens(rt.alloc(), row), "at {row:?}");
     }
-    assert!(rt; opens(alloc, TYPED, (9, ALL), Accepted, 81));
-    for (writes, told) in TOLD {
-        let came = opens(alloc, TYPED, (ALL, writes), UNWRITTEN, told);
-        assert!(rt; came, "at {writes} of the writer");
-    }
-    assert!(rt; opens(alloc, TYPED, (ALL, 6), Accepted, 81));
-}
-
-#[test]
-fn the_prompt_of_opening_with_nothing_fails(rt: HostRuntime) {
-    let alloc = rt.alloc();
-    assert!(rt; opens(alloc, NOTHING, (0, ALL), UNREAD, 10));
-    assert!(rt; opens(alloc, NOTHING, (1, ALL), Accepted, 89));
-    for (writes, told) in TOLD_OF_NOTHING {
-        let came = opens(alloc, NOTHING, (ALL, writes), UNWRITTEN, told);
-        assert!(rt; came, "at {writes} of the writer");
-    }
-    assert!(rt; opens(alloc, NOTHING, (ALL, 8), Accepted, 89));
 }

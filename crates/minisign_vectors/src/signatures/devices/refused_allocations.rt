@@ -51,15 +51,16 @@ fn made_by_default(alloc: Global) -> Result<SignatureBox> {
 }
 
 // The box that is read from the text of a copy.
-fn read_again(alloc: Global, made: Result<SignatureBox>) -> Result<SignatureBox> {
-    let text = made?.try_clone(alloc)?.into_string(alloc)?;
+fn read_again(alloc: Global, made: SignatureBox) -> Result<SignatureBox> {
+    let copy = made.try_clone(alloc)?;
+    let text = copy.into_string(alloc)?;
     read_box(alloc, text.as_str())
 }
 
 // Whether a box that is made with a public key to test, and with the default comments, has its
 // own.
 fn made(alloc: Global) -> Result<bool> {
-    let again = read_again(alloc, made_by_default(alloc))?;
+    let again = read_again(alloc, made_by_default(alloc)?)?;
     has_comments(alloc, &again, "timestamp:7")
 }
 
@@ -90,8 +91,8 @@ fn signed_and_told(alloc: Global) -> Result<bool> {
     let mut data = SliceSource::new(b"abc");
     let mut random = FixedRandom::new(&ZEROS);
     let text = signed_text(alloc, SEALED, None, &mut prompt, &mut data, &mut random);
-    let told = prompt.writer.as_slice().len() == 81;
-    Ok(has_text(text, SIGNATURE_TEXT)? && told)
+    let is_signed = has_text(text, SIGNATURE_TEXT)?;
+    Ok(is_signed && prompt.writer.as_slice().len() == 81)
 }
 
 // Whether the status and the output are taken by buffers that grow.
@@ -104,19 +105,19 @@ fn copied_and_kept(alloc: Global) -> Result<bool> {
     Ok(status.as_slice() == SAID && out.as_slice() == b"abc".as_slice())
 }
 
-#[test]
-fn verifying_with_texts(rt: HostRuntime) {
-    assert!(rt; is_so_or_out_of_memory(copied(rt.alloc(), SIGNATURE_TEXT)));
+// Whether it was found out, and holds, or an allocation failed, of each of the calls that derive no key.
+fn are_right(alloc: Global) -> bool {
+    let copied_so = is_so_or_out_of_memory(copied(alloc, SIGNATURE_TEXT));
+    let legacy = is_so_or_out_of_memory(copied(alloc, LEGACY_TEXT));
+    let unsealed = is_so_or_out_of_memory(signed(alloc, SECRET_TEXT));
+    let made_so = is_so_or_out_of_memory(made(alloc));
+    let verified = is_so_or_out_of_memory(signed_and_verified(alloc));
+    copied_so && legacy && unsealed && made_so && verified
 }
 
 #[test]
-fn verifying_a_legacy_text(rt: HostRuntime) {
-    assert!(rt; is_so_or_out_of_memory(copied(rt.alloc(), LEGACY_TEXT)));
-}
-
-#[test]
-fn signing_with_an_unsealed_key(rt: HostRuntime) {
-    assert!(rt; is_so_or_out_of_memory(signed(rt.alloc(), SECRET_TEXT)));
+fn signing_and_verifying(rt: HostRuntime) {
+    assert!(rt; are_right(rt.alloc()));
 }
 
 #[test]
@@ -124,23 +125,9 @@ fn signing_with_a_sealed_key(rt: HostRuntime) {
     assert!(rt; is_so_or_out_of_memory(signed(rt.alloc(), SEALED)));
 }
 
-#[test]
-fn signing_and_reading_again(rt: HostRuntime) {
-    assert!(rt; is_so_or_out_of_memory(made(rt.alloc())));
-}
-
-#[test]
-fn signing_and_verifying_with_raw_keys(rt: HostRuntime) {
-    assert!(rt; is_so_or_out_of_memory(signed_and_verified(rt.alloc())));
-}
-
 // The buffers that grow are sinks that fail where they cannot.
 #[test]
-fn signing_with_a_prompt_that_grows(rt: HostRuntime) {
+fn signing_and_verifying_into_buffers_that_grow(rt: HostRuntime) {
     assert!(rt; is_so_or_unwritten(signed_and_told(rt.alloc())));
-}
-
-#[test]
-fn verifying_into_buffers_that_grow(rt: HostRuntime) {
     assert!(rt; is_so_or_unwritten(copied_and_kept(rt.alloc())));
 }
