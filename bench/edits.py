@@ -11,60 +11,16 @@ smaller function, or choose a change that is false sooner.
 Needs Python 3.9 or later, the kit, and Linux.
 """
 
-import bisect
 import os
 import sys
 import tempfile
-import threading
-import time
 
 HERE = os.path.dirname(os.path.realpath(__file__))
 sys.path += [HERE, *(os.path.join(HERE, "..", "tests", name) for name in ("proofs", "shared"))]
 
 import proved
 import wrong_bodies
-from proofs import costs
-
-SECONDS = 0.05
-TICKS = os.sysconf("SC_CLK_TCK")
-
-
-class Taken:
-    """What the process that this one begins has taken of the processor, at each time of the clock."""
-
-    def __init__(self):
-        self.times, self.seconds, self.is_over = [], [], threading.Event()
-        self.thread = threading.Thread(target=self.watch)
-
-    def __enter__(self):
-        self.thread.start()
-        return self
-
-    def __exit__(self, *_):
-        self.is_over.set()
-        self.thread.join()
-
-    def watch(self):
-        """Looks at it again and again."""
-        while not self.is_over.wait(SECONDS):
-            try:
-                self.look()
-            except (OSError, IndexError):
-                # (it has not begun, or has ended meanwhile)
-                pass
-
-    def look(self):
-        """Looks at it once, and at the processes that it has waited for."""
-        children = [f"/proc/self/task/{task}/children" for task in os.listdir("/proc/self/task")]
-        pid = "".join(open(path, encoding="utf-8").read() for path in children).split()[0]
-        with open(f"/proc/{pid}/stat", encoding="utf-8", errors="replace") as file:
-            fields = file.read().rpartition(") ")[2].split()
-        self.seconds.append(sum(map(int, fields[11:15])) / TICKS)
-        self.times.append(time.time())
-
-    def until(self, moment):
-        """What it had taken at this time of the clock."""
-        return ([0.0] + self.seconds)[bisect.bisect(self.times, moment)]
+from proofs import Taken, costs, modules
 
 
 class Trial(wrong_bodies.Trial):
@@ -77,13 +33,6 @@ class Trial(wrong_bodies.Trial):
                 ran = proved.rattle("check", self.crate, directory, *words, "--allow-holes", "--incremental", kept)
             self.found, self.whole = costs(modules(kept, taken)), taken.seconds[-1]
         return ran.stdout
-
-
-def modules(directory, taken):
-    """The modules that the prover saved below a directory, each with what it took of the processor."""
-    files = sorted((os.stat(f"{at}/{name}").st_mtime, name[: -len(".oantt")]) for at, _, names in os.walk(directory)
-                   for name in names if name.endswith(".oantt") and not at.endswith("/records"))
-    return [(name, taken.until(end) - taken.until(begin)) for (begin, _), (end, name) in zip(files, files[1:])]
 
 
 def show(trial, group):
