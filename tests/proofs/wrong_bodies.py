@@ -64,6 +64,8 @@ HOLE = """use Rattle.{path}.Statement.{{statement}}
 pub {name}_spec : {{M : Type 1}} → statement M
 {name}_spec = ?
 """
+# What is said where a function's proof is not there, on which a wrong body rests.
+UNPROVED = re.compile(r"a call of `(\w+)::([^`]+)`, which has no proof")
 # What is said of a function that is proved, where some of what it calls has a hole for its proof or none has.
 WELL = ("proved", "no holes", "depends on a hole in")
 # The clause that a line `why:` names as false.
@@ -280,9 +282,9 @@ class Trial:
 
     def try_group(self, group):
         """Tries a group, and alone once more each of it that was not rejected: what there is to say, and no more works."""
-        said = [verdict if verdict.outcome != FAILED or len(group) == 1 else self.tried([verdict.body])[0]
-                for verdict in self.tried(group)]
-        return said, set()
+        known, said = len(self.proved), self.tried(group)
+        is_tried_again = len(group) > 1 or len(self.proved) > known
+        return [self.tried([verdict.body])[0] if verdict.outcome == FAILED and is_tried_again else verdict for verdict in said], set()
 
     def tried(self, group):
         """Tries a group in a copy of the crate, and returns what there is to say of each body."""
@@ -293,6 +295,9 @@ class Trial:
                 body.copy_proof(room)
             assume(room, self.crate, [each for each in self.proved if each not in checked])
             said = self.check(room, checked)
+        # (of a crate that an earlier run has proved all functions are proved, and the names of those alone are known that the
+        # functions call as they stand)
+        self.proved += [name for crate, name in UNPROVED.findall(said) if crate == self.crate]
         return [self.judged(body, said) for body in group]
 
     def check(self, directory, functions):
