@@ -48,13 +48,13 @@ HERE_TRIED, KIT_TRIED = "wrong-bodies", "must-fail"
 MEMORY = 3_000_000_000
 # How many checks run beside `rt ci`, and what has to be free for the first of them, in bytes; each further one needs
 # MEMORY more.
-BESIDE, FREE = 3, 5_000_000_000
+BESIDE, FREE = 2, 5_000_000_000
 # What there is to say of a wrong body: it is rejected, rejected in a way that shows nothing, or neither; or, where it was
 # left unchanged, that it is proved.
 REJECTED, GAVE_UP, APART, FAILED, PROVED = ("rejected", "rejected by a search that gave up at a limit",
                                             "rejected by its written proof alone", "FAILED", "proved, unchanged")
 # How many wrong bodies share a check at the most.
-GROUP = 40
+GROUP = 60
 # What a check of a crate reads.
 PARTS = ("src", "specs", "proofs")
 # A body that is of each type and calls nothing, and a proof that is a hole: what calls such a function rests on its contract.
@@ -282,9 +282,14 @@ class Trial:
 
     def try_group(self, group):
         """Tries a group, and alone once more each of it that was not rejected: what there is to say, and no more works."""
-        known, said = len(self.proved), self.tried(group)
-        is_tried_again = len(group) > 1 or len(self.proved) > known
-        return [self.tried([verdict.body])[0] if verdict.outcome == FAILED and is_tried_again else verdict for verdict in said], set()
+        if len(group) == 1:
+            return [self.tried_alone(group[0])], set()
+        return [self.tried_alone(verdict.body) if verdict.outcome == FAILED else verdict for verdict in self.tried(group)], set()
+
+    def tried_alone(self, body):
+        """Tries a body alone, and again while it calls what was not known to be proved: what there is to say of it."""
+        known, (verdict,) = len(self.proved), self.tried([body])
+        return self.tried_alone(body) if len(self.proved) > known else verdict
 
     def tried(self, group):
         """Tries a group in a copy of the crate, and returns what there is to say of each body."""
@@ -295,9 +300,8 @@ class Trial:
                 body.copy_proof(room)
             assume(room, self.crate, [each for each in self.proved if each not in checked])
             said = self.check(room, checked)
-        # (of a crate that an earlier run has proved all functions are proved, and the names of those alone are known that the
-        # functions call as they stand)
-        self.proved += [name for crate, name in UNPROVED.findall(said) if crate == self.crate]
+        # (all functions of the crate are proved as they stand; if an earlier run has proved them, what the right bodies call is known)
+        self.proved += {name for crate, name in UNPROVED.findall(said) if crate == self.crate} - {*self.proved}
         return [self.judged(body, said) for body in group]
 
     def check(self, directory, functions):
