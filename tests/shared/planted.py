@@ -51,6 +51,12 @@ def plant(top, file, old, new):
     write(top, file, text.replace(old, new).encode())
 
 
+def plant_little_limits(top):
+    """New keys of the program that is built there have a 64th of the usual limits, with which a derivation takes seconds."""
+    usual, little = (f"MINISIGN_OPERATIONS_LIMIT{by}, .memory_limit = MINISIGN_MEMORY_LIMIT{by} " for by in ("", " >> 6"))
+    plant(top, "c/minisign/keys.c", usual, little)
+
+
 def copy_sources(room, *parts):
     """A copy of these directories of the repository, without what was built: its path."""
     copy = tempfile.mkdtemp(dir=room)
