@@ -36,7 +36,7 @@ import proved
 import static_library
 from c_library import STRICT
 from command_running import put_files
-from planted import copy_sources, plant_little_limits
+from planted import LITTLE_LIMITS, copy_sources, plant
 from process import run, run_program
 from running import build_preload, read, write
 from texts import Limits, record_of, sealed, stream, text_of
@@ -199,7 +199,7 @@ def misplaced(found):
 def check_program(checks, builder):
     """The program keeps its secrets in their place, and where they have another one or stay there, that is seen."""
     little = copy_sources(builder.room, "c", "include", "dist")
-    plant_little_limits(little)
+    plant(little, *LITTLE_LIMITS)
     for level, top in (("-O0", little), ("-O2", proved.ROOT)):
         searched = Searched(builder, level, top)
         for arguments, typed in SEALING + OTHERS:

@@ -25,7 +25,7 @@ import needs
 import static_library
 from at_terminal import AtTerminal
 from copies import TOP, copy_tree, files_below
-from planted import plant_little_limits
+from planted import LITTLE_LIMITS, plant
 from running import read, write
 
 DOCUMENTS = ("README.md", "examples/README.md", "docs/INSTALLING.md")
@@ -80,13 +80,12 @@ def answer(terminal):
 
 
 class Clone:
-    """A clone of the repository as it stands here, but that new keys of `c/minisign` have little limits: the documents have three made,
-    and used seven times."""
+    """A clone of the repository as it stands here, but that `c/minisign` gives new keys little limits: the documents use them often."""
 
     def __init__(self, room):
         self.top, origin = os.path.join(room, "clone"), os.path.join(room, "origin")
         copy_tree(origin)
-        plant_little_limits(origin)
+        plant(origin, *LITTLE_LIMITS)
         named = ("-c", "user.name=Ann", "-c", "user.email=ann@example.com")
         for words in (["init", "-q"], ["add", "-A"], [*named, "commit", "-q", "-m", "as it stands"], ["clone", "-q", origin, self.top]):
             self.git(*words, at=origin)

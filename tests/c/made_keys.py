@@ -34,11 +34,8 @@ from texts import Limits, record_of, sealed, text_of, with_checksum
 USUAL, EIGHTH = Limits(1073741824, 33554432), Limits(1 << 27, 1 << 22)
 LITTLE, TWO_PARTS = Limits(1048576, 32768, 1024, 1), Limits(1048576, 65536, 1024, 2)
 TOO_MUCH, NOT_TAKEN = Limits(1073741825, 33554432), Limits(1048576, 1 << 44)
-ROWS = 1024
+ROWS, USUAL_ROWS = 1024, 1 << 20
 KEPT = (0, 1, 16, 1 << 63)
-
-# How many rows may be made of a key of Minisign's own limits.
-USUAL_ROWS = 1 << 20
 
 SECRET_COMMENT, LONGEST = "minisign encrypted secret key", "c" * 1003
 

@@ -23,6 +23,8 @@ from running import SECONDS, Failure, Skip, expect, read, run_one, write
 Bug = namedtuple("Bug", "what file old new case")
 
 
+# What gives new keys of the program a 64th of the usual limits, with which a derivation takes seconds.
+LITTLE_LIMITS = ("c/minisign/keys.c", *(f"OPERATIONS_LIMIT{by}, .memory_limit = MINISIGN_MEMORY_LIMIT{by} " for by in ("", " >> 6")))
 # What goes in a changed text, and what comes, marked as by `wdiff`.
 MARK = re.compile(r"\[-(.*?)-\]|\{\+(.*?)\+\}", re.S)
 
@@ -49,12 +51,6 @@ def plant(top, file, old, new):
     text = read(top, file).decode()
     expect(text.count(old) == 1, f"{file} has {text.count(old)} times what is changed")
     write(top, file, text.replace(old, new).encode())
-
-
-def plant_little_limits(top):
-    """New keys of the program that is built there have a 64th of the usual limits, with which a derivation takes seconds."""
-    usual, little = (f"MINISIGN_OPERATIONS_LIMIT{by}, .memory_limit = MINISIGN_MEMORY_LIMIT{by} " for by in ("", " >> 6"))
-    plant(top, "c/minisign/keys.c", usual, little)
 
 
 def copy_sources(room, *parts):

@@ -175,7 +175,7 @@ def run_cases(cases):
         except Skip as why:
             print(f"skipped: {name}: {why}")
             continue
-        except (Failure, subprocess.SubprocessError, OSError) as why:
+        except (Failure, subprocess.SubprocessError, OSError, ValueError, IndexError) as why:
             failures.append(f"{name}: {why}")
         count += 1
     return failures, count
