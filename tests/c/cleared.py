@@ -152,7 +152,7 @@ def check_copies(checks, builder):
         check(compiler, "-O2", "PORTABLE=1", linking=["-static"], before=emulator)
 
 
-# How it is run, and what is typed: the password of a key, and new ones.
+# How it is run, and what is typed: the password of a key, and new ones. (To seal a key takes seconds: with -O0 its limits are little.)
 TYPED, NEW = PASSWORD + b"\n", b"another password\n"
 SEALING = ((("-G", "-p", "a.pub", "-s", "a.key"), TYPED + TYPED), (("-C", "-s", "closed.key"), TYPED + NEW + NEW),
            (("-C", "-s", "first.key"), NEW + NEW))

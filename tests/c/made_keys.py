@@ -29,8 +29,7 @@ from process import run_measured
 from running import build_preload, make_files, read
 from texts import Limits, record_of, sealed, text_of, with_checksum
 
-# The limits of `minisign -G`, and an eighth of them; some that take little; some of which the memory is too much, and some that scrypt
-# does not take.
+# The limits of `minisign -G`, and an eighth of them; some that take little; some of too much memory, and some that scrypt does not take.
 USUAL, EIGHTH = Limits(1073741824, 33554432), Limits(1 << 27, 1 << 22)
 LITTLE, TWO_PARTS = Limits(1048576, 32768, 1024, 1), Limits(1048576, 65536, 1024, 2)
 TOO_MUCH, NOT_TAKEN = Limits(1073741825, 33554432), Limits(1048576, 1 << 44)

@@ -164,10 +164,10 @@ class Safety(Programs):
         """Within 68 MiB, all of the program's, a key that takes 256 MiB opens with -k 4 and signs the same, and with -k 16 one is sealed
         with usual limits, which take 1 GiB: Minisign opens it. (Built with -DPOSIX_ONLY, which changes no derivation, with -k 4.)"""
         directory, of_usual = self.directory(**{"large.key": self.large}), 4 if "--posix-only" in sys.argv else 16
-        for mebibytes, keeps, *arguments in ((256, 4, "-Sm", "data", "-s", "large.key"), (1024, of_usual, "-C", "-s", CLOSED)):
+        for whole, keeps, *arguments in ((256, 4, "-Sm", "data", "-s", "large.key"), (1024, of_usual, "-C", "-s", CLOSED)):
             command = [self.program, *arguments, "-k", str(keeps)]
             status, said, kibibytes = run_measured(command, directory, PASSWORD + b"\nq\nq\n", stderr=subprocess.STDOUT)
-            expect(status == 0 and kibibytes <= mebibytes // keeps + 4 << 10, arguments, f"it ended with {status}, {kibibytes} KiB: {said!r}")
+            expect(status == 0 and kibibytes <= whole // keeps + 4 << 10, arguments, f"it ended with {status}, {kibibytes} KiB: {said!r}")
         self.expect_accepted(directory, PUBLIC)
         ran = self.theirs(directory, "-Sm", "more", "-s", CLOSED, typed=b"q\n")
         expect(ran.status == 0, "Minisign does not open what was changed", ran)
