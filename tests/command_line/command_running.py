@@ -13,7 +13,7 @@ import texts
 from at_terminal import AtTerminal
 from disturbed import Disturbing
 from process import Ran, run_program
-from running import Link, expect, files_in, run_cases, wait_until, write
+from running import IN_MEMORY, Link, expect, files_in, run_cases, wait_until, write
 from texts import record_of
 
 HOME = "home"
@@ -65,7 +65,7 @@ def put_files(directory, files):
 
 
 def run_steps(program, preload, files, steps):
-    with tempfile.TemporaryDirectory(prefix="whole-") as directory:
+    with tempfile.TemporaryDirectory(prefix="whole-", dir=IN_MEMORY) as directory:
         put_files(directory, {HOME: None, **files})
         ran = [run_step(program, preload, directory, step) for step in steps]
         return Left(ran, files_in(directory))

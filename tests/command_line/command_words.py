@@ -6,7 +6,7 @@ import base64
 import os
 import struct
 
-from remedies import BY_FLAG
+from minisign_differences import BY_FLAG
 from running import expect, files_in, read, write
 from texts import record_of, text_of, turned, with_checksum
 from command_running import CLOSED, FEW_ROWS, OPEN, OTHER, PASSWORD, PUBLIC, Programs, case, sealed

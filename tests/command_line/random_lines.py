@@ -31,7 +31,7 @@ sys.path += [os.path.join(HERE, "..", name) for name in ("shared", "verdicts")]
 import ending
 import needs
 from process import run_program
-from running import Failure, Link, build_preload, expect, files_in
+from running import IN_MEMORY, Failure, Link, build_preload, expect, files_in
 from texts import record_of, text_of, turned
 from command_breaking import STAGE, is_secret
 from command_cases import keys_of
@@ -175,7 +175,7 @@ def check_files(before, directory, line):
 
 def check_line(whole, before, line):
     """Raises a `Failure` where a line does something that it may not."""
-    with tempfile.TemporaryDirectory(prefix="random-line-") as directory:
+    with tempfile.TemporaryDirectory(prefix="random-line-", dir=IN_MEMORY) as directory:
         put_files(directory, {**before.files, **LINKS})
         ran = line.run(whole.ours, directory)
         expect(ran.status in (0, 1, 2) and not any(word in ran.said for word in REPORTS),

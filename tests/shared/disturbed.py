@@ -13,7 +13,7 @@ import tempfile
 from dataclasses import dataclass, replace
 
 from process import Ran, run_program, told
-from running import SECONDS, Failure, Program, Skip, expect, files_in, in_turn, read
+from running import IN_MEMORY, SECONDS, Failure, Program, Skip, expect, files_in, in_turn, read
 
 
 class Disturbing(Program):
@@ -24,8 +24,7 @@ class Disturbing(Program):
 
     def __init__(self, program, room):
         super().__init__(program, room)
-        # (in memory where that can be had, since each run brings its files to the disk)
-        self.place = "/dev/shm" if os.access("/dev/shm", os.W_OK) else room
+        self.place = IN_MEMORY or room
 
     def run(self, directory, arguments, environment=None, program=None, **how):
         return run_program([program or self.program, *arguments], directory,

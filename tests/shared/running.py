@@ -25,6 +25,8 @@ from process import told
 SECONDS, MAX_CALLS = 30, 500
 NOBODY = 65534
 AS_NOBODY = {"user": NOBODY, "group": NOBODY, "extra_groups": []}
+# Where directories stand in memory, if that can be had: most runs bring their files to the disk.
+IN_MEMORY = "/dev/shm" if os.access("/dev/shm", os.W_OK) else None
 HERE = os.path.dirname(os.path.realpath(__file__))
 
 # == What stands in the directory of a run: the bytes of a file, or one of these ==
@@ -175,7 +177,7 @@ def run_cases(cases):
         except Skip as why:
             print(f"skipped: {name}: {why}")
             continue
-        except (Failure, subprocess.SubprocessError, OSError) as why:
+        except (Failure, subprocess.SubprocessError, OSError, ValueError, IndexError) as why:
             failures.append(f"{name}: {why}")
         count += 1
     return failures, count

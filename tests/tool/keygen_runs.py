@@ -1,10 +1,9 @@
 """Runs of `keygen`: the two files that it leaves, its questions, and that the secret text opens again."""
 
-import base64
-
 import toy
-from running import (CLOSED, DIRECTORY, FULL, LOCKED, WRITE_ONLY, Failure, FromFile, Link, OneOf, Pieces,
+from running import (CLOSED, DIRECTORY, FULL, LOCKED, WRITE_ONLY, FromFile, Link, OneOf, Pieces,
                      PrefixOf, ReadPipe, RoomFor, SecondName, Sources, Typed, WithMode, expect)
+from texts import record_of
 from tool_cases import Leaves, command, refusing, untold
 from toy import NOT_UTF8, OUT_OF_MEMORY, READING_FAILED, WARNING, WRITING_FAILED
 
@@ -46,14 +45,6 @@ def pair(password=b"p", public_mode=0o644, secret_mode=0o600, names=(PK, SK), li
 def one_file(name, links):
     """What is left is a secret key for its owner alone in this file, and these links to it."""
     return Leaves({**links, name: check_secret}, {name: 0o600})
-
-
-def record_of(text):
-    """The record in the second line of a text."""
-    try:
-        return base64.b64decode(text.split(b"\n")[1])
-    except (IndexError, ValueError) as error:
-        raise Failure(f"a text is {text!r}") from error
 
 
 def check_public(text):

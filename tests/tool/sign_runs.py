@@ -7,7 +7,7 @@ from dataclasses import replace
 
 import toy
 from keygen_runs import FULL_DEVICE, LONGEST, MADE, NO_PASSWORD, PK, RANDOM_FAILED
-from running import (CLOSED, DIRECTORY, FULL, LOCKED, MISSING, WRITE_ONLY, Case, Failure, FromFile, IntoFile, OneOf, Pieces, Pipe,
+from running import (CLOSED, DIRECTORY, FULL, LOCKED, MISSING, WRITE_ONLY, Case, FromFile, IntoFile, OneOf, Pieces, Pipe,
                      PrefixOf, RoomFor, SecondName, Sources, Typed, WithMode, expect)
 from tool_cases import Leaves, command, in_order, opening, refusing, untold
 from toy import NOT_UTF8, OUT_OF_MEMORY, READING_FAILED, TOO_SHORT, WARNING, WRITING_FAILED
@@ -50,12 +50,9 @@ def signed_at(moment, data=b"abc", half=bytes(range(32)), comment_half=bytes(ran
 
 def check_signature(data, text):
     """Compares a text with what signing the data has to give: random bytes, the moment and all else."""
-    try:
-        _, second, third, fourth, _ = text.split(b"\n")
-        halves = base64.b64decode(second)[10:42], base64.b64decode(fourth)[:32]
-        moment = int(third.rpartition(b":")[2])
-    except ValueError as error:
-        raise Failure(f"a signature is {text!r}") from error
+    _, second, third, fourth, _ = text.split(b"\n")
+    halves = base64.b64decode(second)[10:42], base64.b64decode(fourth)[:32]
+    moment = int(third.rpartition(b":")[2])
     expect(text == signed_at(moment, data, *halves) and abs(moment - time.time()) <= 60, f"a signature is {text!r}")
     drawn = {*halves}
     expect(len(drawn) == 2 and not drawn & DRAWN_BEFORE and bytes(32) not in drawn, "random bytes come twice")
