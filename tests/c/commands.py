@@ -25,7 +25,6 @@ import needs
 import static_library
 from at_terminal import AtTerminal
 from copies import TOP, copy_tree, files_below
-from planted import LITTLE_LIMITS, plant
 from running import read, write
 
 DOCUMENTS = ("README.md", "examples/README.md", "docs/INSTALLING.md")
@@ -80,12 +79,11 @@ def answer(terminal):
 
 
 class Clone:
-    """A clone of the repository as it stands here, but that `c/minisign` gives new keys little limits: the documents use them often."""
+    """A clone of the repository as it stands here."""
 
     def __init__(self, room):
         self.top, origin = os.path.join(room, "clone"), os.path.join(room, "origin")
         copy_tree(origin)
-        plant(origin, *LITTLE_LIMITS)
         named = ("-c", "user.name=Ann", "-c", "user.email=ann@example.com")
         for words in (["init", "-q"], ["add", "-A"], [*named, "commit", "-q", "-m", "as it stands"], ["clone", "-q", origin, self.top]):
             self.git(*words, at=origin)

@@ -159,10 +159,9 @@ MORE_KINDS = {kind.debian: kind for kind in (
 
 
 def check_elsewhere(checks, room, answers, kinds=KINDS):
-    """Kinds of processors, under qemu; of those that the gate tries the registers are cleared too (`cleared.py` tries that of AArch64,
-    as make builds it: with -O1 the calls take half as long to compile)."""
+    """Kinds of processors, under qemu; of those that the gate tries the registers are cleared too (`cleared.py` tries that of AArch64)."""
     for kind in kinds:
-        built = emulated.Emulated(checks, room, kind, *([] if kind == emulated.AARCH64 else ["CFLAGS=-O1"]))
+        built = emulated.Emulated(checks, room, kind, *(["CFLAGS=-O2"] if kind.debian in ("hppa", "alpha") else []))
         emulated.check_all(checks, built, answers.library, OF_MALLOC if kind.has_32_bits else PROGRAMS)
         answers.check(kind.name, built.compiler, built.library, before=built.emulator)
         if kind in KINDS[1:]:

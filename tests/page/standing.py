@@ -7,7 +7,7 @@ import re
 
 from person import STANDS, told
 
-FEW, MANY, MANY_IN_CHROMIUM = 500, 10_000, 3_000
+FEW, MANY = 500, 10_000
 # So many times as much of the processor each of many files may take as each of a few. (It is time of the processes that show the
 # page, which a machine that does much else does not lengthen as it does the clock's. So nothing here asks the page often, or for
 # much, as that would count by the clock.)
@@ -79,18 +79,18 @@ def processor_seconds(person):
 
 
 def check_many(person):
-    """Many files take as long for each as a few, and ten thousand end; fewer in Chromium, where each takes twice as long."""
-    text, took, many = person.sign(b"x").decode(), [], MANY_IN_CHROMIUM if person.is_chromium else MANY
-    for count in (FEW, many):
+    """Many files take as long for each as a few, and ten thousand end."""
+    text, took = person.sign(b"x").decode(), []
+    for count in (FEW, MANY):
         person.begin(person.first.line)
         before = processor_seconds(person)
         person.see("verifyMany", count, text, "x")
         person.wait(lambda: person.run("return window.verified >= arguments[0] || window.verified", count), pause=2)
         took.append((processor_seconds(person) - before) / count)
-    said = f"each of {FEW} and of {many} files takes so many seconds of the processor: {took}"
+    said = f"each of {FEW} and of {MANY} files takes so many seconds of the processor: {took}"
     person.check(took[1] < MOST_TIMES * took[0], said)
     print(f"page: {person.name}, {said}", flush=True)
-    person.same(person.see("band")[1], f"{STANDS['good']}: {many} of {many} files", "the band of many files")
+    person.same(person.see("band")[1], f"{STANDS['good']}: {MANY} of {MANY} files", "the band of many files")
 
 
 def check_long(person):
