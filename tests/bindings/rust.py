@@ -45,6 +45,7 @@ NO_SODIUM = dict.fromkeys(("crypto_sign", "sodium_init", "randombytes"), False)
 # How many pages of 4 KiB may be in memory after so many calls that were not after a tenth of them.
 CALLS, PAGES = 10_000, 16
 
+# A program is compiled without optimizing also where the crate is compiled as a release.
 PROGRAM = """[package]
 name = "user"
 version = "1.0.0"
@@ -52,6 +53,12 @@ edition = "2021"
 
 [dependencies]
 {dependency}
+
+[profile.release]
+opt-level = 0
+
+[profile.release.package."*"]
+opt-level = 3
 """
 RENAMED = 'minisign-verify = {{ package = "minisign-proved", path = "{crate}" }}'
 ALONE = 'minisign-proved = {{ path = "{crate}", default-features = false }}'
@@ -99,8 +106,9 @@ class Cargo:
 
     def __init__(self, room, cargo, rustc, **environment):
         self.cargo, self.target = cargo, os.path.join(room, "target")
-        self.environment = {"CARGO_NET_OFFLINE": "true", "CARGO_TARGET_DIR": self.target, "RUSTC": rustc, "RUSTFLAGS": "-D warnings",
-                            "RUSTDOC": os.path.join(os.path.dirname(rustc), "rustdoc"), "PATH": static_library.path_without_kit()}
+        self.environment = {"CARGO_NET_OFFLINE": "true", "CARGO_TARGET_DIR": self.target, "CARGO_INCREMENTAL": "0", "RUSTC": rustc,
+                            "RUSTFLAGS": "-D warnings", "RUSTDOC": os.path.join(os.path.dirname(rustc), "rustdoc"),
+                            "PATH": static_library.path_without_kit()}
         # (rustup finds its toolchains by the home directory)
         if os.path.dirname(cargo) == needs.DEBIAN:
             self.environment["CARGO_HOME"] = os.path.join(room, "home")
@@ -281,10 +289,15 @@ def take_built(cargo, room):
 
 
 def check_planted(checks, cargo, crate, room, minisign):
-    """Each planted bug is noticed by what is asked of a program over the changed crate, which may have warnings."""
+    """Each planted bug is noticed by what is asked of a program over the changed crate, which may have warnings. All stand in one place, where
+    cargo compiles what differs from the one before."""
+    place = os.path.join(room, "changed")
+    planted = new_crate(room, "planted", RENAMED.format(crate=place), "answers.rs")
+
     def ask(found, changed, directory, _):
-        planted = new_crate(directory, "planted", RENAMED.format(crate=changed), "answers.rs")
-        cargo.run(planted, "build", RUSTFLAGS="", CARGO_INCREMENTAL="0", **Cargo.UNOPTIMIZED)
+        shutil.rmtree(place, ignore_errors=True)
+        os.rename(changed, place)
+        cargo.run(planted, "build", RUSTFLAGS="", CARGO_INCREMENTAL="1", **Cargo.UNOPTIMIZED)
         ask_all(Program(found, f"{cargo.target}/debug/user"), directory, minisign, shared_cases.corpus())
 
     shared_cases.check_planted(checks, crate, shared_cases.bugs_of(HERE, "rust", "planted.txt"), room, ask)
