@@ -36,6 +36,7 @@ import emulated
 import ending
 import needs
 import portable
+import process
 import shared_cases as shared
 import static_library
 from running import build_preload
@@ -239,15 +240,12 @@ def check_examples(checks, python_path, room):
 
 
 def check_installing(checks, python_path, room):
-    """The cases of tests/installer over the package, which a program of it adds up. (What Python itself calls is neither broken nor
-    traced.)"""
+    """The cases of tests/installer over the package, by a program of it. (What Python itself calls is neither broken nor traced.)"""
     preload = build_preload(room, "disturbed_calls", "libminisign.so")
-    status, said, why = run([python_path, INSTALLER], environment={"LD_PRELOAD": preload})
-    ended = re.fullmatch(r"(.*?)(\d+) passed, \d+ failed\n", said.decode(), re.S)
-    if checks.check(ended, f"installing: status {status}: {said[-800:]}{why[-800:]}"):
-        print(ended[1], end="")
-        checks.passed += int(ended[2])
-        checks.check(status == 0, "installing: the cases failed that are named above")
+    said = checks.ended("installing", process.run([python_path, INSTALLER], LD_PRELOAD=preload), says=" passed, 0 failed\n")
+    skipped, passed = re.fullmatch(r"(.*?)(\d*)(?: passed, \d+ failed\n)?", said, re.S).groups()
+    print(skipped, end="")
+    checks.passed += int(passed or 0)
 
 
 # ---- Planted bugs ----

@@ -7,14 +7,12 @@ later, minisign and setfacl.
 """
 
 import ctypes.util
-import functools
 import getopt
 import os
 import signal
 import subprocess
 import sys
 import threading
-import traceback
 from unittest import mock
 
 import minisign_proved as minisign
@@ -127,8 +125,6 @@ LEFT_OUT = {"progress at a terminal", "a closed error stream", "an allocation th
             "what a check shows", "the script of the document", "the unit of the document",
             "a mode that is asked for, of what is there already"}
 KEPT = {"a name that begins with a dash", "another name than the signed one"}
-# A descriptor that is above all that are open.
-ABOVE, POPEN = 1024, subprocess.Popen
 
 
 def chosen_cases(installing):
@@ -140,18 +136,14 @@ def chosen_cases(installing):
     return [case for case in found if case[0] not in left_out]
 
 
-def go_on(words, environment, descriptors, prepare):
-    """Goes on as the program in what was forked and is ready to run it: as Python begins, and with these descriptors open alone."""
+def go_on(words, environment, descriptors):
+    """Goes on as the program in what was forked to run it: as Python begins, and with these descriptors open alone."""
     status = FAILED
     try:
-        prepare()
-        for number in (signal.SIGPIPE, signal.SIGXFSZ):
-            signal.signal(number, signal.SIG_IGN)
-        if signal.getsignal(signal.SIGINT) == signal.SIG_DFL:
-            signal.signal(signal.SIGINT, signal.default_int_handler)
+        signal.signal(signal.SIGINT, signal.default_int_handler)
         os.environ.clear()
         os.environ.update(environment)
-        for before, after in zip((2, *descriptors), (*descriptors, ABOVE)):
+        for before, after in zip((2, *descriptors), (*descriptors, os.sysconf("SC_OPEN_MAX"))):
             os.closerange(before + 1, after)
         status = install(words)
     except SystemExit as why:
@@ -159,17 +151,8 @@ def go_on(words, environment, descriptors, prepare):
     except KeyboardInterrupt:
         signal.signal(signal.SIGINT, signal.SIG_DFL)
         signal.raise_signal(signal.SIGINT)
-    except BaseException:
-        traceback.print_exc()
     finally:
         os._exit(status)
-
-
-def begin(program, command, **how):
-    """Begins a command as `subprocess` does, and this program by a fork, which runs nothing else."""
-    if command[0] == program:
-        how["preexec_fn"] = functools.partial(go_on, command[1:], how["env"], how.get("pass_fds", ()), how.get("preexec_fn", lambda: None))
-    return POPEN(command, **how)
 
 
 def run_all(room):
@@ -177,8 +160,16 @@ def run_all(room):
     # (other programs are asked for where a library is: without them the package takes libsodium by its usual name)
     ctypes.util.find_library = lambda _: None
     installing = Installing(__file__, RealInstaller(room), room)
-    installing.preload = os.environ.pop("LD_PRELOAD")
-    with mock.patch.object(subprocess, "Popen", functools.partial(begin, installing.program)):
+    installing.preload, popen = os.environ.pop("LD_PRELOAD"), subprocess.Popen
+
+    def begin(command, preexec_fn=None, pass_fds=(), **how):
+        """Begins a command as ever; and the program in what was forked and made ready for it, which then runs nothing else."""
+        prepare = preexec_fn or bool
+        if command[0] == installing.program:
+            preexec_fn, how["restore_signals"] = lambda: (prepare(), go_on(command[1:], how["env"], pass_fds)), False
+        return popen(command, preexec_fn=preexec_fn, pass_fds=pass_fds, **how)
+
+    with mock.patch.object(subprocess, "Popen", begin):
         return run_cases(chosen_cases(installing))
 
 
