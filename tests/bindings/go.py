@@ -201,19 +201,11 @@ def check_errors(program):
         program.checks.check(line == wanted if name else line.startswith(wanted), f"the error {number}: {line}")
 
 
-# What signing.go says of how a key is shown, of what is left of it, and of arguments that are none.
-SHOWN = [*(f"{verb} true" for verb in ("%v", "%+v", "%#v", "%s", "%q", "%x", "%d") for _ in range(2)), "true", "false", "true",
-         "KEY_NOT_OPENED", "KEY_NOT_OPENED", "[0 0 0 0 0 0 0 0 0]"]
-WRONG = ["minisign: reader is nil", "minisign: key is nil", *["minisign: password is empty: EncodeUnsealed makes a key that takes none"] * 2,
-         "MISSING_SECRET_KEY_COMMENT", "KEY_NOT_OPENED", "KEY_NOT_OPENED", "NOT_BEGUN", "NOT_BEGUN"]
-
-
 def check_signing(program, room, minisign, opens=True):
     """The program and `c/minisign` read each other's keys and signatures; no key shows its secret, and nothing is left of one that was
-    cleared."""
-    for word, wanted in (("shown", SHOWN), ("wrong", WRONG)):
-        status, said, why = program.run(word)
-        program.checks.check(said.decode().splitlines() == wanted, f"{word}: {status}, {said.decode()}, {why[-500:]}")
+    cleared; arguments that are none are rejected."""
+    program.ask_itself(20, "shown")
+    program.ask_itself(9, "wrong")
     shared_cases.check_signing(program, room, minisign, opens=opens)
 
 
@@ -254,7 +246,7 @@ def check_readme(checks, go, room, package, minisign):
 
 # All that Debian's Go runs to build the module and a program over it: no make.
 NEEDED = ("go", "gcc", "ld", "as", "git")
-# For another system all of Go's own library is compiled, which takes less time without optimizing, but for what an emulator computes.
+# For another system or the race detector all of Go's own library is compiled, in less time unoptimized, but for what an emulator computes.
 QUICKLY = ["-gcflags=all=-N -l -dwarf=false", "-gcflags=crypto/...=-dwarf=false", "-ldflags=-w"]
 NO_CGO = "minisign calls C: set CGO_ENABLED=1, and CC to a C compiler for this system"
 
@@ -265,7 +257,7 @@ def check_own_tests(checks, go, package):
     checks.check(go.run(package, "vet", "./...") == "", "go vet has words")
     arm = emulated.AARCH64
     in_emulator = [*QUICKLY, "-exec", " ".join(["env -u GOGC", *emulated.emulator(arm)])], {"GOARCH": "arm64", "CC": emulated.compiler(arm)}
-    for words, environment in ((["-exec", "env -u GOGC", "-race", "-tags", "amd64.v3"], {}), in_emulator):
+    for words, environment in (([*QUICKLY, "-exec", "env -u GOGC", "-race", "-tags", "amd64.v3"], {}), in_emulator):
         said = go.run(package, "test", "-count=1", "-vet=off", "-v", *words, "./...", **environment)
         checks.check(said.count("--- PASS: ") >= 6 and "--- SKIP" not in said, f"go test {words}: {said[-500:]}")
 
@@ -341,7 +333,8 @@ def run_all(checks, room):
 
     def programs(source, name):
         """A program as its user has it, and under the race detector."""
-        built = go.build(source, os.path.join(room, name), package, **Go.AS_USUAL), go.build(source, os.path.join(room, f"{name}-racing"), package, "-race")
+        ways = ("", [], Go.AS_USUAL), ("-racing", ["-race", *QUICKLY], {})
+        built = [go.build(source, os.path.join(room, name + what), package, *words, **environment) for what, words, environment in ways]
         return [Program(checks, path, name=os.path.basename(os.path.dirname(path))) for path in built]
 
     program, racing = programs("answers.go", "answers")

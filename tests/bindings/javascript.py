@@ -50,17 +50,12 @@ GLOBALS = ("TextDecoder", "TextEncoder", "WebAssembly", "atob", "crypto")
 # How many bytes may be in memory after so many calls, or keys, that were not after a tenth of them. (A page of a module's memory, which
 # each key would keep, is more.)
 CALLS, GROWTH = 5_000, 800_000
-KEYS, GROWTH_OF_KEYS = 1_000, 40 * 1048576
+KEYS, GROWTH_OF_KEYS = 500, 20 * 1048576
 # What becomes of streams, each tried in a program of its own, which an error that is lost would end.
-STREAMS = ("descriptors", "opening", "cancelled", "absent", "both", "begun", "between", "event", "late", "web", "accepted", "aborted")
+STREAMS = ("aborted", "cancelled", "descriptors", "late", "event", "both", "absent", "opening", "begun", "between", "web", "accepted")
 # The errors of the header that verifying has besides usage errors.
 VERIFYING = {8, *range(16, 33), 44, 45}
 
-
-# What packs in place of npm, where that is not here.
-PACKER = """#!/bin/sh
-exec tar -czf ../minisign-proved.tgz --transform 's,^,package/,' LICENSE README.md package.json *.js *.ts
-"""
 
 
 def made(room, page):
@@ -69,8 +64,7 @@ def made(room, page):
     needs.program("wasm-ld", "lld")
     if shutil.which("npm", path=static_library.path_without_kit()) is None:
         print("without npm: all files that it could take")
-        packing["NPM"] = write(room, "npm", PACKER.encode())
-        os.chmod(packing["NPM"], 0o755)
+        packing["NPM"] = os.path.join(HERE, "javascript", "npm.sh")
     os.makedirs(os.path.join(user, "node_modules"))
     os.rename(shared_cases.packed("javascript", room, **packing), os.path.join(user, "node_modules", "minisign-proved"))
     for program in PROGRAMS:
@@ -170,8 +164,7 @@ def check_signing(checks, user, room, minisign, opens=True):
     """The program and `c/minisign` read each other's keys and signatures; it shows no secret, and nothing is left of a key that was
     cleared; arguments of other types are rejected, and streams closed; threads sign at once."""
     program = by_node(checks, user, "signing.mjs")
-    for least, *words in ((9, "shown"), (31, "wrong"), (4, "streams", PATHS[1])):
-        program.ask_itself(least, *words)
+    program.ask_itself(44, "itself", PATHS[1])
     program.ask_threads()
     shared_cases.check_signing(program, room, minisign, seals=False, opens=opens)
     return program
@@ -198,11 +191,10 @@ def check_readme(checks, user):
 def check_types(checks, user):
     """The types need neither those of the web nor those of Node, and take what the web has."""
     compiler = needs.program("tsc", "node-typescript")
-    for what, libraries in (("language", ["es2020"]), ("web", ["es2020", "dom", "dom.iterable"])):
-        shutil.copy(os.path.join(HERE, "javascript", f"{what}.ts"), user)
-        options = {"noEmit": True, "strict": True, "lib": libraries, "types": [], "module": "es2020", "target": "es2020", "moduleResolution": "node"}
-        described = json.dumps({"compilerOptions": options, "files": [f"{what}.ts"]}).encode()
-        status, said, why = run([compiler, "-p", write(user, "tsconfig.json", described)], user)
+    for what in ("language", "web"):
+        for kind in ("ts", "json"):
+            shutil.copy(os.path.join(HERE, "javascript", f"{what}.{kind}"), user)
+        status, said, why = run([compiler, "-p", f"{what}.json"], user)
         checks.check(status == 0, f"types, {what}: {said.decode()[-1500:]}{why}")
 
 
@@ -216,7 +208,6 @@ def check_bare(checks, user):
         checks.check(is_told == (names is GLOBALS), f"in a bare {where} with {names}: {said} {status} {why[-500:]}")
 
 
-PAGE = """<!doctype html><meta charset="utf-8"><title>Answers</title><body><script type="module" src="browser.mjs"></script>"""
 SECONDS = 600
 # Hands out the files of a directory, and says nothing.
 Handler = type("Handler", (http.server.SimpleHTTPRequestHandler,), {"log_message": lambda *_: None})
@@ -232,9 +223,9 @@ def check_browsers(checks, user, room, minisign):
     sealed = shared_cases.sealed(read(room, "strong"), shared_cases.LIMITS[4][0]).decode()
     directory = os.path.join(room, "served")
     shutil.copytree(os.path.join(user, "node_modules", "minisign-proved"), os.path.join(directory, "minisign-proved"))
-    shutil.copy(os.path.join(HERE, "javascript", "browser.mjs"), directory)
+    for name in ("browser.mjs", "index.html"):
+        shutil.copy(os.path.join(HERE, "javascript", name), directory)
     write(directory, "asked.json", json.dumps({**digits, "sealed": sealed}).encode())
-    write(directory, "index.html", PAGE.encode())
     with http.server.ThreadingHTTPServer(("127.0.0.1", 0), functools.partial(Handler, directory=directory)) as server:
         threading.Thread(target=server.serve_forever, daemon=True).start()
         for begin in (lambda: Firefox(needs.firefox(), room), lambda: Chromium(*needs.chromium(), room)):

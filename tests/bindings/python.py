@@ -30,24 +30,20 @@ import sys
 import zipfile
 
 HERE = os.path.dirname(os.path.realpath(__file__))
-sys.path += [HERE, *(os.path.join(HERE, "..", name) for name in ("shared", "c", "tool", "installer"))]
+sys.path += [HERE, *(os.path.join(HERE, "..", name) for name in ("shared", "c"))]
 
 import emulated
 import ending
 import needs
 import portable
+import process
 import shared_cases as shared
 import static_library
-from cut_off import BEGINNINGS, CUTS
-from installers import RealInstaller
-from real_installing import cases_of
-from running import build_preload, expect, run_cases
-from runs import Installing
+from running import build_preload
 from shared_cases import TOP, read, run, write
 from static_library import hold
-from words import word_cases
 
-USER, INSTALLER = os.path.join(HERE, "python_user.py"), os.path.join(HERE, "python_installing.py")
+USER, CHECKS, INSTALLER = (os.path.join(HERE, f"python_{name}.py") for name in ("user", "checks", "installing"))
 PACKAGE = "minisign_proved"
 SOURCES = os.path.join(TOP, "bindings", "python")
 # How many lines are written by hand. Docstrings do not count.
@@ -199,7 +195,7 @@ def check_headers(checks, room, python_path, package):
 
 def check_types(checks, python_path, package):
     mypy = needs.program("mypy", "mypy")
-    status, said, why = run([mypy, "--strict", "--cache-dir=/dev/null", "--python-executable", python_path, package, USER])
+    status, said, why = run([mypy, "--strict", "--cache-dir=/dev/null", "--python-executable", python_path, package, USER, CHECKS])
     checks.check(status == 0, f"types: {said.decode()[-1000:]}{why[-300:]}")
 
 
@@ -243,36 +239,13 @@ def check_examples(checks, python_path, room):
     checks.check(status == 0, f"what the example has signed: {why}")
 
 
-# ---- The cases of tests/installer ----
-
-# What needs the words or the messages of a program, and not of a function.
-LEFT_OUT = {"progress at a terminal", "a closed error stream", "an allocation that fails", "an error stream that nobody reads",
-            "what a check shows", "the script of the document", "the unit of the document",
-            "a mode that is asked for, of what is there already"}
-KEPT = {"a name that begins with a dash", "another name than the signed one"}
-
-
-def chosen_cases(installing):
-    # (what the host does after a cut over other beginnings, the cases of the program show)
-    cut_off = {f"cut off by {cut}, over {begin}" for begin, *_ in BEGINNINGS[1:] for cut, _ in CUTS}
-    left_out = LEFT_OUT | cut_off | {name for name, *_ in word_cases} - KEPT
-    found = [*cases_of(installing)]
-    expect(left_out | KEPT <= {case[0] for case in found}, "what is left out is no case")
-    return [case for case in found if case[0] not in left_out]
-
-
 def check_installing(checks, python_path, room):
-    """The cases of `install` and `check` over the package, by a program of it."""
-    os.mkdir(room)
-    program = write(room, "installing.py", f"#!{python_path}\n".encode() + read(INSTALLER))
-    os.chmod(program, 0o755)
-    installing = Installing(program, RealInstaller(room), room)
-    # (what Python itself calls is neither broken nor traced)
-    installing.preload = build_preload(installing.room, "disturbed_calls", "libminisign.so")
-    failures, count = run_cases(chosen_cases(installing))
-    checks.passed += count - len(failures)
-    for failure in failures:
-        checks.check(False, f"installing: {failure}")
+    """The cases of tests/installer over the package, by a program of it. (What Python itself calls is neither broken nor traced.)"""
+    preload = build_preload(room, "disturbed_calls", "libminisign.so")
+    said = checks.ended("installing", process.run([python_path, INSTALLER], LD_PRELOAD=preload), says=" passed, 0 failed\n")
+    skipped, passed = re.fullmatch(r"(.*?)(\d*)(?: passed, \d+ failed\n)?", said, re.S).groups()
+    print(skipped, end="")
+    checks.passed += int(passed or 0)
 
 
 # ---- Planted bugs ----
@@ -293,8 +266,6 @@ def check_planted(checks, python_path, package, room, minisign):
 
 
 def run_all(checks, room):
-    # (some runs are made as nobody)
-    os.chmod(room, 0o711)
     minisign, wheel = shared.c_minisign(room), build_wheel(checks, room)
     alone, place = environment(room, "alone", wheel)
     beside, package = environment(room, "beside", wheel, "--system-site-packages")
@@ -312,7 +283,7 @@ def run_all(checks, room):
             user.ask_itself(least, word, own)
         shared.check_signing(user, os.path.join(own, "signed"), needs.minisign())
     check_planted(checks, beside, package, room, minisign)
-    check_installing(checks, alone, os.path.join(room, "installs"))
+    check_installing(checks, alone, room)
 
 
 if __name__ == "__main__":

@@ -1,16 +1,32 @@
-"""A program with the words of `minisign-install`, over `install` and `check` of the Python package: the cases of
-tests/installer run over it.
+"""The cases of tests/installer over `install` and `check` of the Python package, by a program that has the words of
+`minisign-install`. Each run of it is a fork of this process, which has loaded the package before. `python.py` runs it,
+in a Python that has the package installed, with `disturbed_calls.c` preloaded.
 
-Needs Python 3.9 or later.
+It prints a line for each case that failed or was skipped; the last line is `N passed, M failed`. Needs Python 3.9 or
+later, minisign and setfacl.
 """
 
 import ctypes.util
 import getopt
 import os
+import signal
+import subprocess
 import sys
 import threading
+from unittest import mock
 
 import minisign_proved as minisign
+
+HERE = os.path.dirname(os.path.realpath(__file__))
+sys.path += [os.path.join(HERE, "..", name) for name in ("shared", "tool", "installer")]
+
+import ending
+from cut_off import BEGINNINGS, CUTS
+from installers import RealInstaller
+from real_installing import cases_of
+from running import expect, run_cases
+from runs import Installing
+from words import word_cases
 
 FAILED, MISUSED, REJECTED, OLDER, IN_USE, NOT_ON_DISK, UNRECORDED, SAME, EXPIRED, THERE = range(1, 11)
 OFFERS = {minisign.Offer.NEWER: 0, minisign.Offer.THERE: THERE, minisign.Offer.OLDER: OLDER}
@@ -66,10 +82,11 @@ def read_text(kind, word):
     sys.exit(status)
 
 
-def main():
+def install(words):
+    """What the program does by its words: the exit status."""
     # (a signal for the process goes to this thread, where the other one holds it back)
     threading.Thread(target=threading.Event().wait, daemon=True).start()
-    given, paths = getopt.gnu_getopt(sys.argv[1:], "", OPTIONS)
+    given, paths = getopt.gnu_getopt(words, "", OPTIONS)
     options, keys = dict(given), [value for name, value in given if name == "--key"]
     key = None if keys else paths.pop(0)
     data = None if "--check" in options else paths.pop(0)
@@ -101,8 +118,60 @@ def main():
     return 0 if is_new else THERE
 
 
-if __name__ == "__main__":
+# ---- Its runs ----
+
+# What needs the words or the messages of a program, and not of a function.
+LEFT_OUT = {"progress at a terminal", "a closed error stream", "an allocation that fails", "an error stream that nobody reads",
+            "what a check shows", "the script of the document", "the unit of the document",
+            "a mode that is asked for, of what is there already"}
+KEPT = {"a name that begins with a dash", "another name than the signed one"}
+
+
+def chosen_cases(installing):
+    # (what the host does after a cut over other beginnings, the cases of the program show)
+    cut_off = {f"cut off by {cut}, over {begin}" for begin, *_ in BEGINNINGS[1:] for cut, _ in CUTS}
+    left_out = LEFT_OUT | cut_off | {name for name, *_ in word_cases} - KEPT
+    found = [*cases_of(installing)]
+    expect(left_out | KEPT <= {case[0] for case in found}, "what is left out is no case")
+    return [case for case in found if case[0] not in left_out]
+
+
+def go_on(words, environment, descriptors):
+    """Goes on as the program in what was forked to run it: as Python begins, and with these descriptors open alone."""
+    status = FAILED
+    try:
+        signal.signal(signal.SIGINT, signal.default_int_handler)
+        os.environ.clear()
+        os.environ.update(environment)
+        for before, after in zip((2, *descriptors), (*descriptors, os.sysconf("SC_OPEN_MAX"))):
+            os.closerange(before + 1, after)
+        status = install(words)
+    except SystemExit as why:
+        status = why.code
+    except KeyboardInterrupt:
+        signal.signal(signal.SIGINT, signal.SIG_DFL)
+        signal.raise_signal(signal.SIGINT)
+    finally:
+        os._exit(status)
+
+
+def run_all(room):
+    """Runs the cases: the failures, and how many there were."""
     # (other programs are asked for where a library is: without them the package takes libsodium by its usual name)
     ctypes.util.find_library = lambda _: None
-    # (the end of all of Python takes as long as an installation)
-    os._exit(main())
+    installing = Installing(__file__, RealInstaller(room), room)
+    installing.preload, popen = os.environ.pop("LD_PRELOAD"), subprocess.Popen
+
+    def begin(command, preexec_fn=None, pass_fds=(), **how):
+        """Begins a command as ever; and the program in what was forked and made ready for it, which then runs nothing else."""
+        prepare = preexec_fn or bool
+        if command[0] == installing.program:
+            preexec_fn, how["restore_signals"] = lambda: (prepare(), go_on(command[1:], how["env"], pass_fds)), False
+        return popen(command, preexec_fn=preexec_fn, pass_fds=pass_fds, **how)
+
+    with mock.patch.object(subprocess, "Popen", begin):
+        return run_cases(chosen_cases(installing))
+
+
+if __name__ == "__main__":
+    sys.exit(ending.main("python-installing", run_all))

@@ -1,37 +1,20 @@
 """A user of the Python package, in a Python that has it installed: `python.py` runs it. With the word `answers`,
 `pieces`, `read` or `vectors` it answers a line for each case that it reads; with `make`, `sign`, `opened` or `sealed`
-it does that with a key; with another one it says of each thing that it checks what has to come of it, and what came.
+it does that with a key; with another one it is `python_checks.py`, which imports more and so takes longer to begin.
 
 Needs Python 3.9 or later.
 """
 
-import base64
-import concurrent.futures
-import contextlib
-import copy
 import importlib
-import inspect
 import io
 import os
-import pathlib
-import pickle
-import pydoc
 import random
 import re
-import signal
-import struct
 import sys
-import threading
-from typing import Any, Callable, Dict, Iterator, List, Optional, Tuple, Type
-from unittest import mock
+from typing import Callable, Iterator, List, Optional, Tuple
 
 import minisign_proved as minisign
-from minisign_proved import Data, PublicKey, SecretKey, Signature, Text, Verifier, _calls, _header
-from minisign_proved import installing as host
-from python_arguments import arguments, check, public_calls, rejects
-
-# What so many calls may take more memory than the first ones, in KiB.
-CALLS, FIRST_CALLS, MAX_GROWTH = 8_000, 1_000, 96
+from minisign_proved import PublicKey, SecretKey, Signature, Verifier, _calls
 
 
 # ---- Cases that are read ----
@@ -103,63 +86,14 @@ def vectors() -> None:
         print("true" if kind.accepts(signature, message, key) is True else "false")
 
 
-# ---- Memory and threads ----
-
-
-def resident() -> int:
-    with open("/proc/self/statm", encoding="ascii") as file:
-        return int(file.read().split()[1]) * os.sysconf("SC_PAGESIZE") // 1024
-
-
-def memory(room: str) -> None:
-    key, path = SecretKey.generate(), write(room, "data", b"data" * 500)
-    signature, public = key.sign(path), key.public_bytes()
-    calls: List[Callable[[], object]] = [
-        lambda: PublicKey(public).verify(b"data" * 500, signature), lambda: key.public_key.verify(b"other", signature),
-        lambda: minisign.verify(path, key.public_key, signature), lambda: PublicKey(b"no key"),
-        lambda: Verifier(key.public_key, Signature(b"no signature")), lambda: key.public_bytes(),
-        lambda: PublicKey.from_base64(public.split(b"\n")[1].decode()), lambda: key.sign(path) if random.random() < 0.1 else None]
-    grown = 0
-    for number in range(FIRST_CALLS + CALLS):
-        if number == FIRST_CALLS:
-            grown = resident()
-        with contextlib.suppress(minisign.MinisignError):
-            calls[number % len(calls)]()
-    grown = resident() - grown
-    check(grown <= MAX_GROWTH, f"{CALLS} calls took {grown} KiB")
-
-
-def threads(room: str) -> None:
-    key, piece = SecretKey.generate(), os.urandom(400_000)
-    path = write(room, "data", piece)
-    signature = key.sign(path, trusted_comment="in threads")
-    shared = Verifier(key.public_key, key.sign(write(room, "all", piece * 160), trusted_comment="by all"))
-
-    def is_right(own: int) -> bool:
-        """Whether what a thread signs verifies, and a file that all verify."""
-        data = bytes([own]) * 50_000
-        mine = write(room, f"data-{own}", data)
-        return all(key.public_key.verify(data, key.sign(mine, trusted_comment=f"{own} {number}")) == f"{own} {number}"
-                   and minisign.verify(path, key.public_key, signature) == "in threads" for number in range(20))
-
-    def feed(_: int) -> None:
-        for _ in range(20):
-            shared.update(piece)
-
-    with concurrent.futures.ThreadPoolExecutor(16) as pool:
-        fed = pool.map(feed, range(8))
-        check(all(pool.map(is_right, range(8))), "threads: one verified something else")
-    check([*fed] == [None] * 8 and answer(shared.finish) == f"accepted {b'by all'.hex()}", "threads: one verifier that eight fed")
-    rejects(minisign.NotBegun, shared.finish, "a verifier that was finished before")
-
-
 # ---- Keys and signing ----
 
 
 def write(room: str, name: str, data: bytes) -> str:
-    path = pathlib.Path(room, name)
-    path.write_bytes(data)
-    return str(path)
+    path = os.path.join(room, name)
+    with open(path, "wb") as file:
+        file.write(data)
+    return path
 
 
 def make(directory: str, password: Optional[str] = None) -> None:
@@ -171,7 +105,7 @@ def make(directory: str, password: Optional[str] = None) -> None:
 
 def sign(key: str, data: str, to: str, comment: str, password: Optional[str] = None) -> None:
     made = SecretKey.from_file(key, password).sign(data, trusted_comment=comment)
-    pathlib.Path(to).write_bytes(made.text)
+    write("", to, made.text)
 
 
 def sealed(operations: str, memory: str) -> None:
@@ -192,271 +126,12 @@ def outcome(call: Callable[..., None], *words: str) -> str:
     return "OK"
 
 
-def keys(room: str) -> None:
-    data = write(room, "data", b"what is signed")
-    key = SecretKey.generate()
-    check(key.public_key.key_id == PublicKey(key.public_bytes()).key_id and len(key.public_key.key) == 32, "the parts of a public key")
-    check(key.public_key == PublicKey.from_base64(key.public_bytes().split(b"\n")[1].decode()), "a key from its base64 alone")
-    check(key.public_key != SecretKey.generate().public_key and key.public_key != 1, "another key")
-    check(len({key.public_key, PublicKey(key.public_bytes())}) == 1, "keys in a set")
-    write(room, "ours.key", key.to_bytes(None))
-    check(SecretKey.from_file(os.path.join(room, "ours.key")).public_key == key.public_key, "a key that was not sealed")
-    made = minisign.sign(data, key, trusted_comment="by Python \u00e9", untrusted_comment="another comment")
-    check(Signature.from_file(data + ".minisig").text == made.text, "the file of a signature")
-    seen: List[Tuple[int, int]] = []
-    check(minisign.verify(data, key.public_key, progress=lambda done, size: seen.append((done, size))) == "by Python \u00e9", "our own signature")
-    check(seen == [(14, 14)], f"progress: {seen}")
-    default = key.public_key.verify(b"what is signed", key.sign(data))
-    check(default.startswith("timestamp:") and default.endswith("\tfile:data\thashed"), f"the default comment: {default}")
-    check(made.text.startswith(b"untrusted comment: another comment\n"), "the untrusted comment")
-    for kind, comment in ((minisign.BadComment, " a"), (minisign.UnreadableComment, "a\0b"), (minisign.UnreadableComment, "x" * 9000),
-                          (minisign.NotUtf8, "\udcff")):
-        rejects(kind, lambda comment=comment: key.sign(data, trusted_comment=comment), f"the comment {comment[:9]!r}")  # type: ignore[misc]
-
-    minisign.change_password(os.path.join(room, "ours.key"), None, None)
-    check(os.stat(os.path.join(room, "ours.key")).st_mode & 0o777 == 0o600, "the mode of a key that was written again")
-    with SecretKey.from_file(os.path.join(room, "ours.key")) as opened:
-        check(opened.public_key == key.public_key, "a key that was written again")
-    rejects(minisign.KeyNotOpened, lambda: opened.sign(data), "a key that was cleared")
-    check(not opened.is_weak, "a key that was not sealed is weak")
-    # (the limits of a derivation that is made many times)
-    many = b"EdScB2" + bytes(32) + struct.pack("<QQ", 2**40, 2**24) + bytes(104)
-    other = write(room, "many.key", key.to_bytes(None).split(b"\n")[0] + b"\n" + base64.b64encode(many) + b"\n")
-    rejects(minisign.WorkTooHigh, lambda: SecretKey.from_file(other, "x"), "a key that asks for much work")
-    link, away = os.path.join(room, "link.key"), os.path.join(room, "away")
-    os.symlink("ours.key", link)
-    minisign.change_password(link, None, None)
-    check(os.path.islink(link) and SecretKey.from_file(link).public_key == key.public_key, "a key that a link leads to, written again")
-    os.mkdir(away)
-    write(away, "app.key", key.to_bytes(None))
-    opening = os.open
-
-    def opens(path: str, flags: int, *rest: int, **more: int) -> int:
-        if flags & os.O_CREAT:
-            raise PermissionError()
-        return opening(path, flags, *rest, **more)
-
-    for name, instead in (("replace", mock.Mock(side_effect=PermissionError)), ("open", opens)):
-        with mock.patch.object(os, name, instead):
-            rejects(PermissionError, lambda: minisign.change_password(os.path.join(away, "app.key"), None, None), f"a key, and no {name}")
-        check(os.listdir(away) == ["app.key"], f"beside a key that was not replaced: {os.listdir(away)}")
-    ours = _calls.ed25519()
-    pair = ours.pair()
-    with mock.patch.object(ours, "pair", lambda: pair):
-        taken = SecretKey.generate()
-    check(bytes(pair) == bytes(64) and any(taken._opened.secret), "the pair that a key was made of is not cleared")
-    taken.clear()
-    check(not any(taken._opened.secret), "a key that was cleared has its secret")
-
-    fresh = os.path.join(room, "fresh.key")
-    minisign.write_new(fresh, b"text")
-    check(os.stat(fresh).st_mode & 0o777 == 0o600, "the mode of a new file")
-    rejects(FileExistsError, lambda: minisign.write_new(fresh, b"other"), "a file that is there")
-
-    check(key.public_key.verify(b"", key.sign(write(room, "empty", b""), trusted_comment="empty")) == "empty", "an empty file")
-
-    rejects(minisign.TooLong, lambda: PublicKey.from_file(write(room, "long", bytes(1 << 20 | 1))), "a text of more than 1 MiB")
-    rejects(FileNotFoundError, lambda: minisign.verify(os.path.join(room, "none"), key.public_key), "a file that is not there")
-    check(issubclass(minisign.WrongPassword, minisign.MinisignError) and minisign.WrongPassword.number > 0, "the kinds of errors")
-
-
-def parts(room: str) -> None:
-    """What keys, signatures and verifiers tell before there is data, and what they do not tell."""
-    key, other = SecretKey.generate(), SecretKey.generate()
-    data, secret = write(room, "data", b"what is signed"), bytes(key._opened.secret)
-    comments: Dict[str, Any] = {"trusted_comment": "one", "untrusted_comment": "two"}
-    made = key.sign(data, **comments)
-    ways: List[Data] = [b"what is signed", bytearray(b"what is signed"), io.BytesIO(b"what is signed"), [b"what is", b"", b" signed"]]
-    check(all(key.sign_data(way, **comments) == made for way in ways), "data in memory is signed as a file")
-    check(re.fullmatch(r"timestamp:\d+\thashed", key.public_key.verify(b"", key.sign_data([]))) is not None, "the default comment of data in memory")
-    check(len({made, Signature(bytearray(made.text)), key.sign_data(b"other", **comments)}) == 2 and made != made.text, "signatures in a set")
-
-    rejects(minisign.MissingUntrustedComment, lambda: Signature(b"").key_id, "a signature of no text")
-    rejects(minisign.MissingUntrustedComment, lambda: Signature(b"").is_legacy, "a signature of no text")
-    rejects(minisign.NotUtf8, lambda: Signature(b"\xff").key_id, "a signature that is no UTF-8")
-    check((made.key_id, made.is_legacy) == (key.public_key.key_id, False), f"the signature is of {made.key_id}")
-    check(pickle.loads(pickle.dumps(made)) == made and copy.deepcopy(made).key_id == made.key_id, "copies of a signature that was read")
-    longer = Signature(made.text.replace(b"trusted comment: one", b"trusted comment: ones"))
-    for signature, fed, comment, all_of_it in (
-            (made, b"what is signed", "one", "one"), (made, b"other", "one", "rejected SIGNATURE_REFUSED"),
-            (longer, b"what is signed", "rejected COMMENT_SIGNATURE_REFUSED", "rejected COMMENT_SIGNATURE_REFUSED")):
-        verifier = Verifier(key.public_key, signature)
-        before = answer(verifier.trusted_comment)
-        verifier.update(fed)
-        wanted = [text if text.startswith("rejected") else f"accepted {text.encode().hex()}" for text in (comment, comment, all_of_it)]
-        check([before, answer(verifier.trusted_comment), answer(verifier.finish)] == wanted, f"{fed!r}: not {wanted}")
-        rejects(minisign.NotBegun, verifier.trusted_comment, "the comment of a verifier that was finished")
-
-    shown = [repr(key), str(key), f"{key}", repr(key.public_key), repr([key]), repr(vars(key)), pydoc.render_doc(key), repr(Verifier(key.public_key, made))]
-    check(all(secret[:32].hex() not in text and repr(secret)[2:-1] not in text for text in shown), f"the secret is shown: {shown}")
-    check(shown[0] == f"<SecretKey {key.public_key.key_id}>" and shown[3] == f"<PublicKey {key.public_key.key_id}>", f"keys are shown as {shown}")
-    check(eval(repr(made)) == made, f"a signature is shown as {made!r}")
-    for call in (copy.copy, copy.deepcopy, pickle.dumps):
-        rejects(TypeError, lambda call=call: call(key), f"a secret key, and {call.__name__}")  # type: ignore[misc]
-    for value, name in ((key, "public_key"), (key.public_key, "key"), (key.public_key, "key_id"), (made, "text"), (made, "key_id"), (made, "is_legacy")):
-        rejects(AttributeError, lambda value=value, name=name: setattr(value, name, getattr(other, name, b"")), f"a new {name}")  # type: ignore[misc]
-
-
-def documentation(room: str) -> None:
-    """`help` shows all that there is and nothing else, and each call and each error says what it does."""
-    shown = pydoc.plain(pydoc.render_doc(minisign))
-    for name in minisign.__all__:
-        named = getattr(minisign, name)
-        check(re.search(rf"\b{name}\b", shown) is not None, f"help does not show {name}")
-        check(not (inspect.isclass(named) or inspect.isfunction(named)) or bool(named.__doc__), f"{name} says nothing")
-    for name, call in public_calls():
-        check(bool(inspect.getdoc(call)), f"{name} says nothing")
-    there = {name for name, value in vars(minisign).items() if not name.startswith("_") and not inspect.ismodule(value)}
-    check(there == set(minisign.__all__) and len(minisign.__all__) == len(there), f"in __all__, or there, and not both: {there ^ set(minisign.__all__)}")
-
-
-def passwords(room: str) -> None:
-    """A key that is sealed by the least work, and another password for it, under which it is sealed by the usual work."""
-    key = SecretKey.generate()
-    text = key.to_bytes("pass \u00e9", low_memory=True, operations_limit=2**19, memory_limit=2**24)
-    sealed = write(room, "sealed.key", text)
-    for password, wrong in ((None, minisign.KeySealed), ("pass", minisign.WrongPassword), ("", minisign.WrongPassword), ("\ud800", minisign.NotUtf8)):
-        rejects(wrong, lambda password=password: SecretKey.from_file(sealed, password), f"the password {password}")  # type: ignore[misc]
-    rejects(minisign.WrongPassword, lambda: minisign.change_password(sealed, "old", "newer"), "a change with a wrong password")
-    check(open(sealed, "rb").read() == text, "a key whose password was not changed")
-    ways: List[Text] = ["pass \u00e9", bytearray("pass \u00e9".encode())]
-    for way in ways:
-        check(SecretKey.from_file(sealed, way, low_memory=True).public_key == key.public_key, "a key that was sealed")
-    minisign.change_password(sealed, "pass \u00e9", "new")
-    check(os.stat(sealed).st_mode & 0o777 == 0o600, "the mode of a key whose password was changed")
-    check(not [name for name in os.listdir(room) if name.startswith("sealed.key.")], "a file beside the key is left")
-    check(SecretKey.from_file(sealed, "new").public_key == key.public_key, "a key whose password was changed")
-
-
-def installing(room: str) -> None:
-    """What the cases of tests/installer cannot say: files of other kinds, and what stops a run from within Python."""
-    key, directory = SecretKey.generate(), os.path.join(room, "there")
-    public, other = key.public_key, SecretKey.generate().public_key
-    os.mkdir(directory)
-    place, path = os.path.join(directory, "app"), os.path.join(room, "update")
-
-    def signed(data: bytes, comment: str) -> Signature:
-        return key.sign(write(room, "update", data), trusted_comment=comment)
-
-    one, two = signed(b"one", "version:1\tfile:app"), signed(b"two", "version:2\tfile:app")
-
-    def install(data: Any = path, update: Signature = two, keys: Any = public, **how: Any) -> bool:
-        how.setdefault("numbering", "version")
-        return minisign.install(keys, data, update, place, **how)
-
-    def offer(update: Signature, keys: Any = public) -> minisign.Offer:
-        return minisign.check(keys, update, place, numbering="version").status
-
-    def stands(data: bytes, number: int, what: str) -> None:
-        found = [open(name, "rb").read() if os.path.exists(name) else b"" for name in (place, os.path.join(directory, ".app.number"))]
-        left = [name for name in os.listdir(directory) if "stage" in name]
-        check((found[0], found[1].split(b"\n")[0], left) == (data, b"version:%d" % number, []), f"{what}: {found}, {left}")
-
-    def stops(kind: Type[BaseException], what: str, *given: Any, **how: Any) -> None:
-        rejects(kind, lambda: install(*given, **how), what)
-        stands(b"one", 1, f"after {what}")
-
-    seen: List[Tuple[int, int]] = []
-    install(io.BytesIO(b"one"), one, first=True, progress=lambda done, size: seen.append((done, size)))
-    stands(b"one", 1, "data in memory")
-    check(bool(seen), "progress of an installation")
-    write(directory, "app", b"changed")
-    check(install(io.BytesIO(b"one"), one) is True, "a changed file")
-
-    for raised in (LookupError, minisign.SignatureRefused):
-        stops(raised, f"progress that raises {raised.__name__}", progress=mock.Mock(side_effect=raised))
-    for most, source in ((2, io.BytesIO(b"two")), (2, path), (0, path)):
-        stops(minisign.TooLong, f"data of more than {most} bytes", source, most=most)
-    stops(minisign.SignatureRefused, "other data", io.BytesIO(b"2"), most=3)
-    waits, end = os.pipe()
-    os.set_blocking(waits, False)
-    with open(waits, "rb", buffering=0) as pipe:
-        stops(TypeError, "a pipe that has nothing yet", pipe)
-    os.close(end)
-
-    with open(path, "rb") as file:
-        interrupted = mock.Mock(fileno=file.fileno, read=mock.Mock(side_effect=KeyboardInterrupt))
-        stops(KeyboardInterrupt, "a run that is interrupted", interrupted)
-    unable = mock.Mock(**{"accepts.side_effect": KeyboardInterrupt})
-    with mock.patch.object(_calls, "_chosen", [unable]), mock.patch.object(sys, "unraisablehook"):
-        stops(minisign.ReadingFailed, "an Ed25519 that raises")
-    with open(path, "rb") as file:
-        check(install(file, mode=0o755, most=3) is True, "whether a file that is open is installed now")
-    stands(b"two", 2, "a file that is open")
-    check(os.stat(place).st_mode & 0o777 == 0o755, "the mode of what is installed of a file that is open")
-    rejects(minisign.KeptByVersion, lambda: minisign.install(public, path, two, place), "the other field, which is the usual one")
-    tells_of_updates(key, path, place)
-    stands(b"two", 2, "checks")
-    for keys in ([other, public], (public, other)):
-        check(offer(two, keys) is minisign.Offer.THERE, "a check with two keys")
-        check(install(keys=keys) is False, "an installation with two keys")
-    rejects(minisign.DifferentKeyIds, lambda: offer(two, [other, other]), "two keys of others")
-    rejects(ValueError, lambda: offer(two, [other] * 3), "three keys")
-    opened = len(os.listdir("/proc/self/fd"))
-    for _ in range(20):
-        install()
-    check(len(os.listdir("/proc/self/fd")) == opened, "descriptors stay open")
-    # (other systems than Linux have a library without the host)
-    with mock.patch.object(_calls, "library", object()):
-        importlib.reload(host)
-    rejects(NotImplementedError, lambda: host.install(public, path, two, place), "a library without the host", "^installing is for Linux: ")
-
-
-def tells_of_updates(key: SecretKey, path: str, place: str) -> None:
-    """What a check tells of updates over the number 2; and of one that has to expire."""
-    for offer, number in ((minisign.Offer.NEWER, 3), (minisign.Offer.THERE, 2), (minisign.Offer.OLDER, 1)):
-        comment = f"version:{number}\tfile:app\tnote:\u00e9"
-        update = key.sign(path, trusted_comment=comment)
-        found = minisign.check(key.public_key, update, place, numbering="version")
-        check(found == offer and found.status is offer and hash(found) == hash(offer) and found != 9, f"it is {found!r}")
-        for told in (found, pickle.loads(pickle.dumps(found))):
-            check((told, told.status, told.number, told.comment) == (found, offer, number, comment), f"it tells {told!r}")
-        expires: Dict[str, Any] = {"must_expire": True, "numbering": "version"}
-        rejects(minisign.NoExpiry, lambda: minisign.check(key.public_key, update, place, **expires), "a check of one that does not expire")
-        rejects(minisign.NoExpiry, lambda: minisign.install(key.public_key, path, update, place, **expires), "one that does not expire")
-
-
-def signals(room: str) -> None:
-    """A process that is asked to end between the two names ends once the target has its own; and no handler stays."""
-    key = SecretKey.generate()
-    path, place = write(room, "update", b"one"), os.path.join(room, "app")
-
-    def make_call(begun: Any) -> Any:
-        """A signal that ends a process comes where the record is to get its name."""
-        if _calls.library.minisign_install_due(begun.contents.machine) == _header.DUE_RENAME_RECORD:
-            os.kill(os.getpid(), signal.SIGTERM)
-        return _calls.library.make_call(begun)
-
-    def signed(number: int) -> Signature:
-        return key.sign(path, trusted_comment=f"version:{number}\tfile:app")
-
-    def install(number: int, **how: Any) -> None:
-        minisign.install(key.public_key, path, signed(number), place, numbering="version", **how)
-
-    child = os.fork()
-    if child == 0:
-        signal.signal(signal.SIGTERM, signal.SIG_DFL)
-        setattr(host, "library", mock.Mock(wraps=_calls.library, make_call=make_call))
-        install(1, first=True)
-        os._exit(0)
-    ended = os.waitpid(child, 0)[1]
-    there = sorted(name for name in os.listdir(room) if "app" in name)
-    check(os.WIFSIGNALED(ended) and os.WTERMSIG(ended) == signal.SIGTERM and there == [".app.lock", ".app.number", "app"], f"it ended by {ended}: {there}")
-    before = {number: signal.getsignal(number) for number in (signal.SIGHUP, signal.SIGINT, signal.SIGQUIT, signal.SIGTERM)}
-    install(2)
-    check({number: signal.getsignal(number) for number in before} == before, "a handler stays")
-    thread = threading.Thread(target=install, args=(3,))
-    thread.start()
-    thread.join()
-    found = minisign.check(key.public_key, signed(3), place, numbering="version")
-    check(found == minisign.Offer.THERE, "an installation in another thread")
-
-
 if __name__ == "__main__":
     kind, word, *rest = sys.argv[1:]
     minisign.use_ed25519(kind)
     if word in ("make", "sign", "sealed"):
         print(outcome(globals()[word], *rest))
-    else:
-        # (the word is the name of a function)
+    elif word in globals():
         globals()[word](*rest)
+    else:
+        getattr(importlib.import_module("python_checks"), word)(*rest)

@@ -45,14 +45,6 @@ NO_SODIUM = dict.fromkeys(("crypto_sign", "sodium_init", "randombytes"), False)
 # How many pages of 4 KiB may be in memory after so many calls that were not after a tenth of them.
 CALLS, PAGES = 10_000, 16
 
-PROGRAM = """[package]
-name = "user"
-version = "1.0.0"
-edition = "2021"
-
-[dependencies]
-{dependency}
-"""
 RENAMED = 'minisign-verify = {{ package = "minisign-proved", path = "{crate}" }}'
 ALONE = 'minisign-proved = {{ path = "{crate}", default-features = false }}'
 
@@ -62,14 +54,7 @@ STRUCTS = {"minisign_state": "State", "minisign_public_key": "PublicKey", "minis
            "minisign_signed_parts": "SignedParts", "minisign_sealing": "Sealing"}
 
 # What the crate makes of the header's errors, where it has the name that minisign-verify has; and where that takes data in pieces.
-KNOWN = {
-    "UNSUPPORTED_ALGORITHM": "UnsupportedAlgorithm",
-    "DIFFERENT_KEY_IDS": "UnexpectedKeyId",
-    "LEGACY_NOT_ACCEPTED": "UnexpectedAlgorithm",
-    "SIGNATURE_REFUSED": "InvalidSignature",
-    "COMMENT_SIGNATURE_REFUSED": "InvalidSignature",
-    "NOT_UTF8": "IoError",
-}
+KNOWN = dict(line.split() for line in read(HERE, "rust", "known.txt").decode().splitlines())
 IN_PIECES = {**KNOWN, "LEGACY_NOT_ACCEPTED": "UnsupportedLegacyMode"}
 
 
@@ -86,7 +71,7 @@ def new_crate(room, name, dependency, source):
     """A crate of a user in a directory of its own, with a program of rust/ as its source, which is named `user`: the directory."""
     directory = os.path.join(room, name)
     os.makedirs(os.path.join(directory, "src"))
-    write(directory, "Cargo.toml", PROGRAM.format(dependency=dependency).encode())
+    write(directory, "Cargo.toml", read(HERE, "rust", "user.toml") + dependency.encode())
     shutil.copy(os.path.join(HERE, "rust", source), os.path.join(directory, "src", "main.rs"))
     return directory
 
@@ -95,12 +80,13 @@ class Cargo:
     """Runs cargo with what it keeps in a directory of its own, and no network. Where it is tried how C is built, and not what it
     answers, that is compiled without optimizing, by `UNOPTIMIZED`; and what is no release, without what debuggers need."""
 
-    UNOPTIMIZED = {"CFLAGS": "-O0", "CARGO_PROFILE_DEV_DEBUG": "0"}
+    UNOPTIMIZED = {"CFLAGS": "-O0", "CARGO_PROFILE_DEV_DEBUG": "0", "CARGO_PROFILE_DEV_STRIP": "debuginfo"}
 
     def __init__(self, room, cargo, rustc, **environment):
         self.cargo, self.target = cargo, os.path.join(room, "target")
-        self.environment = {"CARGO_NET_OFFLINE": "true", "CARGO_TARGET_DIR": self.target, "RUSTC": rustc, "RUSTFLAGS": "-D warnings",
-                            "RUSTDOC": os.path.join(os.path.dirname(rustc), "rustdoc"), "PATH": static_library.path_without_kit()}
+        self.environment = {"CARGO_NET_OFFLINE": "true", "CARGO_TARGET_DIR": self.target, "CARGO_INCREMENTAL": "0", "RUSTC": rustc,
+                            "RUSTFLAGS": "-D warnings", "RUSTDOC": os.path.join(os.path.dirname(rustc), "rustdoc"),
+                            "PATH": static_library.path_without_kit()}
         # (rustup finds its toolchains by the home directory)
         if os.path.dirname(cargo) == needs.DEBIAN:
             self.environment["CARGO_HOME"] = os.path.join(room, "home")
@@ -114,12 +100,6 @@ class Cargo:
     def run(self, directory, *words, **environment):
         return static_library.hold([self.cargo, *words], directory, **{**self.environment, **environment})
 
-    def program(self, room, name, dependency, source):
-        """A program of a crate of its own, over this one: its path in that crate."""
-        directory = new_crate(room, name, dependency, source)
-        self.run(directory, "build", "--release")
-        return shutil.copy(os.path.join(self.target, "release", "user"), directory)
-
 
 def check_sources(checks):
     """The crate is small, and unsafe in one module alone."""
@@ -132,23 +112,16 @@ def check_sources(checks):
     checks.check({*there, "build.rs"} == {*BY_HAND, MADE}, f"the crate has the files {sorted(there)}")
 
 
-# How rust/inside.rs looks at a struct, and at a field of one.
-SIZE = '        assert_eq!(size_of::<{of}>(), {number}, "{place}");'
-OFFSET = """        let it = MaybeUninit::<{of}>::uninit();
-        let at = unsafe {{ std::ptr::addr_of!((*it.as_ptr()).{field}) }} as usize - it.as_ptr() as usize;
-        assert_eq!(at, {number}, "{place}");"""
-
-
 def check_inside(checks, cargo, crate, room):
     """The structs are laid out as a C compiler lays out those of the header, and secret keys are cleared."""
     lines = []
     for place, number in shared_cases.layout(room).items():
         struct, _, field = place.partition(".")
         if struct in STRUCTS:
-            lines.append((OFFSET if field else SIZE).format(of=STRUCTS[struct], field=field, number=number, place=place))
+            lines.append(f"        {'offset' if field else 'size'}!({STRUCTS[struct]}, {number}{field and ', '}{field});")
     source, inside = read(crate, MADE), read(HERE, "rust", "inside.rs").decode()
     write(crate, MADE, source + inside.replace("        // STRUCTS", "\n".join(lines)).encode())
-    status, said = cargo.try_to_run(crate, "test", "--lib")
+    status, said = cargo.try_to_run(crate, "test", "--lib", **Cargo.UNOPTIMIZED)
     checks.check(status == 0 and "2 passed; 0 failed" in said and len(lines) >= 15, f"inside, {len(lines)} places: {said[-1500:]}")
     write(crate, MADE, source)
 
@@ -178,9 +151,7 @@ def ask_all(program, room, minisign, cases):
     of_length, of_base64 = (f"Err(InvalidEncoding(BARE_PUBLIC_KEY_{why}))" for why in ("LENGTH", "NOT_BASE64"))
     program.ask_bare(*map(re.escape, ("Ok(None)", of_length, of_base64, of_length)))
     # (nothing secret is shown, and a reason by its name)
-    said = program.run("shown")[1].decode().splitlines()
-    wanted = ["Signer", "StreamVerifier", "Signer", "Sodium", "WRONG_PASSWORD Reason(77) WRONG_PASSWORD"]
-    program.checks.check(said == wanted, f"what is shown: {said}")
+    program.ask_itself(6, "shown")
     shared_cases.check_signing(program, os.path.join(room, "signed"), minisign, lambda name: f"Err(Rejected({name}))", "Ok(())")
 
 
@@ -270,21 +241,16 @@ def check_targets(checks, programs, crate, room):
     shared_cases.check_planted(checks, crate, [TARGET_BUG], room, ask_for_windows)
 
 
-def take_built(cargo, room):
-    """The crates of a directory take the library that was built before: what else is tried, and the bugs, are in what is Rust."""
-    library = next(iter(glob.glob(f"{cargo.target}/release/build/minisign-proved-*/out/libminisign.a")))
-    names = ["minisign", *(os.path.basename(path)[3:-2] for path in glob.glob(f"{os.path.dirname(library)}/libcalls-*.a"))]
-    host = re.search(r"^host: (.*)$", run([cargo.environment["RUSTC"], "-vV"])[1].decode(), re.M)[1]
-    os.mkdir(os.path.join(room, ".cargo"))
-    words = f'[target.{host}.minisign_proved]\nrustc-link-search = ["native={os.path.dirname(library)}"]\nrustc-link-lib = {[f"static={name}" for name in names]}\n'
-    write(room, ".cargo/config.toml", words.encode())
-
-
 def check_planted(checks, cargo, crate, room, minisign):
-    """Each planted bug is noticed by what is asked of a program over the changed crate, which may have warnings."""
+    """Each planted bug is noticed by what is asked of a program over the changed crate, which may have warnings. All stand in one place, where
+    cargo compiles what differs from the one before."""
+    place = os.path.join(room, "changed")
+    planted = new_crate(room, "planted", RENAMED.format(crate=place), "answers.rs")
+
     def ask(found, changed, directory, _):
-        planted = new_crate(directory, "planted", RENAMED.format(crate=changed), "answers.rs")
-        cargo.run(planted, "build", RUSTFLAGS="", CARGO_INCREMENTAL="0", **Cargo.UNOPTIMIZED)
+        shutil.rmtree(place, ignore_errors=True)
+        os.rename(changed, place)
+        cargo.run(planted, "build", RUSTFLAGS="", CARGO_INCREMENTAL="1", **Cargo.UNOPTIMIZED)
         ask_all(Program(found, f"{cargo.target}/debug/user"), directory, minisign, shared_cases.corpus())
 
     shared_cases.check_planted(checks, crate, shared_cases.bugs_of(HERE, "rust", "planted.txt"), room, ask)
@@ -296,20 +262,20 @@ def check_toolchain(checks, room, toolchain, minisign, is_first):
     cargo = Cargo(room, *toolchain, **({} if is_first else Cargo.UNOPTIMIZED))
     # (cargo builds what it packs, and throws that away)
     crate = shared_cases.packed("rust", room, {**cargo.environment, **Cargo.UNOPTIMIZED}, CARGO=cargo.cargo)
-    program = Program(checks, cargo.program(room, "answers", RENAMED.format(crate=crate), "answers.rs"))
+    answers = new_crate(room, "answers", RENAMED.format(crate=crate), "answers.rs")
+    cargo.run(answers, "build", "--release")
+    program = Program(checks, shutil.copy(os.path.join(cargo.target, "release", "user"), answers))
     few = shared_cases.corpus() + shared_cases.damaged(60)
     ask_all(program, room, minisign, shared_cases.all_cases(checks, minisign) if is_first else few)
-    take_built(cargo, room)
-    said = cargo.run(crate, "test", "--doc")
+    said = cargo.run(crate, "test", "--doc", **Cargo.UNOPTIMIZED)
     checks.check(re.search(r"test result: ok\. [2-9] passed; 0 failed; 0 ignored", said), f"the examples: {said[-500:]}")
     check_inside(checks, cargo, crate, room)
-    cargo.run(crate, "check", "--no-default-features")
+    cargo.run(crate, "check", "--no-default-features", **Cargo.UNOPTIMIZED)
     if not is_first:
         return
     program.ask_growth(CALLS, PAGES, few)
     program.ask_threads(few)
     check_planted(checks, cargo, crate, room, minisign)
-    shutil.rmtree(os.path.join(room, ".cargo"))
     programs = shared_cases.few_programs(room, *NEEDED)
     check_here(checks, programs, crate, room)
     check_targets(checks, programs, crate, room)

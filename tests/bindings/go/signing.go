@@ -123,7 +123,12 @@ func sealed(words []string) string {
 	return told(err)
 }
 
-// shown prints a key in each way, of which none tells a byte of the secret, and what is left of it once it was cleared.
+// tells prints what has to come, and behind a tabulator what came.
+func tells(wanted, came interface{}) {
+	fmt.Printf("%v\t%v\n", wanted, came)
+}
+
+// shown tells of a key in each way, of which none has a byte of the secret, and what is left of it once it was cleared.
 func shown() {
 	key, err := minisign.GenerateKey()
 	must(err)
@@ -131,25 +136,25 @@ func shown() {
 	id := fmt.Sprintf("SecretKey(%X)", *(*uint64)(unsafe.Pointer(&keyId)))
 	for _, verb := range []string{"%v", "%+v", "%#v", "%s", "%q", "%x", "%d"} {
 		for _, value := range []interface{}{key, *key} {
-			fmt.Println(verb, fmt.Sprintf(verb, value) == id)
+			tells(id, fmt.Sprintf(verb, value))
 		}
 	}
 	signer, err := minisign.NewSigner(key)
 	must(err)
 	text := fmt.Sprintf("%+v", struct{ Key *minisign.SecretKey }{key})
-	fmt.Println(strings.Contains(text, id))
+	tells(true, strings.Contains(text, id))
 	// (the bytes are those of the field `opened`, in which the secret stands after the mark and the identifier)
 	secret := unsafe.Slice((*byte)(unsafe.Add(*(*unsafe.Pointer)(unsafe.Pointer(key)), 16)), 64)
-	fmt.Println(bytes.Equal(secret, make([]byte, 64)))
+	tells(false, bytes.Equal(secret, make([]byte, 64)))
 	key.Clear()
-	fmt.Println(bytes.Equal(secret, make([]byte, 64)))
+	tells(true, bytes.Equal(secret, make([]byte, 64)))
 	_, err = signer.Sign("c", "u")
-	fmt.Println(told(err))
+	tells("KEY_NOT_OPENED", told(err))
 	_, err = key.EncodeUnsealed()
-	fmt.Println(told(err))
+	tells("KEY_NOT_OPENED", told(err))
 	password := []byte("pass word")
 	minisign.Wipe(password)
-	fmt.Println(password)
+	tells([9]byte{}, password)
 }
 
 // wrong makes calls with arguments that are none.
@@ -157,24 +162,24 @@ func wrong() {
 	key, err := minisign.GenerateKey()
 	must(err)
 	_, err = key.Sign(nil, "c", "u")
-	fmt.Println(err)
+	tells("minisign: reader is nil", err)
 	_, err = minisign.NewSigner(nil)
-	fmt.Println(err)
+	tells("minisign: key is nil", err)
 	for _, password := range [][]byte{nil, {}} {
 		_, err = key.Encode(password, least)
-		fmt.Println(err)
+		tells("minisign: password is empty: EncodeUnsealed makes a key that takes none", err)
 	}
 	_, err = minisign.DecodeSecretKey(nil, nil, minisign.Work{})
-	fmt.Println(told(err))
+	tells("MISSING_SECRET_KEY_COMMENT", told(err))
 	_, err = new(minisign.SecretKey).PublicKey()
-	fmt.Println(told(err))
+	tells("KEY_NOT_OPENED", told(err))
 	_, err = new(minisign.SecretKey).SignBytes([]byte("data"), "c", "u")
-	fmt.Println(told(err))
+	tells("KEY_NOT_OPENED", told(err))
 	var signer minisign.Signer
 	_, err = signer.Write([]byte("data"))
-	fmt.Println(told(err))
+	tells("NOT_BEGUN", told(err))
 	_, err = signer.Sign("c", "u")
-	fmt.Println(told(err))
+	tells("NOT_BEGUN", told(err))
 }
 
 func pages() int {

@@ -6,11 +6,10 @@
 //     node signing.mjs growth COUNT                                how many bytes more are in memory after so many keys
 //     node signing.mjs threads                                     whether three threads sign at once
 //
-// A line for each thing that is tried: what has to come of it, and what comes.
+//     node signing.mjs itself DATA
 //
-//     node signing.mjs shown                                       how a key is shown, and what is left of it once it was cleared
-//     node signing.mjs wrong                                       calls with arguments that are none
-//     node signing.mjs streams DATA                                progress, a signal, and streams of four bytes that fail
+// A line for each thing that is tried: what has to come of it, and what comes. How a key is shown, and what is left of it once it was
+// cleared; calls with arguments that are none; progress, a signal, and streams of four bytes that fail.
 
 import {createReadStream, readFileSync, writeFileSync} from "node:fs";
 import {inspect} from "node:util";
@@ -158,7 +157,8 @@ if (isMainThread) {
     const workers = [1, 2].map(() => new Promise(resolve => new Worker(new URL(import.meta.url)).on("message", resolve)));
     return (await Promise.all([manySigned(), ...workers])).every(Boolean);
   };
-  const run = {make, sign: signFile, opened, shown, wrong, streams, growth, threads}[what];
+  const itself = async path => [...await shown(), ...await wrong(), ...await streams(path)];
+  const run = {make, sign: signFile, opened, itself, growth, threads}[what];
   const lines = await run(...words).catch(told);
   console.log([lines].flat().join("\n"));
 } else {

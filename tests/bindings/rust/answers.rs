@@ -209,7 +209,7 @@ fn sealed(operations: &str, memory: &str) -> Result<(), Error> {
     key.encode(&Sodium, Some("pass word"), &work).map(|_| ())
 }
 
-/// What is shown of values: nothing secret.
+/// What has to be shown of values, which is nothing secret, and what is.
 fn shown() {
     let key = SecretKey::generate(&Sodium).unwrap();
     let signature = key.sign(&Sodium, b"data", "c", "u").unwrap();
@@ -218,10 +218,12 @@ fn shown() {
     assert_eq!(format!("{key:?}"), format!("SecretKey({id:X})"));
     let signer = key.sign_stream(&Sodium);
     let verifier = public_key.verify_stream(&signature).unwrap();
-    for shown in [format!("{signer:?}"), format!("{verifier:?}"), format!("{:?}", signer.clone()), format!("{:?}", Sodium.clone())] {
-        println!("{}", shown.split(&[' ', '('][..]).next().unwrap());
+    let shown = [format!("{signer:?}"), format!("{verifier:?}"), format!("{:?}", signer.clone()), format!("{:?}", Sodium.clone())];
+    for (wanted, shown) in ["Signer", "StreamVerifier", "Signer", "Sodium"].iter().zip(shown) {
+        println!("{wanted}\t{}", shown.split(&[' ', '('][..]).next().unwrap());
     }
-    println!("{:?} {:?} {}", Reason::WRONG_PASSWORD, Reason(77), Reason::WRONG_PASSWORD.name());
+    println!("WRONG_PASSWORD Reason(77)\t{:?} {:?}", Reason::WRONG_PASSWORD, Reason(77));
+    println!("WRONG_PASSWORD\t{}", Reason::WRONG_PASSWORD.name());
 }
 
 fn main() {

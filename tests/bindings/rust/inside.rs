@@ -3,6 +3,18 @@
 mod inside {
     use super::*;
     use std::mem::{size_of, ManuallyDrop, MaybeUninit};
+    macro_rules! size {
+        ($of:ty, $number:expr) => {
+            assert_eq!(size_of::<$of>(), $number, stringify!($of))
+        };
+    }
+    macro_rules! offset {
+        ($of:ty, $number:expr, $field:ident) => {
+            let it = MaybeUninit::<$of>::uninit();
+            let at = unsafe { std::ptr::addr_of!((*it.as_ptr()).$field) } as usize - it.as_ptr() as usize;
+            assert_eq!(at, $number, "{} of {}", stringify!($field), stringify!($of))
+        };
+    }
     #[test]
     fn a_key_is_cleared() {
         let mut key = ManuallyDrop::new(SecretKey { mark: 1, key_id: [2; 8], secret: [3; 64] });
