@@ -282,8 +282,6 @@ class Trial:
 
     def try_group(self, group):
         """Tries a group, and alone once more each of it that was not rejected: what there is to say, and no more works."""
-        if len(group) == 1:
-            return [self.tried_alone(group[0])], set()
         return [self.tried_alone(verdict.body) if verdict.outcome == FAILED else verdict for verdict in self.tried(group)], set()
 
     def tried_alone(self, body):
