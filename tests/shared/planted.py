@@ -23,8 +23,6 @@ from running import SECONDS, Failure, Skip, expect, read, run_one, write
 Bug = namedtuple("Bug", "what file old new case")
 
 
-# What gives new keys of the program a 64th of the usual limits, with which a derivation takes seconds.
-LITTLE_LIMITS = ("c/minisign/keys.c", *(f"OPERATIONS_LIMIT{by}, .memory_limit = MINISIGN_MEMORY_LIMIT{by} " for by in ("", " >> 6")))
 # What goes in a changed text, and what comes, marked as by `wdiff`.
 MARK = re.compile(r"\[-(.*?)-\]|\{\+(.*?)\+\}", re.S)
 
