@@ -1,6 +1,6 @@
 //! Which command the arguments ask for.
 
-ghost use Rattle.std.specs.Prelude.{◌≡◌, map};
+ghost use Rattle.std.specs.Prelude.{◌≡◌, length, map};
 ghost use Rattle.minisign_tool.specs.Commands.{AsksFor};
 
 /// A command and the paths of its files.
@@ -46,11 +46,33 @@ pub fn command_of<'a>(words: &[&'a str]) -> Command<'a>
     // forms for that command with its paths, in their order, and all other words for the usage.
     ensures { AsksFor (map (λ w. w.now) words.now) result }
 {
+    match words.len() {
+        3 => with_two_paths(words),
+        4 => with_three_paths(words),
+        _ => Command::Usage,
+    }
+}
+
+// The command with two paths that these three words ask for.
+fn with_two_paths<'a>(words: &[&'a str]) -> Command<'a>
+    requires { length words.now ≡ 3 }
+    ensures { AsksFor (map (λ w. w.now) words.now) result }
+{
     match *words {
         ["keygen", pk, sk] => Command::Keygen { pk, sk },
+        ["verify-raw", pk, sig] => Command::VerifyRaw { pk, sig },
+        _ => Command::Usage,
+    }
+}
+
+// The command with three paths that these four words ask for.
+fn with_three_paths<'a>(words: &[&'a str]) -> Command<'a>
+    requires { length words.now ≡ 4 }
+    ensures { AsksFor (map (λ w. w.now) words.now) result }
+{
+    match *words {
         ["sign", sk, file, sig] => Command::Sign { sk, file, sig },
         ["verify", pk, file, sig] => Command::Verify { pk, file, sig },
-        ["verify-raw", pk, sig] => Command::VerifyRaw { pk, sig },
         ["cat", pk, file, sig] => Command::Cat { pk, file, sig },
         _ => Command::Usage,
     }

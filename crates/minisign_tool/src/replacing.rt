@@ -58,7 +58,7 @@ struct FilePlace {
 struct Stage {
     rt: HostRuntime,
     staged: String,
-    path: String,
+    place: FilePlace,
     directory: Option<File>,
     is_installed: bool,
 }
@@ -71,7 +71,7 @@ impl Drop for Stage {
         let Stage {
             rt: _rt,
             staged: _staged,
-            path: _path,
+            place: _place,
             directory: _directory,
             is_installed: _is_installed,
         } = self;
@@ -79,11 +79,24 @@ impl Drop for Stage {
 }
 
 impl Stage {
+    // Gives the new file the permissions that are kept, writes all bytes and syncs it.
+    fn fill(&self, file: File, bytes: &[u8]) -> Result<()>
+        ensures { IfErr result IsWriteFault }
+    {
+        if self.place.keeps_permissions {
+            written(give_permissions(&file, &self.place.older, None))?;
+        }
+        let Ok(()) = put_and_flush(&mut WriterSink::new(&file), bytes) else {
+            return Err(NamedFault::WritingFailed.into());
+        };
+        written(file.sync_all())
+    }
+
     // Takes the path, in one step.
     fn install(&mut self) -> Result<()>
         ensures { IfErr result IsWriteFault }
     {
-        written(fs::rename(&self.rt, self.staged.as_str(), self.path.as_str()))?;
+        written(fs::rename(&self.rt, self.staged.as_str(), self.place.path.as_str()))?;
         self.is_installed = true;
         Ok(())
     }
@@ -117,7 +130,7 @@ pub fn replace_file(rt: &HostRuntime, contents: Contents<'_>) -> Result<()>
     ensures { IfErr result IsWriteFault }
 {
     let place = find_place(rt, contents.path)?;
-    match make_stage(rt, &place, contents)? {
+    match make_stage(rt, place, contents)? {
         Some(mut stage) => {
             stage.install()?;
             stage.sync()
@@ -137,40 +150,33 @@ pub fn replace_both(rt: &HostRuntime, public: Contents<'_>, secret: Contents<'_>
     // Replacing files fails as `out of memory` or `writing failed`.
     ensures { IfErr result IsWriteFault }
 {
-    let (mut public_stage, mut secret_stage) = make_both(rt, public, secret)?;
+    let public_place = find_place(rt, public.path)?;
+    let secret_place = find_place(rt, secret.path)?.apart_from(&public_place);
+    let mut public_stage = make_stage(rt, public_place, public)?;
+    let mut secret_stage = make_stage(rt, secret_place, secret)?;
+    put_both(rt, public, secret, &mut public_stage, &mut secret_stage)
+}
+
+// Writes what is no regular file, lets both stages take their paths, and then syncs the new names.
+fn put_both(
+    rt: &HostRuntime,
+    public: Contents<'_>,
+    secret: Contents<'_>,
+    public_stage: &mut Option<Stage>,
+    secret_stage: &mut Option<Stage>,
+) -> Result<()>
+    ensures { IfErr result IsWriteFault }
+{
     if public_stage.is_none() {
         write_stream(rt, public)?;
     }
     if secret_stage.is_none() {
         write_stream(rt, secret)?;
     }
-    install_both(&mut public_stage, &mut secret_stage)
-}
-
-// Makes both new files, where the places are regular files. Where that is one file, its permissions are
-// kept for the public key alone.
-fn make_both(
-    rt: &HostRuntime,
-    public: Contents<'_>,
-    secret: Contents<'_>,
-) -> Result<(Option<Stage>, Option<Stage>)>
-    ensures { IfErr result IsWriteFault }
-{
-    let public_place = find_place(rt, public.path)?;
-    let secret_place = find_place(rt, secret.path)?.apart_from(&public_place);
-    let public_stage = make_stage(rt, &public_place, public)?;
-    let secret_stage = make_stage(rt, &secret_place, secret)?;
-    Ok((public_stage, secret_stage))
-}
-
-// Lets both stages take their paths, and then syncs the new names.
-fn install_both(public: &mut Option<Stage>, secret: &mut Option<Stage>) -> Result<()>
-    ensures { IfErr result IsWriteFault }
-{
-    install(public)?;
-    install(secret)?;
-    sync(public)?;
-    sync(secret)
+    install(public_stage)?;
+    install(secret_stage)?;
+    sync(public_stage)?;
+    sync(secret_stage)
 }
 
 // Takes the path of a stage, where there is one.
@@ -279,34 +285,30 @@ fn is_of_processes(rt: &HostRuntime, link: &Metadata) -> bool {
 }
 
 // Makes the new file of a place beside it and writes it; none where the place is no regular file.
-fn make_stage(rt: &HostRuntime, place: &Place, contents: Contents<'_>) -> Result<Option<Stage>>
+fn make_stage(rt: &HostRuntime, place: Place, contents: Contents<'_>) -> Result<Option<Stage>>
     ensures { IfErr result IsWriteFault }
 {
     let Place::File(place) = place else {
         return Ok(None);
     };
-    let path = String::from_str(rt.alloc(), &place.path)?;
     let mode = match &place.older {
         Some(_) => {
             // A file that may not be written is not replaced.
-            let _writable = written(OpenOptions::new().write(true).open(rt, path.as_str()))?;
+            let _writable = written(OpenOptions::new().write(true).open(rt, place.path.as_str()))?;
             FOR_THE_OWNER
         }
         None => contents.mode,
     };
-    let directory = fs::open(rt, directory_of(&path)).ok();
-    let (file, staged) = create_beside(rt, &path, mode)?;
+    let directory = fs::open(rt, directory_of(&place.path)).ok();
+    let (file, staged) = create_beside(rt, &place.path, mode)?;
     let stage = Stage {
         rt: *rt,
         staged,
-        path,
+        place,
         directory,
         is_installed: false,
     };
-    if place.keeps_permissions {
-        written(give_permissions(&file, &place.older, None))?;
-    }
-    fill(file, contents.bytes)?;
+    stage.fill(file, contents.bytes)?;
     Ok(Some(stage))
 }
 
@@ -332,16 +334,6 @@ fn create_beside(rt: &HostRuntime, path: &str, mode: u32) -> Result<(File, Strin
         }
     }
     Err(NamedFault::WritingFailed.into())
-}
-
-// Writes all bytes and syncs the file.
-fn fill(file: File, bytes: &[u8]) -> Result<()>
-    ensures { IfErr result IsWriteFault }
-{
-    let Ok(()) = put_and_flush(&mut WriterSink::new(&file), bytes) else {
-        return Err(NamedFault::WritingFailed.into());
-    };
-    written(file.sync_all())
 }
 
 // Writes what is no regular file.

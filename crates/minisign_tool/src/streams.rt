@@ -18,16 +18,16 @@ pub struct HeldStreams {
 /// closed stream stays as good as closed.
 pub fn hold_closed_streams(rt: &HostRuntime) -> io::Result<HeldStreams> {
     Ok(HeldStreams {
-        _input: hold(rt, rt.stdin().as_fd().try_clone_to_owned().is_err())?,
-        _output: hold(rt, rt.stdout().as_fd().try_clone_to_owned().is_err())?,
-        _errors: hold(rt, rt.stderr().as_fd().try_clone_to_owned().is_err())?,
+        _input: hold(rt, rt.stdin())?,
+        _output: hold(rt, rt.stdout())?,
+        _errors: hold(rt, rt.stderr())?,
     })
 }
 
-// A directory, which gets the lowest number that is free, in place of a closed stream.
-fn hold(rt: &HostRuntime, is_closed: bool) -> io::Result<Option<File>> {
-    if !is_closed {
-        return Ok(None);
+// A directory, which gets the lowest number that is free, in place of a stream that is closed.
+fn hold<F: AsFd + Drop>(rt: &HostRuntime, stream: F) -> io::Result<Option<File>> {
+    match stream.as_fd().try_clone_to_owned() {
+        Ok(_open) => Ok(None),
+        Err(_) => Ok(Some(fs::open(rt, "/")?)),
     }
-    Ok(Some(fs::open(rt, "/")?))
 }
