@@ -1,4 +1,4 @@
-//! The outcomes of calls, and bytes as they are shown and compared; prefixes of texts and bytes.
+//! The outcomes of calls, and bytes as they are shown and compared.
 
 use minisign_base::errors::Result;
 use minisign_base::faults::NamedFault;
@@ -33,16 +33,11 @@ pub fn ends_in<T: Drop>(answer: Result<T>, expected: Outcome) -> bool {
 }
 
 /// Whether it was found out, and holds.
-pub fn holds(answer: &Result<bool>) -> bool {
+pub fn is_so(answer: Result<bool>) -> bool {
     match answer {
-        Ok(right) => *right,
+        Ok(right) => right,
         Err(_) => false,
     }
-}
-
-/// The same of an answer that is passed on.
-pub fn is_so(answer: Result<bool>) -> bool {
-    holds(&answer)
 }
 
 // Whether it was found out and holds, or an allocation failed.
@@ -73,16 +68,11 @@ pub fn gives_record(bytes: Result<Vec<u8>>, record: &[u8]) -> bool {
 }
 
 /// Whether this is the text.
-pub fn is_text(shown: &Result<String>, text: &str) -> bool {
+pub fn gives_text(shown: Result<String>, text: &str) -> bool {
     match shown {
         Ok(shown) => shown.as_str() == text,
         Err(_) => false,
     }
-}
-
-/// The same of a text of which nothing else is asked.
-pub fn gives_text(shown: Result<String>, text: &str) -> bool {
-    is_text(&shown, text)
 }
 
 /// The bytes in lower hexadecimal, two digits each.
@@ -92,14 +82,6 @@ pub fn hexadecimal(alloc: Global, bytes: &[u8]) -> std::result::Result<String, f
         write!(text, "{byte:02x}")?;
     }
     Ok(text)
-}
-
-/// The first so many bytes of a text that is ASCII.
-pub fn beginning(text: &str, len: usize) -> &str {
-    match std::str::from_utf8(front(text.as_bytes(), len)) {
-        Ok(front) => front,
-        Err(_) => "",
-    }
 }
 
 /// The first so many bytes.

@@ -47,6 +47,6 @@ pub const SAID: &[u8] = b"Signature and comment signature verified\nTrusted comm
 pub const COUNTED_PUBLIC_TEXT: &str =
     "untrusted comment: minisign public key: 2726252423222120\nRWQgISIjJCUmJ1pbWFleX1xdUlNQUVZXVFVKS0hJTk9MTUJDQEFGR0RF\n";
 
-/// The second line of the secret text of that pair, sealed under the empty password.
+/// The secret text of that pair, sealed under the empty password.
 pub const COUNTED_SEALED_UNDER_NOTHING: &str =
-    "RWRTY0IyKCkqKywtLi8wMTIzNDU2Nzg5Ojs8PT4/QEFCQ0RFRkcAABAAAAAAAAAAAAIAAAAAIoT8yd+PcQfH6lwE1U7O9qfndmpt7swxBoez0bsWiknOfDOOpFGbhjh5qsz72GDfpXvgyyaj1ApsXB8h6ndwyMLnkT37fS678tPzO+d7NuqTnl9nkchMiqeXIS9wInpMPH1nK9B1duY=";
+    "untrusted comment: rsign encrypted secret key\nRWRTY0IyKCkqKywtLi8wMTIzNDU2Nzg5Ojs8PT4/QEFCQ0RFRkcAABAAAAAAAAAAAAIAAAAAIoT8yd+PcQfH6lwE1U7O9qfndmpt7swxBoez0bsWiknOfDOOpFGbhjh5qsz72GDfpXvgyyaj1ApsXB8h6ndwyMLnkT37fS678tPzO+d7NuqTnl9nkchMiqeXIS9wInpMPH1nK9B1duY=\n";

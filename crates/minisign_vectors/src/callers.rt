@@ -1,7 +1,8 @@
 //! The calls for callers and the examples over them, run on the worked texts under the toy.
 
 use crate::passwords::sign_with_password;
-use crate::signatures::calls::{key_a, key_of, signs_so, tells};
+use crate::signatures::calls::{SIGNED_BY_DEFAULT, key_a, key_of, tells};
+use crate::tables::holds_at;
 use minisign::{
     ErrorKind, PublicKey, Result, SecretKey, copy_verified, sign_bytes, verify_bytes,
     verify_in_place,
@@ -88,14 +89,14 @@ fn is_told(alloc: Global, row: &Told) -> bool {
         return in_place;
     }
     let answer = verified(alloc, (pk_text, sig_text), message.as_bytes());
-    let told = tells(answer, expected);
+    let told = tells(&answer, "t", expected);
     in_place && told
 }
 
 #[test]
 fn the_comment_of_bytes_is_told(rt: HostRuntime) {
     for row in told() {
-        assert!(rt; is_told(rt.alloc(), row), "at {row:?}");
+        holds_at(&rt, is_told(rt.alloc(), row), row);
     }
 }
 
@@ -104,7 +105,7 @@ fn is_copied<R: Rereader>(alloc: Global, data: &mut R, expected: Outcome, left: 
     let mut out = VecSink::new(alloc);
     let toy = ToyScheme::new();
     let answer = copy_verified(alloc, &toy, KEY_TEXT, SIGNATURE_TEXT, data, &mut out);
-    let told = tells(answer, expected);
+    let told = tells(&answer, "t", expected);
     told && out.as_slice() == left
 }
 
@@ -135,10 +136,8 @@ fn signed_with(
 
 // Whether the key of the text signs `abc` as it was worked out.
 fn signs(alloc: Global, sk_text: &str) -> bool {
-    signs_so(
-        signed_with(alloc, (sk_text, "password"), b"abc", "t"),
-        Accepted,
-    )
+    let text = signed_with(alloc, (sk_text, "password"), b"abc", "t");
+    gives_text(text, SIGNED_BY_DEFAULT)
 }
 
 #[test]
@@ -219,7 +218,7 @@ fn is_taken(alloc: Global, row: &Update) -> bool {
 #[test]
 fn an_update_is_taken_under_its_name_alone(rt: HostRuntime) {
     for row in updates() {
-        assert!(rt; is_taken(rt.alloc(), row), "at {row:?}");
+        holds_at(&rt, is_taken(rt.alloc(), row), row);
     }
 }
 

@@ -1,6 +1,6 @@
-//! Files that are verified and signed by their names, in a directory of their own.
+//! Files that are verified and signed by their names.
 
-use crate::signatures::calls::{key_of, signs_so, tells};
+use crate::signatures::calls::{SIGNED_BY_DEFAULT, key_of, tells};
 use crate::unasked::sealed_pair_key;
 use minisign::{Result, SecretKey, sign_file, verify_file};
 use minisign_base::devices::random_sources::FixedRandom;
@@ -8,12 +8,11 @@ use minisign_base::faults::NamedFault::{
     EncryptedKeyRefused, RandomSourceFailed, ReadingFailed, SignatureRefused,
 };
 use minisign_base::toy::ToyScheme;
-use minisign_fixtures::folders::{folder_path, make_empty, path_of, put};
+use minisign_fixtures::files::path_of;
 use minisign_fixtures::outcomes::Outcome::{self, Accepted, Refused};
-use minisign_fixtures::outcomes::front;
+use minisign_fixtures::outcomes::{front, is_so};
 use minisign_fixtures::texts::{KEY_TEXT, SEALED, SECRET_TEXT, SIGNATURE_TEXT};
-use std::fs;
-use std::test::Fail;
+use std::{fs, io};
 
 const ZEROS: [u8; 128] = [0; 128];
 
@@ -31,24 +30,25 @@ fn told() -> &'static [(&'static str, &'static str, Outcome)] {
 }
 
 // Verifies a file with key A and the text in another one.
-fn file_verified(rt: &HostRuntime, sig_path: &str, data_path: &str) -> Result<String> {
-    let toy = ToyScheme::new();
-    verify_file(rt, rt.alloc(), &toy, KEY_TEXT, sig_path, data_path)
+fn file_verified(rt: &HostRuntime, sig: &str, data: &str) -> Result<String> {
+    let sig_path = path_of(rt, sig)?;
+    let data_path = path_of(rt, data)?;
+    let (sig_path, data_path) = (sig_path.as_str(), data_path.as_str());
+    verify_file(
+        rt,
+        rt.alloc(),
+        &ToyScheme::new(),
+        KEY_TEXT,
+        sig_path,
+        data_path,
+    )
 }
 
-// Whether this comes of verifying a file of the directory.
-fn is_told(rt: &HostRuntime, folder: &str, row: &(&str, &str, Outcome)) -> bool {
-    let (sig, file, expected) = *row;
-    let Ok(sig_path) = path_of(rt, folder, sig) else {
-        return false;
-    };
-    let Ok(data_path) = path_of(rt, folder, file) else {
-        return false;
-    };
-    tells(
-        file_verified(rt, sig_path.as_str(), data_path.as_str()),
-        expected,
-    )
+// Whether this comes of verifying a file.
+fn is_told(rt: &HostRuntime, row: &(&str, &str, Outcome)) -> bool {
+    let (sig, data, expected) = *row;
+    let answer = file_verified(rt, sig, data);
+    tells(&answer, "t", expected)
 }
 
 // The text of a secret key, or none for the key of a pair that is sealed; the file that it is to sign,
@@ -79,60 +79,58 @@ fn key_of_row(rt: &HostRuntime, sk_text: &str) -> Result<SecretKey> {
 }
 
 // What the key of a row signs of a file with these random bytes.
-fn file_signed(rt: &HostRuntime, sk_text: &str, path: &str, random: &[u8]) -> Result<String> {
+fn file_signed(rt: &HostRuntime, sk_text: &str, name: &str, random: &[u8]) -> Result<String> {
     let sk = key_of_row(rt, sk_text)?;
+    let path = path_of(rt, name)?;
     let toy = ToyScheme::new();
-    let mut random = FixedRandom::new(random);
+    let (path, mut random) = (path.as_str(), FixedRandom::new(random));
     sign_file(rt, rt.alloc(), &toy, &sk, path, Some("t"), &mut random, 0)
 }
 
-// Whether this comes of signing a file of the directory.
-fn is_signed(rt: &HostRuntime, folder: &str, row: &Signed) -> bool {
-    let (sk_text, file, drawn, expected) = *row;
-    let Ok(path) = path_of(rt, folder, file) else {
-        return false;
-    };
-    let answer = file_signed(rt, sk_text, path.as_str(), front(&ZEROS, drawn));
-    signs_so(answer, expected)
+// Whether this comes of signing a file.
+fn is_signed(rt: &HostRuntime, row: &Signed) -> bool {
+    let (sk_text, name, drawn, expected) = *row;
+    let answer = file_signed(rt, sk_text, name, front(&ZEROS, drawn));
+    tells(&answer, SIGNED_BY_DEFAULT, expected)
 }
 
-// Whether all of it comes of the files of the directory.
-fn come_out(rt: &HostRuntime, folder: &str) -> bool {
+// Whether all of it comes of the files.
+fn come_out(rt: &HostRuntime) -> bool {
     for row in told() {
-        if !is_told(rt, folder, row) {
+        if !is_told(rt, row) {
             return false;
         }
     }
     for row in signed() {
-        if !is_signed(rt, folder, row) {
+        if !is_signed(rt, row) {
             return false;
         }
     }
     true
 }
 
-// Whether a signature stands beside the file.
-fn is_beside(rt: &HostRuntime, folder: &str) -> std::result::Result<bool, Fail> {
-    let beside = path_of(rt, folder, "abc.minisig")?;
-    let stands = fs::exists(rt, beside.as_str())?;
-    Ok(stands)
+// Makes a file with a signature and one with the data, and removes them: whether all of it comes of these
+// files, and no signature stands beside what was signed.
+fn are_right(rt: &HostRuntime, sig_path: &str, path: &str, beside: &str) -> io::Result<bool> {
+    fs::write(rt, sig_path, SIGNATURE_TEXT)?;
+    fs::write(rt, path, "abc")?;
+    let right = come_out(rt);
+    let stands = fs::exists(rt, beside)?;
+    fs::remove_file(rt, sig_path)?;
+    fs::remove_file(rt, path)?;
+    Ok(right && !stands)
 }
 
-// Makes a directory with a signature and the data, and removes it: whether all of it comes of these
-// files, and no signature stands beside what was signed.
-fn are_right(rt: &HostRuntime, folder: &str) -> std::result::Result<bool, Fail> {
-    make_empty(rt, folder)?;
-    put(rt, folder, "abc.sig", SIGNATURE_TEXT.as_bytes())?;
-    put(rt, folder, "abc", b"abc")?;
-    let right = come_out(rt, folder);
-    let beside = is_beside(rt, folder)?;
-    fs::remove_dir_all(rt, folder)?;
-    Ok(right && !beside)
+// Whether it is so in the directory for passing files.
+fn are_right_in_passing(rt: &HostRuntime) -> Result<bool> {
+    let sig_path = path_of(rt, "abc.sig")?;
+    let path = path_of(rt, "abc")?;
+    let beside = path_of(rt, "abc.minisig")?;
+    let right = are_right(rt, sig_path.as_str(), path.as_str(), beside.as_str())?;
+    Ok(right)
 }
 
 #[test]
-fn files_are_verified_and_signed_by_their_names(rt: HostRuntime) -> std::result::Result<(), Fail> {
-    let folder = folder_path(&rt, "files")?;
-    assert!(rt; are_right(&rt, folder.as_str())?);
-    Ok(())
+fn files_are_verified_and_signed_by_their_names(rt: HostRuntime) {
+    assert!(rt; is_so(are_right_in_passing(&rt)));
 }

@@ -57,8 +57,8 @@ const WRITTEN: [u8; 13] = [
 ];
 
 // Whether the answer is that of a writer that is full.
-fn is_full(answer: io::Result<()>) -> bool {
-    match &answer {
+fn is_full(answer: &io::Result<()>) -> bool {
+    match answer {
         Ok(()) => false,
         Err(error) => error.kind() == io::ErrorKind::WriteZero,
     }
@@ -73,9 +73,9 @@ fn has_room_for_two(writer: &mut &mut [u8]) -> bool {
 
 // Whether the writer is full for numbers of each width.
 fn has_no_room(writer: &mut &mut [u8]) -> bool {
-    let one = is_full(writer.write_u8(3));
-    let four = is_full(writer.write_u32_le(3));
-    let eight = is_full(writer.write_u64_le(3));
+    let one = is_full(&writer.write_u8(3));
+    let four = is_full(&writer.write_u32_le(3));
+    let eight = is_full(&writer.write_u64_le(3));
     one && four && eight
 }
 

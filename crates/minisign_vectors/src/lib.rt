@@ -30,4 +30,6 @@ mod shown;
 #[cfg(test)]
 mod signatures;
 #[cfg(test)]
+mod tables;
+#[cfg(test)]
 mod unasked;

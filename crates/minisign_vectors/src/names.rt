@@ -2,7 +2,9 @@
 //! the scheme and the parameters, and `minisign_base` through it. Each is called, and gives the
 //! worked values. `hash` has those of `minisign_hash`, and `signatures::calls` those that sign and verify.
 
+use crate::shown::says;
 use crate::signatures::calls::{signed_text, verified_texts};
+use crate::tables::holds_at;
 use minisign::minisign_base::{
     KeyId, fill_from, get_password, load_u64_le, put_and_flush, put_line, raw_scrypt_params,
     store_u64_le, unix_timestamp, write_all,
@@ -40,8 +42,8 @@ fn names() -> &'static [(&'static str, &'static str)] {
 
 #[test]
 fn the_names_of_files_and_of_a_folder(rt: HostRuntime) {
-    for (name, expected) in names() {
-        assert!(rt; *name == *expected, "at {expected}");
+    for row in names() {
+        holds_at(&rt, row.0 == row.1, row);
     }
 }
 
@@ -57,9 +59,10 @@ fn data_is_signed_over_each_source(rt: HostRuntime) {
     let alloc = rt.alloc();
     let mut read = ReaderSource::new(b"abc".as_slice());
     let by_reader = signed(alloc, &mut read, &mut FixedRandom::new(&ZEROS));
+    holds_at(&rt, by_reader, &"a reader");
     let mut drawn = SourceRandom::new(SliceSource::new(&ZEROS));
     let by_source = signed(alloc, &mut SliceSource::new(b"abc"), &mut drawn);
-    assert!(rt; by_reader && by_source);
+    holds_at(&rt, by_source, &"random bytes of a source");
 }
 
 // The status is said, the data is copied, and legacy signatures are not accepted.
@@ -69,15 +72,19 @@ const STRICT: VerifyOptions = VerifyOptions {
     allow_legacy: false,
 };
 
-// Whether a file is verified and copied, over a status that is a writer.
-fn is_copied(alloc: Global) -> bool {
+// Verifies and copies a file, over a status that is a writer.
+fn copied(alloc: Global, said: &mut Vec<u8>, out: &mut VecSink) -> Result<()> {
     let mut data = FileSource::new(Cursor::new(b"abc".as_slice()));
-    let mut said = Vec::new(alloc);
-    let mut status = WriterSink::new(&mut said);
-    let mut out = VecSink::new(alloc);
+    let mut status = WriterSink::new(said);
     let texts = (KEY_TEXT, SIGNATURE_TEXT);
-    let answer = verified_texts(alloc, texts, &mut data, STRICT, &mut status, &mut out);
-    let came = ends_in(answer, Accepted);
+    verified_texts(alloc, texts, &mut data, STRICT, &mut status, out)
+}
+
+// Whether a file is verified, and what is said and copied of it.
+fn is_copied(alloc: Global) -> bool {
+    let mut said = Vec::new(alloc);
+    let mut out = VecSink::new(alloc);
+    let came = ends_in(copied(alloc, &mut said, &mut out), Accepted);
     let is_said = said.as_slice() == SAID;
     let is_out = out.as_slice() == b"abc".as_slice();
     came && is_said && is_out
@@ -109,19 +116,10 @@ fn a_table_and_a_reader(rt: HostRuntime) {
 
 // Whether the usual limits give the usual parameters.
 fn limits_are_usual() -> bool {
-    match (
-        raw_scrypt_params(33554432, 1048576, 20),
-        Params::new(15, 8, 1),
-    ) {
-        (Ok(limits), Ok(usual)) => limits == usual,
-        _ => false,
-    }
-}
-
-// A key ID as the tools show it.
-fn key_id_shown(alloc: Global) -> Result<String> {
-    let shown = format!(in alloc; "{}", KeyId(KEY_ID))?;
-    Ok(shown)
+    let Ok(limits) = raw_scrypt_params(33554432, 1048576, 20) else {
+        return false;
+    };
+    Params::new(15, 8, 1) == Ok(limits)
 }
 
 // Whether a number is stored, and loaded again.
@@ -134,9 +132,17 @@ fn is_stored() -> bool {
 fn the_helpers_through_the_library(rt: HostRuntime) {
     let numbers = limits_are_usual() && is_stored() && is_filled();
     assert!(rt; numbers);
-    assert!(rt; matches!(unix_timestamp(&rt), Ok(moment) if moment > 1700000000));
-    assert!(rt; gives_text(key_id_shown(rt.alloc()), "0807060504030201"));
+    assert!(rt; is_past(&unix_timestamp(&rt)));
+    assert!(rt; says(rt.alloc(), &KeyId(KEY_ID), "0807060504030201"));
     assert!(rt; is_asked(rt.alloc()));
+}
+
+// Whether the moment is told, and comes after one in 2023.
+fn is_past(moment: &Result<u64>) -> bool {
+    match moment {
+        Ok(moment) => *moment > 1700000000,
+        Err(_) => false,
+    }
 }
 
 // Whether a buffer is filled from a source.

@@ -2,7 +2,7 @@
 //! signed.
 
 use crate::callers::checked;
-use crate::signatures::calls::{has_comments, read_box};
+use crate::signatures::calls::text_has_comments;
 use minisign::Result;
 use minisign_base::devices::random_sources::FixedRandom;
 use minisign_base::faults::NamedFault::{RandomSourceFailed, SignatureRefused};
@@ -25,15 +25,10 @@ fn released(alloc: Global, random: &[u8]) -> Result<Release> {
     )
 }
 
-// Whether the text of the signature has the default comments, those of second 0.
-fn is_dated(alloc: Global, sig_text: &str) -> Result<bool> {
-    let signature_box = read_box(alloc, sig_text)?;
-    has_comments(alloc, &signature_box, "timestamp:0")
-}
-
-// Whether the two texts are those of the release: its update alone is accepted.
+// Whether the two texts are those of the release: it has the default comments, those of second 0, and its
+// update alone is accepted.
 fn are_released(alloc: Global, texts: (&str, &str)) -> bool {
-    let dated = is_so(is_dated(alloc, texts.1));
+    let dated = is_so(text_has_comments(alloc, texts.1, "timestamp:0"));
     let taken = checked(alloc, texts, b"lorem ipsum", "timestamp:0");
     let other = checked(alloc, texts, b"lorem ipsun", "timestamp:0");
     let is_taken = ends_in(taken, Accepted);
@@ -42,17 +37,17 @@ fn are_released(alloc: Global, texts: (&str, &str)) -> bool {
 }
 
 // Whether it is so of the texts that are made.
-fn is_verified(alloc: Global) -> Result<bool> {
-    let made = released(alloc, &counted())?;
-    Ok(are_released(alloc, (made.pk_text.as_str(), made.sig_text.as_str())))
+fn are_made(alloc: Global, made: &Result<Release>) -> bool {
+    match made {
+        Ok(made) => are_released(alloc, (made.pk_text.as_str(), made.sig_text.as_str())),
+        Err(_) => false,
+    }
 }
 
+// It is verified with its texts, and wants all its random bytes.
 #[test]
-fn a_release_is_verified_with_its_texts(rt: HostRuntime) {
-    assert!(rt; is_so(is_verified(rt.alloc())));
-}
-
-#[test]
-fn a_release_wants_all_its_random_bytes(rt: HostRuntime) {
+fn a_release_is_made(rt: HostRuntime) {
+    let made = released(rt.alloc(), &counted());
+    assert!(rt; are_made(rt.alloc(), &made));
     assert!(rt; ends_in(released(rt.alloc(), &[7; 199]), Refused(RandomSourceFailed)));
 }

@@ -3,7 +3,8 @@
 
 use crate::keys::refused_allocations::{has_sealed_text, public_text};
 use crate::keys::sealed::calls::{Way, opened};
-use crate::signatures::calls::{key_of, signs_so};
+use crate::signatures::calls::{SIGNED_BY_DEFAULT, key_of};
+use crate::tables::holds_at;
 use minisign::{KeyPair, Result, SecretKey, SecretKeyBox, sign_reader};
 use minisign_base::devices::random_sources::FixedRandom;
 use minisign_base::devices::sinks::Sink;
@@ -14,9 +15,9 @@ use minisign_base::faults::NamedFault::{
 use minisign_base::helpers::get_password;
 use minisign_base::prompt::Prompt;
 use minisign_base::toy::ToyScheme;
-use minisign_fixtures::devices::sources::{FailsAfter, OneByOne};
+use minisign_fixtures::devices::sources::{FailingSource, OneByOne};
 use minisign_fixtures::outcomes::Outcome::{self, Accepted, Refused};
-use minisign_fixtures::outcomes::{comes_to, counted, ends_in, gives_text, is_so};
+use minisign_fixtures::outcomes::{comes_to, counted, ends_in, front, gives_text, is_so};
 use minisign_fixtures::texts::{COUNTED_PUBLIC_TEXT, SEALED, SECRET_TEXT};
 use std::alloc::Global;
 
@@ -46,9 +47,9 @@ fn reader_signed<R: Source>(alloc: Global, data: &mut R) -> Result<String> {
 #[test]
 fn what_a_reader_has_is_signed(rt: HostRuntime) {
     let whole = reader_signed(rt.alloc(), &mut OneByOne::new(b"abc"));
-    assert!(rt; signs_so(whole, Accepted));
-    let cut = reader_signed(rt.alloc(), &mut FailsAfter::new(b"abc", 1));
-    assert!(rt; signs_so(cut, Refused(ReadingFailed)));
+    assert!(rt; gives_text(whole, SIGNED_BY_DEFAULT));
+    let cut = reader_signed(rt.alloc(), &mut FailingSource::for_good(b"abc", 1));
+    assert!(rt; ends_in(cut, Refused(ReadingFailed)));
 }
 
 // Whether the texts of the pair under the empty password are the known ones.
@@ -75,27 +76,39 @@ fn letters_of(alloc: Global, count: usize) -> Result<String> {
     Ok(password)
 }
 
-// Whether a pair under a password of so many letters comes out so.
-fn is_made(alloc: Global, letters: usize, random: &[u8], expected: Outcome) -> bool {
+// How many letters a password has, how many random bytes there are, and what comes of making a pair.
+type Made = (usize, usize, Outcome);
+
+const MADE: [Made; 4] = [
+    (1024, 200, Accepted),
+    (1025, 200, Refused(PasswordTooLong)),
+    (1025, 0, Refused(PasswordTooLong)),
+    (1024, 71, Refused(RandomSourceFailed)),
+];
+
+// Whether a pair comes out so.
+fn is_made(alloc: Global, row: &Made) -> bool {
+    let (letters, drawn, expected) = *row;
     let Ok(password) = letters_of(alloc, letters) else {
         return false;
     };
-    ends_in(pair_under(alloc, password.as_str(), random), expected)
+    let random = counted();
+    ends_in(
+        pair_under(alloc, password.as_str(), front(&random, drawn)),
+        expected,
+    )
 }
 
 #[test]
 fn a_password_of_a_pair_has_1024_bytes_at_most(rt: HostRuntime) {
-    let alloc = rt.alloc();
-    let drawn = counted();
-    assert!(rt; is_made(alloc, 1024, &drawn, Accepted));
-    assert!(rt; is_made(alloc, 1025, &drawn, Refused(PasswordTooLong)));
-    assert!(rt; is_made(alloc, 1025, &[], Refused(PasswordTooLong)));
-    assert!(rt; is_made(alloc, 1024, &[7; 71], Refused(RandomSourceFailed)));
+    for row in &MADE {
+        holds_at(&rt, is_made(rt.alloc(), row), row);
+    }
 }
 
 // What opening the sealed key comes to with a silent prompt.
 fn opened_silently(alloc: Global, password: Option<&str>) -> Result<SecretKey> {
-    let sk_box = SecretKeyBox::from_string(alloc, SEALED)?;
+    let sk_box = SecretKeyBox::from_string(alloc, SEALED);
     opened(
         alloc,
         sk_box,

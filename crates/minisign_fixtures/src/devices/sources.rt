@@ -52,78 +52,8 @@ impl<'a> Rereader for OneByOne<'a> {
     }
 }
 
-/// The bytes of a slice, one byte a read, until so many reads were made: each later one fails.
-#[derive(Drop)]
-pub struct FailsAfter<'a> {
-    source: OneByOne<'a>,
-    marked: bool,
-    reads: u64,
-    faults: u64,
-}
-
-impl<'a> FailsAfter<'a> {
-    /// All of the slice is ahead, and so many reads are made before one fails.
-    pub fn new(bytes: &'a [u8], reads: u64) -> FailsAfter<'a> {
-        FailsAfter {
-            source: OneByOne::new(bytes),
-            marked: false,
-            reads,
-            faults: 0,
-        }
-    }
-}
-
-impl<'a> Source for FailsAfter<'a> {
-    ghost ahead = { λ s. ⟦<OneByOne<'a> as Source>⟧.ahead s.source };
-
-    ghost behind = { λ s. ⟦<OneByOne<'a> as Source>⟧.behind s.source };
-
-    ghost since = { λ s. ⟦<OneByOne<'a> as Source>⟧.since s.source };
-
-    ghost is_marked = { λ s. s.marked };
-
-    ghost left = { λ s. ⟦<OneByOne<'a> as Source>⟧.left s.source };
-
-    ghost faults = { λ s. s.faults };
-
-    fn read(&mut self, buf: &mut [u8]) -> Result<usize, DeviceFault> {
-        if self.reads > 0 {
-            self.reads -= 1;
-            if let Ok(n) = self.source.read(buf) {
-                return Ok(n);
-            }
-        }
-        self.faults = self.faults.saturating_add(1);
-        Err(DeviceFault)
-    }
-}
-
-impl<'a> Rereader for FailsAfter<'a> {
-    ghost steady = { λ _. ⊤ };
-
-    fn mark(&mut self) -> Result<(), DeviceFault> {
-        if let Ok(()) = self.source.mark() {
-            self.marked = true;
-            return Ok(());
-        }
-        self.marked = false;
-        self.faults = self.faults.saturating_add(1);
-        Err(DeviceFault)
-    }
-
-    fn back(&mut self) -> Result<(), DeviceFault> {
-        if self.marked {
-            if let Ok(()) = self.source.back() {
-                return Ok(());
-            }
-        }
-        self.marked = false;
-        self.faults = self.faults.saturating_add(1);
-        Err(DeviceFault)
-    }
-}
-
-/// The bytes of a slice, one byte a read. One of its calls fails, and it goes on after that.
+/// The bytes of a slice, one byte a read. One of its calls fails, and it goes on after that, or all fail from
+/// that one on.
 #[derive(Drop)]
 pub struct FailingSource<'a> {
     source: OneByOne<'a>,
@@ -135,10 +65,20 @@ pub struct FailingSource<'a> {
 impl<'a> FailingSource<'a> {
     /// All of the slice is ahead, and so many calls pass before the one that fails.
     pub fn new(bytes: &'a [u8], calls: usize) -> FailingSource<'a> {
+        FailingSource::by(bytes, Turn::after(calls))
+    }
+
+    /// All of the slice is ahead, and so many calls pass before all others fail.
+    pub fn for_good(bytes: &'a [u8], calls: usize) -> FailingSource<'a> {
+        FailingSource::by(bytes, Turn::from(calls))
+    }
+
+    // All of the slice is ahead, and these calls fail.
+    fn by(bytes: &'a [u8], turn: Turn) -> FailingSource<'a> {
         FailingSource {
             source: OneByOne::new(bytes),
             marked: false,
-            turn: Turn::after(calls),
+            turn,
             faults: 0,
         }
     }

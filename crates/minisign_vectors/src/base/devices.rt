@@ -5,6 +5,7 @@ use super::reading::{FailsOnce, follows};
 use minisign_base::devices::random_sources::{FixedRandom, RandomSource, SourceRandom};
 use minisign_base::devices::sinks::{Sink, VecSink, WriterSink, write_all};
 use minisign_base::devices::sources::{FileSource, ReaderSource, SliceSource};
+use minisign_fixtures::outcomes::front;
 use std::alloc::Global;
 use std::io::Cursor;
 
@@ -99,8 +100,15 @@ fn sinks_take_all_that_is_put(rt: HostRuntime) {
     assert!(rt; is_written(rt.alloc()));
 }
 
-// Whether each of these is drawn in turn, three bytes at the most; where one is empty, three bytes are
-// not drawn.
+// What is drawn in turn, three bytes at the most; where it is empty, three bytes are not drawn.
+const OF_FIVE: [&[u8]; 3] = [b"abc", b"", b"de"];
+
+const OF_FOUR: [&[u8]; 2] = [b"abc", b""];
+
+// A source that fails once goes on.
+const BEHIND_A_FAULT: [&[u8]; 2] = [b"", &[3, 4, 5]];
+
+// Whether each of these is drawn in turn.
 fn draws<R: RandomSource>(random: &mut R, draws: &[&[u8]]) -> bool {
     for expected in draws {
         if !is_drawn(random, expected) {
@@ -112,19 +120,21 @@ fn draws<R: RandomSource>(random: &mut R, draws: &[&[u8]]) -> bool {
 
 // Whether these bytes are drawn, or none where these are none.
 fn is_drawn<R: RandomSource>(random: &mut R, expected: &[u8]) -> bool {
-    let mut buf = [0u8; 3];
-    if expected.is_empty() {
-        return random.fill(&mut buf).is_err();
-    }
-    let (drawn, _) = buf.split_at_mut(expected.len().min(3));
-    random.fill(drawn).is_ok() && *drawn == *expected
+    let len = if expected.is_empty() {
+        3
+    } else {
+        expected.len().min(3)
+    };
+    let mut drawn = [0u8; 3];
+    let is_filled = random.fill(&mut drawn[..len]).is_ok();
+    is_filled != expected.is_empty() && front(&drawn, expected.len()) == expected
 }
 
 #[test]
 fn random_bytes_come_in_order(rt: HostRuntime) {
-    assert!(rt; draws(&mut FixedRandom::new(b"abcde"), &[b"abc", b"", b"de"]));
+    assert!(rt; draws(&mut FixedRandom::new(b"abcde"), &OF_FIVE));
     let mut drawn = SourceRandom::new(SliceSource::new(b"abcd"));
-    assert!(rt; draws(&mut drawn, &[b"abc", b""]));
+    assert!(rt; draws(&mut drawn, &OF_FOUR));
     let mut failing = SourceRandom::new(ReaderSource::new(FailsOnce::new(None)));
-    assert!(rt; draws(&mut failing, &[b"", &[3, 4, 5]]));
+    assert!(rt; draws(&mut failing, &BEHIND_A_FAULT));
 }

@@ -72,19 +72,21 @@ fn lines_are_put(alloc: Global) -> bool {
     first && second && third && told
 }
 
-#[test]
-fn lines_have_a_label_a_text_and_a_line_feed(rt: HostRuntime) {
-    assert!(rt; lines_are_put(rt.alloc()));
-}
-
-#[test]
-fn a_line_is_one_write(rt: HostRuntime) {
+// Whether a line is one write: of two lines a writer that fails at its second call takes the first.
+fn is_one_write(alloc: Global) -> bool {
     let mut writer = uncalled(1, true);
     let mut sink = WriterSink::new(&mut writer);
     let line = ("a label ", "a text");
-    let first = is_put(rt.alloc(), &mut sink, line, Accepted);
-    let second = is_put(rt.alloc(), &mut sink, line, Refused(WritingFailed));
-    assert!(rt; first && second && writer.calls == 2 && writer.last == b'\n');
+    let first = is_put(alloc, &mut sink, line, Accepted);
+    let second = is_put(alloc, &mut sink, line, Refused(WritingFailed));
+    first && second && writer.calls == 2 && writer.last == b'\n'
+}
+
+// A line is a label, a text and a line feed, in one write.
+#[test]
+fn lines_are_put_at_once(rt: HostRuntime) {
+    assert!(rt; lines_are_put(rt.alloc()));
+    assert!(rt; is_one_write(rt.alloc()));
 }
 
 // Whether a sink over a writer that takes nothing takes nothing but nothing, and is not flushed.

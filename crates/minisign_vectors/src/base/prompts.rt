@@ -1,6 +1,7 @@
 //! Passwords that no line feed ends, and lines that are not UTF-8. `tests/rows/passwords.py` has
 //! all other lines.
 
+use crate::tables::holds_at;
 use minisign_base::devices::sinks::{Sink, VecSink};
 use minisign_base::devices::sources::{SliceSource, Source};
 use minisign_base::errors::Result;
@@ -13,58 +14,10 @@ use minisign_fixtures::outcomes::comes_to;
 use minisign_fixtures::prompts::bytes_left;
 use std::alloc::{AllocError, Global};
 
-// What comes of asking for a password.
-fn asked<R: Source, W: Sink>(
-    alloc: Global,
-    prompt: &mut Prompt<R, W>,
-    question: &str,
-) -> Result<String> {
-    get_password(alloc, prompt, question)
-}
-
-// Whether asking for a password comes to this, with a password of so many bytes where it is
-// accepted, and leaves nothing unread.
-fn comes_so<R: Source + Drop>(alloc: Global, reader: R, expected: Outcome, count: usize) -> bool {
-    let mut prompt = Prompt::new(reader, VecSink::new(alloc));
-    let answer = asked(alloc, &mut prompt, "Password: ");
-    let right = match &answer {
-        Ok(password) => password.len() == count,
-        Err(_) => true,
-    };
-    let told = comes_to(&answer, expected);
-    let (mut reader, writer) = prompt.into_parts();
-    right && told && writer.as_slice() == b"Password: ".as_slice() && bytes_left(&mut reader) == 0
-}
-
-// The same of a reader that gives the line at once, and of one that gives one byte a read.
-fn both_come_so(
-    alloc: Global,
-    line: &std::result::Result<Vec<u8>, AllocError>,
-    expected: Outcome,
-    count: usize,
-) -> bool {
-    let Ok(line) = line else {
-        return false;
-    };
-    let at_once = comes_so(alloc, SliceSource::new(line), expected, count);
-    let by_bytes = comes_so(alloc, OneByOne::new(line), expected, count);
-    at_once && by_bytes
-}
-
-// The letter so many times, and then the tail.
-fn line(
-    alloc: Global,
-    letter: u8,
-    count: usize,
-    tail: &str,
-) -> std::result::Result<Vec<u8>, AllocError> {
-    let mut bytes = vec![in alloc; letter; count]?;
-    bytes.extend_from_slice(tail.as_bytes())?;
-    Ok(bytes)
-}
-
 // How many of which letter are typed, and what after them; what comes of it.
-const LINES: [(usize, u8, &str, Outcome); 8] = [
+type Line = (usize, u8, &'static str, Outcome);
+
+const LINES: [Line; 8] = [
     (1024, b'a', "", Accepted),
     (1025, b'a', "", Refused(PasswordTooLong)),
     (1024, b'a', "\r", Refused(PasswordTooLong)),
@@ -76,15 +29,54 @@ const LINES: [(usize, u8, &str, Outcome); 8] = [
 ];
 
 // The rows, so that no proof looks into all of them.
-fn lines() -> &'static [(usize, u8, &'static str, Outcome)] {
+fn lines() -> &'static [Line] {
     &LINES
+}
+
+// The bytes that are typed.
+fn typed(alloc: Global, row: &Line) -> std::result::Result<Vec<u8>, AllocError> {
+    let (count, letter, tail, _) = *row;
+    let mut bytes = vec![in alloc; letter; count]?;
+    bytes.extend_from_slice(tail.as_bytes())?;
+    Ok(bytes)
+}
+
+// What comes of asking for a password.
+fn asked<R: Source, W: Sink>(alloc: Global, prompt: &mut Prompt<R, W>) -> Result<String> {
+    get_password(alloc, prompt, "Password: ")
+}
+
+// Whether this comes of asking: a password of all the letters, or an error.
+fn is_expected(answer: &Result<String>, row: &Line) -> bool {
+    let (count, _, _, expected) = *row;
+    match answer {
+        Ok(password) => expected == Accepted && password.len() == count,
+        Err(_) => comes_to(answer, expected),
+    }
+}
+
+// Whether this comes of asking for a password, which leaves nothing unread.
+fn comes_so<R: Source + Drop>(alloc: Global, reader: R, row: &Line) -> bool {
+    let mut prompt = Prompt::new(reader, VecSink::new(alloc));
+    let answer = asked(alloc, &mut prompt);
+    let came = is_expected(&answer, row);
+    let is_read = bytes_left(&mut prompt.reader) == 0;
+    came && is_read && prompt.writer.as_slice() == b"Password: ".as_slice()
+}
+
+// The same of a reader that gives the line at once, and of one that gives one byte a read.
+fn both_come_so(alloc: Global, row: &Line) -> bool {
+    let Ok(line) = typed(alloc, row) else {
+        return false;
+    };
+    let at_once = comes_so(alloc, SliceSource::new(&line), row);
+    let by_bytes = comes_so(alloc, OneByOne::new(&line), row);
+    at_once && by_bytes
 }
 
 #[test]
 fn lines_are_read_to_their_end(rt: HostRuntime) {
-    for (count, letter, tail, expected) in lines() {
-        let line = line(rt.alloc(), *letter, *count, tail);
-        let right = both_come_so(rt.alloc(), &line, *expected, *count);
-        assert!(rt; right, "at {count} of {letter} and {tail:?}");
+    for row in lines() {
+        holds_at(&rt, both_come_so(rt.alloc(), row), row);
     }
 }

@@ -3,13 +3,14 @@
 //! The block and what becomes of it: RFC 7914, sections 9 and 10. Keys: RFC 7914, section 12, and
 //! Python's hashlib (OpenSSL).
 
-ghost use Rattle.std.specs.Prelude.{◌≡◌, ◌<◌, ◌≤◌, length};
+ghost use Rattle.std.specs.Prelude.{◌≡◌, ◌≤◌, length};
 
-use crate::kdf::passed_memory::{OF_NOTHING, OF_PASSWORD, words};
+use crate::kdf::passed_memory::{OF_NOTHING, OF_PASSWORD};
 use crate::shown::shows;
-use minisign_kdf::{KdfError, Params, Rows, mix_kept, scrypt_keeping};
+use crate::tables::holds_at;
+use minisign_kdf::KdfError::{self, InvalidOutputLen, OutOfMemory};
+use minisign_kdf::{Params, Rows, mix_kept, scrypt_keeping};
 use std::alloc::Global;
-use std::test::Fail;
 
 // A part with r 1.
 const BLOCK: [u8; 128] = [
@@ -31,6 +32,82 @@ const MIXED: &str =
 const ROM_MIXED: &str =
     "79ccc193629debca047f0b70604bf6b62ce3dd4a9626e355fafc6198e6ea2b46d58413673b99b029d665c357601fb426a0b2f4bba200ee9f0a43d19b571a9c71ef1142e65d5a266fddca832ce59faa7cac0b9cf1be2bffca300d01ee387619c4ae12fd4438f203a0e4e1c47ec314861f4e9087cb33396a6873e8f9d2539a4b8e";
 
+// The key of no password at the usual cost.
+const OF_USUAL_COST: &str =
+    "2c804bf5d0ccb28051f20fb0b99bf7e9a45a67496650536018dd8839d9370748f1ac548a44dde14ef07f306c5fc7fe091054c6374d73d1a4f917a0fbcd8b88b8";
+
+// The password, the salt and the parameters, every how many-th row is kept, how many rows these are, and
+// the key.
+type Key = (
+    &'static str,
+    &'static str,
+    (u8, u32, u32),
+    u64,
+    u64,
+    &'static str,
+);
+
+// The smallest vector, that of several parts, and the usual cost, also with numbers that are no divisors
+// of N.
+const KEYS: [Key; 12] = [
+    ("", "", (4, 1, 1), 1, 16, OF_NOTHING),
+    ("", "", (4, 1, 1), 2, 8, OF_NOTHING),
+    ("", "", (4, 1, 1), 3, 6, OF_NOTHING),
+    ("", "", (4, 1, 1), 5, 4, OF_NOTHING),
+    ("", "", (4, 1, 1), 7, 3, OF_NOTHING),
+    ("", "", (4, 1, 1), 15, 2, OF_NOTHING),
+    ("", "", (4, 1, 1), 16, 1, OF_NOTHING),
+    ("", "", (4, 1, 1), 17, 1, OF_NOTHING),
+    ("", "", (4, 1, 1), u64::MAX, 1, OF_NOTHING),
+    ("password", "NaCl", (10, 8, 16), 100, 11, OF_PASSWORD),
+    ("", "", (15, 8, 1), 3, 10923, OF_USUAL_COST),
+    ("", "", (15, 8, 1), 7, 4682, OF_USUAL_COST),
+];
+
+// The rows, so that no proof looks into all of them.
+fn keys() -> &'static [Key] {
+    &KEYS
+}
+
+// Whether the key is this where every k-th row is kept, of so many.
+fn keeps(alloc: Global, row: &Key) -> bool {
+    let (password, salt, (n_log2, r, p), k, count, expected) = *row;
+    let Ok(params) = Params::new(n_log2, r, p) else {
+        return false;
+    };
+    let mut key = [0u8; 64];
+    let (password, salt) = (password.as_bytes(), salt.as_bytes());
+    let kept = scrypt_keeping(alloc, password, salt, &params, k.max(1), &mut key);
+    kept == Ok(count) && shows(alloc, &key, expected)
+}
+
+#[test]
+fn keys_where_rows_are_left_out(rt: HostRuntime) {
+    for row in keys() {
+        holds_at(&rt, keeps(rt.alloc(), row), row);
+    }
+}
+
+// Whether mixing over every k-th row of the published block, of 16, gives what is published.
+fn mixes(alloc: Global, k: u64) -> bool
+    requires { 1 ≤ k }
+{
+    let Ok(rows) = Rows::fill(alloc, &BLOCK, 4, k) else {
+        return false;
+    };
+    let mut work = [0x5c5c5c5cu32; 96];
+    let mut out = [0xa5u8; 128];
+    mix_kept(rows.words(), 4, k, &mut out, &mut work);
+    rows.len() == 16u64.div_ceil(k) && shows(alloc, &out, ROM_MIXED)
+}
+
+#[test]
+fn rows_of_rfc_7914(rt: HostRuntime) {
+    for k in 1..18u64 {
+        holds_at(&rt, mixes(rt.alloc(), k), &k);
+    }
+}
+
 // The bytes of a row with r 1 whose words stand in diagonal order.
 fn bytes_of(row: &[u32]) -> [u8; 128]
     requires { length row.now ≡ 32 }
@@ -46,169 +123,74 @@ fn bytes_of(row: &[u32]) -> [u8; 128]
     bytes
 }
 
-// The key of no password at the usual cost.
-const OF_USUAL_COST: &str =
-    "2c804bf5d0ccb28051f20fb0b99bf7e9a45a67496650536018dd8839d9370748f1ac548a44dde14ef07f306c5fc7fe091054c6374d73d1a4f917a0fbcd8b88b8";
-
-// Whether the key is this where every k-th row is kept, of so many.
-fn keeps(
-    alloc: Global,
-    (password, salt): (&str, &str),
-    (n_log2, r, p): (u8, u32, u32),
-    (k, count): (u64, u64),
-    expected: &str,
-) -> bool {
-    let Ok(params) = Params::new(n_log2, r, p) else {
-        return false;
-    };
-    let mut key = [0u8; 64];
-    let (password, salt) = (password.as_bytes(), salt.as_bytes());
-    let kept = scrypt_keeping(alloc, password, salt, &params, k.max(1), &mut key);
-    kept == Ok(count) && shows(alloc, &key, expected)
-}
-
-// The smallest vector, and how many rows are kept for it.
-#[test]
-fn keys_of_one_part(rt: HostRuntime) {
-    for (k, count) in [
-        (1u64, 16u64),
-        (2, 8),
-        (3, 6),
-        (5, 4),
-        (7, 3),
-        (15, 2),
-        (16, 1),
-        (17, 1),
-        (18446744073709551615, 1),
-    ] {
-        let right = keeps(rt.alloc(), ("", ""), (4, 1, 1), (k, count), OF_NOTHING);
-        assert!(rt; right, "k {k}");
+// Whether the words are so many rows, in diagonal order: the block, and what comes of mixing it.
+fn are_first(alloc: Global, words: &[u32], count: u64) -> bool {
+    if words.len() == 32 {
+        return count == 1 && bytes_of(words) == BLOCK;
     }
-}
-
-// The vector of several parts, and the usual cost, with a k that is no divisor of it.
-#[test]
-fn keys_of_several_parts_and_of_the_usual_cost(rt: HostRuntime) {
-    let alloc = rt.alloc();
-    let of = ("password", "NaCl");
-    assert!(rt; keeps(alloc, of, (10, 8, 16), (100, 11), OF_PASSWORD));
-    assert!(rt; keeps(alloc, ("", ""), (15, 8, 1), (3, 10923), OF_USUAL_COST));
-    assert!(rt; keeps(alloc, ("", ""), (15, 8, 1), (7, 4682), OF_USUAL_COST));
-}
-
-// Rows of the published block.
-fn filled(alloc: Global, n_log2: u8, k: u64) -> Result<Rows, KdfError>
-    requires even { 1 ≤ n_log2 }
-    requires cost { n_log2 < 64 }
-    requires kept { 1 ≤ k }
-{
-    Rows::fill(alloc, &BLOCK, n_log2, k)
-}
-
-// Fills rows of the published block and mixes over them: what is mixed, and how many rows are kept.
-fn mixed_over_rows(alloc: Global, n_log2: u8, k: u64) -> Result<([u8; 128], u64), Fail>
-    requires even { 1 ≤ n_log2 }
-    requires cost { n_log2 < 64 }
-    requires kept { 1 ≤ k }
-{
-    let rows = Rows::fill(alloc, &BLOCK, n_log2, k)?;
-    let mut work = words(alloc, 96)?;
-    let mut out = [0xa5u8; 128];
-    mix_kept(rows.words(), n_log2, k, &mut out, &mut work);
-    Ok((out, rows.len()))
-}
-
-// Whether mixing over every k-th row gives what is published, over so many rows.
-fn mixes(alloc: Global, k: u64) -> Result<bool, Fail>
-    requires { 1 ≤ k }
-{
-    let (out, count) = mixed_over_rows(alloc, 4, k)?;
-    Ok(shows(alloc, &out, ROM_MIXED) && count == 16u64.div_ceil(k))
-}
-
-#[test]
-fn rows_of_rfc_7914(rt: HostRuntime) -> Result<(), Fail> {
-    for k in 1..18u64 {
-        assert!(rt; mixes(rt.alloc(), k)?, "k {k}");
-    }
-    Ok(())
-}
-
-// Whether the words are two rows: the block, and what comes of mixing it.
-fn are_block_and_mixed(alloc: Global, words: &[u32]) -> bool {
     if words.len() != 64 {
         return false;
     }
     let (first, second) = words.split_at(32);
-    bytes_of(first) == BLOCK && shows(alloc, &bytes_of(second), MIXED)
+    count == 2 && bytes_of(first) == BLOCK && shows(alloc, &bytes_of(second), MIXED)
 }
 
-// Whether the words of these two rows stand in diagonal order.
-fn is_diagonal(alloc: Global) -> bool {
-    match filled(alloc, 1, 1) {
-        Ok(rows) => rows.len() == 2 && are_block_and_mixed(alloc, rows.words()),
-        Err(_) => false,
-    }
-}
-
-#[test]
-fn words_stand_in_diagonal_order(rt: HostRuntime) {
-    assert!(rt; is_diagonal(rt.alloc()));
-}
-
-// Whether one row is kept, which is the block.
-fn keeps_the_block(alloc: Global, n_log2: u8, k: u64) -> bool
-    requires even { 1 ≤ n_log2 }
-    requires cost { n_log2 < 64 }
-    requires kept { 1 ≤ k }
-{
-    match filled(alloc, n_log2, k) {
-        Ok(rows) => rows.len() == 1 && is_the_block(rows.words()),
-        Err(_) => false,
-    }
-}
-
-// Whether the words are one row, which is the block.
-fn is_the_block(words: &[u32]) -> bool {
-    words.len() == 32 && bytes_of(words) == BLOCK
-}
-
-#[test]
-fn one_row_is_the_block(rt: HostRuntime) {
-    assert!(rt; keeps_the_block(rt.alloc(), 1, 3));
-}
+// The logarithm of N, every how many-th row is kept, and how many rows these are: none where no memory can
+// hold them.
+type Filled = (u8, u64, u64);
 
 // Rows that no memory can hold are rejected before any mixing, and where one is kept, none is mixed.
+const FILLED: [Filled; 5] = [
+    (1, 1, 2),
+    (1, 3, 1),
+    (63, 1, 0),
+    (63, 9223372036854775808, 1),
+    (63, 18446744073709551615, 1),
+];
+
+// Whether so many rows of the published block are kept.
+fn fills(alloc: Global, row: &Filled) -> bool {
+    let (n_log2, k, count) = *row;
+    match Rows::fill(alloc, &BLOCK, n_log2.clamp(1, 63), k.max(1)) {
+        Ok(rows) => rows.len() == count && are_first(alloc, rows.words(), count),
+        Err(fault) => count == 0 && fault == OutOfMemory,
+    }
+}
+
 #[test]
-fn rows_of_the_greatest_cost(rt: HostRuntime) {
-    let refused = filled(rt.alloc(), 63, 1);
-    assert!(rt; matches!(refused, Err(KdfError::OutOfMemory)));
-    assert!(rt; keeps_the_block(rt.alloc(), 63, 9223372036854775808));
-    assert!(rt; keeps_the_block(rt.alloc(), 63, 18446744073709551615));
+fn rows_of_the_least_and_the_greatest_cost(rt: HostRuntime) {
+    for row in &FILLED {
+        holds_at(&rt, fills(rt.alloc(), row), row);
+    }
 }
 
-// Whether an output of no bytes is rejected.
-fn is_no_output(alloc: Global, params: &Params, k: u64) -> bool {
-    let refused = scrypt_keeping(alloc, b"pw", b"salt", params, k.max(1), &mut []);
-    refused == Err(KdfError::InvalidOutputLen)
-}
+// Every how many-th row is kept, the length of the output, and the error.
+type Refused = (u64, usize, KdfError);
 
-// Whether the rows are more than any memory holds, and the output stays.
-fn wants_memory(alloc: Global, params: &Params, k: u64) -> bool {
+// An output that no key can have is rejected whatever is kept, and then rows that no memory can hold.
+const REFUSED: [Refused; 5] = [
+    (1, 0, InvalidOutputLen),
+    (3, 0, InvalidOutputLen),
+    (18446744073709551615, 0, InvalidOutputLen),
+    (1, 32, OutOfMemory),
+    (1000, 32, OutOfMemory),
+];
+
+// Whether deriving a key is rejected so, which leaves the output.
+fn is_refused(alloc: Global, row: &Refused) -> bool {
+    let (k, len, fault) = *row;
+    let Ok(params) = Params::new(53, 8, 1) else {
+        return false;
+    };
     let mut key = [7u8; 32];
-    let refused = scrypt_keeping(alloc, b"pw", b"salt", params, k.max(1), &mut key);
-    refused == Err(KdfError::OutOfMemory) && key == [7; 32]
+    let (out, _) = key.split_at_mut(len.min(32));
+    let refused = scrypt_keeping(alloc, b"pw", b"salt", &params, k.max(1), out);
+    refused == Err(fault) && key == [7; 32]
 }
 
-// An output that no key can have is rejected whatever is kept, and a rejection leaves it.
 #[test]
-fn refusals_do_not_depend_on_the_number(rt: HostRuntime) -> Result<(), Fail> {
-    let alloc = rt.alloc();
-    let params = Params::new(53, 8, 1)?;
-    assert!(rt; is_no_output(alloc, &params, 1));
-    assert!(rt; is_no_output(alloc, &params, 3));
-    assert!(rt; is_no_output(alloc, &params, 18446744073709551615));
-    assert!(rt; wants_memory(alloc, &params, 1));
-    assert!(rt; wants_memory(alloc, &params, 1000));
-    Ok(())
+fn refusals_do_not_depend_on_the_number(rt: HostRuntime) {
+    for row in &REFUSED {
+        holds_at(&rt, is_refused(rt.alloc(), row), row);
+    }
 }

@@ -6,6 +6,7 @@
 ghost use Rattle.std.specs.Prelude.{◌≡◌, IfOk, vec_len};
 
 use crate::shown::shows;
+use crate::tables::holds_at;
 use minisign_kdf::{Params, scrypt_in};
 use std::alloc::{AllocError, Global};
 
@@ -90,6 +91,6 @@ fn derives(alloc: Global, row: &Row) -> bool {
 #[test]
 fn keys_in_passed_memory(rt: HostRuntime) {
     for row in rows() {
-        assert!(rt; derives(rt.alloc(), row), "at {row:?}");
+        holds_at(&rt, derives(rt.alloc(), row), row);
     }
 }

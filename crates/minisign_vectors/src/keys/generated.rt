@@ -2,6 +2,7 @@
 //! they take one byte at once, or fail at each byte, each read and each flush, one after the other. All
 //! else is rows of `tests/rows/made_pairs.py` and `tests/rows/failing_devices.py`.
 
+use crate::tables::holds_at;
 use minisign::{KeyPair, Result};
 use minisign_base::devices::random_sources::FixedRandom;
 use minisign_base::devices::sinks::Sink;
@@ -10,9 +11,9 @@ use minisign_base::faults::NamedFault::{NotUtf8, ReadingFailed, WritingFailed};
 use minisign_base::prompt::Prompt;
 use minisign_base::toy::ToyScheme;
 use minisign_fixtures::devices::sinks::LimitedSink;
-use minisign_fixtures::devices::sources::FailsAfter;
+use minisign_fixtures::devices::sources::FailingSource;
 use minisign_fixtures::outcomes::Outcome::{self, Accepted, Refused};
-use minisign_fixtures::outcomes::{beginning, counted, ends_in};
+use minisign_fixtures::outcomes::{counted, ends_in, front};
 use minisign_fixtures::texts::COUNTED_PUBLIC_TEXT;
 use std::alloc::Global;
 
@@ -28,11 +29,11 @@ const SECRET_TEXT: &str =
 const SHOWN: &str =
     "Please enter a password to protect the secret key.\nPassword: Password (one more time): Deriving a key from the password in order to encrypt the secret key... done\n";
 
-type Typed<'a> = Prompt<FailsAfter<'a>, LimitedSink>;
+type Typed<'a> = Prompt<FailingSource<'a>, LimitedSink>;
 
 // A prompt that gives these bytes, one a read, until a read after so many fails.
-fn prompt_of<'a>(typed: &'a [u8], reads: u64, writer: LimitedSink) -> Typed<'a> {
-    Prompt::new(FailsAfter::new(typed, reads), writer)
+fn prompt_of<'a>(typed: &'a [u8], reads: usize, writer: LimitedSink) -> Typed<'a> {
+    Prompt::new(FailingSource::for_good(typed, reads), writer)
 }
 
 /// Makes a sealed pair of random bytes that count up from 0, and writes both texts.
@@ -74,22 +75,24 @@ fn key_sinks_that_take_one_byte_a_write(rt: HostRuntime) {
 
 // What is typed, after how many reads its reader fails, the room of the prompt's writer, how often that
 // is flushed, how much it then shows, and what comes of it.
-type Fails = (&'static str, u64, usize, usize, usize, Outcome);
+type Fails = (&'static [u8], usize, usize, usize, usize, Outcome);
 
 // The writer fails at each flush before the derivation: the text before it is whole. It fails after the
-// derivation too: the pair that was made is not written. The reader fails at each of its reads.
-const FAILING: [Fails; 11] = [
-    ("p\np\n", 9, 300, 0, 51, UNWRITTEN),
-    ("p\np\n", 9, 300, 1, 61, UNWRITTEN),
-    ("p\np\n", 9, 300, 2, 87, UNWRITTEN),
-    ("p\np\n", 9, 300, 3, 158, UNWRITTEN),
-    ("p\np\n", 9, 158, 9, 158, UNWRITTEN),
-    ("p\np\n", 9, 162, 9, 162, UNWRITTEN),
-    ("p\np\n", 9, 163, 4, 163, UNWRITTEN),
-    ("p\np\n", 0, 300, 9, 61, UNREAD),
-    ("p\np\n", 1, 300, 9, 61, UNREAD),
-    ("p\np\n", 2, 300, 9, 87, UNREAD),
-    ("p\np\n", 3, 300, 9, 87, UNREAD),
+// derivation too: the pair that was made is not written. The reader fails at each of its reads, or gives
+// what is not UTF-8.
+const FAILING: [Fails; 12] = [
+    (b"p\np\n", 9, 300, 0, 51, UNWRITTEN),
+    (b"p\np\n", 9, 300, 1, 61, UNWRITTEN),
+    (b"p\np\n", 9, 300, 2, 87, UNWRITTEN),
+    (b"p\np\n", 9, 300, 3, 158, UNWRITTEN),
+    (b"p\np\n", 9, 158, 9, 158, UNWRITTEN),
+    (b"p\np\n", 9, 162, 9, 162, UNWRITTEN),
+    (b"p\np\n", 9, 163, 4, 163, UNWRITTEN),
+    (b"p\np\n", 0, 300, 9, 61, UNREAD),
+    (b"p\np\n", 1, 300, 9, 61, UNREAD),
+    (b"p\np\n", 2, 300, 9, 87, UNREAD),
+    (b"p\np\n", 3, 300, 9, 87, UNREAD),
+    (b"\xff\n", 9, 300, 9, 61, Refused(NotUtf8)),
 ];
 
 // The rows, so that no proof looks into all of them.
@@ -99,8 +102,8 @@ fn failing() -> &'static [Fails] {
 
 // Whether generation is rejected so, with so much shown and no key written. A writer that is to fail
 // takes nine bytes a write.
-fn is_refused(alloc: Global, typed: &[u8], row: &Fails) -> bool {
-    let (_, reads, room, flushes, length, expected) = *row;
+fn is_refused(alloc: Global, row: &Fails) -> bool {
+    let (typed, reads, room, flushes, length, expected) = *row;
     let most = if expected == UNWRITTEN { 9 } else { usize::MAX };
     let writer = LimitedSink::new(alloc, room).by(most).flushed(flushes);
     let mut prompt = prompt_of(typed, reads, writer);
@@ -108,14 +111,14 @@ fn is_refused(alloc: Global, typed: &[u8], row: &Fails) -> bool {
     let mut secret = LimitedSink::new(alloc, 300);
     let answer = wrote_sealed_over(alloc, &mut prompt, &mut public, &mut secret);
     let came = ends_in(answer, expected);
-    let shown = prompt.writer.as_slice() == beginning(SHOWN, length).as_bytes();
+    let shown = prompt.writer.as_slice() == front(SHOWN.as_bytes(), length);
     came && shown && public.as_slice().is_empty() && secret.as_slice().is_empty()
 }
 
 #[test]
 fn prompts_that_fail(rt: HostRuntime) {
     for row in failing() {
-        assert!(rt; is_refused(rt.alloc(), row.0.as_bytes(), row), "at {row:?}");
+        holds_at(&rt, is_refused(rt.alloc(), row), row);
     }
 }
 
@@ -123,14 +126,7 @@ fn prompts_that_fail(rt: HostRuntime) {
 #[test]
 fn prompts_that_cannot_be_written_to(rt: HostRuntime) {
     for room in 0..158usize {
-        let row = ("", 9, room, 9, room, UNWRITTEN);
-        assert!(rt; is_refused(rt.alloc(), b"p\np\n", &row), "at {room}");
+        let row = (b"p\np\n".as_slice(), 9, room, 9, room, UNWRITTEN);
+        holds_at(&rt, is_refused(rt.alloc(), &row), &room);
     }
-}
-
-// It gives what is not UTF-8.
-#[test]
-fn prompts_that_give_no_text(rt: HostRuntime) {
-    let row = ("", 9, 300, 9, 61, Refused(NotUtf8));
-    assert!(rt; is_refused(rt.alloc(), b"\xff\n", &row));
 }

@@ -6,7 +6,6 @@
 use crate::keys::generated::wrote_sealed_over;
 use crate::keys::sealed::calls::{Way, opened};
 use crate::keys::sealed::in_parts::SEALED_IN_PARTS;
-use crate::keys::texts::is_text_of;
 use crate::signatures::calls::has_text;
 use minisign::{KeyPair, PublicKey, Result, SecretKey, SecretKeyBox};
 use minisign_base::devices::random_sources::FixedRandom;
@@ -69,19 +68,9 @@ fn has_records(pair: &KeyPair, public: &[u8], secret: &[u8]) -> Result<bool> {
     Ok(pk == pair.pk && sk == pair.sk)
 }
 
-// Whether this is the text of the pair that is sealed under the empty password.
-fn is_sealed_text(bytes: &[u8]) -> bool {
-    is_text_of(
-        bytes,
-        "rsign encrypted secret key",
-        COUNTED_SEALED_UNDER_NOTHING,
-    )
-}
-
-/// Whether the key has that text.
+/// Whether the key has the text of the pair that is sealed under the empty password.
 pub fn has_sealed_text(alloc: Global, key: &SecretKey) -> Result<bool> {
-    let text = secret_text(alloc, key)?;
-    Ok(is_sealed_text(text.as_bytes()))
+    has_text(secret_text(alloc, key), COUNTED_SEALED_UNDER_NOTHING)
 }
 
 // Whether a sealed pair is made with an empty password that is typed.
@@ -102,7 +91,7 @@ fn wrote_sealed(alloc: Global) -> Result<bool> {
     let mut secret = VecSink::new(alloc);
     wrote_sealed_over(alloc, &mut typed(b"\n\n"), &mut public, &mut secret)?;
     let written = public.as_slice() == COUNTED_PUBLIC_TEXT.as_bytes();
-    Ok(written && is_sealed_text(secret.as_slice()))
+    Ok(written && secret.as_slice() == COUNTED_SEALED_UNDER_NOTHING.as_bytes())
 }
 
 // Whether the key is key A, which is sealed no more.
@@ -113,7 +102,7 @@ fn is_opened(key: &SecretKey) -> Result<bool> {
 
 // Whether the text of key A, sealed, opens so with a typed password.
 fn opens(alloc: Global, text: &str, way: Way) -> Result<bool> {
-    let sk_box = SecretKeyBox::from_string(alloc, text)?;
+    let sk_box = SecretKeyBox::from_string(alloc, text);
     let key = opened(alloc, sk_box, None, &mut typed(b"password\n"), way)?;
     is_opened(&key)
 }

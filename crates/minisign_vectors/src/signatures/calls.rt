@@ -8,8 +8,11 @@ use minisign_fixtures::devices::sinks::LimitedSink;
 use minisign_fixtures::keys::{CHECKSUM, KEY_ID, PUBLIC_BYTES, public_record, secret_record};
 use minisign_fixtures::outcomes::Outcome::{self, Accepted};
 use minisign_fixtures::outcomes::{comes_to, ends_in};
-use minisign_fixtures::texts::SIGNATURE_TEXT;
 use std::alloc::Global;
+
+/// The worked text of the signature over `abc`, with the default untrusted comment.
+pub const SIGNED_BY_DEFAULT: &str =
+    "untrusted comment: signature from rsign secret key\nRUQBAgMEBQYHCAAAAAAAAAAAAAAAAAAAAAAAAAAAAAAAAAAAAAAAAAAAnV06XOjtbnryLxgygHtgJg6o/+bp8Qy3qGtn2FWlYag=\ntrusted comment: t\nAAAAAAAAAAAAAAAAAAAAAAAAAAAAAAAAAAAAAAAAAACzB2AGsrc0IKh1QmjaITp8VPKlvLOrVu3yMT2CD/878g==\n";
 
 /// The status is said, the data is copied, and legacy signatures are accepted.
 pub const COPYING: VerifyOptions = VerifyOptions {
@@ -115,11 +118,22 @@ fn verified_box<R: Rereader>(
 ) -> Result<()> {
     let pk = public_a()?;
     let signature_box = read_box(alloc, text)?;
+    verified(alloc, &pk, &signature_box, data, sinks)
+}
+
+// Verifies the data under the key with the box.
+fn verified<R: Rereader>(
+    alloc: Global,
+    pk: &PublicKey,
+    signature_box: &SignatureBox,
+    data: &mut R,
+    sinks: &mut Sinks,
+) -> Result<()> {
     verify(
         alloc,
         &ToyScheme::new(),
-        &pk,
-        &signature_box,
+        pk,
+        signature_box,
         data,
         COPYING.quiet,
         COPYING.output,
@@ -195,20 +209,11 @@ pub fn read_box(alloc: Global, text: &str) -> Result<SignatureBox> {
     SignatureBox::from_string(alloc, text)
 }
 
-/// Whether this comes of verifying the worked texts: the comment `t`, or an error.
-pub fn tells(answer: Result<String>, expected: Outcome) -> bool {
-    match &answer {
-        Ok(comment) => expected == Accepted && comment.as_str() == "t",
-        Err(_) => comes_to(&answer, expected),
-    }
-}
-
-/// Whether this comes of signing as it was worked out: the text with the default untrusted comment, or
-/// an error.
-pub fn signs_so(answer: Result<String>, expected: Outcome) -> bool {
-    match &answer {
-        Ok(text) => expected == Accepted && is_worked_out(text.as_str()),
-        Err(_) => comes_to(&answer, expected),
+/// Whether this comes of a call: the text where it is accepted, or an error.
+pub fn tells(answer: &Result<String>, text: &str, expected: Outcome) -> bool {
+    match answer {
+        Ok(told) => expected == Accepted && told.as_str() == text,
+        Err(_) => comes_to(answer, expected),
     }
 }
 
@@ -218,15 +223,24 @@ pub fn has_text(returned: Result<String>, text: &str) -> Result<bool> {
     Ok(returned.as_str() == text)
 }
 
-/// Whether this is the trusted comment of the box, and its untrusted one is the default one.
-pub fn has_comments(alloc: Global, signature_box: &SignatureBox, trusted: &str) -> Result<bool> {
-    let is_trusted = has_text(signature_box.trusted_comment(alloc), trusted)?;
-    let untrusted = signature_box.untrusted_comment(alloc);
-    Ok(has_text(untrusted, "signature from rsign secret key")? && is_trusted)
+/// The text of a copy of the box.
+pub fn copy_text(alloc: Global, signature_box: &SignatureBox) -> Result<String> {
+    let copy = signature_box.try_clone(alloc)?;
+    copy.into_string(alloc)
 }
 
-// Whether the text is the worked one but for its untrusted comment, which is the default one.
-fn is_worked_out(text: &str) -> bool {
-    let lines = text.strip_prefix("untrusted comment: signature from rsign secret key");
-    lines == SIGNATURE_TEXT.strip_prefix("untrusted comment: c")
+// Whether this is the trusted comment of the box, and its untrusted one is the default one.
+fn has_comments(alloc: Global, signature_box: &SignatureBox, trusted: &str) -> Result<bool> {
+    if !has_text(signature_box.trusted_comment(alloc), trusted)? {
+        return Ok(false);
+    }
+    let untrusted = signature_box.untrusted_comment(alloc);
+    has_text(untrusted, "signature from rsign secret key")
+}
+
+/// Whether this is the trusted comment of the box that a text holds, and its untrusted one is the
+/// default one.
+pub fn text_has_comments(alloc: Global, sig_text: &str, trusted: &str) -> Result<bool> {
+    let signature_box = read_box(alloc, sig_text)?;
+    has_comments(alloc, &signature_box, trusted)
 }

@@ -2,18 +2,22 @@
 //! told.
 
 use crate::signatures::calls::signed_text;
+use crate::tables::holds_at;
 use minisign_base::devices::random_sources::FixedRandom;
+use minisign_base::devices::sinks::Sink;
+use minisign_base::devices::sources::Source;
+use minisign_base::errors::Result;
 use minisign_base::faults::NamedFault::{
     self, CorruptedKey, MissingEncodedSecretKey, MissingSecretKeyComment, ReadingFailed,
     SecretKeyNotBase64, UnsupportedEncryptionAlgorithm, WrongPassword,
 };
-use minisign_fixtures::devices::sources::FailsAfter;
+use minisign_base::prompt::Prompt;
+use minisign_fixtures::devices::sources::FailingSource;
 use minisign_fixtures::outcomes::Outcome::Refused;
 use minisign_fixtures::outcomes::ends_in;
-use minisign_fixtures::prompts::{bytes_left, typed};
+use minisign_fixtures::prompts::{bytes_left, handed, typed};
 use minisign_fixtures::texts::SEALED;
 use std::alloc::Global;
-use std::test::Fail;
 
 const SAID: &str =
     "Password: Deriving a key from the password and decrypting the secret key... done\n";
@@ -34,7 +38,7 @@ const CORRUPTED: &str =
 
 // The text of a secret key, after how many reads the data fails, what comes of it, and what the prompt is
 // told.
-type Row = (&'static str, u64, NamedFault, &'static str);
+type Row = (&'static str, usize, NamedFault, &'static str);
 
 const ROWS: [Row; 7] = [
     ("", 0, MissingSecretKeyComment, ""),
@@ -51,21 +55,26 @@ fn rows() -> &'static [Row] {
     &ROWS
 }
 
+// Signs `abc`, of which a read fails after so many.
+fn signed<P: Source, Q: Sink>(
+    alloc: Global,
+    sk_text: &str,
+    password: Option<&str>,
+    prompt: &mut Prompt<P, Q>,
+    reads: usize,
+) -> Result<String> {
+    let password = handed(alloc, password)?;
+    let mut data = FailingSource::for_good(b"abc", reads);
+    let mut random = FixedRandom::new(&ZEROS);
+    signed_text(alloc, sk_text, password, prompt, &mut data, &mut random)
+}
+
 // Whether signing is rejected so where a password is typed, and the prompt is told this, and read where
 // it is told anything.
-fn is_refused(alloc: Global, password: Option<String>, row: &Row) -> bool {
+fn is_refused(alloc: Global, password: Option<&str>, row: &Row) -> bool {
     let (sk_text, reads, fault, told) = *row;
     let mut prompt = typed(alloc, b"password\n");
-    let mut data = FailsAfter::new(b"abc", reads);
-    let mut random = FixedRandom::new(&ZEROS);
-    let answer = signed_text(
-        alloc,
-        sk_text,
-        password,
-        &mut prompt,
-        &mut data,
-        &mut random,
-    );
+    let answer = signed(alloc, sk_text, password, &mut prompt, reads);
     let came = ends_in(answer, Refused(fault));
     let unread = if told.is_empty() { 9 } else { 0 };
     let left = bytes_left(&mut prompt.reader) == unread;
@@ -76,15 +85,13 @@ fn is_refused(alloc: Global, password: Option<String>, row: &Row) -> bool {
 #[test]
 fn refusals_come_in_their_order(rt: HostRuntime) {
     for row in rows() {
-        assert!(rt; is_refused(rt.alloc(), None, row), "at {:?}", row.2);
+        holds_at(&rt, is_refused(rt.alloc(), None, row), &row.2);
     }
 }
 
 // So is a wrong password that is passed in.
 #[test]
-fn a_wrong_password_is_refused_before_the_data(rt: HostRuntime) -> Result<(), Fail> {
-    let password = String::from_str(rt.alloc(), "another")?;
+fn a_wrong_password_is_refused_before_the_data(rt: HostRuntime) {
     let row = (SEALED, 0, WrongPassword, "");
-    assert!(rt; is_refused(rt.alloc(), Some(password), &row));
-    Ok(())
+    assert!(rt; is_refused(rt.alloc(), Some("another"), &row));
 }

@@ -2,11 +2,13 @@
 //!
 //! The letters are those of Python's base64 module.
 
+use crate::shown::says;
+use crate::signatures::calls::copy_text;
 use minisign::{Result, Signature, SignatureBones, SignatureBox};
 use minisign_base::faults::NamedFault::SignatureBoxIncomplete;
 use minisign_fixtures::keys::{KEY_ID, TIED_TO_ABC, signature_record};
 use minisign_fixtures::outcomes::Outcome::{self, Refused};
-use minisign_fixtures::outcomes::{ends_in, gives_record, gives_text, is_so};
+use minisign_fixtures::outcomes::{ends_in, gives_record, gives_text};
 use minisign_fixtures::texts::SIGNATURE_TEXT;
 use std::alloc::Global;
 
@@ -22,10 +24,11 @@ const LETTERS: [u8; 48] = [
 ];
 
 // Whether the signature of a record is shown by these letters, and by no blank.
-fn is_shown(alloc: Global, record: &[u8; 74], letters: &str) -> Result<bool> {
-    let shown = Signature::from_bytes(record)?;
-    let text = format!(in alloc; "{shown}")?;
-    Ok(text.as_str() == letters)
+fn is_shown(alloc: Global, record: &[u8; 74], letters: &str) -> bool {
+    let Ok(signature) = Signature::from_bytes(record) else {
+        return false;
+    };
+    says(alloc, &signature, letters)
 }
 
 // A signature is shown as the second line, and the letters of base64 stand in their order.
@@ -33,18 +36,12 @@ fn is_shown(alloc: Global, record: &[u8; 74], letters: &str) -> Result<bool> {
 fn a_signature_is_shown_in_base64(rt: HostRuntime) {
     let alloc = rt.alloc();
     let record = signature_record(b"ED", &KEY_ID, &TIED_TO_ABC);
-    assert!(rt; is_so(is_shown(alloc, &record, SIGNED)));
+    assert!(rt; is_shown(alloc, &record, SIGNED));
     let mut record = [0u8; 74];
     record[..48].copy_from_slice(&LETTERS);
     let letters =
         "ABCDEFGHIJKLMNOPQRSTUVWXYZabcdefghijklmnopqrstuvwxyz0123456789+/AAAAAAAAAAAAAAAAAAAAAAAAAAAAAAAAAAA=";
-    assert!(rt; is_so(is_shown(alloc, &record, letters)));
-}
-
-// The text of a copy of the box.
-fn copy_text(alloc: Global, signature_box: &SignatureBox) -> Result<String> {
-    let copy = signature_box.try_clone(alloc)?;
-    copy.into_string(alloc)
+    assert!(rt; is_shown(alloc, &record, letters));
 }
 
 // The box that is read from a text that is passed on.

@@ -2,6 +2,7 @@
 //! rejected text leaves of the data.
 
 use crate::signatures::calls::{COPYING, Wanted, ample, texts_come_out, verified_texts};
+use crate::tables::holds_at;
 use minisign::VerifyOptions;
 use minisign::reading::read_to_end;
 use minisign_base::devices::sources::ReaderSource;
@@ -39,9 +40,14 @@ fn is_buffered(
     let mut out = BufferedSink::new(alloc);
     let answer = verified_texts(alloc, texts, &mut data, COPYING, &mut status, &mut out);
     let came = ends_in(answer, outcome);
-    let unsaid = status.passed_on().is_empty() && status.waiting() == SAID;
-    let copied = out.passed_on() == passed_on && out.waiting() == waiting;
+    let unsaid = has_taken(&status, b"", SAID);
+    let copied = has_taken(&out, passed_on, waiting);
     came && unsaid && copied
+}
+
+// Whether a sink passed this on, and this waits.
+fn has_taken(sink: &BufferedSink, passed_on: &[u8], waiting: &[u8]) -> bool {
+    sink.passed_on() == passed_on && sink.waiting() == waiting
 }
 
 // The copy is flushed once the digests are compared, and the status never.
@@ -126,6 +132,6 @@ fn is_read_once(alloc: Global, row: &ReadOnce) -> bool {
 #[test]
 fn data_that_cannot_be_read_again(rt: HostRuntime) {
     for row in read_once() {
-        assert!(rt; is_read_once(rt.alloc(), row), "at {row:?}");
+        holds_at(&rt, is_read_once(rt.alloc(), row), row);
     }
 }

@@ -27,14 +27,15 @@ pub struct Wanted<'a> {
     pub unread: usize,
 }
 
-/// The key of the box that is opened with this prompt.
+/// The key of the box that is opened with this prompt, if there is one.
 pub fn opened<R: Source, W: Sink>(
     alloc: Global,
-    sk_box: SecretKeyBox,
+    sk_box: Result<SecretKeyBox>,
     password: Option<&str>,
     prompt: &mut Prompt<R, W>,
     way: Way,
 ) -> Result<SecretKey> {
+    let sk_box = sk_box?;
     let password = handed(alloc, password)?;
     match way {
         Way::AnyParts => SecretKey::from_box(alloc, sk_box, password, prompt),
@@ -52,9 +53,6 @@ pub fn comes_out(
     way: Way,
     wanted: Wanted,
 ) -> bool {
-    let Ok(sk_box) = sk_box else {
-        return false;
-    };
     let mut prompt = typed(alloc, bytes);
     let answer = opened(alloc, sk_box, password, &mut prompt, way);
     let came = ends_in(answer, wanted.outcome);
@@ -78,27 +76,25 @@ pub fn has_outcome(
     comes_out(alloc, sk_box, Some(password), b"typed\n", way, wanted)
 }
 
-/// Whether opening gives a key that is sealed no more, and whose text is this one. The password is
-/// passed in, or typed where none is.
+/// Whether opening what is sealed gives a key that is sealed no more, and whose text is this one. The
+/// password is passed in, or typed where none is.
 pub fn gives(
     alloc: Global,
-    sk_box: Result<SecretKeyBox>,
+    sealed: &str,
     password: Option<&str>,
     bytes: &[u8],
     way: Way,
     text: &str,
 ) -> bool {
-    let Ok(sk_box) = sk_box else {
-        return false;
-    };
+    let sk_box = SecretKeyBox::from_string(alloc, sealed);
     let mut prompt = typed(alloc, bytes);
     let answer = opened(alloc, sk_box, password, &mut prompt, way);
-    has_text(alloc, answer, text)
+    has_text(alloc, &answer, text)
 }
 
 // Whether the key that was opened is sealed no more, and has this text.
-fn has_text(alloc: Global, answer: Result<SecretKey>, text: &str) -> bool {
-    match &answer {
+fn has_text(alloc: Global, answer: &Result<SecretKey>, text: &str) -> bool {
+    match answer {
         Ok(key) => !key.is_encrypted() && gives_text(secret_text(alloc, key), text),
         Err(_) => false,
     }

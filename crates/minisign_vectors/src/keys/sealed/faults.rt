@@ -2,13 +2,14 @@
 //! as being out of memory. `tests/rows/sealed_keys.py` has those of texts.
 
 use crate::keys::sealed::calls::{Way, opened};
+use crate::tables::holds_at;
 use minisign::SecretKeyBox;
 use minisign_base::faults::NamedFault::{
     EndOfInput, NotUtf8, PasswordTooLong, ReadingFailed, WritingFailed, WrongPassword,
 };
 use minisign_base::prompt::Prompt;
 use minisign_fixtures::devices::sinks::LimitedSink;
-use minisign_fixtures::devices::sources::FailsAfter;
+use minisign_fixtures::devices::sources::FailingSource;
 use minisign_fixtures::outcomes::Outcome::{self, Refused};
 use minisign_fixtures::outcomes::ends_in;
 use minisign_fixtures::texts::SEALED;
@@ -18,7 +19,7 @@ use std::alloc::Global;
 const LONG: &[u8] = &[b'a'; 1026];
 
 // What is typed, after how many reads its reader fails, the room of the writer, and what comes of it.
-type Row = (&'static [u8], u64, usize, Outcome);
+type Row = (&'static [u8], usize, usize, Outcome);
 
 const ROWS: [Row; 7] = [
     (b"", 9, 99, Refused(EndOfInput)),
@@ -38,10 +39,8 @@ fn rows() -> &'static [Row] {
 // Whether this call rejects the sealed key so.
 fn is_refused_by(alloc: Global, way: Way, row: &Row) -> bool {
     let (typed, reads, room, expected) = *row;
-    let Ok(sk_box) = SecretKeyBox::from_string(alloc, SEALED) else {
-        return false;
-    };
-    let reader = FailsAfter::new(typed, reads);
+    let sk_box = SecretKeyBox::from_string(alloc, SEALED);
+    let reader = FailingSource::for_good(typed, reads);
     let mut prompt = Prompt::new(reader, LimitedSink::new(alloc, room));
     ends_in(opened(alloc, sk_box, None, &mut prompt, way), expected)
 }
@@ -50,16 +49,11 @@ fn is_refused_by(alloc: Global, way: Way, row: &Row) -> bool {
 fn faults_of_prompts(rt: HostRuntime) {
     let alloc = rt.alloc();
     for row in rows() {
-        assert!(rt; is_refused_by(alloc, Way::AnyParts, row), "at {:?}", row.3);
-        assert!(rt;
-            is_refused_by(alloc, Way::Within(512), row),
-            "at {:?}",
-            row.3
-        );
-        assert!(rt;
-            is_refused_by(alloc, Way::Keeping(3), row),
-            "at {:?}",
-            row.3
-        );
+        let by_any = is_refused_by(alloc, Way::AnyParts, row);
+        holds_at(&rt, by_any, &("any parts", row.3));
+        let within = is_refused_by(alloc, Way::Within(512), row);
+        holds_at(&rt, within, &("parts within a bound", row.3));
+        let keeping = is_refused_by(alloc, Way::Keeping(3), row);
+        holds_at(&rt, keeping, &("every third row", row.3));
     }
 }

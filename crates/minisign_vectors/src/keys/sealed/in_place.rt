@@ -3,6 +3,7 @@
 use crate::kdf::passed_memory::{are_zeros, bytes, words};
 use crate::keys::refused_allocations::secret_text;
 use crate::keys::sealed::less_memory::{MADE, OPENED};
+use crate::tables::holds_at;
 use minisign::{Result, SecretKey, read_secret_key};
 use minisign_base::faults::NamedFault::{WorkTooHigh, WrongPassword};
 use minisign_fixtures::outcomes::Outcome::{self, Accepted, Refused};
@@ -43,21 +44,21 @@ fn comes_out(alloc: Global, row: &Row) -> bool {
     };
     let answer = key.open_in_place(password.as_bytes(), 16, max_p, &mut words, &mut bytes);
     let are_left_zeros = are_zeros(&words, &bytes);
-    let came = is_opened(alloc, answer, outcome);
+    let came = is_opened(alloc, &answer, outcome);
     are_left_zeros && came
 }
 
 // Whether this comes of opening, and the key that is opened has the text that is wanted.
-fn is_opened(alloc: Global, answer: Result<SecretKey>, outcome: Outcome) -> bool {
-    match &answer {
+fn is_opened(alloc: Global, answer: &Result<SecretKey>, outcome: Outcome) -> bool {
+    match answer {
         Ok(key) => outcome == Accepted && gives_text(secret_text(alloc, key), OPENED),
-        Err(_) => comes_to(&answer, outcome),
+        Err(_) => comes_to(answer, outcome),
     }
 }
 
 #[test]
 fn opens_in_passed_memory(rt: HostRuntime) {
     for row in rows() {
-        assert!(rt; comes_out(rt.alloc(), row), "at {row:?}");
+        holds_at(&rt, comes_out(rt.alloc(), row), row);
     }
 }

@@ -1,6 +1,7 @@
 //! Sealed keys, opened with every k-th row kept.
 
 use crate::keys::sealed::calls::{Wanted, Way, comes_out, gives};
+use crate::tables::holds_at;
 use minisign::SecretKeyBox;
 use minisign_base::faults::NamedFault::WrongPassword;
 use minisign_fixtures::outcomes::Outcome::{self, Accepted, Refused};
@@ -25,18 +26,16 @@ pub const OPENED: &str =
 // a typed one.
 fn opens(alloc: Global, k: u64) -> bool {
     let way = Way::Keeping(k);
-    let sk_box = SecretKeyBox::from_string(alloc, MADE);
-    let passed = gives(alloc, sk_box, Some("password"), b"", way, OPENED);
-    let sk_box = SecretKeyBox::from_string(alloc, MADE);
-    let typed = gives(alloc, sk_box, None, b"password\n", way, OPENED);
+    let passed = gives(alloc, MADE, Some("password"), b"", way, OPENED);
+    let typed = gives(alloc, MADE, None, b"password\n", way, OPENED);
     passed && typed
 }
 
 #[test]
 fn opens_to_the_same_key(rt: HostRuntime) {
-    assert!(rt; opens(rt.alloc(), 1));
-    assert!(rt; opens(rt.alloc(), 7));
-    assert!(rt; opens(rt.alloc(), 16));
+    for k in [1u64, 7, 16] {
+        holds_at(&rt, opens(rt.alloc(), k), &k);
+    }
 }
 
 // Whether another key, that `from_box` opens in other tests, comes out so with what is typed.
@@ -52,9 +51,10 @@ fn comes_out_typed(alloc: Global, k: u64, bytes: &[u8], outcome: Outcome) -> boo
 
 #[test]
 fn opens_with_a_typed_password(rt: HostRuntime) {
-    let alloc = rt.alloc();
-    assert!(rt; comes_out_typed(alloc, 1, b"password\n", Accepted));
-    assert!(rt; comes_out_typed(alloc, 7, b"password\n", Accepted));
-    assert!(rt; comes_out_typed(alloc, 100, b"password\n", Accepted));
-    assert!(rt; comes_out_typed(alloc, 16, b"Password\n", WRONG));
+    for k in [1u64, 7, 100] {
+        let opened = comes_out_typed(rt.alloc(), k, b"password\n", Accepted);
+        holds_at(&rt, opened, &k);
+    }
+    let unopened = comes_out_typed(rt.alloc(), 16, b"Password\n", WRONG);
+    holds_at(&rt, unopened, &"another password");
 }

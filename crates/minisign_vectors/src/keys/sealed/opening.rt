@@ -1,6 +1,7 @@
 //! Sealed secret keys, opened within a bound, in less memory, and over prompts that cannot be written to.
 
 use crate::keys::sealed::calls::{Wanted, Way, comes_out, gives, has_outcome, opened};
+use crate::tables::holds_at;
 use minisign::{Result, SecretKey, SecretKeyBox};
 use minisign_base::devices::sources::SliceSource;
 use minisign_base::faults::NamedFault::{
@@ -10,7 +11,7 @@ use minisign_base::prompt::Prompt;
 use minisign_fixtures::devices::sinks::LimitedSink;
 use minisign_fixtures::keys::{CHECKSUM, secret_record};
 use minisign_fixtures::outcomes::Outcome::{self, Refused};
-use minisign_fixtures::outcomes::{beginning, ends_in};
+use minisign_fixtures::outcomes::{ends_in, front};
 use minisign_fixtures::texts::{SEALED_AS_MINISIGN, SEALED_AS_USUAL};
 use std::alloc::Global;
 
@@ -43,16 +44,18 @@ const UNWRITTEN: Outcome = Refused(WritingFailed);
 // The box of key A's record with these limits, which restores no checksum as it is not sealed.
 fn limited_box(alloc: Global, memory: u64, operations: u64) -> Result<SecretKeyBox> {
     let mut record = secret_record(b"Sc", &CHECKSUM);
-    let (_, behind_salt) = record.split_at_mut(38);
-    let (limits, _) = behind_salt.split_at_mut(16);
-    let (operations_part, memory_part) = limits.split_at_mut(8);
-    operations_part.copy_from_slice(&operations.to_le_bytes());
-    memory_part.copy_from_slice(&memory.to_le_bytes());
+    let (operations, memory) = (operations.to_le_bytes(), memory.to_le_bytes());
+    for i in 0..8usize {
+        record[38 + i] = operations[i];
+        record[46 + i] = memory[i];
+    }
     SecretKey::from_bytes(&record)?.to_box(alloc, None)
 }
 
 // The limits of memory and of operations, a bound on the parts, and what opening comes to.
-const LIMITS: [(u64, u64, u32, Outcome); 12] = [
+type Limits = (u64, u64, u32, Outcome);
+
+const LIMITS: [Limits; 12] = [
     (0, u64::MAX, 16, TOO_MUCH_WORK),
     (0, 0, 511, TOO_MUCH_WORK),
     (0, 0, 512, WRONG),
@@ -68,12 +71,12 @@ const LIMITS: [(u64, u64, u32, Outcome); 12] = [
 ];
 
 // The rows, so that no proof looks into all of them.
-fn limits() -> &'static [(u64, u64, u32, Outcome)] {
+fn limits() -> &'static [Limits] {
     &LIMITS
 }
 
 // Whether opening with these limits and this bound has this outcome.
-fn is_bounded(alloc: Global, row: &(u64, u64, u32, Outcome)) -> bool {
+fn is_bounded(alloc: Global, row: &Limits) -> bool {
     let (memory, operations, max_p, expected) = *row;
     let sk_box = limited_box(alloc, memory, operations);
     has_outcome(alloc, sk_box, "p", Way::Within(max_p), expected)
@@ -82,35 +85,34 @@ fn is_bounded(alloc: Global, row: &(u64, u64, u32, Outcome)) -> bool {
 #[test]
 fn limits_and_work_are_bounded(rt: HostRuntime) {
     for row in limits() {
-        assert!(rt; is_bounded(rt.alloc(), row), "at {row:?}");
+        holds_at(&rt, is_bounded(rt.alloc(), row), row);
     }
 }
 
 #[test]
 fn a_key_with_the_usual_limits_opens_within_one_part(rt: HostRuntime) {
-    let alloc = rt.alloc();
-    let sk_box = SecretKeyBox::from_string(alloc, SEALED_AS_USUAL);
-    let way = Way::Within(1);
-    assert!(rt; gives(alloc, sk_box, Some("password"), b"", way, OPENED_AS_USUAL));
+    let (alloc, way) = (rt.alloc(), Way::Within(1));
+    let text = OPENED_AS_USUAL;
+    assert!(rt; gives(alloc, SEALED_AS_USUAL, Some("password"), b"", way, text));
 }
 
 // The limits that the C program writes take 1 GiB of rows; with every 16th kept it is 64 MiB.
 #[test]
 fn a_key_of_the_c_program_opens_in_less_memory(rt: HostRuntime) {
-    let alloc = rt.alloc();
-    let sk_box = SecretKeyBox::from_string(alloc, SEALED_AS_MINISIGN);
-    let way = Way::Keeping(16);
-    assert!(rt; gives(alloc, sk_box, None, b"password\n", way, OPENED_AS_MINISIGN));
+    let (alloc, way) = (rt.alloc(), Way::Keeping(16));
+    let text = OPENED_AS_MINISIGN;
+    assert!(rt; gives(alloc, SEALED_AS_MINISIGN, None, b"password\n", way, text));
 }
 
+const LATE: [Limits; 3] = [
+    (1073741825, 0, u32::MAX, TOO_HIGH),
+    (0, 1099511627776, u32::MAX, INVALID),
+    (0, u64::MAX, 16, TOO_MUCH_WORK),
+];
+
 // Whether they are so where the password is typed: once it is there, and before the derivation.
-fn is_bounded_late(
-    alloc: Global,
-    memory: u64,
-    operations: u64,
-    max_p: u32,
-    outcome: Outcome,
-) -> bool {
+fn is_bounded_late(alloc: Global, row: &Limits) -> bool {
+    let (memory, operations, max_p, outcome) = *row;
     let sk_box = limited_box(alloc, memory, operations);
     let wanted = Wanted {
         outcome,
@@ -122,10 +124,9 @@ fn is_bounded_late(
 
 #[test]
 fn limits_are_refused_behind_a_typed_password(rt: HostRuntime) {
-    let alloc = rt.alloc();
-    assert!(rt; is_bounded_late(alloc, 1073741825, 0, u32::MAX, TOO_HIGH));
-    assert!(rt; is_bounded_late(alloc, 0, 1099511627776, u32::MAX, INVALID));
-    assert!(rt; is_bounded_late(alloc, 0, u64::MAX, 16, TOO_MUCH_WORK));
+    for row in &LATE {
+        holds_at(&rt, is_bounded_late(rt.alloc(), row), row);
+    }
 }
 
 // The room for what the prompt is told, the limit of memory, what is typed, and what opening comes to. A
@@ -151,19 +152,17 @@ fn rooms() -> &'static [(usize, u64, &'static str, Outcome)] {
 // Whether opening with so much room has this outcome, and the room is filled.
 fn fills(alloc: Global, row: &(usize, u64, &str, Outcome)) -> bool {
     let (room, memory, line, outcome) = *row;
-    let Ok(sk_box) = limited_box(alloc, memory, 0) else {
-        return false;
-    };
+    let sk_box = limited_box(alloc, memory, 0);
     let writer = LimitedSink::new(alloc, room);
     let mut prompt = Prompt::new(SliceSource::new(line.as_bytes()), writer);
     let answer = opened(alloc, sk_box, None, &mut prompt, Way::AnyParts);
     let came = ends_in(answer, outcome);
-    came && prompt.writer.as_slice() == beginning(DONE, room).as_bytes()
+    came && prompt.writer.as_slice() == front(DONE.as_bytes(), room)
 }
 
 #[test]
 fn failing_writers_are_told_in_their_place(rt: HostRuntime) {
     for row in rooms() {
-        assert!(rt; fills(rt.alloc(), row), "at {row:?}");
+        holds_at(&rt, fills(rt.alloc(), row), row);
     }
 }

@@ -5,10 +5,12 @@
 
 use crate::keys::sealed::calls::{Way, opened};
 use crate::signatures::calls::{
-    COPYING, Sinks, Wanted, ample, box_comes_out, key_a, signed_from, signed_text, texts_come_out,
+    COPYING, Sinks, Wanted, ample, box_comes_out, key_a, signed_from, signed_text, tells,
+    texts_come_out,
 };
+use crate::tables::holds_at;
+use minisign::SecretKeyBox;
 use minisign::reading::read_to_end;
-use minisign::{Result, SecretKeyBox};
 use minisign_base::devices::random_sources::RandomSource;
 use minisign_base::devices::sources::SliceSource;
 use minisign_base::faults::NamedFault::{
@@ -19,7 +21,7 @@ use minisign_fixtures::devices::random::FailingRandom;
 use minisign_fixtures::devices::sinks::LimitedSink;
 use minisign_fixtures::devices::sources::{Changes, FailingSource};
 use minisign_fixtures::outcomes::Outcome::{self, Accepted, Refused};
-use minisign_fixtures::outcomes::{comes_to, ends_in, front, gives_record};
+use minisign_fixtures::outcomes::{ends_in, front, gives_record};
 use minisign_fixtures::prompts::bytes_left;
 use minisign_fixtures::texts::{
     KEY_TEXT, LEGACY_TEXT, SAID, SEALED, SEALED_WITH_NOTHING, SIGNATURE_TEXT,
@@ -150,10 +152,12 @@ fn comes_out(alloc: Global, row: &Failing, calls: usize) -> bool {
 fn the_status_and_the_output_fail(rt: HostRuntime) {
     for row in failing() {
         for calls in 0..62usize {
-            assert!(rt; comes_out(rt.alloc(), row, calls), "at {calls} of {row:?}");
+            holds_at(&rt, comes_out(rt.alloc(), row, calls), &(calls, row));
         }
     }
 }
+
+type Typed<'a> = Prompt<FailingSource<'a>, LimitedSink>;
 
 // Of what signing with a text meets: after how many calls the reader of its prompt fails and how often
 // its writer is flushed and after how many calls it fails; after how many reads the data fails, and
@@ -198,38 +202,52 @@ fn signings() -> &'static [(Fails, Comes)] {
     &SIGNINGS
 }
 
-// Whether this comes of signing: the worked text, or an error.
-fn is_text_or(answer: Result<String>, expected: Outcome) -> bool {
-    match &answer {
-        Ok(text) => expected == Accepted && text.as_str() == SIGNATURE_TEXT,
-        Err(_) => comes_to(&answer, expected),
-    }
+// A prompt into which these bytes are typed. Its reader fails after so many calls, and its writer is flushed
+// so often, and fails after so many calls.
+fn prompt_of<'a>(
+    alloc: Global,
+    typed: &'a [u8],
+    reads: usize,
+    flushes: usize,
+    writes: usize,
+) -> Typed<'a> {
+    let room = if flushes == 0 { 4 } else { 100 };
+    let writer = LimitedSink::new(alloc, room)
+        .flushed(flushes)
+        .failing_after(writes);
+    Prompt::new(FailingSource::new(typed, reads), writer)
+}
+
+// Whether the devices of signing are left so.
+fn are_left(
+    prompt: &mut Typed,
+    data: &mut FailingSource,
+    random: &mut FailingRandom,
+    comes: &Comes,
+) -> bool {
+    let (_, told, typed_left, left, is_undrawn) = *comes;
+    let is_told = prompt.writer.as_slice() == front(ASKED_AND_DONE, told);
+    let typed = bytes_left(&mut prompt.reader) == typed_left;
+    let read = bytes_left(data) == left;
+    let undrawn = random.random.fill(&mut [0; 128]).is_ok();
+    is_told && typed && read && undrawn == is_undrawn
 }
 
 // Whether signing comes out so.
 fn is_signed(alloc: Global, row: &(Fails, Comes)) -> bool {
     let ((reads, flushes, writes, data_reads, draws), comes) = *row;
-    let (expected, told, typed_left, left, is_undrawn) = comes;
-    let room = if flushes == 0 { 4 } else { 100 };
-    let writer = LimitedSink::new(alloc, room)
-        .flushed(flushes)
-        .failing_after(writes);
-    let mut prompt = Prompt::new(FailingSource::new(b"password\nx", reads), writer);
+    let mut prompt = prompt_of(alloc, b"password\nx", reads, flushes, writes);
     let mut data = FailingSource::new(b"abc", data_reads);
     let mut random = FailingRandom::new(&ZEROS, draws);
     let answer = signed_text(alloc, SEALED, None, &mut prompt, &mut data, &mut random);
-    let came = is_text_or(answer, expected);
-    let is_told = prompt.writer.as_slice() == front(ASKED_AND_DONE, told);
-    let typed = bytes_left(&mut prompt.reader) == typed_left;
-    let read = bytes_left(&mut data) == left;
-    let undrawn = random.random.fill(&mut [0; 128]).is_ok();
-    came && is_told && typed && read && undrawn == is_undrawn
+    let came = tells(&answer, SIGNATURE_TEXT, comes.0);
+    came && are_left(&mut prompt, &mut data, &mut random, &comes)
 }
 
 #[test]
 fn each_device_of_signing_fails(rt: HostRuntime) {
     for row in signings() {
-        assert!(rt; is_signed(rt.alloc(), row), "at {row:?}");
+        holds_at(&rt, is_signed(rt.alloc(), row), row);
     }
 }
 
@@ -305,11 +323,8 @@ fn openings() -> &'static [Opening] {
 fn opens(alloc: Global, row: &Opening) -> bool {
     let (is_typed, reads, writes, expected, told) = *row;
     let (text, typed, whole) = if is_typed { TYPED } else { NOTHING };
-    let Ok(sk_box) = SecretKeyBox::from_string(alloc, text) else {
-        return false;
-    };
-    let writer = LimitedSink::new(alloc, 100).failing_after(writes);
-    let mut prompt = Prompt::new(FailingSource::new(typed.as_bytes(), reads), writer);
+    let sk_box = SecretKeyBox::from_string(alloc, text);
+    let mut prompt = prompt_of(alloc, typed.as_bytes(), reads, ALL, writes);
     let answer = opened(alloc, sk_box, None, &mut prompt, Way::AnyParts);
     let came = ends_in(answer, expected);
     came && prompt.writer.as_slice() == front(whole, told)
@@ -318,6 +333,6 @@ fn opens(alloc: Global, row: &Opening) -> bool {
 #[test]
 fn the_prompt_of_opening_fails(rt: HostRuntime) {
     for row in openings() {
-        assert!(rt; opens(rt.alloc(), row), "at {row:?}");
+        holds_at(&rt, opens(rt.alloc(), row), row);
     }
 }

@@ -6,7 +6,8 @@
 use crate::callers::example;
 use crate::keys::refused_allocations::typed;
 use crate::signatures::calls::{
-    COPYING, has_comments, has_text, key_a, read_box, signed_from, signed_text, verified_texts,
+    COPYING, copy_text, has_text, key_a, read_box, signed_from, signed_text, text_has_comments,
+    verified_texts,
 };
 use minisign::{PublicKey, Result, SignatureBones, SignatureBox};
 use minisign_base::devices::random_sources::FixedRandom;
@@ -50,39 +51,29 @@ fn made_by_default(alloc: Global) -> Result<SignatureBox> {
     signed_from(alloc, Some(&public), &secret, &mut data, &mut random, 7)
 }
 
-// The box that is read from the text of a copy.
-fn read_again(alloc: Global, made: SignatureBox) -> Result<SignatureBox> {
-    let copy = made.try_clone(alloc)?;
-    let text = copy.into_string(alloc)?;
-    read_box(alloc, text.as_str())
-}
-
-// Whether a box that is made with a public key to test, and with the default comments, has its
-// own.
+// Whether the text of a copy of a box that is made with a public key to test, and with the default
+// comments, has its own.
 fn made(alloc: Global) -> Result<bool> {
-    let again = read_again(alloc, made_by_default(alloc)?)?;
-    has_comments(alloc, &again, "timestamp:7")
+    let made = made_by_default(alloc)?;
+    let text = copy_text(alloc, &made)?;
+    text_has_comments(alloc, text.as_str(), "timestamp:7")
 }
 
-// The box of the text of the example of a caller, that is verified too.
-fn box_verified(alloc: Global) -> Result<SignatureBox> {
-    let sig_text = example(alloc, &PUBLIC_BYTES)?;
-    read_box(alloc, sig_text.as_str())
-}
-
-// Whether the bones of the box have the record that was worked out.
-fn has_record(alloc: Global, signature_box: SignatureBox) -> Result<bool> {
+// Whether the bones of the box of the text have the record that was worked out.
+fn has_record(alloc: Global, sig_text: &str) -> Result<bool> {
+    let signature_box = read_box(alloc, sig_text)?;
     let bytes = SignatureBones::from(signature_box).to_bytes(alloc)?;
     let record = signature_record(b"ED", &KEY_ID, &TIED_TO_ABC);
     Ok(bytes.as_slice() == record.as_slice())
 }
 
-// Whether signing and verifying with raw keys gives what was worked out.
+// Whether signing and verifying with raw keys, as the example of a caller does, gives what was worked out.
 fn signed_and_verified(alloc: Global) -> Result<bool> {
-    let signature_box = box_verified(alloc)?;
-    let commented = has_comments(alloc, &signature_box, "timestamp:1555779966")?;
-    let recorded = has_record(alloc, signature_box)?;
-    Ok(commented && recorded)
+    let sig_text = example(alloc, &PUBLIC_BYTES)?;
+    if !text_has_comments(alloc, sig_text.as_str(), "timestamp:1555779966")? {
+        return Ok(false);
+    }
+    has_record(alloc, sig_text.as_str())
 }
 
 // Whether signing with a sealed key tells a prompt over a buffer that grows, and gives the text.
