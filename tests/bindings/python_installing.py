@@ -2,8 +2,8 @@
 `minisign-install`. Each run of it is a fork of this process, which has loaded the package before. `python.py` runs it,
 in a Python that has the package installed, with `disturbed_calls.c` preloaded.
 
-It prints a line for each case that failed or was skipped; the last line is `N passed, M failed`. Needs Python 3.9 or
-later, minisign and setfacl.
+It prints a line for each case that failed or was skipped; the last line counts the cases. Needs Python 3.9 or later,
+minisign and setfacl.
 """
 
 import ctypes.util
