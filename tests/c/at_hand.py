@@ -69,10 +69,10 @@ class Copy:
     def __init__(self, checks, room):
         self.checks, self.room, self.top = checks, room, os.path.join(room, PLACE)
         self.cargo, self.go, self.python = needs.program("cargo", "cargo"), needs.program("go", "golang-go"), python()
-        # (to take less time C and Rust are compiled without optimizing, and Go is not vetted, which `go.py` does)
-        self.environment = {"PATH": static_library.path_without_kit(), "TMPDIR": f"{room}/tem p", "CFLAGS": "-O0", "CGO_CFLAGS": "-O0",
-                            "CARGO_PROFILE_RELEASE_OPT_LEVEL": "0", "CARGO_NET_OFFLINE": "true", "RUSTC": needs.rust_compiler(),
-                            "GOPROXY": "off", "GOCACHE": f"{room}/tem p/go", "GOFLAGS": "-vet=off", "GOTOOLCHAIN": "local"}
+        # (to take less time C is compiled without optimizing, and Go is not vetted, which `go.py` does)
+        self.environment = {"PATH": static_library.path_without_kit(), "TMPDIR": os.path.join(room, "tem p"), "CFLAGS": "-O0",
+                            "CGO_CFLAGS": "-O0", "RUSTC": needs.rust_compiler(), "CARGO_NET_OFFLINE": "true", "GOPROXY": "off",
+                            "GOCACHE": os.path.join(room, "tem p", "go"), "GOFLAGS": "-vet=off", "GOTOOLCHAIN": "local"}
         copy_tree(self.top)
         os.mkdir(self.environment["TMPDIR"])
         self.put(room, *(f"{name}/{FILE}" for name in NEIGHBOURS))

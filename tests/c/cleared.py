@@ -36,7 +36,7 @@ import proved
 import static_library
 from c_library import STRICT
 from command_running import put_files
-from planted import copy_sources, plant
+from planted import copy_sources
 from process import run, run_program
 from running import build_preload, read, write
 from texts import Limits, record_of, sealed, stream, text_of
@@ -152,9 +152,7 @@ def check_copies(checks, builder):
         check(compiler, "-O2", "PORTABLE=1", linking=["-static"], before=emulator)
 
 
-# What gives new keys of the program a 64th of the usual limits, with which a derivation takes seconds.
-LITTLE_LIMITS = ("c/minisign/keys.c", *(f"OPERATIONS_LIMIT{by}, .memory_limit = MINISIGN_MEMORY_LIMIT{by} " for by in ("", " >> 6")))
-# How it is run, and what is typed: the password of a key, and new ones. (To seal a key takes seconds: with -O0 its limits are little.)
+# How it is run, and what is typed: the password of a key, and new ones. (To seal a key takes seconds.)
 TYPED, NEW = PASSWORD + b"\n", b"another password\n"
 SEALING = ((("-G", "-p", "a.pub", "-s", "a.key"), TYPED + TYPED), (("-C", "-s", "closed.key"), TYPED + NEW + NEW),
            (("-C", "-s", "first.key"), NEW + NEW))
@@ -200,10 +198,8 @@ def misplaced(found):
 
 def check_program(checks, builder):
     """The program keeps its secrets in their place, and where they have another one or stay there, that is seen."""
-    little = copy_sources(builder.room, "c", "include", "dist")
-    plant(little, *LITTLE_LIMITS)
-    for level, top in (("-O0", little), ("-O2", proved.ROOT)):
-        searched = Searched(builder, level, top)
+    for level in LEVELS:
+        searched = Searched(builder, level)
         for arguments, typed in SEALING + OTHERS:
             what, (ran, found) = f"minisign, {level}, {' '.join(arguments)}", searched.search(arguments, typed)
             checks.check(ran.status == 0, f"{what}: {ran}")

@@ -190,7 +190,7 @@ def check_signers(checks, over):
         ("no comment", (key, data, ""), None),
         ("a sealed key", (by_minisign, data, COMMENT, good), None),
         ("a sealed key without a password", (by_minisign, data, COMMENT), "Key might be encrypted"),
-        ("a wrong password", (of_long, data, COMMENT, wrong), "Wrong password for that key"),
+        ("a wrong password", (by_minisign, data, COMMENT, wrong), "Wrong password for that key"),
         ("a password of 1,024 bytes", (of_long, data, COMMENT, long), None),
         ("its first 1,023 bytes", (of_long, data, COMMENT, shorter), "Wrong password for that key"),
         ("a password without an end", (by_minisign, data, COMMENT, endless), "the password cannot be read"),

@@ -29,12 +29,15 @@ from process import run_measured
 from running import build_preload, make_files, read
 from texts import Limits, record_of, sealed, text_of, with_checksum
 
-# The limits of `minisign -G`, and an eighth of them; some that take little; some of too much memory, and some that scrypt does not take.
-USUAL, EIGHTH = Limits(1073741824, 33554432), Limits(1 << 27, 1 << 22)
-LITTLE, TWO_PARTS = Limits(1048576, 32768, 1024, 1), Limits(1048576, 65536, 1024, 2)
+# The limits of `minisign -G`, and some that take little; some of which the memory is too much, and some that scrypt does not take.
+USUAL = Limits(1073741824, 33554432)
+LITTLE, FOUR_PARTS = Limits(1048576, 32768, 1024, 1), Limits(1048576, 131072, 1024, 4)
 TOO_MUCH, NOT_TAKEN = Limits(1073741825, 33554432), Limits(1048576, 1 << 44)
-ROWS, USUAL_ROWS = 1024, 1 << 20
+ROWS = 1024
 KEPT = (0, 1, 16, 1 << 63)
+
+# How many rows may be made of a key of Minisign's own limits.
+USUAL_ROWS = 1 << 20
 
 SECRET_COMMENT, LONGEST = "minisign encrypted secret key", "c" * 1003
 
@@ -128,20 +131,20 @@ def same_bytes(keys):
 def made_again(keys):
     """A key of `minisign -G` gets another password, and its public key is written again."""
     theirs, their_public = keys.generated("random", "old")
-    key_id_and_secret, in_all_rows = keys.opened(theirs, "old")
+    key_id_and_secret, in_few_rows = keys.opened(theirs, "old", keep_every=16)
+    everything, in_all_rows = keys.opened(theirs, "old")
+    in_place, used = keys.opened(theirs, "old", keep_every=16, how="place")
+    keys.holds(f"a key opened in few rows takes {in_few_rows} KiB, and in place {used}", max(in_few_rows, used) < 80 << 10)
     keys.holds(f"all rows take {in_all_rows} KiB", in_all_rows > 1 << 20)
+    keys.holds("another number of rows opens to another key", everything == key_id_and_secret)
+    keys.holds("in memory of the caller's another key is opened", in_place == key_id_and_secret)
     keys.holds(f"a key of minisign -G is not opened: {key_id_and_secret}", isinstance(key_id_and_secret, tuple))
     if isinstance(key_id_and_secret, tuple):
         key_id, secret = key_id_and_secret
         keys.holds("the public key that is written again", keys.public(secret, key_id) == their_public)
-        resealed = keys.secret(secret, "new", key_id=key_id, salt=os.urandom(32), limits=EIGHTH)
+        resealed = keys.secret(secret, "new", key_id=key_id, salt=os.urandom(32), limits=USUAL)
         keys.holds("Minisign does not use the key under its new password", keys.is_used(resealed, their_public, "new"))
         keys.holds("Minisign uses the key under its old password", not keys.is_used(resealed, their_public, "old"))
-        opened, in_few_rows = keys.opened(resealed, "new", keep_every=16)
-        in_place, used = keys.opened(resealed, "new", keep_every=16, how="place")
-        keys.holds(f"a key opened in few rows takes {in_few_rows} KiB, and in place {used}", max(in_few_rows, used) < 64 << 10)
-        keys.holds("another number of rows opens to another key", opened == key_id_and_secret)
-        keys.holds("in memory of the caller's another key is opened", in_place == key_id_and_secret)
         unsealed = keys.secret(secret, key_id=key_id)
         keys.holds("Minisign does not use the key once it is not sealed", keys.is_used(unsealed, their_public))
         keys.holds("the key that is not sealed is another", keys.opened(unsealed)[0] == key_id_and_secret)
@@ -149,7 +152,7 @@ def made_again(keys):
 
 def other_limits(keys):
     """Keys with limits of the caller's are sealed as hashlib says, under the empty password too, which is one of its own."""
-    for limits, password, kept in ((LITTLE, "pässword", KEPT), (TWO_PARTS, "pässword", KEPT), (LITTLE, "", (1,))):
+    for limits, password, kept in ((LITTLE, "pässword", KEPT), (FOUR_PARTS, "pässword", KEPT), (LITTLE, "", (1,))):
         what, wanted = f"{limits}, {password!r}", sealed(RECORD, password.encode(), limits, SALT)
         for keep_every in (1, 16):
             text = keys.secret(SECRET, password, limits=limits, keep_every=keep_every)
@@ -164,10 +167,10 @@ def bounds(keys):
     """Keys of other limits, of which none is derived: with the rows that they ask for, and with one row less they are rejected."""
     text = keys.secret(SECRET, "pw")
     # (2^10 rows, which are made so often)
-    for times in (2, 32, 256, 1 << 24):
+    for times in (2, 32, 1024, 1 << 24):
         other = with_limits(text, Limits(1 << 20, 32768 * times))
         keys.holds(f"{times} times the rows, less one", keys.opened(other, "pw", most_rows=times * ROWS - 1)[0] == 43)
-        if times <= 256:
+        if times <= 1024:
             keys.holds(f"{times} times the rows", keys.opened(other, "pw", most_rows=times * ROWS)[0] == 42)
         words, parts = keys.memory(other, 16)
         keys.holds(f"{times} times the rows: {words} words and {parts} bytes", ROWS // 16 * 256 <= words <= (ROWS // 16 + 3) * 256

@@ -293,7 +293,7 @@ static void keys_made(void)
     opens("ab", FEW_KEPT, MINISIGN_ANY_ROWS, 0, 0, MINISIGN_WRONG_PASSWORD);
     unopened.is_sealed = unopened.log2_rows = 0;
     unopened.work = 1;
-    opens("abc", FEW_KEPT, 4 * 1024, 0, 0, MINISIGN_OK);
+    opens("abc", FEWEST_KEPT, 4 * 1024, 0, 0, MINISIGN_OK);
 }
 
 /* How the rows of a key are bounded, and what opening in place takes and answers. What it holds of rows is 1 KiB each. */
@@ -308,7 +308,7 @@ static void rows_bounded(uint64_t p)
     opens("abc", 1, 0, 0, 0, MINISIGN_WORK_TOO_HIGH);
     opens("abc", 1, rows, 0, 0, MINISIGN_OK);
     opens("abc", FEW_KEPT, MINISIGN_USUAL_ROWS, 0, 0, MINISIGN_OK);
-    opens("abc", p == 1 ? FEWEST_KEPT : 1, MINISIGN_ANY_ROWS, 0, 0, MINISIGN_OK);
+    opens("abc", FEW_KEPT, MINISIGN_ANY_ROWS, 0, 0, MINISIGN_OK);
     /* (few rows of many parts take long) */
     for (size_t i = 0; i < (p == 1 ? LENGTH(kept) : 1); i++) {
         const uint64_t every = kept[i] > 1 ? kept[i] : 1, held = 1024 / every + (1024 % every != 0);

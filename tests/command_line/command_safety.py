@@ -20,7 +20,7 @@ import static_library
 from at_terminal import SECONDS, AtTerminal
 from process import run_measured, run_program
 from running import expect, feed, read, wait_until, write
-from texts import record_of
+from texts import record_of, text_of
 from command_breaking import is_signature
 from command_running import CLOSED, DATA, HOME, OPEN, PASSWORD, PUBLIC, Programs, case, expect_end, expect_question, sealed
 
@@ -60,6 +60,11 @@ def block(number):
 
 
 class Safety(Programs):
+    def costly(self):
+        """The sealed key with the limits of a usual one: it takes seconds to find out that a password is wrong."""
+        record = record_of(self.keys[CLOSED])
+        return text_of(record[:38] + struct.pack("<QQ", 33554432, 1 << 30) + record[54:])
+
     def run_by_shell(self, how, directory):
         """Signs by SHELL at a terminal."""
         return AtTerminal(["python", "-c", SHELL, how, self.program, *SEALED], sys.executable, directory, {"HOME": HOME})
@@ -103,8 +108,8 @@ class Safety(Programs):
     @case("a timer that was set before, at a terminal {0}", False, True)
     def alarm_before(self, at_terminal):
         """It ends a derivation of a key, and nothing is written into a stream that is no terminal."""
-        directory = self.directory(**{"large.key": self.large})
-        arguments, set_timer = ("-Sm", "data", "-s", "large.key", "-k", "64"), lambda: signal.setitimer(signal.ITIMER_REAL, 0.4)
+        directory = self.directory(**{"costly.key": self.costly()})
+        arguments, set_timer = ("-Sm", "data", "-s", "costly.key", "-k", "64"), lambda: signal.setitimer(signal.ITIMER_REAL, 0.4)
         if at_terminal:
             at = AtTerminal(["minisign", *arguments], self.program, directory, {"HOME": HOME}, set_timer)
             expect_question(at)
@@ -162,12 +167,12 @@ class Safety(Programs):
     @case("keys in little memory")
     def keeps_few_rows(self):
         """Within 68 MiB, all of the program's, a key that takes 256 MiB opens with -k 4 and signs the same, and with -k 16 one is sealed
-        with usual limits, which take 1 GiB: Minisign opens it. (Built with -DPOSIX_ONLY, which changes no derivation, with -k 4.)"""
-        directory, of_usual = self.directory(**{"large.key": self.large}), 4 if "--posix-only" in sys.argv else 16
-        for whole, keeps, *arguments in ((256, 4, "-Sm", "data", "-s", "large.key"), (1024, of_usual, "-C", "-s", CLOSED)):
-            command = [self.program, *arguments, "-k", str(keeps)]
+        with usual limits, which take 1 GiB: Minisign opens it."""
+        directory = self.directory(**{"large.key": self.large})
+        for arguments in (("-Sm", "data", "-s", "large.key", "-k", "4"), ("-C", "-s", CLOSED, "-k", "16")):
+            command = [self.program, *arguments]
             status, said, kibibytes = run_measured(command, directory, PASSWORD + b"\nq\nq\n", stderr=subprocess.STDOUT)
-            expect(status == 0 and kibibytes <= whole // keeps + 4 << 10, arguments, f"it ended with {status}, {kibibytes} KiB: {said!r}")
+            expect(status == 0 and kibibytes <= 68 << 10, arguments, f"it ended with {status} and took {kibibytes} KiB: {said!r}")
         self.expect_accepted(directory, PUBLIC)
         ran = self.theirs(directory, "-Sm", "more", "-s", CLOSED, typed=b"q\n")
         expect(ran.status == 0, "Minisign does not open what was changed", ran)
@@ -186,16 +191,11 @@ class Safety(Programs):
     @case("at a terminal a long derivation and the reading of a slow file are {0}", ("shown",), ("not shown with -q", "-q"),
           ("not shown with -Q", "-Q"))
     def shown_meanwhile(self, _, *flags):
-        """A dot each second, also while it is stopped, and how much was read, with the name made visible: at the end that is taken away."""
-        directory, name = self.signed(**{"large.key": self.large}), "s\x1blow"
-        at = self.asked(directory, "-Sm", "data", "-s", "large.key", *flags)
-        at.type(b"wrong\n")
-        wait_until(lambda: int(read(f"/proc/{at.process.pid}/statm").split()[1]) > 3000, "it derives nothing")
-        at.process.send_signal(signal.SIGSTOP)
-        time.sleep(1.2)
-        at.process.send_signal(signal.SIGCONT)
+        """A dot each second, and how much was read, with control characters of the name made visible, which is taken away at the end."""
+        directory, name = self.signed(**{"costly.key": self.costly()}), "s\x1blow"
+        at = self.asked(directory, "-Sm", "data", "-s", "costly.key", "-k", "2", *flags)
         dots = b"" if flags else rb"\.+"
-        expect_end(at, 2, rb"secret key\.\.\. " + dots + rb"done\r\n\r\nWrong password")
+        expect_end(at, 2, rb"secret key\.\.\. " + dots + rb"done\r\n\r\nWrong password", b"wrong\n")
         path = os.path.join(directory, name)
         os.mkfifo(path)
 

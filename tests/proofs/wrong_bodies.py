@@ -298,7 +298,8 @@ class Trial:
                 body.copy_proof(room)
             assume(room, self.crate, [each for each in self.proved if each not in checked])
             said = self.check(room, checked)
-        # (all functions of the crate are proved as they stand; if an earlier run has proved them, what the right bodies call is known)
+        # (what an edit calls besides is taken by its contract too, which makes no rejection easier: of a crate that was not proved in
+        # this run the names are known of what the right bodies call)
         self.proved += {name for crate, name in UNPROVED.findall(said) if crate == self.crate} - {*self.proved}
         return [self.judged(body, said) for body in group]
 
