@@ -230,8 +230,9 @@ MINISIGN_MUST_USE enum minisign_error minisign_install_no_target(minisign_instal
  *   "Expires:5" or "expires :5" is one more such field, and not the wanted one;
  * - no field "size:", or one, with a number: the length of the data, in bytes.
  *
- * now is what your clock shows. Where that is below when the record was last written, and this is not the first
- * installation, it counts as the greatest number: what expires has expired.
+ * now is what your clock shows, by clock_gettime(CLOCK_REALTIME) in C: since Linux 6.13 the function time can be some
+ * milliseconds behind the times of files. Where now is below when the record was last written, and this is not the
+ * first installation, it counts as the greatest number: what expires has expired.
  *
  * The errors, in this order: MINISIGN_NOT_DUE; MINISIGN_NOT_UTF8 of the name; those of minisign_read_signature;
  * those of minisign_ask. After MINISIGN_NOT_DUE and MINISIGN_NO_ROOM nothing changes; as much room as the text has

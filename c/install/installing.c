@@ -66,14 +66,15 @@ const uint8_t *vouched_comment(const struct installing *run, size_t *len)
 
 /* What the clock shows, in seconds since the beginning of 1970. If it shows an earlier time, it is wrong, and what
  * expires counts as expired. If it shows less than the time at which the record was written, it is wrong too, which the
- * machine judges. */
+ * machine judges. (`time` may be some milliseconds behind the times of files.) */
 static uint64_t now(struct installing *run)
 {
-    time_t shown = time(NULL);
+    struct timespec shown = { .tv_sec = -1 };
 
+    clock_gettime(CLOCK_REALTIME, &shown);
     run->is_clock_behind = run->record.is_there && run->record.written > 0 && !run->wanted->is_first
-                           && (shown < 0 || (uint64_t) shown < run->record.written);
-    return shown < 0 ? UINT64_MAX : (uint64_t) shown;
+                           && (shown.tv_sec < 0 || (uint64_t) shown.tv_sec < run->record.written);
+    return shown.tv_sec < 0 ? UINT64_MAX : (uint64_t) shown.tv_sec;
 }
 
 /* Remembers why the clock is taken for wrong: by the time at which the record was written. */

@@ -342,7 +342,8 @@ ssize_t read(int fd, void *bytes, size_t length)
 time_t time(time_t *found)
 {
     LOOK;
-    time_t shown = getenv("SHOWN_TIME") ? atol(getenv("SHOWN_TIME")) : REAL(time)(NULL);
+    /* (since Linux 6.13 it is behind the times of files when a second begins) */
+    time_t shown = getenv("SHOWN_TIME") ? atol(getenv("SHOWN_TIME")) - 1 : REAL(time)(NULL);
 
     if (found)
         *found = shown;
@@ -353,7 +354,7 @@ int clock_gettime(clockid_t clock, struct timespec *found)
 {
     if (clock != CLOCK_REALTIME || !getenv("SHOWN_TIME"))
         return REAL(clock_gettime)(clock, found);
-    *found = (struct timespec){.tv_sec = time(NULL)};
+    *found = (struct timespec){.tv_sec = atol(getenv("SHOWN_TIME"))};
     return 0;
 }
 
