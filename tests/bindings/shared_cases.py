@@ -330,7 +330,7 @@ SEALED_UNDER = [((524287, 1 << 24), True), ((524288, (1 << 24) - 1), True), ((1,
 SIGNED = [
     ("open", COMMENT, [], None), ("sealed", COMMENT, [PASSWORD], None), ("by-c", "", [], None), ("open", "a\nb", [], "BAD_COMMENT"),
     ("open", "a\rb", [], "UNREADABLE_COMMENT"), ("open", "a", [PASSWORD], "KEY_NOT_SEALED"), ("sealed", "a", [], "KEY_SEALED"),
-    ("cheap", "a", ["password"], "WRONG_PASSWORD"),
+    ("sealed", "a", ["password"], "WRONG_PASSWORD"),
 ]
 
 
@@ -343,7 +343,7 @@ def check_signing(program, room, minisign, told=str, good="OK", seals=True, open
     """A package's program and `c/minisign` read each other's keys and signatures: `make DIRECTORY [PASSWORD]` makes a pair of keys there,
     and `sign KEY DATA TO COMMENT [PASSWORD]` a signature. It says that all was good, or for what it was rejected. Where it seals under no
     other limits than the usual ones (`seals`) it is not asked to, and no key of these is made where it is not to open one (`opens`)."""
-    checks, names = program.checks, ["open", "sealed" if opens else "other", "by-c", "cheap"]
+    checks, names = program.checks, ["open", "sealed" if opens else "other", "by-c"]
     for name in names:
         os.makedirs(os.path.join(room, name))
     data, sig = write(room, "data", b"some data\n" * 500), os.path.join(room, "sig")
@@ -361,7 +361,6 @@ def check_signing(program, room, minisign, told=str, good="OK", seals=True, open
     records = [record_of(read(room, name, "public")) for name in names[:2]]
     checks.check(all(records[0][at:at + 8] != records[1][at:at + 8] for at in (2, 10)), "two keys have one key ID, or are the same")
     by_c("-G", "-W", "-s", "by-c/secret", "-p", "by-c/public")
-    write(room, "cheap/secret", sealed(read(room, "by-c", "secret"), LIMITS[4][0]))
     for name, comment, password, why in (row for row in SIGNED if row[0] in names):
         os.remove(sig)
         said, wanted = answer("sign", f"{room}/{name}/secret", data, sig, comment, *password), told(why) if why else good
