@@ -108,7 +108,7 @@ function isPlaceSeen() {
 
 // Whether what has the focus, or the place that is shown for it, begins behind the band.
 function isFocusBehind() {
-  const it = document.activeElement, place = it.classList.contains("unseen") ? it.nextElementSibling : it;
+  const active = document.activeElement, place = active.classList.contains("unseen") ? active.nextElementSibling : active;
   return boxOf(place).top < boxOf(document.getElementById("band")).bottom;
 }
 

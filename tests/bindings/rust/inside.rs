@@ -10,8 +10,8 @@ mod inside {
     }
     macro_rules! offset {
         ($of:ty, $number:expr, $field:ident) => {
-            let it = MaybeUninit::<$of>::uninit();
-            let at = unsafe { std::ptr::addr_of!((*it.as_ptr()).$field) } as usize - it.as_ptr() as usize;
+            let value = MaybeUninit::<$of>::uninit();
+            let at = unsafe { std::ptr::addr_of!((*value.as_ptr()).$field) } as usize - value.as_ptr() as usize;
             assert_eq!(at, $number, "{} of {}", stringify!($field), stringify!($of))
         };
     }
