@@ -50,7 +50,7 @@ GLOBALS = ("TextDecoder", "TextEncoder", "WebAssembly", "atob", "crypto")
 # How many bytes may be in memory after so many calls, or keys, that were not after a tenth of them. (A page of a module's memory, which
 # each key would keep, is more.)
 CALLS, GROWTH = 5_000, 800_000
-KEYS, GROWTH_OF_KEYS = 1_000, 40 * 1048576
+KEYS, GROWTH_OF_KEYS = 1_000, 16 * 1048576
 # What becomes of streams, each tried in a program of its own, which an error that is lost would end.
 STREAMS = ("aborted", "cancelled", "descriptors", "late", "event", "both", "absent", "opening", "begun", "between", "web", "accepted")
 # The errors of the header that verifying has besides usage errors.
