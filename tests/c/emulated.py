@@ -39,7 +39,7 @@ musl_compiler = lambda: needs.program("musl-gcc", "musl-tools")
 
 def fetch(kind, place, *packages):
     """Has apt-get fetch packages of Debian for a processor, with a list of packages of its own, and unpacks them into a directory."""
-    if not needs.may_install():
+    if not needs.is_debian():
         raise needs.Missing(f"{' and '.join(packages)} for {kind.debian} is not here: unpack it into {os.path.relpath(place, ROOT)}")
     with tempfile.TemporaryDirectory(prefix="packages-") as room:
         for directory in ("lists/partial", "cache/archives/partial"):
