@@ -128,7 +128,7 @@ async function streams(path) {
   return lines;
 }
 
-// What is in memory once it is gone that is not used any more. (What the first time finds goes while there is a pause.)
+// How many bytes are in memory without what is unused. (What a collection finds goes during the next pause.)
 async function settled() {
   for (let times = 0; times < 3; times += 1) {
     globalThis.gc();
