@@ -1,4 +1,4 @@
--- What the errors of decoding base64 become. They are named for a secret key's line.
+-- The named errors for the errors of decoding base64, which are those for the line of a secret key.
 use Rattle.base64.specs.declared.decode.DecodeAllocError.{DecodeAllocError}
 use Rattle.base64.specs.declared.decode.DecodeAllocError.TheVariants.{DecodeError, OutOfMemory}
 use Rattle.minisign_base.specs.Fault.{Fault, Named}

@@ -1,4 +1,4 @@
--- What the errors of key derivation become.
+-- The named errors for the errors of key derivation.
 use Rattle.minisign_kdf.specs.declared.errors.KdfError.{KdfError}
 use Rattle.minisign_kdf.specs.declared.errors.KdfError.TheVariants.{OutOfMemory, InvalidOutputLen}
 use Rattle.minisign_base.specs.Fault.{Fault, Named}

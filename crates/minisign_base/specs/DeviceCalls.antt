@@ -1,5 +1,5 @@
--- A device over one call, as one value: what contracts see of it, how it was at the call (old) and how it is
--- at the return (new). Relations over such values.
+-- A device over one call, as one value: what contracts see of it, before the call (old) and after it (new).
+-- And relations over such values.
 use Rattle.std.specs.Prelude.{◌≡◌, ⊤, ℕ, List, None, Result, MatchResult}
 use Rattle.std.specs.Io.KnownBytes.{Appends}
 use Rattle.minisign_base.specs.Devices.{AppendsFront, HasFlushed, HasGiven, HasGoneBack, HasMarked, Rose}
@@ -9,43 +9,43 @@ use Rattle.minisign_base.specs.declared.faults.NamedFault.TheVariants.{WritingFa
 use Rattle.minisign_base.specs.Members.{RandomOf, SinkOf, SourceOf}
 use Rattle.minisign_base.specs.declared.prompt.Prompt.{Prompt}
 
--- a source that can be read again, over a call
+-- A source that can be read again, over a call.
 pub record RereaderCall (R : Type 0) : Type 1 where
   pub source : SourceOf R
   pub steady : R → Type 0
   pub old : R
   pub new : R
 
--- a sink over a call
+-- A sink over a call.
 pub record SinkCall (W : Type 0) : Type 1 where
   pub sink : SinkOf W
   pub old : W
   pub new : W
 
--- the two as a clause writes them
+-- These two values as a clause writes them.
 abbrev pub rereader_call : {R : Type 0} → SourceOf R → (R → Type 0) → R → R → RereaderCall R
 rereader_call source steady old new = record { source = source; steady = steady; old = old; new = new }
 
 abbrev pub sink_call : {W : Type 0} → SinkOf W → W → W → SinkCall W
 sink_call sink old new = record { sink = sink; old = old; new = new }
 
--- going back brings the bytes that were ahead at the mark
+-- Going back restores the bytes that were ahead when the mark was set.
 abbrev pub IsSteady : {R : Type 0} → RereaderCall R → Type 0
 IsSteady reader = reader.steady reader.old
 
--- the source failed: its count of errors rose, or stands at its greatest value
+-- The source failed: its error count rose, or is at its greatest value.
 abbrev pub SourceFails : {R : Type 0} → RereaderCall R → Type 0
 SourceFails reader = Rose (reader.source.faults reader.old) (reader.source.faults reader.new)
 
--- the source did not fail
+-- The source did not fail.
 abbrev pub SourceHasNoNewFault : {R : Type 0} → RereaderCall R → Type 0
 SourceHasNoNewFault reader = reader.source.faults reader.new ≡ reader.source.faults reader.old
 
--- of the bytes ahead some at the front were given, or all or none
+-- Of the bytes ahead, a prefix was returned, which may be empty or all of them.
 abbrev pub SourceGives : {R : Type 0} → RereaderCall R → Type 0
 SourceGives reader = HasGiven (reader.source.ahead reader.old) (reader.source.ahead reader.new)
 
--- a call that marks the place, and one that goes back to it
+-- A call that marks the place, and a call that goes back to it.
 abbrev pub Marks : {R : Type 0} → RereaderCall R → Result ⊤ ⊤ → Type 0
 Marks r answer =
     HasMarked r.steady r.source.ahead r.source.behind r.source.since r.source.is_marked r.source.faults
@@ -56,57 +56,57 @@ GoesBack r answer =
     HasGoneBack r.source.ahead r.source.behind r.source.since r.source.is_marked r.source.faults r.old r.new
     answer
 
--- the sink failed: its count of errors rose, or stands at its greatest value
+-- The sink failed: its error count rose, or is at its greatest value.
 abbrev pub SinkFails : {W : Type 0} → SinkCall W → Type 0
 SinkFails out = Rose (out.sink.sink_faults out.old) (out.sink.sink_faults out.new)
 
--- the sink did not fail
+-- The sink did not fail.
 abbrev pub SinkHasNoNewFault : {W : Type 0} → SinkCall W → Type 0
 SinkHasNoNewFault out = out.sink.sink_faults out.new ≡ out.sink.sink_faults out.old
 
--- the sink took these bytes; where it is not known what a sink took, nothing is said
+-- The sink took these bytes. If it is not known what the sink takes, this says nothing.
 abbrev pub Takes : {W : Type 0} → SinkCall W → List ℕ → Type 0
 Takes out bytes = Appends (out.sink.taken out.old) (out.sink.taken out.new) bytes
 
--- the sink took a prefix of these bytes
+-- The sink took a prefix of these bytes.
 abbrev pub TakesFront : {W : Type 0} → SinkCall W → List ℕ → Type 0
 TakesFront out bytes = AppendsFront (out.sink.taken out.old) (out.sink.taken out.new) bytes
 
--- the sink flushed all that it took; where it is not known what was flushed, nothing is said
+-- The sink flushed all that it took. If it is not known what was flushed, this says nothing.
 abbrev pub IsFlushed : {W : Type 0} → SinkCall W → Type 0
 IsFlushed out = SameWhereKnown (out.sink.taken out.new) (out.sink.flushed out.new)
 
--- the sink took all of a text, and flushed it
+-- The sink took all of a text and flushed it.
 pub record TakesPart {W : Type 0} (out : SinkCall W) (part : List ℕ) : Type 0 where
   pub bytes : Takes out part
   pub flushed : IsFlushed out
   pub no_new_fault : SinkHasNoNewFault out
 
--- the sink took a prefix of a text, and failed there or at its flush
+-- The sink took a prefix of a text, and failed there or at its flush.
 pub record FailsAtPart {W : Type 0} (out : SinkCall W) (part : List ℕ) : Type 0 where
   pub front : TakesFront out part
   pub rose : SinkFails out
 
--- the sink flushed nothing
+-- The sink flushed nothing.
 abbrev pub IsUnflushed : {W : Type 0} → SinkCall W → Type 0
 IsUnflushed out = out.sink.flushed out.new ≡ out.sink.flushed out.old
 
--- a call that flushes
+-- A call that flushes.
 abbrev pub Flushes : {O : Type 0} → SinkCall O → Result ⊤ ⊤ → Type 0
 Flushes out answer = HasFlushed out.sink.taken out.sink.flushed out.sink.sink_faults out.old out.new answer
 
--- the sink failed
+-- The sink failed.
 abbrev pub IsWritingFault : {W : Type 0} → SinkCall W → Fault → Type 0
 IsWritingFault sink e = (e ≡ Named WritingFailed) × SinkFails sink
 
--- bytes are put to a sink, which flushes nothing: it takes all of them, or a prefix where it fails
+-- Bytes are written to a sink, which flushes nothing: it takes all of them, or a prefix if it fails.
 abbrev pub Puts : {W : Type 0} → SinkCall W → List ℕ → Result ⊤ Fault → Type 0
 Puts out bytes answer =
     MatchResult answer (λ _. Takes out bytes × SinkHasNoNewFault out)
     (λ e. IsWritingFault out e × TakesFront out bytes)
     × IsUnflushed out
 
--- a sink that nothing uses
+-- A sink that is not used.
 abbrev pub unused : SinkCall ⊤
 unused =
     record {
@@ -115,7 +115,7 @@ unused =
       new = tt;
     }
 
--- a source over a call
+-- A source over a call.
 pub record SourceCall (R : Type 0) : Type 1 where
   pub source : SourceOf R
   pub old : R
@@ -124,7 +124,7 @@ pub record SourceCall (R : Type 0) : Type 1 where
 abbrev pub source_call : {R : Type 0} → SourceOf R → R → R → SourceCall R
 source_call source old new = record { source = source; old = old; new = new }
 
--- a random source over a call
+-- A random source over a call.
 pub record RandomCall (Z : Type 0) : Type 1 where
   pub random : RandomOf Z
   pub old : Z
@@ -133,7 +133,7 @@ pub record RandomCall (Z : Type 0) : Type 1 where
 abbrev pub random_call : {Z : Type 0} → RandomOf Z → Z → Z → RandomCall Z
 random_call random old new = record { random = random; old = old; new = new }
 
--- a prompt over a call: a reader and a writer
+-- A prompt over a call: a reader and a writer.
 pub record PromptCall (R W : Type 0) : Type 1 where
   pub source : SourceOf R
   pub sink : SinkOf W
@@ -143,7 +143,7 @@ pub record PromptCall (R W : Type 0) : Type 1 where
 abbrev pub prompt_call : {R W : Type 0} → SourceOf R → SinkOf W → Prompt R W → Prompt R W → PromptCall R W
 prompt_call source sink old new = record { source = source; sink = sink; old = old; new = new }
 
--- its reader, and its writer, over that call
+-- The reader and the writer of a prompt over this call.
 abbrev pub reader_of : {R W : Type 0} → PromptCall R W → SourceCall R
 reader_of p = source_call p.source p.old.reader p.new.reader
 

@@ -1,32 +1,32 @@
--- What calls on a device do to what is known of its bytes and to its count of errors. Each kind of call has a
--- record over the members of the device's trait, the device at the call (old) and at the return (new), and
--- the answer.
+-- What calls on a device do to its bytes, as far as they are known, and to its error count. Each kind of
+-- call has a record over the members of the device's trait, the device before the call (old) and after it
+-- (new), and the answer.
 use Rattle.std.specs.Prelude.{◌≡◌, ℕ, ◌+◌, ◌-◌, ◌^◌, ◌<◌, ◌≤◌, min, Bool, true, false, List, [], ◌++◌, length}
 use Rattle.std.specs.Prelude.{take, Option, Some, IfSome, Result, IsErr, IfOk, OnOk, OnErr}
 use Rattle.std.specs.Io.KnownBytes.{append_known, Appends, Consumes, IsAtEnd, Keeps}
 
--- the count rose, or stood at its greatest value
+-- The count rose, or was at its greatest value.
 abbrev pub Rose : ℕ → ℕ → Type 0
 Rose old new = min (old + 1) (2 ^ 64 - 1) ≤ new
 
--- the second list, where it is known, is the first one
+-- The second list, if it is known, is the first one.
 abbrev pub SameWhereKnown : Option (List ℕ) → Option (List ℕ) → Type 0
 SameWhereKnown whole known = IfSome known (λ ys. whole ≡ Some ys)
 
--- what is known began anew: nothing
+-- What is known starts again with nothing.
 abbrev pub BeginsAnew : Option (List ℕ) → Type 0
 BeginsAnew new = IfSome new (λ ys. ys ≡ [])
 
--- what is still known lost a prefix
+-- What is still known lost a prefix.
 abbrev pub HasGiven : Option (List ℕ) → Option (List ℕ) → Type 0
 HasGiven old new = IfSome new (λ ys. IfSome old (λ xs. (front : List ℕ) × (xs ≡ front ++ ys)))
 
--- known bytes grew by a prefix of bs
+-- Known bytes grew by a prefix of bs.
 abbrev pub AppendsFront : Option (List ℕ) → Option (List ℕ) → List ℕ → Type 0
 AppendsFront old new bs = (n : ℕ) × IfSome old (λ xs. new ≡ Some (xs ++ take n bs))
 
--- a read moved the next n bytes to the start of the buffer, 0 only where there is no room or no byte is
--- left, or failed; a place that is marked stays marked
+-- A read moved the next n bytes to the start of the buffer, or failed. n is 0 only if the buffer is empty
+-- or no byte is left. A place is marked afterwards exactly if one was before.
 pub record HasRead {S E : Type 0} (ahead_of behind_of since_of : S → Option (List ℕ))
     (is_marked_of : S → Bool) (left_of faults_of : S → ℕ)
     (old new : S) (buffer : List ℕ) (answer : Result ℕ E) : Type 0 where
@@ -43,7 +43,8 @@ pub record HasRead {S E : Type 0} (ahead_of behind_of since_of : S → Option (L
   pub since : IfOk answer (λ n. since_of new ≡ append_known (since_of old) (take n buffer))
   pub since_kept : OnErr answer (SameWhereKnown (since_of old) (since_of new))
 
--- a steady source remembers the bytes ahead, which stay; a place is marked now, or after an error none is
+-- A place was marked. The bytes ahead are unchanged, and a steady source remembers them. After an error no
+-- place is marked.
 pub record HasMarked {S A E : Type 0} (steady_of : S → Type 0)
     (ahead_of behind_of since_of : S → Option (List ℕ))
     (is_marked_of : S → Bool) (faults_of : S → ℕ)
@@ -57,8 +58,8 @@ pub record HasMarked {S A E : Type 0} (steady_of : S → Type 0)
   pub unmarked : OnErr answer (is_marked_of new ≡ false)
   pub since : OnOk answer (BeginsAnew (since_of new))
 
--- the bytes that were remembered are ahead again, which cannot be where no place is marked; the place stays
--- marked, and going back once more would bring the same bytes, or after an error none is
+-- The remembered bytes are ahead again, which is possible only if a place is marked. The place remains
+-- marked, so that going back again would restore the same bytes. After an error no place is marked.
 pub record HasGoneBack {S A E : Type 0} (ahead_of behind_of since_of : S → Option (List ℕ))
     (is_marked_of : S → Bool) (faults_of : S → ℕ)
     (old new : S) (answer : Result A E) : Type 0 where
@@ -71,7 +72,7 @@ pub record HasGoneBack {S A E : Type 0} (ahead_of behind_of since_of : S → Opt
   pub unmarked : OnErr answer (is_marked_of new ≡ false)
   pub since : OnOk answer (BeginsAnew (since_of new))
 
--- the buffer was filled with the next bytes
+-- The buffer was filled with the next bytes.
 pub record HasFilled {S A E : Type 0} (ahead_of : S → Option (List ℕ)) (faults_of : S → ℕ)
     (old new : S) (buffer : List ℕ) (answer : Result A E) : Type 0 where
   pub bytes : OnOk answer (Consumes (ahead_of old) (ahead_of new) buffer)
@@ -79,7 +80,8 @@ pub record HasFilled {S A E : Type 0} (ahead_of : S → Option (List ℕ)) (faul
   pub fault : OnErr answer (Rose (faults_of old) (faults_of new))
   pub given : OnErr answer (HasGiven (ahead_of old) (ahead_of new))
 
--- the first n of the bytes were taken, of something at least one, or none at an error; nothing was flushed
+-- The first n of the bytes were taken, at least one unless there are none; or none after an error. Nothing
+-- was flushed.
 pub record HasWritten {S E : Type 0} (taken_of flushed_of : S → Option (List ℕ)) (faults_of : S → ℕ)
     (old new : S) (due : List ℕ) (answer : Result ℕ E) : Type 0 where
   pub bound : IfOk answer (λ n. n ≤ length due)
@@ -90,8 +92,8 @@ pub record HasWritten {S E : Type 0} (taken_of flushed_of : S → Option (List �
   pub kept : OnErr answer (Keeps (taken_of old) (taken_of new))
   pub unflushed : flushed_of new ≡ flushed_of old
 
--- nothing was taken, and all that was taken before was flushed; at an error what was flushed stays, or is
--- known no more
+-- Nothing was taken, and all that was taken before was flushed. After an error what was flushed is
+-- unchanged or no longer known.
 pub record HasFlushed {S A E : Type 0} (taken_of flushed_of : S → Option (List ℕ)) (faults_of : S → ℕ)
     (old new : S) (answer : Result A E) : Type 0 where
   pub bytes : Keeps (taken_of old) (taken_of new)

@@ -1,4 +1,4 @@
--- What an error is: a named one, or a kind and a text of the caller's own.
+-- An error: a named one, or a kind and a text of the caller's own.
 use Rattle.std.specs.Prelude.{ℕ, List, Option, Some, None, string_bytes}
 use Rattle.minisign_base.specs.Faults.{fault_row, named_text}
 use Rattle.minisign_base.specs.declared.errors.ErrorKind.{ErrorKind}
@@ -10,7 +10,7 @@ pub data Fault : Type 0 where
   Named : NamedFault → Fault
   Worded : ErrorKind → List ℕ → Fault
 
--- the name, if it has one
+-- The name, if the error has one.
 abbrev pub name_of : Fault → Option NamedFault
 name_of (Named f) = Some f
 name_of (Worded kind text) = None
@@ -23,7 +23,7 @@ abbrev pub text_of : Fault → List ℕ
 text_of (Named f) = named_text f
 text_of (Worded kind text) = text
 
--- the error as it is kept
+-- The error as it is stored.
 abbrev pub fault_of : Meaning → Fault
 fault_of (kept.Named f) = Named f
 fault_of (kept.Fixed kind text) = Worded kind text.now

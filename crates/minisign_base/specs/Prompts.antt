@@ -1,5 +1,5 @@
--- What a prompt reads and writes: how a conversation ends, step by step, of which asking for a password is
--- one. The bytes of a prompt are all that its reader has ahead.
+-- What a prompt reads and writes: how a conversation ends, step by step. Asking for a password is one such
+-- conversation. The bytes of a prompt are all that its reader has ahead.
 use Rattle.std.specs.Prelude.{◌≡◌, ⊤, ℕ, ◌+◌, ◌<◌, List, [], ◌∷◌, ◌++◌, length, take, drop, Option, Some}
 use Rattle.std.specs.Prelude.{IfSome, Result, codes}
 use Rattle.std.specs.Result.{result_err}
@@ -12,11 +12,11 @@ use Rattle.minisign_base.specs.Steps.{EndsWith, StepsEnd}
 use Rattle.minisign_base.specs.declared.faults.NamedFault.TheVariants.{OutOfMemory, ReadingFailed}
 use Rattle.minisign_base.specs.declared.faults.NamedFault.TheVariants.{WritingFailed}
 
--- what is written where the password is empty
+-- What is written if the password is empty.
 abbrev pub empty_mark : List ℕ
 empty_mark = codes "<empty>" ++ 10 ∷ []
 
--- a reader gave the line of these bytes, which were all that it had ahead where that is known
+-- A reader gave the line in these bytes, which were all that it had ahead, as far as that is known.
 pub record HasReadLine {R : Type 0} (r : SourceCall R) (bytes : List ℕ) : Type 0 where
   pub ahead : IfSome (r.source.ahead r.old) (λ xs. xs ≡ bytes)
   pub unread : IfSome (r.source.ahead r.old)
@@ -24,22 +24,22 @@ pub record HasReadLine {R : Type 0} (r : SourceCall R) (bytes : List ℕ) : Type
   pub left : r.source.left r.new + length (take (read_count bytes) bytes) ≡ r.source.left r.old
   pub no_new_fault : r.source.faults r.new ≡ r.source.faults r.old
 
--- a reader failed inside the line: of what is still known, fewer than 1026 bytes are gone
+-- A reader failed inside the line. Of what is still known, fewer than 1026 bytes are gone.
 pub record HasFailedInLine {R : Type 0} (r : SourceCall R) : Type 0 where
   pub fault : Rose (r.source.faults r.old) (r.source.faults r.new)
   pub given : IfSome (r.source.ahead r.new) (λ ys. IfSome (r.source.ahead r.old) (λ xs.
       (front : List ℕ) × (xs ≡ front ++ ys) × (length front < 1026)))
 
--- a step of a conversation: memory is asked for; a text is said; a line of these bytes is heard; or something
--- is tested, which may be rejected
+-- A step of a conversation: memory is allocated; a text is written; a line is read, when these bytes are
+-- ahead; or a check is made, which may give an error.
 pub data Step : Type 0 where
   Allocate : Step
   Say : List ℕ → Step
   Hear : List ℕ → Step
   Test : Option Fault → Step
 
--- how a step ends, and what it leaves alone: nothing is read while a text is said, and nothing said while a
--- line is heard
+-- How a step ends, and what it leaves unchanged: writing a text reads nothing, and reading a line writes
+-- nothing.
 abbrev pub StepEnds : {R W : Type 0} → PromptCall R W → Step → Result ⊤ Fault → Type 0
 StepEnds p Allocate answer = EndsWith ⊤ OutOfMemory ⊤ answer × (p.new ≡ p.old)
 StepEnds p (Say text) answer =
@@ -50,23 +50,23 @@ StepEnds p (Hear bytes) answer =
     × (p.new.writer ≡ p.old.writer)
 StepEnds p (Test refusal) answer = (refusal ≡ result_err answer) × (p.new ≡ p.old)
 
--- how a conversation of these steps ends
+-- How a conversation of these steps ends.
 abbrev pub ConversationEnds : {R W : Type 0} → PromptCall R W → List Step → Result ⊤ Fault → Type 0
 ConversationEnds p steps answer =
     StepsEnd (λ step old new. StepEnds (record p { old = old; new = new }) step) steps p.old p.new answer
 
--- where a password is empty, that is said
+-- If a password is empty, the prompt says so.
 abbrev pub marking_steps : List ℕ → List Step
 marking_steps [] = Say empty_mark ∷ []
 marking_steps (b ∷ password) = []
 
--- a password is asked for with a text, and typed in these bytes
+-- A password is asked for with a text, and typed in these bytes.
 abbrev pub asking_steps : List ℕ → List ℕ → List Step
 asking_steps text bytes =
     Allocate ∷ Say text ∷ Hear bytes ∷ Test (result_err (password_of bytes))
     ∷ marking_steps (typed_password bytes)
 
--- what a conversation writes
+-- What a conversation writes.
 abbrev pub written : List Step → List ℕ
 written [] = []
 written (Allocate ∷ later) = written later

@@ -1,10 +1,10 @@
--- What the laws of a signature scheme speak of: bytes, and the random bytes of a signature.
+-- What the law of a signature scheme is about: bytes, and the random bytes of a signature.
 use Rattle.std.specs.Prelude.{◌≡◌, ℕ, ◌<◌, List, Option, length, slice_index, IfSome}
 
--- each member of the list is a byte
+-- Each member of the list is a byte.
 abbrev pub IsBytes : List ℕ → Type 0
 IsBytes b = (i : ℕ) → slice_index b i < 256
 
--- 64 random bytes, or none
+-- 64 random bytes, or none.
 abbrev pub AreRandomBytes : Option (List ℕ) → Type 0
 AreRandomBytes z = IfSome z (λ r. IsBytes r × (length r ≡ 64))

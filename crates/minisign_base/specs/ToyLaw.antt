@@ -8,7 +8,7 @@ use Rattle.minisign_base.specs.Toy.{toy_public_of, toy_signature_of, toy_accepts
 use Rattle.minisign_base.specs.Toy.{random_half, tied_half}
 use Rattle.minisign_base.specs.declared.toy.Triple.{Triple}
 
--- the random half has 32 bytes
+-- The random half has 32 bytes.
 length-random_half : (z : Option (List ℕ)) → AreRandomBytes z → length (random_half z) ≡ 32
 length-random_half None h = length-replicate {A = ℕ} 32 0
 length-random_half (Some z) h = length-take-le 32 z (omega (arith, h.1))

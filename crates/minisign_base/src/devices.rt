@@ -1,5 +1,5 @@
-//! Devices: sources, sinks and random sources. A contract sees of each the bytes, where they are
-//! known, and a count of its errors, which stays at its greatest value once it is there.
+//! Devices: sources, sinks and random sources. Contracts see the bytes of a device, if they are known, and
+//! a count of its errors, which stops at its greatest value, 2^64 - 1.
 
 pub mod random_sources;
 pub mod sinks;
@@ -7,7 +7,7 @@ pub mod sources;
 
 ghost use Rattle.std.specs.Prelude.{◌≡◌, ◌+◌, ◌-◌, ◌^◌, min};
 
-/// A device failed. Each call names its own error by the device that failed.
+/// The error of a device. Each call returns an error that says which device failed.
 #[derive(Clone, Copy, Debug, PartialEq, Eq)]
 pub struct DeviceFault;
 

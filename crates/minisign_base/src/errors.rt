@@ -1,4 +1,4 @@
-//! Errors: a kind and a text, and what the errors of std, of key derivation and of base64 become.
+//! Errors: a kind and a text, and the conversions from the errors of std, of key derivation and of base64.
 
 ghost use Rattle.std.specs.Prelude.{◌≡◌, Some, string_bytes};
 ghost use Rattle.minisign_base.specs.Fault.{Named, Worded, kind_of, name_of, text_of};
@@ -21,13 +21,13 @@ use std::{fmt, io};
 /// What an error concerns.
 #[derive(Clone, Copy, Debug, PartialEq, Eq)]
 pub enum ErrorKind {
-    /// Making a pair of keys.
+    /// Key generation.
     Generate,
     /// Signing.
     Sign,
-    /// Verifying a signature, or a checksum.
+    /// Verifying a signature or a checksum.
     Verify,
-    /// A device, or a text that is not in its form.
+    /// A device, or a text that has the wrong form.
     Io,
     /// Anything else.
     Misc,
@@ -35,13 +35,13 @@ pub enum ErrorKind {
     Hash,
     /// Deriving a key from a password.
     KDF,
-    /// Drawing random bytes.
+    /// Generating random bytes.
     RNG,
-    /// Bytes that are no text, or a text that is not base64.
+    /// Bytes that are not UTF-8, or a text that is not base64.
     Encoding,
-    /// A sealed key where an opened one is needed.
+    /// An encrypted key where a decrypted one is needed.
     EncryptedKey,
-    /// An allocation failed.
+    /// A failed allocation.
     OutOfMemory,
 }
 
@@ -51,7 +51,7 @@ pub struct PError {
     meaning: Meaning,
 }
 
-/// A value, or an error.
+/// A value or an error.
 pub type Result<T> = std::result::Result<T, PError>;
 
 // An error as it is kept.
@@ -71,7 +71,7 @@ impl Model for PError {
 }
 
 impl PError {
-    /// An error with a text of its own.
+    /// Returns an error with this kind and text.
     pub fn new(kind: ErrorKind, text: String) -> PError
         ensures { result ≡ Worded kind (string_bytes text) }
     {
@@ -80,7 +80,7 @@ impl PError {
         }
     }
 
-    /// An error with a text that stands in the program. Does not allocate.
+    /// Returns an error with this kind and a constant text. Does not allocate.
     pub fn fixed(kind: ErrorKind, text: &'static str) -> PError
         ensures { result ≡ Worded kind text.now }
     {
@@ -89,8 +89,8 @@ impl PError {
         }
     }
 
-    /// The named error, if it is one: one with a kind and a text of its caller's is none, whatever
-    /// its text says. Does not allocate.
+    /// Returns the named error. An error with a kind and text of the caller's own has no name, whatever its
+    /// text is. Does not allocate.
     pub fn named(&self) -> Option<NamedFault>
         ensures { result ≡ name_of self.now }
     {
@@ -100,8 +100,8 @@ impl PError {
         }
     }
 
-    /// The text, which `Display` writes. One with key IDs is put together in `room`. Does not
-    /// allocate.
+    /// Returns the text that `Display` writes. `room` is the buffer for a text that contains key IDs. Does
+    /// not allocate.
     pub fn text<'a>(&'a self, room: &'a mut [u8; TEXT_ROOM]) -> &'a [u8]
         ensures { result.now ≡ text_of self.now }
     {
@@ -112,7 +112,7 @@ impl PError {
         }
     }
 
-    /// What the error concerns.
+    /// Returns what the error concerns.
     pub fn kind(&self) -> &ErrorKind
         ensures { result.now ≡ kind_of self.now }
     {
@@ -137,7 +137,7 @@ impl fmt::Display for PError {
     }
 }
 
-/// The error of this name.
+/// Returns the error with this name.
 impl From<NamedFault> for PError {
     ghost from_gives = { λ f e. e ≡ Named f };
 
@@ -148,7 +148,7 @@ impl From<NamedFault> for PError {
     }
 }
 
-/// A failed allocation is `out of memory`.
+/// A failed allocation becomes `out of memory`.
 impl From<AllocError> for PError {
     ghost from_gives = { λ _ e. e ≡ Named OutOfMemory };
 
@@ -157,7 +157,7 @@ impl From<AllocError> for PError {
     }
 }
 
-/// A failed allocation is `out of memory`.
+/// A failed allocation becomes `out of memory`.
 impl<T: Drop> From<AllocFailed<T>> for PError {
     ghost from_gives = { λ _ e. e ≡ Named OutOfMemory };
 
@@ -166,7 +166,7 @@ impl<T: Drop> From<AllocFailed<T>> for PError {
     }
 }
 
-/// An error of std's streams is the one that is named for it, whatever it was.
+/// Every error of std's streams becomes `InputOrOutputFailed`.
 impl From<io::Error> for PError {
     ghost from_gives = { λ _ e. e ≡ Named InputOrOutputFailed };
 
@@ -175,7 +175,7 @@ impl From<io::Error> for PError {
     }
 }
 
-/// An error of formatting is the one that is named for it.
+/// Every error of formatting becomes `FormattingFailed`.
 impl From<fmt::Error> for PError {
     ghost from_gives = { λ _ e. e ≡ Named FormattingFailed };
 
@@ -184,7 +184,7 @@ impl From<fmt::Error> for PError {
     }
 }
 
-/// Bytes that are no text are the error that is named for them.
+/// The error of bytes that are not UTF-8 becomes `InvalidUtf8`.
 impl From<FromUtf8Error> for PError {
     ghost from_gives = { λ _ e. e ≡ Named InvalidUtf8 };
 
@@ -193,7 +193,7 @@ impl From<FromUtf8Error> for PError {
     }
 }
 
-/// Parameters that scrypt does not take are the error that is named for them.
+/// The error of parameters that scrypt rejects becomes `InvalidParameters`.
 impl From<InvalidParams> for PError {
     ghost from_gives = { λ _ e. e ≡ Named InvalidParameters };
 
@@ -202,7 +202,7 @@ impl From<InvalidParams> for PError {
     }
 }
 
-/// An output that scrypt does not fill is the error that is named for it.
+/// The error of a wrong output length becomes `InvalidOutputLength`.
 impl From<InvalidOutputLen> for PError {
     ghost from_gives = { λ _ e. e ≡ Named InvalidOutputLength };
 
@@ -211,7 +211,7 @@ impl From<InvalidOutputLen> for PError {
     }
 }
 
-/// Each error of key derivation is the one that is named for it.
+/// Each error of key derivation becomes the named error for it.
 impl From<KdfError> for PError {
     ghost from_gives = { λ d e. e ≡ derivation_fault d };
 
@@ -223,7 +223,7 @@ impl From<KdfError> for PError {
     }
 }
 
-/// Each error of decoding base64 is the one that is named for it.
+/// Each error of decoding base64 becomes the named error for it.
 impl From<DecodeAllocError> for PError {
     ghost from_gives = { λ d e. e ≡ decoding_fault d };
 

@@ -1,5 +1,5 @@
-//! The named errors of all calls of Minisign, as one enum, with their numbers, kinds and texts.
-//! None allocates.
+//! The named errors of all calls of Minisign, as one enum, with their numbers, kinds and texts. Nothing
+//! here allocates.
 
 ghost use Rattle.std.specs.Prelude.{◌≡◌, Some};
 ghost use Rattle.minisign_base.specs.Faults.{fault_row, named_text};
@@ -11,109 +11,109 @@ use crate::helpers::joined;
 use crate::key_ids::KeyId;
 use std::{fmt, str};
 
-/// How many bytes a text with key IDs takes at most.
+/// The greatest length in bytes of a text that contains key IDs.
 pub const TEXT_ROOM: usize = 96;
 
 /// An error that a call of Minisign returns. `Display` writes its text.
 #[derive(Clone, Copy, Debug, PartialEq, Eq)]
 pub enum NamedFault {
-    /// An allocation failed, or a size that no allocation can have was asked for.
+    /// An allocation failed, or its size is too large for any allocation.
     OutOfMemory,
-    /// A source, a file or a prompt's reader failed at a read.
+    /// Reading from a source, a file or a prompt failed.
     ReadingFailed,
-    /// A sink or a prompt's writer failed at a write or a flush.
+    /// Writing to a sink or a prompt, or flushing it, failed.
     WritingFailed,
-    /// A source failed at marking its place or at going back to it.
+    /// Marking a place of a source, or going back to it, failed.
     GoingBackFailed,
     /// A random source failed or had too few bytes.
     RandomSourceFailed,
-    /// Fewer bytes than a record has.
+    /// There are fewer bytes than the record needs.
     RecordTooShort,
     /// A text, a typed line, a password or a comment is not UTF-8.
     NotUtf8,
-    /// The input ended where a line was asked for.
+    /// The input ended before a line could be read.
     EndOfInput,
-    /// A password that is typed, or that a pair is made under, has more than 1024 bytes.
+    /// A password is longer than 1024 bytes.
     PasswordTooLong,
-    /// The two passwords typed at generation differ.
+    /// The two passwords typed for a new key pair differ.
     PasswordsDiffer,
-    /// The limits of a sealed key ask for more than is allowed.
+    /// The memory or work limit of an encrypted key is higher than allowed.
     ParametersTooHigh,
-    /// The limits lead to parameters that scrypt does not take.
+    /// The limits of an encrypted key give parameters that scrypt rejects.
     InvalidParameters,
-    /// The limits lead to more parallel work than the caller allows.
+    /// Decrypting the key takes more work than the caller allows.
     WorkTooHigh,
-    /// A signature text has no first line.
+    /// The signature file has no untrusted comment line.
     MissingUntrustedComment,
-    /// A signature text has no second line.
+    /// The signature file has no signature line.
     MissingSignature,
-    /// A signature text has no third line.
+    /// The signature file has no trusted comment line.
     MissingTrustedComment,
-    /// A signature text has no fourth line.
+    /// The signature file has no comment signature line.
     MissingGlobalSignature,
-    /// The first line of a signature text does not begin with `untrusted comment: `.
+    /// The first line of the signature file does not begin with `untrusted comment: `.
     UntrustedCommentPrefix,
-    /// A line of a signature text is not base64.
+    /// A line of the signature file is not base64.
     SignatureNotBase64,
-    /// The third line of a signature text does not begin with `trusted comment: `.
+    /// The third line of the signature file does not begin with `trusted comment: `.
     TrustedCommentPrefix,
-    /// The algorithm of a signature is neither `Ed` nor `ED`.
+    /// The algorithm of the signature is neither `Ed` nor `ED`.
     UnsupportedSignatureAlgorithm,
-    /// A public key text has no first line.
+    /// The public key file has no comment line.
     MissingPublicKeyComment,
-    /// A public key text has no second line.
+    /// The public key file has no key line.
     MissingEncodedPublicKey,
-    /// The second line of a public key text is not 56 bytes long.
+    /// The second line of the public key file is not 56 bytes long.
     PublicKeyLineLength,
-    /// The second line of a public key text is not base64.
+    /// The second line of the public key file is not base64.
     PublicKeyLineNotBase64,
-    /// A public key given as base64 alone is not 56 bytes long.
+    /// A bare base64 public key is not 56 bytes long.
     BarePublicKeyLength,
-    /// A public key given as base64 alone is not base64.
+    /// A bare public key is not base64.
     BarePublicKeyNotBase64,
-    /// A secret key text has no first line.
+    /// The secret key file has no comment line.
     MissingSecretKeyComment,
-    /// A secret key text has no second line.
+    /// The secret key file has no key line.
     MissingEncodedSecretKey,
-    /// The second line of a secret key text is not base64.
+    /// The second line of the secret key file is not base64.
     SecretKeyNotBase64,
-    /// A key that is asked for as unsealed names a key derivation.
+    /// A secret key that should be unencrypted names a key derivation.
     KeyMightBeEncrypted,
-    /// A key that is asked for as sealed names no key derivation.
+    /// A secret key that should be encrypted names no key derivation.
     KeyNotEncrypted,
-    /// A sealed key names a key derivation other than `Sc`.
+    /// An encrypted key names a key derivation other than `Sc`.
     UnsupportedEncryptionAlgorithm,
-    /// The checksum of an opened key does not match.
+    /// The checksum does not match after decryption, so the password is probably wrong.
     WrongPassword,
-    /// The checksum of an unsealed key does not match.
+    /// The checksum of an unencrypted secret key does not match.
     CorruptedKey,
-    /// The key that is to sign is still sealed.
+    /// The secret key must be decrypted before it can sign.
     EncryptedKeyRefused,
-    /// The public key that was passed in does not accept the comment signature.
+    /// The given public key does not accept the comment signature.
     RefusedByGivenKey { key: [u8; 8] },
-    /// The key ID of a signature is not that of the public key.
+    /// The signature was made with a key that has another key ID.
     DifferentKeyIds { signature: [u8; 8], key: [u8; 8] },
-    /// A legacy signature where only prehashed ones are allowed.
+    /// The signature is a legacy one, and only prehashed ones are allowed.
     LegacyNotAccepted,
-    /// The signature of the data is not accepted.
+    /// The signature of the data is not valid.
     SignatureRefused,
-    /// The comment signature is too short or is not accepted.
+    /// The comment signature is too short or not valid.
     CommentSignatureRefused,
-    /// The trusted comment of a box made from bones was asked for.
+    /// A signature box without comments was asked for its trusted comment.
     TrustedCommentAbsent,
-    /// The text of a box made from bones was asked for.
+    /// A signature box without comments was asked for its text.
     SignatureBoxIncomplete,
-    /// The system clock shows a moment before 1970, or cannot be read.
+    /// The system clock is set before 1970 or cannot be read.
     ClockIncorrect,
-    /// The second pass over the data gave other bytes than the first.
+    /// The data had a different digest when it was read again.
     DataChanged,
-    /// An output of no bytes, or of more than the key derivation can give.
+    /// The key derivation cannot give an output of this length.
     InvalidOutputLength,
-    /// What an error of std's input and output becomes.
+    /// An error of std's input and output.
     InputOrOutputFailed,
-    /// What an error of std's formatting becomes.
+    /// An error of std's formatting.
     FormattingFailed,
-    /// What std's error of bytes that are not UTF-8 becomes.
+    /// std reported bytes that are not UTF-8.
     InvalidUtf8,
 }
 
@@ -174,30 +174,30 @@ impl NamedFault {
         NamedFault::InvalidUtf8,
     ];
 
-    /// What the error concerns.
+    /// Returns what the error concerns.
     pub fn kind(&self) -> &'static ErrorKind
         ensures { result.now ≡ (fault_row self.now).kind }
     {
         &self.row().1
     }
 
-    /// The number by which a program in another language knows the error.
+    /// Returns the number by which programs in other languages know the error.
     pub fn number(&self) -> u32
         ensures { result ≡ (fault_row self.now).number }
     {
         self.row().0
     }
 
-    /// What the error says without its key IDs, at most 127 bytes: but for three errors all of
-    /// its text.
+    /// Returns the text of the error without its key IDs, at most 127 bytes. For all errors but three it is
+    /// the whole text.
     pub fn summary(&self) -> &'static str
         ensures { result.now ≡ (fault_row self.now).summary }
     {
         self.row().2
     }
 
-    /// The text, which `Display` writes. One with key IDs is put together in `room`. Does not
-    /// allocate.
+    /// Returns the text that `Display` writes. `room` is the buffer for a text that contains key IDs. Does
+    /// not allocate.
     pub fn text<'a>(&self, room: &'a mut [u8; TEXT_ROOM]) -> &'a [u8]
         ensures { result.now ≡ named_text self.now }
     {

@@ -1,5 +1,4 @@
-//! Numbers as bytes, the parameters of scrypt that a key's limits lead to, asking for a password,
-//! and the clock.
+//! Numbers as bytes, the scrypt parameters that a key's limits give, asking for a password, and the clock.
 
 ghost use Rattle.std.specs.Prelude.{◌≡◌, ℕ, ◌+◌, ◌/◌, ◌%◌, ◌^◌, ◌<◌, ◌≤◌, ◌++◌, List, Ok, Err, IfOk, IfErr};
 ghost use Rattle.std.specs.Prelude.{length, string_bytes, take, if◌then◌else◌, max, min, nat_lt};
@@ -24,15 +23,15 @@ use std::time::{Clock, SystemTime, UNIX_EPOCH};
 // The block size r of every derivation.
 const BLOCK_SIZE: u32 = 8;
 
-/// The eight bytes of a number, the least significant first. Does not allocate.
+/// Returns the eight bytes of a number, least significant first. Does not allocate.
 pub fn store_u64_le(x: u64) -> [u8; 8]
     ensures { result ≡ to_le_bytes w64 x }
 {
     x.to_le_bytes()
 }
 
-/// The number that the first eight of at least eight bytes spell, the least significant first.
-/// Does not allocate.
+/// Returns the number in the first eight of at least eight bytes, least significant first. Does not
+/// allocate.
 pub fn load_u64_le(bytes: &[u8]) -> u64
     requires { 8 ≤ length bytes.now }
     ensures { result ≡ from_le_bytes w64 (take 8 bytes.now) }
@@ -43,7 +42,7 @@ pub fn load_u64_le(bytes: &[u8]) -> u64
     u64::from_le_bytes(first)
 }
 
-/// Four pieces one after another, put together at the start of `room`. Does not allocate.
+/// Concatenates four pieces at the start of `room` and returns the result. Does not allocate.
 pub fn joined<'a>(
     room: &'a mut [u8],
     first: &[u8],
@@ -73,31 +72,29 @@ fn put_at(room: &mut [u8], at: usize, piece: &[u8]) -> usize
     end
 }
 
-/// Asks for a password: writes the text and flushes it, and reads a line, byte by byte, up to a
-/// line feed or the end. The line feed and one carriage return before it are no part of the
-/// password. Where the password is empty, `<empty>` and a line feed are written and flushed.
+/// Asks for a password: writes the text, flushes it, and reads a line, byte by byte, up to a line feed or
+/// the end of the input. The line feed and one carriage return before it are not part of the password. If
+/// the password is empty, `<empty>` and a line feed are written and flushed.
 ///
-/// One line is allocated first; where that fails, it is `OutOfMemory` and nothing was
-/// written or read. Then, in this order: `WritingFailed` and `ReadingFailed` where a device
-/// fails, `EndOfInput` where the input ends at once, `PasswordTooLong` where 1026 bytes hold no
-/// line feed, of which no more are read, `NotUtf8`, and `PasswordTooLong` for more than 1024
-/// bytes.
+/// One line is allocated first; if that fails, returns `OutOfMemory`, with nothing written or read. The
+/// other errors come in this order: `WritingFailed` and `ReadingFailed` if a device fails, `EndOfInput` if
+/// the input ends at once, `PasswordTooLong` if 1026 bytes contain no line feed (no more are read),
+/// `NotUtf8`, and `PasswordTooLong` for more than 1024 bytes.
 pub fn get_password<R: Source, W: Sink>(
     alloc: Global,
     prompt: &mut Prompt<R, W>,
     text: &str,
 ) -> Result<String>
-    // The password is the one in the first line of the bytes ahead, by its definition
-    // (`specs/Passwords`); the text was written and then, if the password is empty, the mark of an
-    // empty one, and all of it was flushed; no more than the line was read, and no error came.
+    // On success, the result is the password in the first line of the bytes ahead, as `specs/Passwords`
+    // defines it. The text was written and flushed, and after it the mark of an empty password if the
+    // password is empty. No more than the line was read, and no device failed.
     ensures asked { IfOk result (λ password. (bytes : List ℕ) × (password_of bytes
         ≡ Ok (string_bytes password)) × ConversationEnds (prompt_call R.Source W.Sink prompt.old prompt.new)
         (asking_steps text.now bytes) (Ok tt)) }
 
-    // Otherwise it stopped at the first of these steps that was not done: an allocation failed, with
-    // nothing written or read; or the writer failed before anything was read; or the reader failed
-    // inside the line, once the text was flushed; or these bytes hold no password, with the error
-    // of the line; or the writer failed at the mark.
+    // An error comes from the first of these steps that failed: an allocation, with nothing written or
+    // read; writing the text, with nothing read; reading the line, after the text was flushed; checking
+    // that the line holds a password; or writing the mark of an empty password.
     ensures refused { IfErr result (λ e. (bytes : List ℕ)
         × ConversationEnds (prompt_call R.Source W.Sink prompt.old prompt.new)
         (asking_steps text.now bytes) (Err e)) }
@@ -118,11 +115,10 @@ fn line_buffer(alloc: Global) -> Result<Vec<u8>>
     Ok(vec![in alloc; 0u8; LINE_BYTES]?)
 }
 
-/// The seconds since 1970, rounded down. Where the clock can't be read or is set before 1970, that
-/// is `ClockIncorrect`. Does not allocate.
+/// Returns the time in seconds since 1970, rounded down. Returns `ClockIncorrect` if the clock cannot be
+/// read or is set before 1970. Does not allocate.
 pub fn unix_timestamp(clock: &impl Clock) -> Result<u64>
-    // The only error of the clock is `system clock is incorrect`. The number of seconds is in no
-    // contract.
+    // The only error is `system clock is incorrect`. No contract says what the returned time is.
     ensures { IfErr result (λ e. e ≡ Named ClockIncorrect) }
 {
     let Ok(now) = SystemTime::now(clock) else {
@@ -141,21 +137,21 @@ fn seconds_since_1970(now: SystemTime) -> Result<u64>
     }
 }
 
-/// The parameters of scrypt that a memory limit in bytes and an operations limit lead to, as
-/// `specs/Limits` says: r is 8, the operations count for at least 32768, and where they are below a
-/// 32nd of the memory they bound N and p is 1, otherwise the memory bounds N and the operations
-/// give p.
+/// Returns the scrypt parameters for a memory limit in bytes and an operations limit, as `specs/Limits`
+/// defines them. r is 8, and an operations limit below 32768 counts as 32768. If the operations limit is
+/// below a 32nd of the memory limit, it bounds N, and p is 1. Otherwise the memory limit bounds N, and the
+/// operations limit gives p.
 ///
-/// `ParametersTooHigh` is returned exactly where N would be above 2^`n_log2_max`, and otherwise
-/// `InvalidParameters` exactly where scrypt does not take the parameters (RFC 7914, section 2).
-/// Does not allocate.
+/// Returns `ParametersTooHigh` exactly if N would be above 2^`n_log2_max`, and otherwise
+/// `InvalidParameters` exactly if scrypt rejects the parameters (RFC 7914, section 2). Does not allocate.
 #[tactic(auto, unfolding(crate::specs::Limits::numbers))]
 pub fn raw_scrypt_params(memlimit: u64, opslimit: u64, n_log2_max: u8) -> Result<Params>
-    // Limits become parameters exactly by their definition, and each error comes exactly in its
-    // case.
+    // The result is a function of the limits, by definition: the scrypt parameters, or the error for limits
+    // that are too high or that scrypt rejects.
     ensures outcome { result ≡ limits (numbers memlimit opslimit) n_log2_max }
 
-    // The logarithm of the cost is the one that the greatest cost within the limits has.
+    // By its definition, N is the least power of two, from 2 on, that is above half of the greatest cost
+    // within the limits, or 2^63 if there is none below.
     ensures least { IsCostLog2 (if nat_lt (max 32768 opslimit) (memlimit / 32) then max 32768 opslimit / 32
         else memlimit / 1024)
         (numbers memlimit opslimit).n_log2 }

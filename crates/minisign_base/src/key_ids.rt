@@ -6,13 +6,13 @@ ghost use Rattle.minisign_base.specs.KeyIds.{key_id_text, last_digits};
 
 use std::fmt;
 
-/// The eight bytes that name a pair of keys. `Display` writes them, read little endian, as 16 upper
+/// The eight bytes that identify a key pair. `Display` writes them, read little endian, as 16 uppercase
 /// hexadecimal digits.
 #[derive(Clone, Copy, Debug, PartialEq, Eq)]
 pub struct KeyId(pub [u8; 8]);
 
 impl KeyId {
-    /// What `Display` writes. Does not allocate.
+    /// Returns the digits that `Display` writes. Does not allocate.
     pub fn digits(&self) -> [u8; 16]
         ensures { result ≡ key_id_text self.now.0 }
     {
@@ -20,7 +20,7 @@ impl KeyId {
     }
 }
 
-/// Writes the number in 16 uppercase hexadecimal digits.
+/// Writes the key ID, read little endian, in 16 uppercase hexadecimal digits.
 impl fmt::Display for KeyId {
     ghost output = { λ id. Some (key_id_text id.0) };
 

@@ -1,5 +1,5 @@
-//! What keys, boxes and signatures stand on: errors, devices, the interface of a signature scheme,
-//! and the limits of key derivation.
+//! What keys and signatures are built on: errors, devices, the interface of a signature scheme, and the
+//! limits of key derivation.
 
 #![tactic(auto)]
 

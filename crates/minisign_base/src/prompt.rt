@@ -19,32 +19,31 @@ use crate::devices::sources::{NoSource, Source};
 use crate::errors::Result;
 use crate::faults::NamedFault;
 
-// The most bytes that are read for a line: a password of 1024 bytes, a carriage return and a line
-// feed.
+// The maximum number of bytes that are read for a line: a password of 1024 bytes, a carriage return and a
+// line feed.
 pub(crate) const LINE_BYTES: usize = 1026;
 
-/// The most bytes of a password that is typed.
+/// The maximum length in bytes of a typed password.
 pub const PASSWORD_BYTES: usize = 1024;
 
-/// What a person types into, and what is shown: a reader and a writer, such as a terminal's two
-/// sides.
+/// A reader and a writer, such as the two sides of a terminal, for asking a person.
 #[derive(Drop)]
 pub struct Prompt<R, W> {
-    /// What lines are read from.
+    /// The source of lines.
     pub reader: R,
-    /// What texts are written to.
+    /// The sink for texts.
     pub writer: W,
 }
 
 impl<R: Source, W: Sink> Prompt<R, W> {
-    /// A prompt of a reader and a writer, neither of which is touched.
+    /// Returns a prompt with this reader and writer, and uses neither of them.
     pub fn new(reader: R, writer: W) -> Prompt<R, W>
         ensures { result ≡ record { reader = reader; writer = writer } }
     {
         Prompt { reader, writer }
     }
 
-    /// The reader and the writer, as they stand.
+    /// Returns the reader and the writer as they are.
     pub fn into_parts(self) -> (R, W)
         ensures { result ≡ (self.reader, self.writer) }
     {
@@ -52,11 +51,11 @@ impl<R: Source, W: Sink> Prompt<R, W> {
         (reader, writer)
     }
 
-    /// Writes a text and flushes it. After an error the writer took a prefix of the text. Does
-    /// not allocate, and leaves the reader alone.
+    /// Writes a text and flushes it. After an error the writer has received a prefix of the text. Does not
+    /// allocate, and does not use the reader.
     pub fn say(&mut self, text: &str) -> Result<()>
-        // The text is written and flushed, or a prefix of it is written, and the only error is
-        // `writing failed`; the reader is left alone (`StepEnds`).
+        // On success, the text was written and flushed. The only error is `writing failed`, after which the
+        // writer has received a prefix of the text. The reader is unchanged.
         ensures ended { StepEnds (prompt_call R.Source W.Sink self.old self.new) (Say text.now) result }
     {
         match put_text(&mut self.writer, text) {
@@ -95,11 +94,11 @@ impl<R: Source, W: Sink> Prompt<R, W> {
 }
 
 impl Prompt<NoSource, NoSink> {
-    /// A silent prompt: nobody is asked and nothing is shown. What is written is dropped, and a
-    /// question is rejected, `EndOfInput`. Does not allocate.
+    /// Returns a prompt that never asks and shows nothing. What is written to it is dropped, and asking for
+    /// a password fails with `EndOfInput`. Does not allocate.
     pub fn silent() -> Prompt<NoSource, NoSink>
-        // No line that a silent prompt reads is a password: its input ends at once, and that is the
-        // error.
+        // No line that is read from a silent prompt is a password: its input ends at once, and the error is
+        // `EndOfInput`.
         ensures { (old new : Prompt NoSource NoSink) (bytes : List ℕ)
             → HasReadLine (source_call ⟦<NoSource as Source>⟧ old.reader new.reader) bytes
             → password_of bytes ≡ Err (Named EndOfInput) }
@@ -162,10 +161,11 @@ fn next_byte<R: Source>(source: &mut R) -> Result<Option<u8>>
     }
 }
 
-/// A law, for which nothing is done: what a prompt's writer takes follows from the steps of its conversation.
+/// States what a prompt's writer receives, given the steps of its conversation. This function is a law: it
+/// does nothing, and its contract is what it is for.
 pub fn conversations_are_written<R: Source, W: Sink>()
-    // Where all steps were done, the writer took all that they write, with no new error; where a conversation
-    // stopped, it took a prefix of that.
+    // If all steps of a conversation succeeded, the writer received everything that they write, without an
+    // error. If the conversation stopped with an error, the writer received a prefix of that.
     ensures taken { (old new : Prompt R W) (steps : List Step)
         → ConversationEnds (prompt_call R.Source W.Sink old new) steps (Ok tt)
         → Appends (W.taken old.writer) (W.taken new.writer) (written steps) }

@@ -4,8 +4,8 @@ ghost use Rattle.std.specs.Prelude.{◌≡◌, ℕ, List, ◌++◌, Option, Bool
 ghost use Rattle.std.specs.Option.{option_map};
 ghost use Rattle.minisign_base.specs.Scheme.{IsBytes, AreRandomBytes};
 
-/// A lawful signature scheme. A secret key has 64 bytes, the 32 of its seed and then the 32 of its
-/// public key, and a signature has 64. No call fails or allocates.
+/// A lawful signature scheme. A secret key has 64 bytes, the 32 of its seed followed by the 32 of its
+/// public key. A signature has 64 bytes. No call fails or allocates.
 pub trait Scheme {
     // The public key of a seed.
     ghost public_of: { Self → List ℕ → List ℕ };
@@ -13,23 +13,23 @@ pub trait Scheme {
     // The signature of a message under a secret key, with 64 random bytes or none.
     ghost signature_of: { Self → List ℕ → List ℕ → Option (List ℕ) → List ℕ };
 
-    // The message is accepted under the public key with the signature.
+    // True if the signature of the message is accepted under the public key.
     ghost accepts: { Self → List ℕ → List ℕ → List ℕ → Bool };
 
-    /// The secret key and the public key of a seed.
+    /// Returns the secret key and the public key of a seed.
     fn keypair(&self, seed: &[u8; 32]) -> ([u8; 64], [u8; 32])
         ensures { result ≡ (seed.now ++ public_of self.now seed.now, public_of self.now seed.now) };
 
-    /// The signature of a message, with 64 random bytes or none.
+    /// Returns the signature of a message, made with 64 random bytes or none.
     fn signature(&self, message: &[u8], secret_key: &[u8; 64], z: Option<&[u8; 64]>) -> [u8; 64]
         ensures { result ≡ signature_of self.now message.now secret_key.now
             (option_map (λ r. r.now) z.entry) };
 
-    /// Whether the signature of the message is accepted under the public key.
+    /// Returns true if the signature of the message is accepted under the public key.
     fn verify(&self, message: &[u8], public_key: &[u8; 32], signature: &[u8; 64]) -> bool
         ensures { result ≡ accepts self.now message.now public_key.now signature.now };
 
-    // What was signed with a seed's secret key is accepted under its public key.
+    // The law: a signature made with a seed's secret key is accepted under the seed's public key.
     ghost accepts_own: { (s : Self) (seed m : List ℕ) (z : Option (List ℕ)) → IsBytes seed → length seed ≡ 32
         → IsBytes m → AreRandomBytes z
         → accepts s m (public_of s seed) (signature_of s m (seed ++ public_of s seed) z) ≡ true };

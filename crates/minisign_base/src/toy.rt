@@ -1,4 +1,4 @@
-//! A scheme for tests. It is insecure: with the public key you can sign.
+//! A scheme for tests. It is insecure: everybody who has the public key can sign.
 
 ghost use Rattle.std.specs.Prelude.{◌≡◌, ℕ, List, ◌++◌, Option, take, drop, bit_xor};
 ghost use Rattle.std.specs.Simd.Lanes.{zip2};
@@ -9,15 +9,15 @@ ghost use Rattle.minisign_base.specs.ToyLaw.{own_accepted};
 use crate::scheme::Scheme;
 use std::simd::u8x32;
 
-/// A scheme that meets the laws and protects nothing, for tests only.
+/// A scheme that meets the law of schemes and protects nothing, for tests only.
 ///
-/// The public key is the seed with each byte xored with `5a`. A signature is a random half of 32
-/// bytes, zeros where no random bytes were given, and the xor of that half, the public key and the
-/// folded message; a message is folded into 32 bytes, of which byte i is the xor of its bytes
-/// number i, i + 32, i + 64 and so on.
+/// The public key is the seed with each byte xored with `5a`. A signature has two halves of 32 bytes. The
+/// first is random, or zeros if no random bytes were given. The second is the xor of the first half, the
+/// public key and the folded message. A message is folded into 32 bytes, of which byte i is the xor of the
+/// message's bytes i, i + 32, i + 64 and so on.
 ///
-/// With a table it also accepts the triples that stand there, so that signatures of other schemes
-/// can be tried without them.
+/// With a table the scheme also accepts the triples in the table, so that signatures of other schemes can
+/// be tested without them.
 #[derive(Clone, Copy)]
 pub struct ToyScheme<'a> {
     table: &'a [Triple<'a>],
@@ -32,7 +32,7 @@ pub struct Triple<'a> {
 }
 
 impl<'a> ToyScheme<'a> {
-    /// The scheme that accepts what is signed in its way, and nothing else.
+    /// Returns a scheme that accepts the signatures it makes, and no others.
     pub fn new() -> ToyScheme<'a>
         ensures public_of { (seed : List ℕ)
             → ⟦<ToyScheme<'a> as Scheme>⟧.public_of result seed ≡ toy_public_of seed }
@@ -46,7 +46,7 @@ impl<'a> ToyScheme<'a> {
         ToyScheme { table: &[] }
     }
 
-    /// The scheme that accepts what is signed in its way, and the triples of the table.
+    /// Returns a scheme that accepts the signatures it makes and the triples of the table, and no others.
     pub fn with_table(table: &'a [Triple<'a>]) -> ToyScheme<'a>
         ensures public_of { (seed : List ℕ)
             → ⟦<ToyScheme<'a> as Scheme>⟧.public_of result seed ≡ toy_public_of seed }

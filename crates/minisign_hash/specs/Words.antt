@@ -3,11 +3,11 @@ use Rattle.std.specs.Prelude.{ℕ, ◌*◌, ◌/◌, List, length, take, drop, m
 use Rattle.std.specs.Int.{w64, from_le_bytes, to_le_bytes}
 use Rattle.std.specs.List.{flat_map, range_with_len}
 
--- the words that the bytes are, eight bytes a word, the lowest first
+-- The words in these bytes, eight bytes for each word, lowest byte first.
 unfoldable pub words64_of : List ℕ → List ℕ
 words64_of bytes = map (λ i. from_le_bytes w64 (take 8 (drop (8 * i) bytes)))
     (range_with_len 0 (length bytes / 8))
 
--- the bytes of the words
+-- The bytes of the words.
 unfoldable pub bytes_of_words64 : List ℕ → List ℕ
 bytes_of_words64 words = flat_map (to_le_bytes w64) words

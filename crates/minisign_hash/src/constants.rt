@@ -12,10 +12,10 @@ pub const BLAKE2B_KEYBYTES: usize = 64;
 /// The length of a salt. No call of this crate takes a salt.
 pub const BLAKE2B_SALTBYTES: usize = 16;
 
-/// The length of a personalization. No call of this crate takes one.
+/// The length of a personalization string. No call of this crate takes one.
 pub const BLAKE2B_PERSONALBYTES: usize = 16;
 
-// The sizes are the standard's.
+// The sizes are those of the standard.
 const _: () = prove!(BLAKE2B_BLOCKBYTES == 128);
 
 const _: () = prove!(BLAKE2B_OUTBYTES == 64);

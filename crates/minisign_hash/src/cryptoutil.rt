@@ -1,4 +1,4 @@
-//! Words of 32 and 64 bits in little endian bytes, and copying.
+//! Words of 32 and 64 bits as little endian bytes, and copying.
 
 ghost use Rattle.std.specs.Prelude.{◌≡◌, ◌+◌, ◌*◌, ◌≤◌, ◌++◌, ◌∷◌, [], length, take, drop, OnOk};
 ghost use Rattle.std.specs.Int.{w32, w64, from_le_bytes, to_le_bytes};
@@ -8,7 +8,7 @@ ghost use Rattle.minisign_hash.specs.Words.{bytes_of_words64, words64_of};
 use std::io;
 use std::io::Write;
 
-/// Numbers in little endian bytes, for every writer of std. Each call returns what the writer's own
+/// Writes numbers as little endian bytes to any writer of std. Each call returns what the writer's own
 /// `write_all` returns for these bytes.
 pub trait WriteExt: Write {
     /// Writes the byte `val`.
@@ -16,12 +16,12 @@ pub trait WriteExt: Write {
         ensures { OnOk result
             (Appends (Self.contents self.old) (Self.contents self.new) (val ∷ [])) };
 
-    /// Writes the four bytes of `val`, the lowest first.
+    /// Writes the four bytes of `val`, lowest byte first.
     fn write_u32_le(&mut self, val: u32) -> io::Result<()>
         ensures { OnOk result
             (Appends (Self.contents self.old) (Self.contents self.new) (to_le_bytes w32 val)) };
 
-    /// Writes the eight bytes of `val`, the lowest first.
+    /// Writes the eight bytes of `val`, lowest byte first.
     fn write_u64_le(&mut self, val: u64) -> io::Result<()>
         ensures { OnOk result
             (Appends (Self.contents self.old) (Self.contents self.new) (to_le_bytes w64 val)) };
@@ -45,7 +45,7 @@ impl<W: Write> WriteExt for W {
     }
 }
 
-/// Writes the words of `input` into `dst`, eight bytes a word, the lowest byte of each first.
+/// Writes the words of `input` to `dst`, eight bytes for each word, lowest byte first.
 #[inline(always)]
 pub fn write_u64v_le(dst: &mut [u8], input: &[u64])
     requires { length dst.old ≡ 8 * length input.now }
@@ -56,7 +56,7 @@ pub fn write_u64v_le(dst: &mut [u8], input: &[u64])
     }
 }
 
-/// Writes `input` into the eight bytes of `dst`, the lowest byte first.
+/// Writes `input` to the eight bytes of `dst`, lowest byte first.
 #[inline(always)]
 pub fn write_u64_le(dst: &mut [u8], input: u64)
     requires { length dst.old ≡ 8 }
@@ -66,7 +66,7 @@ pub fn write_u64_le(dst: &mut [u8], input: u64)
     dst.copy_from_slice(&bytes);
 }
 
-/// Writes `input` into the four bytes of `dst`, the lowest byte first.
+/// Writes `input` to the four bytes of `dst`, lowest byte first.
 #[inline(always)]
 pub fn write_u32_le(dst: &mut [u8], input: u32)
     requires { length dst.old ≡ 4 }
@@ -76,8 +76,7 @@ pub fn write_u32_le(dst: &mut [u8], input: u32)
     dst.copy_from_slice(&bytes);
 }
 
-/// Reads the words that the bytes of `input` are into `dst`, eight bytes a word, the lowest byte of
-/// each first.
+/// Reads 64-bit words from the bytes of `input` into `dst`, eight bytes for each word, lowest byte first.
 #[inline(always)]
 pub fn read_u64v_le(dst: &mut [u64], input: &[u8])
     requires { 8 * length dst.old ≡ length input.now }
@@ -107,7 +106,7 @@ fn read_word(input: &[u8], i: usize) -> u64
     ])
 }
 
-/// Copies `src` to the start of `dst`, which is at least as long. The rest of `dst` stays.
+/// Copies `src` to the start of `dst`, which must be at least as long. The rest of `dst` is unchanged.
 #[inline(always)]
 pub fn copy_memory(src: &[u8], dst: &mut [u8])
     requires { length src.now ≤ length dst.old }

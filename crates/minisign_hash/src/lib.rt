@@ -1,5 +1,4 @@
-//! Blake2b without key (RFC 7693), fed in pieces, and words of 32 and 64 bits in little endian
-//! bytes.
+//! Unkeyed Blake2b (RFC 7693) for data in pieces, and words of 32 and 64 bits as little endian bytes.
 //!
 //! ```rust
 //! use minisign_hash::Blake2b;
@@ -11,7 +10,7 @@
 //! hasher.finalize(&mut digest);
 //! ```
 //!
-//! No call allocates, and none fails but those of `WriteExt`, where the writer does.
+//! No call allocates. No call fails, except those of `WriteExt` if the writer fails.
 
 #![tactic(auto)]
 

@@ -2,12 +2,11 @@
 
 ghost use Rattle.std.specs.Prelude.{◌≡◌, bytes_eq};
 
-/// Whether the two slices hold the same bytes; slices of different lengths are different. All bytes
-/// are looked at, and the answer is drawn once at the end, but nothing is promised of the time that
-/// this takes.
+/// Returns true if the two slices are equal; slices of different lengths are not. All bytes are compared
+/// before the result is computed, but nothing is promised about the time that this takes.
 #[inline(never)]
 pub fn fixed_time_eq(lhs: &[u8], rhs: &[u8]) -> bool
-    // Whether the two slices hold the same bytes; slices of different lengths are different.
+    // The result is true exactly if the two slices are equal; slices of different lengths are not.
     ensures { result ≡ bytes_eq lhs.now rhs.now }
 {
     if lhs.len() != rhs.len() {

@@ -2,10 +2,10 @@
 use Rattle.std.specs.Prelude.{ℕ, ◌*◌, List, take, drop}
 use Rattle.std.specs.List.{flat_map, range_with_len}
 
--- block number i, from 0, of a list cut into blocks of n members
+-- Block number i, from 0, of a list cut into blocks of n members.
 abbrev pub block : ℕ → List ℕ → ℕ → List ℕ
 block n xs i = take n (drop (n * i) xs)
 
--- f 0, f 1, .., f (n - 1) joined
+-- f 0, f 1, .., f (n - 1) joined.
 unfoldable pub joined_lists : (ℕ → List ℕ) → ℕ → List ℕ
 joined_lists f n = flat_map f (range_with_len 0 n)

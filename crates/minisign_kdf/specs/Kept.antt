@@ -1,4 +1,4 @@
--- scryptROMix (RFC 7914, section 5) that keeps every k-th row alone, and makes the others again.
+-- scryptROMix (RFC 7914, section 5) with only every k-th row kept; the other rows are computed again.
 use Rattle.std.specs.Prelude.{ℕ, ◌-◌, ◌*◌, ◌/◌, ◌%◌, List, [], length, map, slice_index_or}
 use Rattle.std.specs.Int.{div_ceil}
 use Rattle.std.specs.List.{range_with_len}
@@ -7,30 +7,30 @@ use Rattle.minisign_kdf.specs.Blocks.{block}
 use Rattle.minisign_kdf.specs.Diagonal.{diagonal_bytes}
 use Rattle.minisign_kdf.specs.Scrypt.{mixed_part, row_at}
 
--- Integerify: the last block of a part as a number, low byte first (section 5)
+-- Integerify: the last block of a part as a number, lowest byte first (section 5).
 abbrev pub integerify : ℕ → List ℕ → ℕ
 integerify r x = number_l 256 (block 64 x (2 * r - 1))
 
--- kept rows, with the block size r and n for N: the rows are bytes in the order of the RFC
+-- Kept rows, with the block size r and n for N. The rows are bytes in the order of the RFC.
 pub record KeptRows : Type 0 where
   pub r : ℕ
   pub n : ℕ
   pub k : ℕ
   pub rows : List (List ℕ)
 
--- the rows V_0, V_k, V_2k, .. with numbers below n: n divided by k, rounded up, are kept
+-- The rows V_0, V_k, V_2k, .. with numbers below n. There are n / k of them, rounded up.
 unfoldable pub kept_rows : ℕ → ℕ → ℕ → List ℕ → List (List ℕ)
 kept_rows r n k b = map (λ i. row_at r b (k * i)) (range_with_len 0 (div_ceil n k))
 
--- as many rows as count says, of 2 * r blocks each, of words that stand in diagonal order block by block
+-- The first count rows of 2 * r blocks each, from words that are in diagonal order in each block.
 unfoldable pub rows_of : ℕ → ℕ → List ℕ → List (List ℕ)
 rows_of r count words = map (λ i. diagonal_bytes (block (32 * r) words i)) (range_with_len 0 count)
 
--- row j, made by mixing the kept row j / k another j mod k times
+-- Row j, computed by mixing the kept row j / k another j mod k times.
 unfoldable pub remade_row : ℕ → ℕ → List (List ℕ) → ℕ → List ℕ
 remade_row r k rows j = row_at r (slice_index_or rows (j / k) []) (j % k)
 
--- scryptROMix over kept rows, with n for N: X begins as the last kept row mixed up to row N
+-- scryptROMix over kept rows, with n for N. X begins as the last kept row mixed up to row N.
 unfoldable pub rom_mix_from : ℕ → ℕ → ℕ → List (List ℕ) → List ℕ
 rom_mix_from r n k rows =
     let last = length rows - 1 in

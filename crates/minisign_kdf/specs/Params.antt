@@ -1,14 +1,14 @@
--- The parameters that scrypt takes: the cost N = 2 ^ n_log2, the block size r and the parallelization p (RFC
--- 7914, section 2).
+-- The parameters that scrypt accepts: the cost N = 2 ^ n_log2, the block size r and the parallelization p
+-- (RFC 7914, section 2).
 use Rattle.std.specs.Prelude.{ℕ, ◌*◌, ◌^◌, ◌<◌, ◌≤◌, Bool, ◌&&◌, nat_lt, nat_le}
 
--- the cost N as its logarithm to base 2, the block size and the parallelization
+-- The cost N as its logarithm to base 2, the block size and the parallelization.
 pub record Numbers : Type 0 where
   pub n_log2 : ℕ
   pub r : ℕ
   pub p : ℕ
 
--- the six conditions
+-- The six conditions.
 pub record IsAccepted (v : Numbers) : Type 0 where
   pub cost : 1 ≤ v.n_log2
   pub block_size : 1 ≤ v.r
@@ -20,7 +20,7 @@ pub record IsAccepted (v : Numbers) : Type 0 where
   -- the rows of a part have a number of bytes that 64 bits can count
   pub table : 128 * v.r * 2 ^ v.n_log2 < 2 ^ 64
 
--- the same as a test
+-- The same conditions as a function.
 abbrev pub is_accepted : Numbers → Bool
 is_accepted v =
     nat_le 1 v.n_log2 && nat_le 1 v.r && nat_le 1 v.p && nat_lt v.n_log2 (16 * v.r)

@@ -4,12 +4,12 @@ use Rattle.std.specs.Int.{w32, to_be_bytes}
 use Rattle.minisign_kdf.specs.Blocks.{joined_lists}
 use Rattle.minisign_kdf.specs.Hmac.{hmac}
 
--- the greatest length of a derived key: 2 ^ 32 - 1 blocks of 32 bytes
+-- The greatest length of a derived key: 2 ^ 32 - 1 blocks of 32 bytes.
 abbrev pub longest_key : ℕ
 longest_key = (2 ^ 32 - 1) * 32
 
--- T_1, .., T_l joined and cut to len bytes, l being len / 32 rounded up; T_i is U_1 alone, whose text ends
--- with i as four bytes, high byte first
+-- T_1, .., T_l joined and cut to len bytes, with l = len / 32 rounded up. T_i is U_1 only, whose text ends
+-- with i as four bytes, highest byte first.
 unfoldable pub pbkdf2 : List ℕ → List ℕ → ℕ → List ℕ
 pbkdf2 password salt len =
     take len (joined_lists (λ i. hmac password (salt ++ to_be_bytes w32 (i + 1))) ((len + 31) / 32))

@@ -1,15 +1,15 @@
-//! The errors of key derivation, and which of them an error further down becomes.
+//! The errors of key derivation and the conversions between them.
 
 ghost use Rattle.std.specs.Prelude.{◌≡◌, Some, codes};
 
 use std::alloc::AllocError;
 use std::fmt;
 
-/// Parameters that scrypt can't be used with.
+/// scrypt rejects the parameters.
 #[derive(Clone, Copy, Debug, PartialEq)]
 pub struct InvalidParams;
 
-/// Writes what is wrong, as its definition has it.
+/// Writes the text of the error, as its definition gives it.
 impl fmt::Display for InvalidParams {
     ghost output = { λ _. Some (codes "invalid scrypt parameters") };
 
@@ -22,7 +22,7 @@ impl fmt::Display for InvalidParams {
 #[derive(Clone, Copy, Debug, PartialEq)]
 pub struct InvalidOutputLen;
 
-/// Writes what is wrong, as its definition has it.
+/// Writes the text of the error, as its definition gives it.
 impl fmt::Display for InvalidOutputLen {
     ghost output = { λ _. Some (codes "invalid output length") };
 
@@ -31,7 +31,7 @@ impl fmt::Display for InvalidOutputLen {
     }
 }
 
-/// Why no key was derived.
+/// The reasons why no key was derived.
 #[derive(Clone, Copy, Debug, PartialEq)]
 pub enum KdfError {
     /// An allocation failed.
@@ -40,7 +40,7 @@ pub enum KdfError {
     InvalidOutputLen,
 }
 
-/// Writes what is wrong, as its definition has it.
+/// Writes the text of the error, as its definition gives it.
 impl fmt::Display for KdfError {
     ghost use Rattle.minisign_kdf.specs.Faults.{error_text};
 
@@ -54,7 +54,7 @@ impl fmt::Display for KdfError {
     }
 }
 
-/// A failed allocation is out of memory.
+/// A failed allocation becomes `OutOfMemory`.
 impl From<AllocError> for KdfError {
     ghost use Rattle.minisign_kdf.specs.declared.errors.KdfError.TheVariants.{OutOfMemory};
 
@@ -65,7 +65,7 @@ impl From<AllocError> for KdfError {
     }
 }
 
-/// The error of the output's length.
+/// A wrong output length becomes the error `InvalidOutputLen`.
 impl From<InvalidOutputLen> for KdfError {
     ghost use Rattle.minisign_kdf.specs.declared.errors.KdfError.TheVariants.{InvalidOutputLen};
 

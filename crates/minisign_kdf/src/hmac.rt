@@ -1,4 +1,4 @@
-//! HMAC with SHA-256 (RFC 2104), of a text in parts.
+//! HMAC with SHA-256 (RFC 2104), of a message in parts.
 
 ghost use Rattle.std.specs.Prelude.{◌≡◌, ◌++◌, ◌-◌, ◌≤◌, length, map, replicate, bit_xor};
 ghost use Rattle.std.specs.List.{flat_map};
@@ -9,8 +9,8 @@ use sha2::{Digest, Sha256};
 // How many bytes a block of SHA-256 has.
 const BLOCK_LEN: usize = 64;
 
-/// HMAC with SHA-256 (RFC 2104, section 2) under `key` of the joined `parts`. A key of any length
-/// will do; one longer than 64 bytes counts as its digest. Does not allocate.
+/// Returns HMAC with SHA-256 (RFC 2104, section 2) of the concatenated `parts` under `key`. The key may
+/// have any length; a key longer than 64 bytes is replaced by its digest. Does not allocate.
 pub fn hmac_sha256(key: &[u8], parts: &[&[u8]]) -> [u8; 32]
     ensures { result ≡ hmac key.now (flat_map (λ part. part.now) parts.now) }
 {

@@ -1,5 +1,5 @@
-//! Every k-th row of scryptROMix (RFC 7914, section 5), kept in one vector of words. The words of
-//! each block stand in diagonal order.
+//! Every k-th row of scryptROMix (RFC 7914, section 5), kept in one vector of words. The words of each
+//! block are in diagonal order.
 
 ghost use Rattle.std.specs.Prelude.{◌≡◌, ℕ, ◌+◌, ◌*◌, ◌%◌, ◌/◌, ◌^◌, ◌<◌, ◌≤◌, IfErr, IfOk, OnOk, length};
 ghost use Rattle.std.specs.Prelude.{vec_capacity, vec_len};
@@ -19,8 +19,8 @@ use std::marker::Model;
 // The most words that memory has room for: fewer than 2^63 bytes.
 const MAX_WORDS: usize = 2305843009213693951;
 
-/// Every k-th row of scryptROMix (RFC 7914, section 5) of one block, the rows V_0, V_k, V_2k, ..
-/// with numbers below N. A contract sees them as bytes in the RFC's order, with r, N and k.
+/// Every k-th row of scryptROMix (RFC 7914, section 5) of one block: the rows V_0, V_k, V_2k, .. with
+/// numbers below N. Contracts see these rows as bytes in the order of the RFC, with r, N and k.
 #[derive(Drop)]
 pub struct Rows {
     words: Vec<u32>,
@@ -44,13 +44,12 @@ impl Model for Rows {
 }
 
 impl Rows {
-    /// Makes the rows of a block of 128 * r bytes, for r from 1 on, with N = 2^`n_log2`, and keeps
-    /// every k-th: V_0 is the block, and each further row is the one before it mixed by
-    /// scryptBlockMix. `n_log2` lies from 1 to 63, and k is at least 1. Nothing is mixed further
-    /// than to the last kept row.
+    /// Computes the rows of a block of 128 * r bytes, r at least 1, with N = 2^`n_log2`, and keeps every
+    /// k-th. V_0 is the block, and each further row is the one before it mixed by scryptBlockMix. `n_log2`
+    /// must be from 1 to 63, and k at least 1. No row after the last kept one is computed.
     ///
-    /// `OutOfMemory` is returned where an allocation failed: 128 * r bytes for each of the N / k
-    /// rows, rounded up, in one request, and then 256 * r bytes, before any mixing.
+    /// Returns `OutOfMemory` if an allocation failed: 128 * r bytes for each of the N / k rows, rounded up,
+    /// in one request, and then 256 * r bytes, before any mixing.
     pub fn fill(alloc: Global, block: &[u8], n_log2: u8, k: u64) -> Result<Rows, KdfError>
         requires some { 0 < length block.now }
         requires whole { length block.now % 128 ≡ 0 }
@@ -58,7 +57,8 @@ impl Rows {
         requires cost { n_log2 < 64 }
         requires kept { 1 ≤ k }
 
-        // The kept rows of a block are V_0, V_k, V_2k, .. with numbers below N, and no others.
+        // On success, the kept rows are exactly the rows V_0, V_k, V_2k, .. of the block with numbers below
+        // N.
         ensures rows { let r = length block.now / 128 in
             IfOk result
             (λ v. v ≡ record { r = r; n = 2 ^ n_log2; k = k; rows = kept_rows r (2 ^ n_log2) k block.now }) }
@@ -78,19 +78,19 @@ impl Rows {
         })
     }
 
-    /// How many rows are kept: N divided by k, rounded up. Does not allocate.
+    /// Returns the number of kept rows: N divided by k, rounded up. Does not allocate.
     pub fn len(&self) -> u64
-        // There are N / k kept rows, rounded up.
+        // The result is the number of kept rows, N / k rounded up.
         ensures count { result ≡ div_ceil self.now.n self.now.k }
         ensures rows { result ≡ length self.now.rows }
     {
         kept_count(self.n_log2, self.k) as u64
     }
 
-    /// The words of the kept rows, 32 * r of each, read low byte first. Those of each block of
-    /// sixteen stand in diagonal order: place q holds word 5 * q mod 16. Does not allocate.
+    /// Returns the words of the kept rows, 32 * r for each, read from bytes lowest byte first. The sixteen
+    /// words of each block are in diagonal order: index q holds word 5 * q mod 16. Does not allocate.
     pub fn words(&self) -> &[u32]
-        // The words are those of the kept rows, each block in diagonal order.
+        // The result is the words of all kept rows, those of each block in diagonal order.
         ensures rows { rows_of self.now.r (div_ceil self.now.n self.now.k) result.now
             ≡ self.now.rows }
         ensures len { length result.now ≡ 32 * self.now.r * div_ceil self.now.n self.now.k }

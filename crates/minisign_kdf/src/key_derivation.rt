@@ -48,13 +48,13 @@ impl Buffers {
     }
 }
 
-/// Derives a key that fills `out` from a password and a salt, by scrypt (RFC 7914, section 6):
+/// Derives a key that fills `out` from a password and a salt with scrypt (RFC 7914, section 6). This is
 /// `scrypt_keeping` with every row kept, which is the fastest.
 ///
-/// `InvalidOutputLen` is returned exactly where `out` is empty or longer than 137438953440 bytes,
-/// before anything is allocated; `OutOfMemory` where an allocation failed: 128 * r * N bytes for
-/// the rows, in one request, then 128 * r * (p + 3) bytes, all before any mixing. All rows stand in
-/// memory at once, so on success they have fewer than 2^63 bytes. An error leaves `out` as it was.
+/// Returns `InvalidOutputLen` exactly if `out` is empty or longer than 137438953440 bytes, before anything
+/// is allocated. Returns `OutOfMemory` if an allocation failed: 128 * r * N bytes for the rows, in one
+/// request, then 128 * r * (p + 3) bytes, all before any mixing. All rows are in memory at the same time,
+/// so on success they have fewer than 2^63 bytes. After an error `out` is unchanged.
 ///
 /// ```
 /// let params = Params::new(15, 8, 1)?;
@@ -68,18 +68,19 @@ pub fn scrypt(
     params: &Params,
     out: &mut [u8],
 ) -> Result<(), KdfError>
-    // On success `out` holds the value of RFC 7914, and its length is from 1 to 137438953440.
+    // On success, `out` holds the scrypt output of RFC 7914 for the password, the salt, the parameters and
+    // its length, which is from 1 to 137438953440 bytes.
     ensures fits { OnOk result (IsTrue (is_key_length (length out.old))) }
     ensures derived { OnOk result
         (out.new ≡ scrypt password.now salt.now (2 ^ params.now.n_log2) params.now.r params.now.p
         (length out.old)) }
 
-    // On success all N rows of a part had room in memory at once: they have fewer than 2^63 bytes,
-    // which with every second row kept would not follow.
+    // On success, all N rows of a part were in memory at the same time, so they have fewer than 2^63 bytes
+    // in total. (With only every second row kept, this would not follow.)
     ensures room { OnOk result (128 * params.now.r * 2 ^ params.now.n_log2 < 2 ^ 63) }
 
-    // An error is that of the output's length exactly where the length is outside of this range,
-    // and otherwise out of memory; `out` is then as it was.
+    // The error is `InvalidOutputLen` if the length of `out` is not in this range, and otherwise out of
+    // memory. After an error, `out` is unchanged.
     ensures refused { IfErr result (λ e. e ≡ (if is_key_length (length out.old)
         then KdfError.OutOfMemory else KdfError.InvalidOutputLen)) }
     ensures unchanged { OnErr result (out.new ≡ out.old) }
@@ -88,18 +89,16 @@ pub fn scrypt(
     Ok(())
 }
 
-/// Derives the same key with every k-th row of a part kept, for k from 1 on, and makes the others
-/// again when they are named: memory for time. Returns how many rows are kept for each part, N / k,
-/// rounded up, counted in the memory that holds them, which has fewer than 2^63 bytes.
+/// Derives the same key as `scrypt` with only every k-th row of a part kept, for k from 1 on. The other
+/// rows are computed again when they are needed, which saves memory and costs time. Returns how many rows
+/// are kept for each part: N / k, rounded up. These rows have fewer than 2^63 bytes in total.
 ///
-/// `InvalidOutputLen` is returned exactly where `out` is empty or longer than 137438953440 bytes,
-/// before anything is allocated; `OutOfMemory` where an allocation failed: 128 * r bytes for each
-/// kept row, in one request, then 128 * r * (p + 3) bytes, all before any mixing. An error leaves
-/// `out` as it was.
+/// Returns `InvalidOutputLen` exactly if `out` is empty or longer than 137438953440 bytes, before anything
+/// is allocated. Returns `OutOfMemory` if an allocation failed: 128 * r bytes for each kept row, in one
+/// request, then 128 * r * (p + 3) bytes, all before any mixing. After an error `out` is unchanged.
 ///
-/// For each of the p parts scryptBlockMix is called 2 * N times, as with every row kept, and
-/// besides for each of N rows that are named (k - 1) / 2 times on average, less where k is no
-/// divisor of N.
+/// For each of the p parts scryptBlockMix runs 2 * N times, as with every row kept, and in addition (k - 1)
+/// / 2 times on average for each of N rows that are looked up, less if k does not divide N.
 ///
 /// ```
 /// // 2 MiB of rows in place of 32.
@@ -117,21 +116,21 @@ pub fn scrypt_keeping(
 ) -> Result<u64, KdfError>
     requires kept { 1 ≤ k }
 
-    // With every k-th row kept, for every k from 1 on: on success `out` holds the value of RFC
-    // 7914, and its length is from 1 to 137438953440.
+    // On success, for every k from 1 on, `out` holds the scrypt output of RFC 7914 for the password, the
+    // salt, the parameters and its length, which is from 1 to 137438953440 bytes. It does not depend on k.
     ensures fits { OnOk result (IsTrue (is_key_length (length out.old))) }
     ensures derived { OnOk result
         (out.new ≡ scrypt password.now salt.now (2 ^ params.now.n_log2) params.now.r params.now.p
         (length out.old)) }
 
-    // On success it returns how many rows are kept for each part, N / k, rounded up, which have
-    // fewer than 2^63 bytes.
+    // On success, the result is the number of rows kept for each part, N / k rounded up, and these rows
+    // have fewer than 2^63 bytes in total.
     ensures count { IfOk result (λ n. n ≡ div_ceil (2 ^ params.now.n_log2) k) }
     ensures room { OnOk result
         (128 * params.now.r * div_ceil (2 ^ params.now.n_log2) k < 2 ^ 63) }
 
-    // An error is that of the output's length exactly where the length is outside of this range,
-    // and otherwise out of memory; `out` is then as it was.
+    // The error is `InvalidOutputLen` if the length of `out` is not in this range, and otherwise out of
+    // memory. After an error, `out` is unchanged.
     ensures refused { IfErr result (λ e. e ≡ (if is_key_length (length out.old)
         then KdfError.OutOfMemory else KdfError.InvalidOutputLen)) }
     ensures unchanged { OnErr result (out.new ≡ out.old) }
@@ -148,12 +147,12 @@ pub fn scrypt_keeping(
     Ok(rows_in(&rows, params.r() as usize))
 }
 
-/// Derives the same key in memory that is passed in, with every k-th row of a part kept, for k from
-/// 1 on, as `scrypt_keeping` does, and allocates none: so nothing can fail.
+/// Derives the same key as `scrypt_keeping` in memory that the caller provides, with only every k-th row of
+/// a part kept, for k from 1 on. Does not allocate, so it cannot fail.
 ///
-/// `words` has at least as many words as `Params::wanted_words` says, and `bytes` as many bytes as
-/// `Params::wanted_bytes`. What they held is not read, and all of both is left with zeros. `out` has
-/// from 1 to 137438953440 bytes.
+/// `words` must have at least the length that `Params::wanted_words` returns, and `bytes` the length that
+/// `Params::wanted_bytes` returns. Their previous contents are ignored, and both are all zeros afterwards.
+/// `out` must have from 1 to 137438953440 bytes.
 pub fn scrypt_in(
     password: &[u8],
     salt: &[u8],
@@ -168,12 +167,12 @@ pub fn scrypt_in(
     requires bytes { wanted_bytes params.now ≤ length bytes.old }
     requires len { IsTrue (is_key_length (length out.old)) }
 
-    // In memory that is passed in, whatever it held and for every k from 1 on, `out` holds the
-    // value of RFC 7914.
+    // For every k from 1 on, whatever the caller's memory held, `out` holds the scrypt output of RFC 7914
+    // for the password, the salt, the parameters and its length.
     ensures derived { out.new ≡ scrypt password.now salt.now
         (2 ^ params.now.n_log2) params.now.r params.now.p (length out.old) }
 
-    // That memory then holds zeros, all of it.
+    // Afterwards all of the caller's memory is zero.
     ensures words_cleared { words.new ≡ replicate (length words.old) 0 }
     ensures bytes_cleared { bytes.new ≡ replicate (length bytes.old) 0 }
 {
@@ -181,9 +180,9 @@ pub fn scrypt_in(
     clear_memory(words, bytes);
 }
 
-/// Writes zeros over memory that a derivation may work in. Does not allocate.
+/// Overwrites memory that a derivation used with zeros. Does not allocate.
 pub fn clear_memory(words: &mut [u32], bytes: &mut [u8])
-    // All of it holds zeros.
+    // Afterwards all of the memory is zero.
     ensures words { words.new ≡ replicate (length words.old) 0 }
     ensures bytes { bytes.new ≡ replicate (length bytes.old) 0 }
 {

@@ -1,6 +1,6 @@
 //! Key derivation: HMAC and PBKDF2 with SHA-256, and scrypt (RFC 2104, RFC 8018, RFC 7914).
 //!
-//! What each call computes stands in `specs/`, in the words of its RFC.
+//! The definitions in `specs/` say what each call computes, in the words of its RFC.
 
 #![tactic(auto)]
 

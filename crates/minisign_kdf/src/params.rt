@@ -8,8 +8,8 @@ use crate::errors::InvalidParams;
 use crate::kept_rows::kept_count;
 use std::marker::Model;
 
-/// Parameters of scrypt that can be used: the cost N as its logarithm to base 2, the block size r
-/// and the parallelization p. A contract sees these three numbers.
+/// Valid parameters of scrypt: the cost N as its logarithm to base 2, the block size r and the
+/// parallelization p. Contracts see these three numbers.
 #[derive(Clone, Copy, Debug, PartialEq)]
 pub struct Params {
     n_log2: u8,
@@ -28,9 +28,9 @@ impl Model for Params {
 }
 
 impl Params {
-    /// The parameters N = 2^`n_log2`, `r` and `p`. All three are at least 1, `n_log2` is below 16 *
-    /// r, r * p is below 2^30, and the 128 * r * N bytes of a part's rows are below 2^64; anything
-    /// else is rejected (RFC 7914, section 2). Does not allocate.
+    /// Returns the parameters N = 2^`n_log2`, `r` and `p`, if they are valid (RFC 7914, section 2): all
+    /// three are at least 1, `n_log2` is below 16 * r, r * p is below 2^30, and the rows of a part, 128 * r
+    /// * N bytes, have fewer than 2^64 bytes. Otherwise returns an error. Does not allocate.
     pub fn new(n_log2: u8, r: u32, p: u32) -> Result<Params, InvalidParams>
         ensures accepted { IsOk result ↔ IsAccepted (record { n_log2 = n_log2; r = r; p = p }) }
         ensures test { is_ok result ≡ is_accepted (record { n_log2 = n_log2; r = r; p = p }) }
@@ -48,7 +48,7 @@ impl Params {
         Ok(Params { n_log2, r, p })
     }
 
-    /// The logarithm of the cost N to base 2, which is below 64.
+    /// Returns the logarithm of the cost N to base 2, which is below 64.
     pub fn n_log2(&self) -> u8
         ensures number { result ≡ self.now.n_log2 }
         ensures small { result < 64 }
@@ -57,7 +57,7 @@ impl Params {
         self.n_log2
     }
 
-    /// The block size.
+    /// Returns the block size.
     pub fn r(&self) -> u32
         ensures number { result ≡ self.now.r }
         ensures accepted { IsAccepted self.now }
@@ -65,7 +65,7 @@ impl Params {
         self.r
     }
 
-    /// The parallelization.
+    /// Returns the parallelization.
     pub fn p(&self) -> u32
         ensures number { result ≡ self.now.p }
         ensures accepted { IsAccepted self.now }
@@ -73,21 +73,22 @@ impl Params {
         self.p
     }
 
-    /// How many words of 32 bits `scrypt_in` works in with every k-th row kept, for k from 1 on:
-    /// 32 * r for each kept row, N / k, rounded up, and for three more. Does not allocate.
+    /// Returns how many 32-bit words of memory `scrypt_in` needs with every k-th row kept, for k from 1 on:
+    /// 32 * r for each kept row, of which there are N / k, rounded up, and for three more. Does not
+    /// allocate.
     pub fn wanted_words(&self, k: u64) -> u64
         requires { 1 ≤ k }
 
-        // The words of the rows that are kept of a part, and of three more.
+        // The result is the number of words in the rows that are kept for a part and in three more rows.
         ensures { result ≡ wanted_words self.now k }
     {
         32 * u64::from(self.r) * (kept_count(self.n_log2, k) as u64 + 3)
     }
 
-    /// How many bytes `scrypt_in` works in beside these words: 128 * r for each of the p parts. Does
-    /// not allocate.
+    /// Returns how many bytes of memory `scrypt_in` needs in addition to these words: 128 * r for each of
+    /// the p parts. Does not allocate.
     pub fn wanted_bytes(&self) -> u64
-        // The bytes of all parts.
+        // The result is the number of bytes in all parts.
         ensures { result ≡ wanted_bytes self.now }
     {
         128 * u64::from(self.r) * u64::from(self.p)

@@ -11,8 +11,8 @@ use crate::hmac::hmac_sha256;
 // How many bytes a block of the derived key has.
 const BLOCK_LEN: usize = 32;
 
-/// Derives a key that fills `out`, by PBKDF2 (RFC 8018, section 5.2) with one iteration of HMAC
-/// with SHA-256. `out` has at most 137438953440 bytes, 2^32 - 1 blocks. Does not allocate.
+/// Derives a key that fills `out` with PBKDF2 (RFC 8018, section 5.2), using one iteration of HMAC with
+/// SHA-256. `out` must have at most 137438953440 bytes, which is 2^32 - 1 blocks. Does not allocate.
 pub fn pbkdf2_once(password: &[u8], salt: &[u8], out: &mut [u8])
     requires { length out.old ≤ longest_key }
     ensures { out.new ≡ pbkdf2 password.now salt.now (length out.old) }

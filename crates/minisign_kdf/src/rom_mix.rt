@@ -1,5 +1,5 @@
-//! scryptROMix (RFC 7914, section 5) over every k-th row, kept in one slice of words; the others
-//! are made again from the kept row before them. The words of each block stand in diagonal order.
+//! scryptROMix (RFC 7914, section 5) with only every k-th row kept, in one slice of words; each other row
+//! is computed again from the kept row before it. The words of each block are in diagonal order.
 
 ghost use Rattle.std.specs.Prelude.{◌≡◌, ℕ, ◌+◌, ◌-◌, ◌*◌, ◌/◌, ◌%◌, ◌^◌, ◌<◌, ◌≤◌, List, length, bit_xor};
 ghost use Rattle.std.specs.Int.{div_ceil};
@@ -14,14 +14,14 @@ use crate::kept_rows::{kept_count, row_count};
 use crate::order::store_part;
 use std::simd::u32x4;
 
-/// Writes scryptROMix (RFC 7914, section 5) with N = 2^`n_log2` over `rows`, of which every k-th is
-/// kept: the words of N / k rows, rounded up, laid out as `Rows::words` has them, but of any
-/// content. Row j is made by mixing the kept row j / k another j mod k times; over the rows that
-/// `Rows::fill` made of a block, this is scryptROMix of that block.
+/// Writes scryptROMix (RFC 7914, section 5) with N = 2^`n_log2` to `out`, using `rows`, of which every k-th
+/// is kept: the words of N / k rows, rounded up, in the layout of `Rows::words`, with any contents. Row j
+/// is computed by mixing the kept row j / k another j mod k times. With the rows that `Rows::fill` computes
+/// from a block, the result is scryptROMix of that block.
 ///
-/// `out` has the length of a row, 128 * r bytes for some r from 1 on, `work` has at least 96 * r
-/// words, which is three rows, `n_log2` lies from 1 to 63, and k is at least 1. What `out` and
-/// `work` held is not read, and what `work` is left with is open. Does not allocate.
+/// `out` must have the length of a row, 128 * r bytes for some r from 1 on, and `work` at least 96 * r
+/// words, which is three rows. `n_log2` must be from 1 to 63, and k at least 1. The previous contents of
+/// `out` and `work` are ignored; the contents of `work` afterwards are unspecified. Does not allocate.
 pub fn mix_kept(rows: &[u32], n_log2: u8, k: u64, out: &mut [u8], work: &mut [u32])
     requires even { 1 ≤ n_log2 }
     requires cost { n_log2 < 64 }
@@ -31,12 +31,12 @@ pub fn mix_kept(rows: &[u32], n_log2: u8, k: u64, out: &mut [u8], work: &mut [u3
     requires rows_len { 4 * length rows.now ≡ length out.old * div_ceil (2 ^ n_log2) k }
     requires work_len { 3 * length out.old ≤ 4 * length work.old }
 
-    // Over any rows of the number that is kept, scryptROMix is written, with each row made by
-    // mixing the kept one before it.
+    // For kept rows with any contents, `out` holds the result of scryptROMix in which each row is computed
+    // by mixing the kept row before it.
     ensures mixed { let r = length out.old / 128 in
         out.new ≡ rom_mix_from r (2 ^ n_log2) k (rows_of r (div_ceil (2 ^ n_log2) k) rows.now) }
 
-    // Over the kept rows of a block it is scryptROMix of this block.
+    // If the rows are the kept rows of a block, `out` holds scryptROMix of this block.
     ensures standard { let r = length out.old / 128 in (b : List ℕ) →
         rows_of r (div_ceil (2 ^ n_log2) k) rows.now ≡ kept_rows r (2 ^ n_log2) k b
         → out.new ≡ rom_mix r (2 ^ n_log2) b }

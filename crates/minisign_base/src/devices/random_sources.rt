@@ -8,23 +8,23 @@ ghost use Rattle.minisign_base.specs.Devices.{Rose, HasFilled};
 use super::sources::{Source, fill_from};
 use super::{DeviceFault, FaultCount};
 
-/// What gives random bytes.
+/// A source of random bytes.
 pub trait RandomSource {
-    // The bytes that draws will give, where they are known.
+    // The bytes that will be returned next, if they are known.
     ghost random_ahead: { Self → Option (List ℕ) };
 
-    // How many errors there were.
+    // The number of errors so far.
     ghost random_faults: { Self → ℕ };
 
-    /// Fills `buf` with the next bytes. Too few bytes is an error. After an error some bytes of the
-    /// front may be gone, or the bytes are known no more, and what `buf` holds is left open.
+    /// Fills `buf` with the next bytes. Too few bytes are an error. After an error some bytes of the source
+    /// may be lost, or its bytes may no longer be known, and the contents of `buf` are unspecified.
     fn fill(&mut self, buf: &mut [u8]) -> Result<(), DeviceFault>
-        // A draw fills the buffer with the next random bytes, or is an error that raises the count.
+        // On success, `buf` holds the next random bytes, and the error count is unchanged. After an error,
+        // the error count has risen.
         ensures { HasFilled random_ahead random_faults self.old self.new buf.new result };
 }
 
-/// The bytes of a slice, in their order. It fails exactly where too few are left, and then gives
-/// none.
+/// Returns the bytes of a slice, in order. Fails exactly if too few bytes are left, and then returns none.
 #[derive(Drop)]
 pub struct FixedRandom<'a> {
     rest: &'a [u8],
@@ -32,7 +32,7 @@ pub struct FixedRandom<'a> {
 }
 
 impl<'a> FixedRandom<'a> {
-    /// All of the slice is still to be drawn.
+    /// Returns a random source with all the bytes of the slice ahead.
     pub fn new(bytes: &'a [u8]) -> FixedRandom<'a>
         ensures ahead { ⟦<FixedRandom<'a> as RandomSource>⟧.random_ahead result ≡ Some bytes.now }
         ensures faults { ⟦<FixedRandom<'a> as RandomSource>⟧.random_faults result ≡ 0 }
@@ -49,7 +49,7 @@ impl<'a> RandomSource for FixedRandom<'a> {
 
     ghost random_faults = { λ s. s.faults.0 };
 
-    // An error exactly where fewer bytes than `buf` has are left. None is then given.
+    // Fails exactly if fewer bytes are left than `buf` has, and then no byte is lost.
     fn fill(&mut self, buf: &mut [u8]) -> Result<(), DeviceFault>
         ensures enough { IsOk result ↔ IsSomeAnd (⟦<FixedRandom<'a> as RandomSource>⟧.random_ahead self.old)
             (λ xs. length buf.old ≤ length xs) }
@@ -69,16 +69,16 @@ impl<'a> RandomSource for FixedRandom<'a> {
     }
 }
 
-/// The bytes of a source, in their order. It fails only where the source failed or ended.
+/// Returns the bytes of a source, in order. Fails only if the source fails or ends.
 #[derive(Drop)]
 pub struct SourceRandom<S> {
-    /// What the bytes come from.
+    /// The source of the bytes.
     pub source: S,
     faults: FaultCount,
 }
 
 impl<S: Source> SourceRandom<S> {
-    /// All that is ahead of the source is still to be drawn.
+    /// Returns a random source with all the bytes ahead that are ahead of `source`.
     pub fn new(source: S) -> SourceRandom<S>
         ensures ahead { ⟦<SourceRandom<S> as RandomSource>⟧.random_ahead result ≡ S.ahead source }
         ensures faults { ⟦<SourceRandom<S> as RandomSource>⟧.random_faults result ≡ 0 }
@@ -96,7 +96,7 @@ impl<S: Source> RandomSource for SourceRandom<S> {
 
     ghost random_faults = { λ s. s.faults.0 };
 
-    // An error only where the source failed or ended; otherwise the source counts none.
+    // Fails only if the source failed or ended. On success, the source's error count is unchanged.
     fn fill(&mut self, buf: &mut [u8]) -> Result<(), DeviceFault>
         ensures fill { HasFilled ⟦<SourceRandom<S> as RandomSource>⟧.random_ahead
             ⟦<SourceRandom<S> as RandomSource>⟧.random_faults self.old self.new buf.new result }

@@ -13,36 +13,35 @@ use crate::faults::NamedFault;
 use std::alloc::{AllocError, Global};
 use std::io::Write;
 
-/// What takes bytes.
+/// A destination for bytes.
 pub trait Sink {
-    // The bytes taken so far, where they are known.
+    // The bytes received so far, if they are known.
     ghost taken: { Self → Option (List ℕ) };
 
-    // The bytes flushed so far, where they are known: all that it had taken when it was
-    // flushed last.
+    // The bytes flushed so far, if they are known: all that had been received at the last flush.
     ghost flushed: { Self → Option (List ℕ) } = { λ _. None };
 
-    // How many errors there were.
+    // The number of errors so far.
     ghost sink_faults: { Self → ℕ };
 
-    /// Takes a prefix of `bytes` and returns how long it is: of something at least one byte.
-    /// After an error nothing was taken. It flushes nothing.
+    /// Writes a prefix of `bytes` and returns its length, which is at least one byte unless `bytes` is
+    /// empty. After an error nothing was written. Flushes nothing.
     fn write(&mut self, bytes: &[u8]) -> Result<usize, DeviceFault>
-        // It takes a prefix of what it is given, at least a byte if there is one; or it is an
-        // error that raises the count, with nothing taken.
+        // On success, the sink received a prefix of `bytes`, at least one byte unless `bytes` is empty.
+        // After an error, it received nothing, and the error count has risen.
         //
-        // What was flushed may be known: a write flushes nothing (`unflushed`). Of the sinks of the
-        // library it is not; of a sink with a buffer it can be.
+        // A write flushes nothing. What was flushed is known only for a sink that says so; the sinks of
+        // this library do not.
         ensures { HasWritten taken flushed sink_faults self.old self.new bytes.now result };
 
-    /// Passes on all that was taken. It takes nothing itself.
+    /// Flushes all that was received. Writes nothing itself.
     fn flush(&mut self) -> Result<(), DeviceFault>
-        // A flush takes nothing. After one that succeeds all that the sink took is flushed; after
-        // one that failed what was flushed stays, or is known no more (`all`, `err_flushed`).
+        // A flush adds nothing to what the sink received. On success, all that the sink received is
+        // flushed. After an error, what was flushed is unchanged or no longer known.
         ensures { HasFlushed taken flushed sink_faults self.old self.new result };
 }
 
-/// A buffer that grows. It fails only where an allocation fails.
+/// A buffer that grows. Fails only if an allocation fails.
 #[derive(Drop)]
 pub struct VecSink {
     bytes: Vec<u8>,
@@ -50,7 +49,7 @@ pub struct VecSink {
 }
 
 impl VecSink {
-    /// An empty buffer, which grows by this allocator.
+    /// Returns an empty buffer that grows with this allocator.
     pub fn new(alloc: Global) -> VecSink
         ensures taken { ⟦<VecSink as Sink>⟧.taken result ≡ Some [] }
         ensures faults { ⟦<VecSink as Sink>⟧.sink_faults result ≡ 0 }
@@ -61,14 +60,14 @@ impl VecSink {
         }
     }
 
-    /// The bytes taken so far.
+    /// Returns the bytes received so far.
     pub fn as_slice(&self) -> &[u8]
         ensures { ⟦<VecSink as Sink>⟧.taken self.now ≡ Some result.now }
     {
         self.bytes.as_slice()
     }
 
-    /// The bytes taken, as a buffer.
+    /// Returns the bytes received so far as a vector.
     pub fn into_vec(self) -> Vec<u8>
         ensures { ⟦<VecSink as Sink>⟧.taken self ≡ Some result.items }
     {
@@ -82,7 +81,7 @@ impl Sink for VecSink {
 
     ghost sink_faults = { λ s. s.faults.0 };
 
-    // All of the bytes, or an error where that allocation fails.
+    // On success, the sink received all the bytes. After an error, it received none of them.
     fn write(&mut self, bytes: &[u8]) -> Result<usize, DeviceFault>
         ensures takes { IfOk result (λ n. n ≡ length bytes.now) }
         ensures bytes { OnOk result
@@ -96,7 +95,7 @@ impl Sink for VecSink {
         }
     }
 
-    // Never an error.
+    // Always succeeds.
     fn flush(&mut self) -> Result<(), DeviceFault>
         ensures succeeds { IsOk result }
         ensures same { self.new ≡ self.old }
@@ -105,7 +104,7 @@ impl Sink for VecSink {
     }
 }
 
-/// Takes all bytes and keeps none. It never fails.
+/// Accepts all bytes and keeps none. Never fails.
 #[derive(Clone, Copy, Drop)]
 pub struct NoSink;
 
@@ -114,7 +113,7 @@ impl Sink for NoSink {
 
     ghost sink_faults = { λ _. 0 };
 
-    // All of the bytes.
+    // Accepts all of the bytes.
     fn write(&mut self, bytes: &[u8]) -> Result<usize, DeviceFault> {
         Ok(bytes.len())
     }
@@ -124,8 +123,8 @@ impl Sink for NoSink {
     }
 }
 
-/// Any writer of std. Its bytes are known where the writer's are. A writer that takes nothing of
-/// something, or says that it took more than there was, has failed.
+/// Any writer of std. Its bytes are known if the writer's are. A writer that accepts none of some bytes, or
+/// reports more than there were, has failed.
 #[derive(Drop)]
 pub struct WriterSink<W> {
     writer: W,
@@ -133,7 +132,7 @@ pub struct WriterSink<W> {
 }
 
 impl<W: Write> WriterSink<W> {
-    /// What the writer holds counts as taken.
+    /// Returns a sink for the writer. Bytes that the writer already contains count as received.
     pub fn new(writer: W) -> WriterSink<W>
         ensures taken { ⟦<WriterSink<W> as Sink>⟧.taken result ≡ W.contents writer }
         ensures faults { ⟦<WriterSink<W> as Sink>⟧.sink_faults result ≡ 0 }
@@ -165,19 +164,19 @@ impl<W: Write> Sink for WriterSink<W> {
     }
 }
 
-/// Writes a label, a text and a line feed in one call of `write_all`, so that programs that run side
-/// by side do not mix their lines: a sink that takes all that it is given gets one write.
+/// Writes a label, a text and a line feed in one call of `write_all`, so that programs that run at the same
+/// time do not mix their lines: a sink that accepts everything at once gets a single write.
 ///
-/// The line is allocated. Where that fails, it is `OutOfMemory`, and the sink is as it
-/// was. Where the sink fails, that is `WritingFailed`, and the sink took a prefix of the line.
+/// Allocates the line. If that fails, returns `OutOfMemory`, and the sink is unchanged. If the sink fails,
+/// returns `WritingFailed`, and the sink has received a prefix of the line.
 pub fn put_line<S: Sink>(
     alloc: Global,
     sink: &mut S,
     label: &[u8],
     text: &[u8],
 ) -> errors::Result<()>
-    // The whole of a line is written, put together first; or an allocation fails for it, with the sink
-    // as it was; or the sink fails, and took a prefix.
+    // On success, the sink received the whole line. An error is out of memory, and the sink is unchanged;
+    // or the sink failed, and received a prefix of the line.
     ensures bytes { OnOk result
         (Appends (S.taken sink.old) (S.taken sink.new) (label.now ++ text.now ++ 10 ∷ [])) }
     ensures no_new_fault { OnOk result (S.sink_faults sink.new ≡ S.sink_faults sink.old) }
@@ -196,15 +195,16 @@ pub fn put_line<S: Sink>(
     }
 }
 
-/// Writes all of `bytes` and passes them on. After an error the sink took a prefix of them.
+/// Writes all of `bytes` and flushes them. After an error the sink has received a prefix of them.
 pub fn put_and_flush<S: Sink>(sink: &mut S, bytes: &[u8]) -> Result<(), DeviceFault>
-    // The whole of a text is written; or a prefix of it, with an error of the sink.
+    // On success, the sink received all the bytes.
     ensures bytes { OnOk result (Appends (S.taken sink.old) (S.taken sink.new) bytes.now) }
 
-    // On success all that the sink took is flushed.
+    // On success, everything that the sink received is flushed.
     ensures flushed { OnOk result (SameWhereKnown (S.taken sink.new) (S.flushed sink.new)) }
 
-    // The count of errors rose exactly where that fails, and then a prefix was written.
+    // After an error, the sink's error count has risen, and the sink received a prefix of the bytes. On
+    // success, the error count is unchanged.
     ensures no_new_fault { OnOk result (S.sink_faults sink.new ≡ S.sink_faults sink.old) }
     ensures refused { OnErr result (Rose (S.sink_faults sink.old) (S.sink_faults sink.new)) }
     ensures front { OnErr result (AppendsFront (S.taken sink.old) (S.taken sink.new) bytes.now) }
@@ -216,12 +216,13 @@ pub fn put_and_flush<S: Sink>(sink: &mut S, bytes: &[u8]) -> Result<(), DeviceFa
     }
 }
 
-/// Writes all of `bytes`, and flushes nothing. After an error the sink took a prefix of them.
+/// Writes all of `bytes` and flushes nothing. After an error the sink has received a prefix of them.
 pub fn write_all<S: Sink>(sink: &mut S, bytes: &[u8]) -> Result<(), DeviceFault>
-    // The whole of a text is written; or a prefix of it, with an error of the sink.
+    // On success, the sink received all the bytes.
     ensures bytes { OnOk result (Appends (S.taken sink.old) (S.taken sink.new) bytes.now) }
 
-    // The count of errors rose exactly where that fails, and then a prefix was written.
+    // After an error, the sink's error count has risen, and the sink received a prefix of the bytes. On
+    // success, the error count is unchanged.
     ensures no_new_fault { OnOk result (S.sink_faults sink.new ≡ S.sink_faults sink.old) }
     ensures refused { OnErr result (Rose (S.sink_faults sink.old) (S.sink_faults sink.new)) }
     ensures front { OnErr result (AppendsFront (S.taken sink.old) (S.taken sink.new) bytes.now) }

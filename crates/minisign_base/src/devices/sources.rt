@@ -10,77 +10,76 @@ ghost use Rattle.minisign_base.specs.Devices.{Rose, HasGiven, HasRead, HasMarked
 use super::{DeviceFault, FaultCount};
 use std::io::{Read, Seek, SeekFrom};
 
-/// What gives bytes, a finite number of them.
+/// A source of bytes, of which there are finitely many.
 pub trait Source {
-    // The bytes ahead, where they are known.
+    // The bytes that will be read next ("the bytes ahead"), if they are known.
     ghost ahead: { Self → Option (List ℕ) };
 
-    // The bytes that going back to the mark would put ahead, where that is known.
+    // The bytes that would be ahead after going back to the mark, if they are known.
     ghost behind: { Self → Option (List ℕ) } = { λ _. None };
 
-    // The bytes given since the place was last marked or gone back to, where they are known.
+    // The bytes read since the mark was set or gone back to, if they are known.
     ghost since: { Self → Option (List ℕ) } = { λ _. None };
 
-    // Whether a place is marked. Reads leave that.
+    // True if a place is marked. Reads do not change this.
     ghost is_marked: { Self → Bool } = { λ _. false };
 
-    // How many bytes it can still give.
+    // The number of bytes that can still be read.
     ghost left: { Self → ℕ };
 
-    // How many errors there were.
+    // The number of errors so far.
     ghost faults: { Self → ℕ };
 
-    /// Moves the next bytes to the start of `buf`, as many as it likes up to all of it, and returns
-    /// how many. The result is 0 only where `buf` is empty or no byte is left. After an error the
-    /// bytes ahead are those before the call, or are known no more.
+    /// Moves the next bytes to the start of `buf`, any number of them up to the length of `buf`, and
+    /// returns that number. It is 0 only if `buf` is empty or no bytes are left. After an error the bytes
+    /// ahead are unchanged or no longer known.
     fn read(&mut self, buf: &mut [u8]) -> Result<usize, DeviceFault>
-        // The next bytes are given, and 0 only at the end or without room (fields `bound`, `bytes`,
-        // `end`, `left` of `HasRead`).
+        // On success, the result is the number of bytes moved from the front of the source to `buf`. It is
+        // at most the length of `buf`, and 0 only if `buf` is empty or the source has ended.
         //
-        // A read that succeeds leaves the mark and the count of errors as they were. After one that
-        // failed the count rose, and the bytes ahead stay or are known no more; nothing is said
-        // then of what going back would bring. Whether a place is marked stays in both cases
-        // (`mark`, `no_new_fault`, `fault`, `kept`, `err_left`, `marked`).
+        // On success, the mark and the error count are unchanged. After an error, the error count has
+        // risen, and the bytes ahead are unchanged or no longer known; nothing is promised then about what
+        // going back would restore. In both cases a place is marked exactly if one was marked before.
         //
-        // Where the bytes given since the place was last marked or gone back to are known, those and
-        // the next ones are known after each read: of slices, but not of readers and files
-        // (`since`, `since_kept`).
+        // If the bytes read since the mark was set or gone back to are known, each read adds to them. They
+        // are known for slices, but not for readers and files.
         ensures { HasRead ahead behind since is_marked left faults self.old self.new buf.new result };
 }
 
 /// A source that can be read again from a place that was marked.
 pub trait Rereader: Source {
-    // Going back brings the bytes that were ahead at the mark.
+    // Going back restores the bytes that were ahead when the mark was set.
     ghost steady: { Self → Type 0 };
 
-    /// Remembers the place. The bytes ahead stay; after an error they stay or are known no more, and
-    /// no place is marked.
+    /// Marks the current place. The bytes ahead are unchanged. After an error they are unchanged or no
+    /// longer known, and no place is marked.
     fn mark(&mut self) -> Result<(), DeviceFault>
-        // A steady source remembers what is ahead; an error raises the count.
+        // On success, the place is marked, the bytes ahead are unchanged, and a steady source remembers
+        // them. After an error, the error count has risen and no place is marked.
         //
-        // The place is then marked, and after an error none is (`marked`, `unmarked`); no byte was
-        // given since (`since`).
+        // On success, no byte has been read since the mark.
         ensures { HasMarked steady Self.ahead Self.behind Self.since Self.is_marked Self.faults self.old
             self.new result };
 
-    /// Returns to the place that was marked last, which stays marked. Without a mark it is an
-    /// error. After an error no place is marked.
+    /// Goes back to the place that was marked last, which remains marked. Fails if no place is marked.
+    /// After an error no place is marked.
     fn back(&mut self) -> Result<(), DeviceFault>
-        // A steady source has ahead again what it remembered at the mark, which stays remembered,
-        // so that going back once more brings the same (`bytes`, `mark`); an error raises the count.
+        // On success, the bytes ahead are those that were remembered at the mark, as far as they are known,
+        // and the mark is unchanged, so that going back again restores the same bytes. After an error, the
+        // error count has risen.
         //
-        // Going back without a mark is an error of every source. The place is then marked, and after
-        // an error none is (`needs_mark`, `marked`, `unmarked`); no byte was given since (`since`).
+        // Going back without a mark always fails. After an error, no place is marked. On success, no byte
+        // has been read since going back.
         ensures { HasGoneBack Self.ahead Self.behind Self.since Self.is_marked Self.faults self.old self.new
             result };
 }
 
-/// The bytes of a slice. It fails only in `back` without a mark.
+/// The bytes of a slice. Fails only in `back` without a mark.
 #[derive(Drop)]
 pub struct SliceSource<'a> {
-    // The bytes from the place on that was last marked or gone back to, or from the beginning on.
+    // The bytes from the place that was last marked or gone back to, or from the beginning.
     bytes: &'a [u8],
-    // How many of them were given.
+    // The number of these bytes that have been read.
     given: usize,
     is_marked: bool,
     faults: FaultCount,
@@ -88,7 +87,7 @@ pub struct SliceSource<'a> {
 }
 
 impl<'a> SliceSource<'a> {
-    /// All of the slice is ahead, and nothing is marked.
+    /// Returns a source with all the bytes of the slice ahead and no place marked.
     pub fn new(bytes: &'a [u8]) -> SliceSource<'a>
         ensures ahead { ⟦<SliceSource<'a> as Source>⟧.ahead result ≡ Some bytes.now }
         ensures behind { ⟦<SliceSource<'a> as Source>⟧.behind result ≡ None }
@@ -118,7 +117,7 @@ impl<'a> Source for SliceSource<'a> {
 
     ghost faults = { λ s. s.faults.0 };
 
-    // As many bytes as there is room for, or are left, and never an error.
+    // Always succeeds, and reads as many bytes as `buf` has space for or as are left, whichever is less.
     #[tactic(auto, using(crate::proofs::GivenParts::rest_given, crate::proofs::GivenParts::front_given))]
     fn read(&mut self, buf: &mut [u8]) -> Result<usize, DeviceFault>
         ensures gives { IsOkAnd result
@@ -140,7 +139,7 @@ impl<'a> Source for SliceSource<'a> {
 impl<'a> Rereader for SliceSource<'a> {
     ghost steady = { λ _. ⊤ };
 
-    // Never an error.
+    // Always succeeds.
     fn mark(&mut self) -> Result<(), DeviceFault>
         ensures succeeds { IsOk result }
         ensures mark { HasMarked ⟦<SliceSource<'a> as Rereader>⟧.steady ⟦<SliceSource<'a> as Source>⟧.ahead
@@ -155,7 +154,7 @@ impl<'a> Rereader for SliceSource<'a> {
         Ok(())
     }
 
-    // An error exactly where nothing was marked. The bytes ahead then stay.
+    // Fails exactly if no place is marked. After an error, the bytes ahead are unchanged.
     fn back(&mut self) -> Result<(), DeviceFault>
         ensures succeeds { IsOk result ↔ IsTrue (⟦<SliceSource<'a> as Source>⟧.is_marked self.old) }
         ensures back { HasGoneBack ⟦<SliceSource<'a> as Source>⟧.ahead ⟦<SliceSource<'a> as Source>⟧.behind
@@ -174,7 +173,7 @@ impl<'a> Rereader for SliceSource<'a> {
     }
 }
 
-/// No bytes: a read gives none, and never fails.
+/// A source without bytes: a read returns 0 and never fails.
 #[derive(Clone, Copy, Drop)]
 pub struct NoSource;
 
@@ -187,14 +186,14 @@ impl Source for NoSource {
 
     ghost faults = { λ _. 0 };
 
-    // Always 0.
+    // Always returns 0.
     fn read(&mut self, _buf: &mut [u8]) -> Result<usize, DeviceFault> {
         Ok(0)
     }
 }
 
-/// The bytes of any reader of std, 2^63 - 1 at most: a read after that is an error. Its bytes
-/// are known where the reader's are, until the first error. It can't go back.
+/// The bytes of any reader of std, at most 2^63 - 1: a read after that is an error. The bytes are known if
+/// the reader's are, until the first error. This source cannot go back.
 #[derive(Drop)]
 pub struct ReaderSource<R> {
     reader: R,
@@ -203,7 +202,7 @@ pub struct ReaderSource<R> {
 }
 
 impl<R: Read> ReaderSource<R> {
-    /// All that the reader has left is ahead.
+    /// Returns a source with all the bytes ahead that the reader has left.
     pub fn new(reader: R) -> ReaderSource<R>
         ensures ahead { ⟦<ReaderSource<R> as Source>⟧.ahead result ≡ R.remaining reader }
         ensures left { ⟦<ReaderSource<R> as Source>⟧.left result ≡ 2 ^ 63 - 1 }
@@ -242,7 +241,7 @@ impl<R: Read> Source for ReaderSource<R> {
 impl<R: Read> Rereader for ReaderSource<R> {
     ghost steady = { λ _. ⊥ };
 
-    // Always an error. No byte is known after it.
+    // Always fails. Afterwards the bytes ahead are no longer known.
     fn mark(&mut self) -> Result<(), DeviceFault>
         ensures fails { IsErr result }
         ensures refused { Rose (⟦<ReaderSource<R> as Source>⟧.faults self.old)
@@ -253,7 +252,7 @@ impl<R: Read> Rereader for ReaderSource<R> {
         Err(no_way_back)
     }
 
-    // Always an error. No byte is known after it.
+    // Always fails. Afterwards the bytes ahead are no longer known.
     fn back(&mut self) -> Result<(), DeviceFault>
         ensures fails { IsErr result }
         ensures refused { Rose (⟦<ReaderSource<R> as Source>⟧.faults self.old)
@@ -264,10 +263,9 @@ impl<R: Read> Rereader for ReaderSource<R> {
     }
 }
 
-/// The bytes of a file, or of anything else of std that is read and seeks, 2^63 - 1 at most: a read
-/// after that is an error. It marks its place and goes back by seeking. No byte is known, since
-/// none of std's files is, and so it is not known to be steady: a file may change between two
-/// readings.
+/// The bytes of a file, or of anything else of std that can be read and seeked, at most 2^63 - 1: a read
+/// after that is an error. Marks its place and goes back by seeking. The bytes are not known, since those
+/// of std's files are not, so it is not known to be steady either: a file may change between two readings.
 #[derive(Drop)]
 pub struct FileSource<F> {
     reader: ReaderSource<F>,
@@ -275,7 +273,7 @@ pub struct FileSource<F> {
 }
 
 impl<F: Read + Seek> FileSource<F> {
-    /// All from the file's place on is ahead, and nothing is marked.
+    /// Returns a source with all the bytes ahead from the file's current position on, and no place marked.
     pub fn new(file: F) -> FileSource<F>
         ensures ahead { ⟦<FileSource<F> as Source>⟧.ahead result ≡ None }
         ensures unmarked { ⟦<FileSource<F> as Source>⟧.is_marked result ≡ false }
@@ -339,10 +337,10 @@ impl<F: Read + Seek> Rereader for FileSource<F> {
     }
 }
 
-/// Fills `buf` with the next bytes of a source. It fails where the source fails or ends before.
+/// Fills `buf` with the next bytes of a source. Fails if the source fails or ends too early.
 pub fn fill_from<S: Source>(source: &mut S, buf: &mut [u8]) -> Result<(), DeviceFault>
-    // The buffer is filled with the next bytes of a source, which counts no error; or the source
-    // failed or ended.
+    // On success, `buf` holds the next bytes of the source, and the source's error count is unchanged. An
+    // error means that the source failed or ended.
     ensures bytes { OnOk result (Consumes (S.ahead source.old) (S.ahead source.new) buf.new) }
     ensures no_new_fault { OnOk result (S.faults source.new ≡ S.faults source.old) }
     ensures refused { OnErr result (Rose (S.faults source.old) (S.faults source.new)

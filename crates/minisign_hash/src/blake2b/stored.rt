@@ -6,26 +6,26 @@ ghost use Rattle.minisign_hash.specs.Stored.{WasFed};
 
 use crate::blake2b::{BUFFER_BYTES, Blake2b};
 
-/// What a state for a digest of 64 bytes holds, in 344 bytes with the layout of C. Whoever holds it
-/// may have changed it: `restore` rejects what no state holds, and cannot tell other changes.
+/// The contents of a state for a digest of 64 bytes: 344 bytes with C layout. The program that holds it may
+/// have changed it. `restore` rejects values that no state has, and cannot detect other changes.
 #[repr(C)]
 #[derive(Clone, Copy)]
 pub struct StoredBlake2b {
-    /// The hash of the blocks that were taken in.
+    /// The hash of the blocks that were compressed.
     pub h: [u64; 8],
-    /// The number of bytes taken in, modulo 2^128: its lower 64 bits.
+    /// The lower 64 bits of the number of bytes compressed so far, modulo 2^128.
     pub count_low: u64,
-    /// Its upper 64 bits.
+    /// The upper 64 bits of that number.
     pub count_high: u64,
     /// The number of bytes in the buffer.
     pub used: u64,
-    /// The last bytes that were fed, which were not taken in yet.
+    /// The last bytes that were added, which are not yet compressed.
     pub buffer: [u8; BUFFER_BYTES],
 }
 
 #[tactic(auto, unfolding(crate::specs::Fed::has_finalized, crate::specs::Fed::output_length, crate::specs::Fed::IsFed, crate::specs::Fed::Holds, crate::specs::Stored::WasFed))]
 impl StoredBlake2b {
-    /// What the state holds, which is for a digest of 64 bytes.
+    /// Returns the contents of a state, which must be for a digest of 64 bytes.
     pub fn store(state: &Blake2b) -> StoredBlake2b
         requires { output_length state.now ≡ 64 }
         ensures { (m : List ℕ) → IsFed state.now m → WasFed result m }
@@ -39,8 +39,10 @@ impl StoredBlake2b {
         }
     }
 
-    /// A state for a digest of 64 bytes, not finalized, that was fed what this one was; nothing
-    /// where more bytes are told to be in the buffer than it has.
+    /// Returns a state for a digest of 64 bytes, not finalized, with the data that was added to the stored
+    /// one. Returns `None` only if the stored numbers are those of no state.
+    ///
+    /// That is the case if the stored length of the buffer is greater than the buffer.
     pub fn restore(&self) -> Option<Blake2b>
         ensures fed { IfSome result (λ b. (m : List ℕ) → WasFed self.now m → IsFed b m) }
         ensures length { IfSome result (λ b. output_length b ≡ 64) }
