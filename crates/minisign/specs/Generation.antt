@@ -1,5 +1,6 @@
--- Keys that are made: under which password they are sealed, and how a prompt asks for it; keys of a key ID
--- and 64 secret bytes, which are a seed and its public key; pairs of random bytes, and what their sinks take.
+-- Making keys: the password under which they are encrypted, and how a prompt asks for it; keys made of a
+-- key ID and 64 secret bytes, a seed and its public key; pairs made of random bytes, and what their sinks
+-- receive.
 use Rattle.std.specs.Prelude.{◌≡◌, ℕ, List, [], ◌∷◌, ◌++◌, Option, None, Some, Result, Ok, IfOk, MatchResult}
 use Rattle.std.specs.Prelude.{bytes_eq, if◌then◌else◌, ◌⊎◌, length, replicate, Err, codes, ◌<◌, ◌≤◌, ◌+◌}
 use Rattle.std.specs.Prelude.{unwrap_or}
@@ -27,7 +28,8 @@ use Rattle.minisign.specs.declared.making.Sealing.{Sealing}
 
 -- == Passwords ==
 
--- before a new password is asked for, the text that asks again, and the text before the derivation of sealing
+-- The line before a new password is asked for, the prompt that asks again, and the text before the
+-- derivation.
 unfoldable pub purpose_line : List ℕ
 purpose_line = line (codes "Please enter a password to protect the secret key.")
 
@@ -37,22 +39,22 @@ second_question = codes "Password (one more time): "
 unfoldable pub sealing_text : List ℕ
 sealing_text = codes "Deriving a key from the password in order to encrypt the secret key... "
 
--- two passwords that differ
+-- The error of two passwords that differ.
 abbrev pub difference : List ℕ → List ℕ → Option Fault
 difference password again = if bytes_eq password again then None else Some (Named named.PasswordsDiffer)
 
--- a password is chosen: it is said what for, and asked for twice
+-- A password is chosen: the prompt says what it is for and asks for it twice.
 abbrev pub choosing_steps : List ℕ → List ℕ → List Step
 choosing_steps first second = Say purpose_line
     ∷ (asking_steps asking_text first ++ (asking_steps second_question second
     ++ Test (difference (typed_password first) (typed_password second)) ∷ []))
 
--- the derivation is told of
+-- The prompt reports the derivation.
 abbrev pub sealing_steps : List Step
 sealing_steps = Say sealing_text ∷ Allocate ∷ Say done_text ∷ []
 
--- under which password a key is sealed, or why under none: one that is passed in, with nothing asked; or one
--- that is typed twice, before the derivation is told of
+-- The password under which a key is encrypted, or the reason why there is none: a given password, with
+-- nothing asked, or one that is typed twice before the derivation is reported.
 abbrev pub IsSealing : {R W : Type 0} → PromptCall R W → Option (List ℕ) → Result (List ℕ) Fault → Type 0
 IsSealing p (Some given) answer =
     MatchResult answer (λ password. password ≡ given) (λ e. e ≡ Named named.OutOfMemory) × (p.new ≡ p.old)
@@ -62,7 +64,7 @@ IsSealing p None answer = (first : List ℕ) × (second : List ℕ)
 
 -- == Keys of their parts ==
 
--- the secret key of a key ID and 64 secret bytes that is not to be sealed
+-- The unencrypted secret key of a key ID and 64 secret bytes.
 unfoldable pub unsealed_key : List ℕ → List ℕ → SecretKeyRecord
 unsealed_key keynum secret = record {
   algorithm = legacy_algorithm;
@@ -76,7 +78,8 @@ unsealed_key keynum secret = record {
   checksum = blake2b_digest 32 (legacy_algorithm ++ keynum ++ secret);
 }
 
--- the one that is to be sealed with a salt of 32 bytes and these limits, before, and once it is opened again
+-- The key that is to be encrypted with a salt of 32 bytes and these limits, before it is encrypted and
+-- after it is decrypted again.
 unfoldable pub key_to_seal : List ℕ → List ℕ → List ℕ → ℕ → ℕ → SecretKeyRecord
 key_to_seal keynum secret salt operations memory = record (unsealed_key keynum secret) {
   kdf = scrypt_kdf;
@@ -85,33 +88,34 @@ key_to_seal keynum secret salt operations memory = record (unsealed_key keynum s
   memory_limit = to_le_bytes w64 memory;
 }
 
--- the same with the default limits, 1048576 operations and 33554432 bytes
+-- The same with the default limits, 1048576 operations and 33554432 bytes.
 abbrev pub opened_key : List ℕ → List ℕ → List ℕ → SecretKeyRecord
 opened_key keynum secret salt = key_to_seal keynum secret salt 1048576 33554432
 
--- the record that is written: with a password the key sealed under it, and without one the key as it stands
+-- The record that is written: with a password the key encrypted under it, and without one the unencrypted
+-- key.
 abbrev pub made_key : List ℕ → List ℕ → Option (List ℕ) → Sealing → SecretKeyRecord
 made_key keynum secret None s = unsealed_key keynum secret
 made_key keynum secret (Some password) s =
     xored_key (key_to_seal keynum secret s.salt s.operations_limit s.memory_limit) password
 
--- the text gives back the key of these parts: without a password it reads as this key, which was never
--- sealed; under the password it opens, within each bound that p is within, to the key as it was before, and
--- to no other
+-- The text gives back the key of these parts. Without a password it parses to this key, which was never
+-- encrypted. Under the password it decrypts, within each bound that p is within, to the key as it was
+-- before, and to no other.
 abbrev pub GivesParts : List ℕ → Option (List ℕ) → List ℕ → List ℕ → Sealing → Type 0
 GivesParts text None keynum secret s = read_unencrypted_key text ≡ Ok (unsealed_key keynum secret)
 GivesParts text (Some password) keynum secret s =
     OpensTo text password (numbers s.memory_limit s.operations_limit).p
     (key_to_seal keynum secret s.salt s.operations_limit s.memory_limit)
 
--- the text of the secret key that is made of these parts
+-- The text of the secret key that is made of these parts.
 pub record IsMadeText (keynum secret : List ℕ) (password : Option (List ℕ)) (s : Sealing)
     (comment text : List ℕ) : Type 0 where
   pub written : text ≡ secret_key_text (Some comment) (made_key keynum secret password s)
   pub gives : LacksByte 10 comment → GivesParts text password keynum secret s
   pub size : length text ≡ length comment + 233
 
--- why no secret key is made: with a password the limits are rejected, or else an allocation failed
+-- Why no secret key is made: with a password the limits are rejected, or else an allocation failed.
 abbrev pub making_fault : Option (List ℕ) → Sealing → Fault
 making_fault None s = Named named.OutOfMemory
 making_fault (Some password) s =
@@ -119,22 +123,22 @@ making_fault (Some password) s =
 
 -- == Pairs ==
 
--- 32 random bytes of a seed, and then 8 of a key ID
+-- 32 random bytes for a seed, and then 8 for a key ID.
 pub record AreSeedAndKeynum (seed keynum : List ℕ) : Type 0 where
   pub seed_length : length seed ≡ 32
   pub seed_bytes : IsBytes seed
   pub keynum_length : length keynum ≡ 8
   pub keynum_bytes : IsBytes keynum
 
--- the 72 random bytes of a sealed pair were drawn
+-- The 72 random bytes of an encrypted pair were taken from the random source.
 pub record AllDrawn {Z : Type 0} (z : RandomCall Z) : Type 0 where
   pub bytes : List ℕ
   pub count : length bytes ≡ 72
   pub drawn : HasDrawn z bytes
   pub no_new_fault : RandomHasNoNewFault z
 
--- no pair is made under a password that is passed in: it has more than 1024 bytes, with nothing drawn; or it
--- has no more, and the random source failed, or an allocation did once all was drawn
+-- No pair is made under a given password: it has more than 1024 bytes, with no random bytes taken; or it
+-- has no more, and the random source failed, or an allocation failed after all random bytes were taken.
 abbrev pub PasswordPairFails : {Z : Type 0} → List ℕ → RandomCall Z → Fault → Type 0
 PasswordPairFails password z e =
     ((e ≡ Named named.PasswordTooLong) × (1024 < length password) × (z.new ≡ z.old))
@@ -142,7 +146,7 @@ PasswordPairFails password z e =
     × (HasFailed named.RandomSourceFailed z.random.random_faults z.old z.new e
     ⊎ (AllDrawn z × (e ≡ Named named.OutOfMemory))))
 
--- a sealed pair is not made: the random source failed, with nothing asked, or no key was sealed
+-- No encrypted pair is made: the random source failed, with nothing asked, or no key was encrypted.
 abbrev pub SealedPairFails : {Z R W : Type 0} → RandomCall Z → PromptCall R W → Option (List ℕ) → Fault
     → Type 0
 SealedPairFails z p password e =
@@ -150,39 +154,39 @@ SealedPairFails z p password e =
     ⊎ (AllDrawn z × IsSealing p password (Err e))
 
 module _ {P K : Type 0} (pk_sink : SinkCall P) (sk_sink : SinkCall K) where
-  -- both sinks are as they were
+  -- Both sinks are unchanged.
   abbrev pub AreUnwritten : Type 0
   AreUnwritten = (pk_sink.new ≡ pk_sink.old) × (sk_sink.new ≡ sk_sink.old)
 
-  -- the public sink failed at its part, with the secret sink as it was; or it took and flushed that, and the
-  -- secret sink failed at its own
+  -- The public sink failed, with the secret sink unchanged; or the public sink took and flushed its part,
+  -- and the secret sink failed.
   abbrev pub SinksFail : List ℕ → List ℕ → Type 0
   SinksFail public secret = (FailsAtPart pk_sink public × (sk_sink.new ≡ sk_sink.old))
       ⊎ (TakesPart pk_sink public × FailsAtPart sk_sink secret)
 
-  -- the parts of a pair are not written: an allocation failed, with both sinks as they were, or a sink failed
+  -- The parts of a pair are not written: an allocation failed, with both sinks unchanged, or a sink failed.
   abbrev pub PartsFail : List ℕ → List ℕ → Fault → Type 0
   PartsFail public secret e = ((e ≡ Named named.OutOfMemory) × AreUnwritten)
       ⊎ ((e ≡ Named named.WritingFailed) × SinksFail public secret)
 
 module _ (public_of : List ℕ → List ℕ) where
-  -- the public key of a seed under a key ID
+  -- The public key of a seed under a key ID.
   abbrev pub public_key_of : List ℕ → List ℕ → PublicKeyRecord
   public_key_of seed keynum =
       record { algorithm = legacy_algorithm; keynum = keynum; key = public_of seed }
 
-  -- the 64 secret bytes of a seed
+  -- The 64 secret bytes of a seed.
   abbrev pub secret_of : List ℕ → List ℕ
   secret_of seed = seed ++ public_of seed
 
-  -- the secret key is a genuine one, and the public key is that of its seed and key ID
+  -- The secret key is genuine, and the public key is that of its seed and key ID.
   pub record IsGenuinePair (pk : PublicKeyRecord) (sk : SecretKeyRecord) : Type 0 where
     pub seed : List ℕ
     pub genuine : IsGenuine public_of sk seed
     pub key : pk.key ≡ public_of seed
     pub keynum : pk.keynum ≡ sk.keynum
 
-  -- the pair that is not sealed, of random bytes that were drawn
+  -- The unencrypted pair made of bytes of the random source.
   pub record IsUnsealedPair {Z : Type 0} (z : RandomCall Z) (pk : PublicKeyRecord) (sk : SecretKeyRecord)
       : Type 0 where
     pub seed : List ℕ
@@ -192,14 +196,15 @@ module _ (public_of : List ℕ → List ℕ) where
     pub public : pk ≡ public_key_of seed keynum
     pub secret : sk ≡ unsealed_key keynum (secret_of seed)
 
-  -- the sealed pair of a seed under a key ID, with a salt, under a password
+  -- The encrypted pair of a seed under a key ID, with a salt, under a password.
   pub record IsSealedOf (seed keynum salt password : List ℕ) (pk : PublicKeyRecord) (sk : SecretKeyRecord)
       : Type 0 where
     pub public : pk ≡ public_key_of seed keynum
     pub secret : sk ≡ xored_key (opened_key keynum (secret_of seed) salt) password
     pub opened : xored_key sk password ≡ opened_key keynum (secret_of seed) salt
 
-  -- the sealed pair of random bytes that were drawn: as those of the other pair, and then 32 of a salt
+  -- The encrypted pair made of bytes of the random source: a seed and a key ID, and then 32 bytes of a
+  -- salt.
   pub record IsSealedPair {Z : Type 0} (password : List ℕ) (z : RandomCall Z) (pk : PublicKeyRecord)
       (sk : SecretKeyRecord) : Type 0 where
     pub seed : List ℕ
@@ -210,15 +215,15 @@ module _ (public_of : List ℕ → List ℕ) where
     pub drawn : HasDrawn z (seed ++ keynum ++ salt)
     pub sealed : IsSealedOf seed keynum salt password pk sk
 
-  -- the secret key opens under the password, and then belongs to the public key; so does each text that reads
-  -- as it, with a parallelization of 1
+  -- The secret key decrypts under the password, and then belongs to the public key. So does each text that
+  -- parses to it, with a parallelization of 1.
   pub record OpensToPair (password : List ℕ) (pk : PublicKeyRecord) (sk : SecretKeyRecord) : Type 0 where
     pub opens : and_then (sealed_by_scrypt sk) (λ k. open_sealed k password None) ≡ Ok (xored_key sk password)
     pub pair : IsGenuinePair pk (xored_key sk password)
     pub texts : (text : List ℕ) → read_secret_key text ≡ Ok sk
         → OpensTo text password 1 (xored_key sk password)
 
-  -- a sealed pair was made, under the password that was passed in or typed
+  -- An encrypted pair was made, under the password that was given or typed.
   pub record HasSealed {Z R W : Type 0} (z : RandomCall Z) (p : PromptCall R W) (given : Option (List ℕ))
       (pk : PublicKeyRecord) (sk : SecretKeyRecord) : Type 0 where
     pub password : List ℕ
@@ -226,15 +231,16 @@ module _ (public_of : List ℕ → List ℕ) where
     pub pair : IsSealedPair password z pk sk
     pub opens : OpensToPair password pk sk
 
-  -- a pair that is not sealed is not written as raw bytes: it was not made, with both sinks as they were, or
-  -- its parts were not written
+  -- An unencrypted pair is not written as raw bytes: it was not made, with both sinks unchanged, or its
+  -- parts were not written.
   abbrev pub RawPairFails : {Z P K : Type 0} → RandomCall Z → SinkCall P → SinkCall K → Fault → Type 0
   RawPairFails z pk_sink sk_sink e =
       (HasFailed named.RandomSourceFailed z.random.random_faults z.old z.new e × AreUnwritten pk_sink sk_sink)
       ⊎ ((pk : PublicKeyRecord) × (sk : SecretKeyRecord) × IsUnsealedPair z pk sk × RandomHasNoNewFault z
       × PartsFail pk_sink sk_sink (public_key_bytes pk) (secret_key_bytes sk) e)
 
-  -- nor is a sealed pair as texts
+  -- An encrypted pair is not written as texts: it was not made, with both sinks unchanged, or its parts
+  -- were not written.
   abbrev pub SealedTextsFail : {Z R W P K : Type 0} → RandomCall Z → PromptCall R W → Option (List ℕ)
       → SinkCall P → SinkCall K → Option (List ℕ) → Fault → Type 0
   SealedTextsFail z p password pk_sink sk_sink comment e =

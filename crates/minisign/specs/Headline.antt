@@ -1,5 +1,5 @@
--- What a caller of verifying may rely on. docs/TRUSTED.md explains the notation, such as x.now, and that a
--- key or a box of the code stands here for its record or its text.
+-- What a caller of the verifying calls may rely on. docs/TRUSTED.md explains the notation, such as x.now,
+-- and that a key or a box of the code stands here for its record or its text.
 use Rattle.std.specs.Prelude.{◌≡◌, ℕ, Bool, true, List, Some, Ok, IfSome, Result, false}
 use Rattle.minisign_base.specs.Fault.{Fault}
 use Rattle.minisign_base.specs.DeviceCalls.{IsFlushed, IsSteady, RereaderCall, SinkFails, SinkCall}
@@ -12,9 +12,9 @@ use Rattle.minisign.specs.Texts.{IsGivenOrNoMemory, and_then}
 use Rattle.minisign.specs.declared.options.VerifyOptions.{VerifyOptions}
 use Rattle.minisign.specs.Verifying.{ReadsTwice}
 
--- the verdict on two texts and a message: the trusted comment, which was signed with the message; or the
--- first case that fails, of the public key text, of the signature text, and of the conditions that the box
--- vouches for the message under the key; legacy says whether a signature over the message itself will do
+-- The verdict on two texts and a message: the trusted comment, which was signed with the message, or the
+-- first check that fails, first of the public key text, then of the signature text, then of the signature
+-- itself. legacy says if a legacy signature, which signs the message itself, is allowed.
 unfoldable pub verdict : Verifier → List ℕ → List ℕ → List ℕ → Bool → Result (List ℕ) Fault
 verdict accepts pk_text sig_text message legacy =
     and_then (read_public_key pk_text) (λ key.
@@ -22,8 +22,8 @@ verdict accepts pk_text sig_text message legacy =
     and_then (judge accepts key (box_of signed) message legacy) (λ _.
     Ok signed.comments.trusted)))
 
--- the texts vouch for the message: one reads as a public key, the other as a box that vouches for it under
--- the key
+-- The texts are valid for the message: one parses to a public key, the other to a signature box that is
+-- valid for the message under this key.
 pub record TextsVouchFor (accepts : Verifier) (pk_text sig_text message : List ℕ) (legacy : Bool)
     : Type 0 where
   pub key : PublicKeyRecord
@@ -32,7 +32,7 @@ pub record TextsVouchFor (accepts : Verifier) (pk_text sig_text message : List �
   pub box_read : read_signature_box sig_text ≡ Ok box
   pub vouches : Vouches accepts key box message legacy
 
--- the texts vouch for the message, and this is the comment that was signed with it
+-- The texts are valid for the message, and this is the comment that was signed with it.
 pub record TextsVouchWith (accepts : Verifier) (pk_text sig_text message : List ℕ) (legacy : Bool)
     (comment : List ℕ) : Type 0 where
   pub vouched : TextsVouchFor accepts pk_text sig_text message legacy
@@ -40,8 +40,8 @@ pub record TextsVouchWith (accepts : Verifier) (pk_text sig_text message : List 
   pub both : vouched.box.comments ≡ Some comments
   pub trusted : comments.trusted ≡ comment
 
--- over known data, where no device fails, and over a steady source where the data is copied, the answer is
--- what a function gives of the data, or out of memory
+-- If the data is known, no device fails and, when the data is copied, the source is steady, then the answer
+-- is out of memory or what a function gives for the data.
 abbrev pub WhereNothingFails : {R W O V : Type 0} → Bool → RereaderCall R → SinkCall W → SinkCall O
     → Result V Fault → (List ℕ → Result V Fault) → Type 0
 WhereNothingFails output reader status out answer of_data =
@@ -49,14 +49,14 @@ WhereNothingFails output reader status out answer of_data =
     → ¬ (SourceFails reader) → ¬ (SinkFails status) → ¬ (SinkFails out)
     → (output ≡ true → IsSteady reader) → IsGivenOrNoMemory answer (of_data message)
 
--- so is it of the verdict on two texts, with options
+-- This holds for the verdict on two texts, with options.
 abbrev pub IsVerdictWhereNothingFails : {R W O : Type 0} → Verifier → List ℕ → List ℕ → VerifyOptions
     → RereaderCall R → SinkCall W → SinkCall O → Result (List ℕ) Fault → Type 0
 IsVerdictWhereNothingFails accepts pk_text sig_text options reader status out answer =
     WhereNothingFails options.output reader status out answer
     (λ message. verdict accepts pk_text sig_text message options.allow_legacy)
 
--- what the output took and flushed, where this is known, is itself vouched for by the texts
+-- The texts are valid for the bytes that the output took and flushed, as far as these are known.
 pub record CopyIsVouchedFor {O : Type 0} (accepts : Verifier) (pk_text sig_text : List ℕ) (legacy : Bool)
     (out : SinkCall O) : Type 0 where
   pub copy : List ℕ
@@ -64,8 +64,9 @@ pub record CopyIsVouchedFor {O : Type 0} (accepts : Verifier) (pk_text sig_text 
   pub flushed : IsFlushed out
   pub vouched : TextsVouchFor accepts pk_text sig_text copy legacy
 
--- so it is, with this comment; a second reading gave it, with the digest of the first; and it is what was
--- ahead of a steady source, where that is known
+-- The texts are valid, with this comment, for the bytes that the output took and flushed. A second reading
+-- gave these bytes, and they have the digest of the first reading. If the source is steady and its bytes
+-- are known, they are the bytes that were ahead.
 pub record CopyIsVouchedWith {R O : Type 0} (accepts : Verifier) (pk_text sig_text : List ℕ)
     (reader : RereaderCall R)
     (out : SinkCall O) (comment : List ℕ) : Type 0 where

@@ -1,5 +1,5 @@
--- Texts of public and of secret keys: what a text reads as, key or first error; the same as a relation; and
--- the text that is written for a key.
+-- Texts of public and secret keys: what a text parses to, the key or the first check that fails; the same
+-- as a relation; and the text that is written for a key.
 use Rattle.std.specs.Prelude.{◌≡◌, ◌==◌, ℕ, List, [], ◌∷◌, ◌++◌, length, take, drop, nat_le, Result, Ok, Err}
 use Rattle.std.specs.Prelude.{codes, Option, unwrap_or}
 use Rattle.std.specs.Str.{trim}
@@ -15,7 +15,7 @@ use Rattle.minisign_base.specs.declared.faults.NamedFault.TheVariants as named
 
 -- == Public keys ==
 
--- the key in the first 42 bytes that a text is the base64 of
+-- The key in the first 42 bytes of what a text decodes to.
 abbrev pub decoded_key : NamedFault → List ℕ → Result PublicKeyRecord Fault
 decoded_key not_base64 text =
     let bytes = base64_bytes text in
@@ -27,8 +27,8 @@ decoded_key not_base64 text =
       key = take 32 (drop 8 (drop 2 bytes));
     })))
 
--- the first line may be anything, and the second, of 56 bytes, is, trimmed, the base64 of the key; later
--- lines do not matter
+-- The first line may be anything. The second line has 56 bytes and, trimmed, is the base64 of the key.
+-- Later lines are ignored.
 abbrev pub key_in_lines : List (List ℕ) → Result PublicKeyRecord Fault
 key_in_lines [] = Err (Named named.MissingPublicKeyComment)
 key_in_lines (comment ∷ []) = Err (Named named.MissingEncodedPublicKey)
@@ -36,17 +36,17 @@ key_in_lines (comment ∷ encoded ∷ later) =
     require (length encoded == 56) named.PublicKeyLineLength
     (decoded_key named.PublicKeyLineNotBase64 (trim encoded))
 
--- what a text reads as
+-- What a public key text parses to.
 unfoldable pub read_public_key : List ℕ → Result PublicKeyRecord Fault
 read_public_key text = key_in_lines (lines text)
 
--- what the bare base64 of a key reads as: trimmed it has 56 bytes, and it is base64 as it stands
+-- What the bare base64 of a key parses to: trimmed it has 56 bytes, and untrimmed it is base64.
 unfoldable pub read_bare_public_key : List ℕ → Result PublicKeyRecord Fault
 read_bare_public_key text =
     require (length (trim text) == 56) named.BarePublicKeyLength
     (decoded_key named.BarePublicKeyNotBase64 text)
 
--- the text reads as the public key, which its second line of 56 bytes encodes, trimmed
+-- The text parses to the public key, which its second line of 56 bytes, trimmed, encodes.
 pub record PublicKeyText (text : List ℕ) (k : PublicKeyRecord) : Type 0 where
   pub comment : List ℕ
   pub encoded : List ℕ
@@ -55,7 +55,7 @@ pub record PublicKeyText (text : List ℕ) (k : PublicKeyRecord) : Type 0 where
   pub encoded_length : length encoded ≡ 56
   pub key : Encodes ReadsPublicKey (trim encoded) k
 
--- the bare base64 reads as the public key: it encodes the key, and trimmed it has 56 bytes
+-- The bare base64 parses to the public key: it encodes the key, and trimmed it has 56 bytes.
 pub record BarePublicKey (text : List ℕ) (k : PublicKeyRecord) : Type 0 where
   pub trimmed_length : length (trim text) ≡ 56
   pub key : Encodes ReadsPublicKey text k
@@ -63,18 +63,18 @@ pub record BarePublicKey (text : List ℕ) (k : PublicKeyRecord) : Type 0 where
 unfoldable pub public_key_label : List ℕ
 public_key_label = codes "minisign public key: "
 
--- the text of a key with a comment of the caller's: the comment, and the record in base64
+-- The text of a key with a given comment: a line with the comment, and a line with the record in base64.
 abbrev pub commented_public_key_text : List ℕ → PublicKeyRecord → List ℕ
 commented_public_key_text comment k = line (untrusted_comment_label ++ comment)
     ++ line (base64_of (public_key_bytes k))
 
--- the text that is written for a key, whose comment says its key ID
+-- The text that is written for a key, with a comment that names its key ID.
 abbrev pub public_key_text : PublicKeyRecord → List ℕ
 public_key_text k = commented_public_key_text (public_key_label ++ key_id_text k.keynum) k
 
 -- == Secret keys ==
 
--- the fields of a key, one after the other
+-- The key whose fields are these bytes, one after the other.
 unfoldable pub secret_key_of_bytes : List ℕ → SecretKeyRecord
 secret_key_of_bytes bytes = record {
   algorithm = take 2 bytes;
@@ -88,24 +88,24 @@ secret_key_of_bytes bytes = record {
   checksum = take 32 (drop 126 bytes);
 }
 
--- the key in the first 158 bytes
+-- The key in the first 158 bytes.
 abbrev pub read_secret_key_bytes : List ℕ → Result SecretKeyRecord Fault
 read_secret_key_bytes bytes = require (nat_le 158 (length bytes)) named.RecordTooShort
     (Ok (secret_key_of_bytes bytes))
 
--- the first line may be anything, and the second is, as it stands, the base64 of the key; later lines do not
--- matter
+-- The first line may be anything. The second line, untrimmed, is the base64 of the key. Later lines are
+-- ignored.
 abbrev pub secret_key_in_lines : List (List ℕ) → Result SecretKeyRecord Fault
 secret_key_in_lines [] = Err (Named named.MissingSecretKeyComment)
 secret_key_in_lines (comment ∷ []) = Err (Named named.MissingEncodedSecretKey)
 secret_key_in_lines (comment ∷ encoded ∷ later) =
     require (is_base64 encoded) named.SecretKeyNotBase64 (read_secret_key_bytes (base64_bytes encoded))
 
--- what a text reads as
+-- What a secret key text parses to.
 unfoldable pub read_secret_key : List ℕ → Result SecretKeyRecord Fault
 read_secret_key text = secret_key_in_lines (lines text)
 
--- the text reads as the key, which its second line encodes
+-- The text parses to the key, which its second line encodes.
 pub record SecretKeyText (text : List ℕ) (k : SecretKeyRecord) : Type 0 where
   pub comment : List ℕ
   pub encoded : List ℕ
@@ -116,7 +116,7 @@ pub record SecretKeyText (text : List ℕ) (k : SecretKeyRecord) : Type 0 where
 unfoldable pub default_secret_key_comment : List ℕ
 default_secret_key_comment = codes "rsign encrypted secret key"
 
--- the text that is written, with the comment that is given or the default
+-- The text that is written for a key, with the given comment or the default one.
 unfoldable pub secret_key_text : Option (List ℕ) → SecretKeyRecord → List ℕ
 secret_key_text comment k = line (untrusted_comment_label ++ unwrap_or comment default_secret_key_comment)
     ++ line (base64_of (secret_key_bytes k))

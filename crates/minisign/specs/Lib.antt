@@ -9,7 +9,7 @@ pub mod Signing
 pub mod Verifying
 pub mod Headline
 pub mod Generation
--- the definitions of minisign_base, so that a crate that lists this one alone can cite them
+-- The definitions of minisign_base, so that a crate that lists only minisign can cite them.
 pub use Rattle.minisign_base.specs.DeviceCalls
 pub use Rattle.minisign_base.specs.Devices
 pub use Rattle.minisign_base.specs.Fault

@@ -1,4 +1,4 @@
--- What comes of reading to the end, and of copying it; why no text is read from a source or a file.
+-- What reading data to its end and copying it lead to, and why no text is read from a source or a file.
 use Rattle.std.specs.Prelude.{◌≡◌, ◌⊎◌, ⊤, ℕ, List, Option, IfSome, Result, IfErr, OnOk, OnErr, IsErrAnd}
 use Rattle.std.specs.Prelude.{IsUtf8}
 use Rattle.std.specs.Io.KnownBytes.{IsAtEnd}
@@ -10,31 +10,32 @@ use Rattle.minisign_base.specs.declared.faults.NamedFault.{NamedFault}
 use Rattle.minisign_base.specs.declared.faults.NamedFault.TheVariants.{OutOfMemory, ReadingFailed, NotUtf8}
 use Rattle.minisign_base.specs.Members.{SourceOf}
 
--- these were the bytes ahead, or those that were given, where they are known
+-- These were the bytes ahead, or the bytes returned, as far as they are known.
 abbrev pub IsAhead : Option (List ℕ) → List ℕ → Type 0
 IsAhead ahead bytes = IfSome ahead (λ xs. xs ≡ bytes)
 
--- the source was read to its end without an error, and gave this message; its mark stays
+-- The source was read to its end without an error and gave this message. Its mark is unchanged.
 pub record ReadsWhole {R : Type 0} (source : SourceOf R) (old new : R) (message : List ℕ) : Type 0 where
   pub given : IsAhead (source.ahead old) message
   pub end : IsAtEnd (source.ahead new)
   pub mark : source.behind new ≡ source.behind old
   pub no_new_fault : source.faults new ≡ source.faults old
 
--- a device failed, for which there is this error: its count of errors rose
+-- A device failed, which has this error: its error count rose.
 pub record HasFailed {D : Type 0} (error : NamedFault) (faults : D → ℕ) (old new : D) (e : Fault)
     : Type 0 where
   pub fault : e ≡ Named error
   pub rose : Rose (faults old) (faults new)
 
--- an allocation failed, with no new error of the source, or the source failed
+-- An allocation failed, and the source did not; or the source failed.
 abbrev pub IsReadFault : {R : Type 0} → SourceOf R → R → R → Fault → Type 0
 IsReadFault source old new e =
     ((e ≡ Named OutOfMemory) × (source.faults new ≡ source.faults old))
     ⊎ HasFailed ReadingFailed source.faults old new e
 
--- all that is ahead is read, and put to the output, which flushes nothing; or an allocation fails before
--- anything is read, or a device fails, and the output holds a prefix of what was ahead and of what came
+-- All that is ahead is read and written to the output, which flushes nothing; or an allocation fails before
+-- anything is read; or a device fails, and the output holds a prefix of what was ahead and of what was
+-- read.
 pub record Copies {R O : Type 0} (reader : RereaderCall R) (out : SinkCall O) (second : List ℕ)
     (answer : Result ⊤ Fault) : Type 0 where
   pub read : OnOk answer (ReadsWhole reader.source reader.old reader.new second)
@@ -53,16 +54,16 @@ pub record Copies {R O : Type 0} (reader : RereaderCall R) (out : SinkCall O) (s
   pub marked : reader.source.is_marked reader.new ≡ reader.source.is_marked reader.old
   pub unflushed : IsUnflushed out
 
--- why a source gave no text: it was not read to its end, or what it gave is not UTF-8
+-- Why a source gave no text: it was not read to its end, or what it gave is not UTF-8.
 abbrev pub IsTextFault : {R : Type 0} → SourceOf R → R → R → Fault → Type 0
 IsTextFault source old new e = IsReadFault source old new e
     ⊎ ((bytes : List ℕ) × ReadsWhole source old new bytes × ¬ (IsUtf8 bytes) × (e ≡ Named NotUtf8))
 
--- the errors of a file that gives no text; when each comes is not said
+-- The errors of a file that gives no text. Nothing says when each one occurs.
 abbrev pub IsTextFileFault : Fault → Type 0
 IsTextFileFault e = (e ≡ Named OutOfMemory) ⊎ (e ≡ Named ReadingFailed) ⊎ (e ≡ Named NotUtf8)
 
--- what is answered where a file is read: what some text reads as, or an error of the file; that it is the
--- text of this file is not said
+-- The result of reading a file: what some text parses to, or an error of the file. Nothing says that it is
+-- the text of this file.
 abbrev pub IsReadFromFile : {V : Type 0} → (List ℕ → Result V Fault) → Result V Fault → Type 0
 IsReadFromFile read r = ((text : List ℕ) × (r ≡ read text)) ⊎ IsErrAnd r IsTextFileFault

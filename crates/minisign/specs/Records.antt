@@ -1,51 +1,51 @@
--- The records that keys and signatures are stored as: fields of fixed lengths, joined in their order.
+-- The records that keys and signatures are stored as: fields of fixed lengths, one after the other.
 use Rattle.std.specs.Prelude.{◌≡◌, ℕ, Bool, List, ◌++◌, length, drop, Option, ◌⊎◌, codes, bytes_eq, false}
 use Rattle.std.specs.Prelude.{flat_map}
 use Rattle.std.specs.Fmt.{digits}
 
--- a public key: 2 bytes of algorithm, 8 of key ID, 32 of key
+-- A public key: 2 bytes of algorithm, 8 of key ID, 32 of key.
 pub record PublicKeyRecord : Type 0 where
   pub algorithm : List ℕ
   pub keynum : List ℕ
   pub key : List ℕ
 
--- the 42 bytes of a public key
+-- The 42 bytes of a public key.
 abbrev pub public_key_bytes : PublicKeyRecord → List ℕ
 public_key_bytes k = k.algorithm ++ k.keynum ++ k.key
 
--- the bytes begin with the record of the key; what follows it does not matter
+-- The bytes begin with the record of the key. The bytes after it are ignored.
 pub record ReadsPublicKey (bytes : List ℕ) (k : PublicKeyRecord) : Type 0 where
   pub algorithm_length : length k.algorithm ≡ 2
   pub keynum_length : length k.keynum ≡ 8
   pub key_length : length k.key ≡ 32
   pub front : (rest : List ℕ) × (bytes ≡ public_key_bytes k ++ rest)
 
--- a signature: 2 bytes of algorithm, 8 of key ID, 64 of signature
+-- A signature: 2 bytes of algorithm, 8 of key ID, 64 of signature.
 pub record SignatureRecord : Type 0 where
   pub algorithm : List ℕ
   pub keynum : List ℕ
   pub signature : List ℕ
 
--- the 74 bytes of a signature
+-- The 74 bytes of a signature.
 abbrev pub signature_bytes : SignatureRecord → List ℕ
 signature_bytes s = s.algorithm ++ s.keynum ++ s.signature
 
--- the bytes begin with the record of the signature
+-- The bytes begin with the record of the signature.
 pub record ReadsSignature (bytes : List ℕ) (s : SignatureRecord) : Type 0 where
   pub algorithm_length : length s.algorithm ≡ 2
   pub keynum_length : length s.keynum ≡ 8
   pub signature_length : length s.signature ≡ 64
   pub front : (rest : List ℕ) × (bytes ≡ signature_bytes s ++ rest)
 
--- the algorithm of a signature over the data itself
+-- The algorithm of a legacy signature, which signs the data itself.
 abbrev pub legacy_algorithm : List ℕ
 legacy_algorithm = codes "Ed"
 
--- the algorithm of a signature over the digest of the data
+-- The algorithm of a prehashed signature, which signs the digest of the data.
 abbrev pub prehashed_algorithm : List ℕ
 prehashed_algorithm = codes "ED"
 
--- a signature over the digest of the data
+-- A prehashed signature.
 abbrev pub prehashed_signature : List ℕ → List ℕ → SignatureRecord
 prehashed_signature keynum signature =
     record { algorithm = prehashed_algorithm; keynum = keynum; signature = signature }
@@ -53,24 +53,24 @@ prehashed_signature keynum signature =
 abbrev pub IsKnownAlgorithm : List ℕ → Type 0
 IsKnownAlgorithm a = (a ≡ legacy_algorithm) ⊎ (a ≡ prehashed_algorithm)
 
--- the signature is over the digest of the data
+-- The signature is prehashed: it signs the digest of the data.
 abbrev pub is_prehashed : SignatureRecord → Bool
 is_prehashed s = bytes_eq s.algorithm prehashed_algorithm
 
--- a comment that nothing vouches for, a comment that is signed, and the signature of the box's
--- signature and that comment, of any length
+-- An untrusted comment, which is not signed; a trusted comment, which is; and the comment signature, which
+-- signs the box's signature followed by the trusted comment, of any length.
 pub record CommentsRecord : Type 0 where
   pub untrusted : List ℕ
   pub trusted : List ℕ
   pub signature : List ℕ
 
--- what a signature box holds: a signature, and the comments unless it was made from a bare signature
+-- The contents of a signature box: a signature, and the comments unless it was made from a bare signature.
 pub record SignatureBoxRecord : Type 0 where
   pub signature : SignatureRecord
   pub comments : Option CommentsRecord
 
--- a secret key: 2 bytes of algorithm, 2 of key derivation, 2 of checksum algorithm, 32 of salt, 8 of
--- operations limit, 8 of memory limit (both little endian), 8 of key ID, 64 of secret, 32 of checksum
+-- A secret key: 2 bytes of algorithm, 2 of key derivation, 2 of checksum algorithm, 32 of salt, 8 of
+-- operations limit, 8 of memory limit (both little endian), 8 of key ID, 64 of secret, 32 of checksum.
 pub record SecretKeyRecord : Type 0 where
   pub algorithm : List ℕ
   pub kdf : List ℕ
@@ -82,13 +82,13 @@ pub record SecretKeyRecord : Type 0 where
   pub secret : List ℕ
   pub checksum : List ℕ
 
--- the 158 bytes of a secret key; the last three fields, 104 bytes, are those that are sealed
+-- The 158 bytes of a secret key. The last three fields, 104 bytes, are those that are encrypted.
 abbrev pub secret_key_bytes : SecretKeyRecord → List ℕ
 secret_key_bytes k = (k.algorithm ++ k.kdf ++ k.checksum_algorithm)
     ++ (k.salt ++ k.operations_limit ++ k.memory_limit)
     ++ (k.keynum ++ k.secret ++ k.checksum)
 
--- the bytes begin with the record of the key
+-- The bytes begin with the record of the key.
 pub record ReadsSecretKey (bytes : List ℕ) (k : SecretKeyRecord) : Type 0 where
   pub algorithm_length : length k.algorithm ≡ 2
   pub kdf_length : length k.kdf ≡ 2
@@ -101,10 +101,10 @@ pub record ReadsSecretKey (bytes : List ℕ) (k : SecretKeyRecord) : Type 0 wher
   pub checksum_length : length k.checksum ≡ 32
   pub front : (rest : List ℕ) × (bytes ≡ secret_key_bytes k ++ rest)
 
--- the public key of a secret key: its algorithm, its key ID and the last 32 bytes of its secret
+-- The public key of a secret key: its algorithm, its key ID and the last 32 bytes of its secret.
 abbrev pub own_public_key : SecretKeyRecord → PublicKeyRecord
 own_public_key k = record { algorithm = k.algorithm; keynum = k.keynum; key = drop 32 k.secret }
 
--- how secret bytes are shown: each in lower hexadecimal with no leading zeros
+-- How secret bytes are shown: each in lowercase hexadecimal without leading zeros.
 abbrev pub secret_text : List ℕ → List ℕ
 secret_text bytes = flat_map (digits 16 false) bytes

@@ -1,6 +1,6 @@
--- The checksum of a secret key, whether the key is still sealed, and what sealing and opening do: the last
--- 104 bytes of its record are xored with a stream of scrypt (RFC 7914, section 6). And how opening its text
--- ends.
+-- The checksum of a secret key, whether a key is still encrypted, and encryption and decryption: the last
+-- 104 bytes of the record are xored with a stream of scrypt (RFC 7914, section 6). Also how decrypting the
+-- key of a text ends.
 use Rattle.std.specs.Prelude.{ℕ, ◌*◌, ◌^◌, Bool, true, not, ◌&&◌, nat_lt, List, [], ◌∷◌, ◌++◌, take, drop}
 use Rattle.std.specs.Prelude.{Option, None, Result, Ok, bit_xor, bytes_eq, codes, if◌then◌else◌, ◌≡◌, ◌⊎◌}
 use Rattle.std.specs.Prelude.{Some, Err, false, IsOk}
@@ -22,94 +22,96 @@ use Rattle.minisign_base.specs.Prompts.{Allocate, ConversationEnds, Say, Step, T
 use Rattle.minisign_base.specs.Passwords.{password_of, typed_password}
 use Rattle.minisign.specs.KeyTexts.{read_secret_key, SecretKeyText}
 
--- the key derivation of a key that was never sealed, and that of one that was: scrypt
+-- The key derivation of a key that was never encrypted, and that of an encrypted key: scrypt.
 abbrev pub no_kdf : List ℕ
 no_kdf = 0 ∷ 0 ∷ []
 
 abbrev pub scrypt_kdf : List ℕ
 scrypt_kdf = codes "Sc"
 
--- the checksum that the other fields call for: Blake2b with 32 bytes
+-- The checksum of the other fields: Blake2b with 32 bytes.
 abbrev pub checksum_of : SecretKeyRecord → List ℕ
 checksum_of k = blake2b_digest 32 (k.algorithm ++ k.keynum ++ k.secret)
 
--- the key names a key derivation: it does not open without a password
+-- The key names a key derivation, so it needs a password.
 abbrev pub wants_password : SecretKeyRecord → Bool
 wants_password k = not (bytes_eq k.kdf no_kdf)
 
--- and its checksum does not match: it is taken as sealed
+-- The key names a key derivation and its checksum does not match, so it counts as encrypted.
 abbrev pub is_encrypted : SecretKeyRecord → Bool
 is_encrypted k = wants_password k && not (bytes_eq k.checksum (checksum_of k))
 
--- the key with the 104 bytes that are sealed, of key ID, secret and checksum, xored with a stream of as many
+-- The key with its 104 encrypted bytes (key ID, secret and checksum) xored with a stream of the same
+-- length.
 unfoldable pub key_xor : SecretKeyRecord → List ℕ → SecretKeyRecord
 key_xor k stream =
     let part = zip2 bit_xor (k.keynum ++ k.secret ++ k.checksum) stream in
     record k { keynum = take 8 part; secret = take 64 (drop 8 part); checksum = take 32 (drop 72 part) }
 
--- the parameters that the key's limits lead to, where sealing and opening allow them
+-- The scrypt parameters that the key's limits give, if encryption and decryption allow them.
 unfoldable pub key_limits : SecretKeyRecord → Result Numbers Fault
 key_limits k = sealing_limits (from_le_bytes w64 k.memory_limit) (from_le_bytes w64 k.operations_limit)
 
--- the stream: 104 bytes that scrypt derives from the password and the key's salt
+-- The stream: 104 bytes that scrypt derives from the password and the key's salt.
 unfoldable pub stream_of : SecretKeyRecord → List ℕ → List ℕ
 stream_of k password =
     let v = numbers (from_le_bytes w64 k.memory_limit) (from_le_bytes w64 k.operations_limit) in
     scrypt password k.salt (2 ^ v.n_log2) v.r v.p 104
 
--- the key xored with the stream: what opening makes of a sealed key, and sealing of an opened one
+-- The key xored with the stream. This decrypts an encrypted key and encrypts a decrypted one.
 abbrev pub xored_key : SecretKeyRecord → List ℕ → SecretKeyRecord
 xored_key k password = key_xor k (stream_of k password)
 
--- a parallelization is within a bound, where there is one
+-- A parallelization is within the bound, if there is one.
 abbrev pub is_within : Option ℕ → ℕ → Bool
 is_within bound p = option_map_or (λ max_p. not (nat_lt max_p p)) bound true
 
--- the parameters, where the limits are allowed and the parallelization is within the bound
+-- The scrypt parameters, if the limits are allowed and the parallelization is within the bound.
 abbrev pub allowed_work : SecretKeyRecord → Option ℕ → Result Numbers Fault
 allowed_work k bound = and_then (key_limits k) (λ v. require (is_within bound v.p) named.WorkTooHigh (Ok v))
 
--- the same, where the rows that are made, N for each part, are at most so many
+-- The scrypt parameters, if the limits are allowed and at most so many rows are computed, N for each part.
 abbrev pub allowed_rows : SecretKeyRecord → ℕ → Result Numbers Fault
 allowed_rows k most =
     and_then (key_limits k) (λ v. require (not (nat_lt most (2 ^ v.n_log2 * v.p))) named.WorkTooHigh (Ok v))
 
--- an opened key, where its checksum is restored
+-- A decrypted key, if its checksum matches.
 abbrev pub restored_key : SecretKeyRecord → Result SecretKeyRecord Fault
 restored_key k = require (bytes_eq k.checksum (checksum_of k)) named.WrongPassword (Ok k)
 
--- the key, where it is sealed by scrypt
+-- The key, if it is encrypted with scrypt.
 abbrev pub sealed_by_scrypt : SecretKeyRecord → Result SecretKeyRecord Fault
 sealed_by_scrypt k =
     require (wants_password k) named.KeyNotEncrypted
     (require (bytes_eq k.kdf scrypt_kdf) named.UnsupportedEncryptionAlgorithm (Ok k))
 
--- such a key opened under a password, within the bound
+-- A key that is encrypted with scrypt, decrypted under a password, within the bound.
 abbrev pub open_sealed : SecretKeyRecord → List ℕ → Option ℕ → Result SecretKeyRecord Fault
 open_sealed k password bound = and_then (allowed_work k bound) (λ _. restored_key (xored_key k password))
 
--- the key, where it was never sealed and its checksum matches
+-- The key, if it was never encrypted and its checksum matches.
 abbrev pub unencrypted_key : SecretKeyRecord → Result SecretKeyRecord Fault
 unencrypted_key k =
     require (bytes_eq k.kdf no_kdf) named.KeyMightBeEncrypted
     (require (bytes_eq k.checksum (checksum_of k)) named.CorruptedKey (Ok k))
 
--- what opening takes, by the parameters; zeros where the key wants no password, or its limits are rejected
+-- What decrypting the key takes, by its parameters: zeros if the key needs no password or its limits are
+-- rejected.
 abbrev pub taken_by_opening : (Numbers → ℕ × ℕ) → SecretKeyRecord → ℕ × ℕ
 taken_by_opening of k =
     option_map_or of (if wants_password k then result_ok (key_limits k) else None) (0, 0)
 
--- so its work: scrypt's N, as its logarithm to base 2, and its p
+-- The work of decrypting the key: scrypt's N, as its logarithm to base 2, and its p.
 abbrev pub opening_work : SecretKeyRecord → ℕ × ℕ
 opening_work k = taken_by_opening (λ v. (v.n_log2, v.p)) k
 
--- and its memory, in place, where every k-th row is kept: words of 32 bits, and bytes
+-- The memory for decrypting the key in place with every k-th row kept: words of 32 bits, and bytes.
 abbrev pub opening_memory : SecretKeyRecord → ℕ → ℕ × ℕ
 opening_memory key k = taken_by_opening (λ v. (wanted_words v k, wanted_bytes v)) key
 
 -- == Opening the text of a key ==
 
--- the text that asks, the text before the derivation, and the line after it
+-- The prompt, the text before the derivation, and the line after it.
 unfoldable pub asking_text : List ℕ
 asking_text = codes "Password: "
 
@@ -119,36 +121,36 @@ deriving_text = codes "Deriving a key from the password and decrypting the secre
 unfoldable pub done_text : List ℕ
 done_text = codes "done" ++ 10 ∷ []
 
--- the key that is sealed by scrypt, and that a text reads as
+-- The key that a text parses to, if it is encrypted with scrypt.
 abbrev pub read_sealed_key : List ℕ → Result SecretKeyRecord Fault
 read_sealed_key text = and_then (read_secret_key text) sealed_by_scrypt
 
--- what a text opens to under a password, within a bound on the parallelization, where there is one
+-- What a text decrypts to under a password, within a bound on the parallelization, if there is one.
 unfoldable pub open_key : List ℕ → List ℕ → Option ℕ → Result SecretKeyRecord Fault
 open_key text password bound = and_then (read_sealed_key text) (λ k. open_sealed k password bound)
 
--- the key that was never sealed, and that a text reads as
+-- The key that a text parses to, if it was never encrypted.
 unfoldable pub read_unencrypted_key : List ℕ → Result SecretKeyRecord Fault
 read_unencrypted_key text = and_then (read_secret_key text) unencrypted_key
 
--- the text reads as a key that wants a password
+-- The text parses to a key that needs a password.
 unfoldable pub is_sealed_text : List ℕ → Bool
 is_sealed_text text = option_map_or wants_password (result_ok (read_secret_key text)) false
 
--- what a text gives to who has its password: a key that was never sealed as it stands, and any other one
--- opened
+-- What a text gives under a password: a key that was never encrypted, unchanged, or any other key,
+-- decrypted.
 abbrev pub key_with_password : List ℕ → List ℕ → Result SecretKeyRecord Fault
 key_with_password text password = if is_sealed_text text then open_key text password None else
     read_unencrypted_key text
 
--- the text opens under the password to this key, within each bound that its parallelization is within, and
--- never to another one
+-- The text decrypts under the password to this key, within each bound that its parallelization is within,
+-- and never to a different key.
 abbrev pub OpensTo : List ℕ → List ℕ → ℕ → SecretKeyRecord → Type 0
 OpensTo text password p key =
     (bound : Option ℕ) → open_key text password bound ≡ require (is_within bound p) named.WorkTooHigh (Ok key)
 
--- the text reads as a sealed key, whose limits are allowed, within the bound; the stream under the password
--- restores its checksum; and this is the key opened
+-- The text parses to an encrypted key whose limits are allowed and within the bound, the stream under the
+-- password restores its checksum, and this is the decrypted key.
 pub record IsOpened (text password : List ℕ) (bound : Option ℕ) (opened : SecretKeyRecord) : Type 0 where
   pub sealed : SecretKeyRecord
   pub read : SecretKeyText text sealed
@@ -157,34 +159,34 @@ pub record IsOpened (text password : List ℕ) (bound : Option ℕ) (opened : Se
   pub key : opened ≡ xored_key sealed password
   pub restored : opened.checksum ≡ checksum_of opened
 
--- the text reads as this key, which was never sealed and whose checksum matches
+-- The text parses to this key, which was never encrypted and whose checksum matches.
 pub record IsUnencryptedText (text : List ℕ) (k : SecretKeyRecord) : Type 0 where
   pub read : SecretKeyText text k
   pub kdf : k.kdf ≡ no_kdf
   pub checksum : k.checksum ≡ checksum_of k
 
--- the derivation is told of, which the limits and the bound are to allow; it is told to be done, and the
--- checksum is to be restored
+-- The prompt reports the derivation, which the limits and the bound must allow; then it reports that the
+-- derivation is done, and the checksum must match.
 abbrev pub telling_steps : SecretKeyRecord → List ℕ → Option ℕ → List Step
 telling_steps k password bound = Say deriving_text ∷ Test (result_err (allowed_work k bound)) ∷ Allocate
     ∷ Say done_text ∷ Test (result_err (restored_key (xored_key k password))) ∷ []
 
--- a sealed key is opened with the password that is typed in these bytes
+-- An encrypted key is decrypted with the password that is typed in these bytes.
 abbrev pub opening_steps : SecretKeyRecord → Option ℕ → List ℕ → List Step
 opening_steps k bound bytes = asking_steps asking_text bytes ++ telling_steps k (typed_password bytes) bound
 
--- the answer is what the text gives; or out of memory, where its key is sealed by scrypt, with limits that
--- are allowed and within the bound
+-- The answer is what the text gives; or out of memory, if its key is encrypted with scrypt, with limits
+-- that are allowed and within the bound.
 abbrev pub IsOpenedOrNoMemory : List ℕ → Option ℕ → Result SecretKeyRecord Fault
     → Result SecretKeyRecord Fault → Type 0
 IsOpenedOrNoMemory text bound answer given = (answer ≡ given)
     ⊎ ((answer ≡ Err (Named named.OutOfMemory))
     × IsOk (and_then (read_sealed_key text) (λ k. allowed_work k bound)))
 
--- how opening the key of a text ends, within a bound: with a password that is passed in, nothing is asked,
--- and the answer is what it opens to, or out of memory. Otherwise one is asked for where the text reads as a
--- sealed key: it opens with what was typed, or the error is that at which the conversation of opening
--- stopped; a text that reads as none is rejected with nothing asked
+-- How decrypting the key of a text ends, within a bound. With a given password nothing is asked, and the
+-- answer is what the text decrypts to, or out of memory. Without one, a password is asked for if the text
+-- parses to an encrypted key: the key is decrypted with what was typed, or the error is the one at which
+-- the conversation stopped. A text that parses to no such key is rejected with nothing asked.
 abbrev pub IsOpening : {R W : Type 0} → PromptCall R W → Option (List ℕ) → List ℕ → Option ℕ
     → Result SecretKeyRecord Fault → Type 0
 IsOpening p (Some password) text bound answer = (p.new ≡ p.old)

@@ -1,5 +1,6 @@
--- Texts of signatures: what a text reads as, signature and comments or first error; the same as a relation;
--- the text that is written for a box; and where in a text the trusted comment stands.
+-- Texts of signatures: what a text parses to, the signature with its comments or the first check that
+-- fails; the same as a relation; the text that is written for a box; and the place of the trusted comment
+-- in a text.
 use Rattle.std.specs.Prelude.{◌≡◌, ◌≢◌, ◌||◌, ◌-◌, ℕ, List, [], ◌∷◌, ◌++◌, length, take, drop, slice_index}
 use Rattle.std.specs.Prelude.{nat_eq, nat_le, slice_index_or, bytes_eq, Some, Result, Ok, Err, codes}
 use Rattle.std.specs.Prelude.{if◌then◌else◌, Option, None, option_map, ◌≤◌, ◌+◌, ◌==◌}
@@ -19,18 +20,18 @@ trusted_comment_label = codes "trusted comment: "
 
 -- == Reading ==
 
--- what a signature text holds: a signature and its comments
+-- The contents of a signature text: a signature and its comments.
 pub record SignatureTextRecord : Type 0 where
   pub signature : SignatureRecord
   pub comments : CommentsRecord
 
--- a box of it
+-- The box with these contents.
 abbrev pub box_of : SignatureTextRecord → SignatureBoxRecord
 box_of t = record { signature = t.signature; comments = Some t.comments }
 
--- there are four lines; later ones do not matter; the first and the third line are a label and a comment, the
--- trusted one trimmed; the second and the fourth, trimmed, are base64, the second of bytes that begin with
--- the 74 of the signature, of an algorithm that is known
+-- A signature text has four lines, and later lines are ignored. The first and the third line are a label
+-- and a comment; the trusted comment is trimmed. The second and the fourth line, trimmed, are base64. The
+-- bytes of the second begin with the 74 of a signature with a known algorithm.
 abbrev pub signature_in_lines : List (List ℕ) → Result SignatureTextRecord Fault
 signature_in_lines [] = Err (Named named.MissingUntrustedComment)
 signature_in_lines (first ∷ []) = Err (Named named.MissingSignature)
@@ -59,25 +60,25 @@ signature_in_lines (first ∷ second ∷ third ∷ fourth ∷ later) =
       };
     })))))))
 
--- what a text reads as
+-- What a signature text parses to.
 unfoldable pub read_signature : List ℕ → Result SignatureTextRecord Fault
 read_signature text = signature_in_lines (lines text)
 
--- the box that it reads as
+-- The signature box that a text parses to.
 abbrev pub read_signature_box : List ℕ → Result SignatureBoxRecord Fault
 read_signature_box text = map_ok box_of (read_signature text)
 
 -- == The grammar as a relation ==
 
--- a signature, an untrusted comment, a trusted one, and the signature of the comment
+-- A signature, an untrusted comment, a trusted comment, and the comment signature.
 abbrev pub with_comments : SignatureRecord → List ℕ → List ℕ → List ℕ → SignatureTextRecord
 with_comments s untrusted trusted signature = record {
   signature = s;
   comments = record { untrusted = untrusted; trusted = trusted; signature = signature };
 }
 
--- the text reads as the signature with its comments: two lines of a label and a comment, with base64 behind
--- each; all but the first are trimmed
+-- The text parses to the signature with its comments: two lines of a label and a comment, each followed by
+-- a line of base64. All lines but the first are trimmed.
 pub record SignatureText (text : List ℕ) (t : SignatureTextRecord) : Type 0 where
   pub first : List ℕ
   pub second : List ℕ
@@ -94,41 +95,43 @@ pub record SignatureText (text : List ℕ) (t : SignatureTextRecord) : Type 0 wh
 
 -- == Writing ==
 
--- the text that is written for a signature with comments
+-- The text that is written for a signature with comments.
 abbrev pub signature_text : SignatureRecord → CommentsRecord → List ℕ
 signature_text s c = line (untrusted_comment_label ++ c.untrusted) ++ (line (base64_of (signature_bytes s))
     ++ (line (trusted_comment_label ++ c.trusted) ++ line (base64_of c.signature)))
 
--- comments that each stand in a line of their own, and a trusted one that is trimmed
+-- Each comment fits in one line, and the trusted comment is trimmed.
 pub record AreOneLine (untrusted trusted : List ℕ) : Type 0 where
   pub untrusted_one_line : LacksByte 10 untrusted
   pub trusted_one_line : LacksByte 10 trusted
   pub trusted_trimmed : trim trusted ≡ trusted
 
--- how a box with such comments is read back: one carriage return at the end of the untrusted comment goes
+-- How a box with such comments is read back: one carriage return at the end of the untrusted comment is
+-- dropped.
 abbrev pub comments_read_back : CommentsRecord → CommentsRecord
 comments_read_back c = record c { untrusted = strip_carriage_return c.untrusted }
 
 abbrev pub box_read_back : SignatureBoxRecord → SignatureBoxRecord
 box_read_back x = record x { comments = option_map comments_read_back x.comments }
 
--- comments that are read back as they were written: besides, the untrusted one ends in no carriage return
+-- The comments are read back as they were written: in addition, the untrusted comment does not end in a
+-- carriage return.
 pub record AreReadBack (untrusted trusted : List ℕ) : Type 0 where
   pub one_line : AreOneLine untrusted trusted
   pub untrusted_end : slice_index untrusted (length untrusted - 1) ≢ 13
 
--- the first 64 bytes, where there are so many
+-- The first 64 bytes, if there are that many.
 abbrev pub first_64 : List ℕ → Option (List ℕ)
 first_64 bytes = if nat_le 64 (length bytes) then Some (take 64 bytes) else None
 
--- a signature, its comments, and the first 64 bytes of the comment signature, where it has so many
+-- A signature, its comments, and the first 64 bytes of the comment signature, if it has that many.
 pub record SignatureViewRecord : Type 0 where
   pub signature : SignatureRecord
   pub untrusted : List ℕ
   pub trusted : List ℕ
   pub comment_signature : Option (List ℕ)
 
--- the view of what a text reads as
+-- The view of the contents of a text.
 abbrev pub view_of : SignatureTextRecord → SignatureViewRecord
 view_of t = record {
   signature = t.signature;
@@ -139,21 +142,21 @@ view_of t = record {
 
 -- == The place of the trusted comment ==
 
--- what stands behind the first line feed of a text
+-- The text after its first line feed.
 abbrev pub behind_line : List ℕ → List ℕ
 behind_line text = after_first (λ b. b == 10) text
 
--- how many bytes of a line stand before a trusted comment: the label, and white space
+-- The number of bytes before the trusted comment in its line: the label and white space.
 abbrev pub comment_start : List ℕ → ℕ
 comment_start line = length line - length (trim_start (drop (length trusted_comment_label) line))
 
--- how many bytes of a text stand before the trusted comment: two lines, and so many of the third
+-- The number of bytes before the trusted comment in a text: two lines and the beginning of the third.
 unfoldable pub comment_offset : List ℕ → ℕ
 comment_offset text =
     let third = behind_line (behind_line text) in
     length text - length third + comment_start (slice_index_or (lines third) 0 [])
 
--- the bytes stand in the text, behind so many others
+-- The bytes are in the text, at this offset.
 pub record StandsAt (bytes text : List ℕ) (offset : ℕ) : Type 0 where
   pub within : offset + length bytes ≤ length text
   pub same : take (length bytes) (drop offset text) ≡ bytes

@@ -1,4 +1,4 @@
--- The box that signing makes, and its text; and signing with the text of a secret key.
+-- The signature box that signing makes, and its text; and signing with the text of a secret key.
 use Rattle.std.specs.Prelude.{◌≡◌, ℕ, true, false, List, ◌++◌, length, Option, Some, ◌⊎◌, IsSomeAnd, codes}
 use Rattle.std.specs.Prelude.{option_copied, unwrap_or, decimal, None, Result, Ok, Err}
 use Rattle.std.specs.Io.KnownBytes.{Consumes}
@@ -18,34 +18,34 @@ use Rattle.minisign.specs.SignatureText.{AreOneLine, AreReadBack, box_of, read_s
 use Rattle.minisign.specs.SignatureText.{signature_text}
 use Rattle.minisign_base.specs.declared.faults.NamedFault.TheVariants as named
 
--- what a scheme signs: a message, with a secret key of 64 bytes and 64 random bytes or none
+-- What a scheme signs: a message, with a secret key of 64 bytes and 64 random bytes or none.
 abbrev pub Signer : Type 0
 Signer = List ℕ → List ℕ → Option (List ℕ) → List ℕ
 
 unfoldable pub default_untrusted_comment : List ℕ
 default_untrusted_comment = codes "signature from rsign secret key"
 
--- the trusted comment where none is given: the moment in decimal
+-- The default trusted comment: the time in decimal.
 unfoldable pub default_trusted_comment : ℕ → List ℕ
 default_trusted_comment moment = codes "timestamp:" ++ decimal moment
 
--- the two comments of a box
+-- The two comments of a box.
 pub record ChosenComments : Type 0 where
   pub trusted : List ℕ
   pub untrusted : List ℕ
 
--- these two
+-- The record of these two comments.
 abbrev pub comments_of : List ℕ → List ℕ → ChosenComments
 comments_of trusted untrusted = record { trusted = trusted; untrusted = untrusted }
 
--- the comments that a caller hands over, or else the defaults: the moment as the trusted one
+-- The comments that the caller gives, or else the defaults.
 abbrev pub given_comments : Option (Bor (List ℕ)) → Option (Bor (List ℕ)) → ℕ → ChosenComments
 given_comments trusted untrusted moment = comments_of
     (unwrap_or (option_copied trusted) (default_trusted_comment moment))
     (unwrap_or (option_copied untrusted) default_untrusted_comment)
 
--- the box that signing makes of the message: a signature of its digest with the first random bytes, and one
--- of that signature and the trusted comment with the second
+-- The box that signing makes for the message: a signature of its digest with the first random bytes, and a
+-- signature of that signature followed by the trusted comment with the second.
 abbrev pub signed_box : Signer → SecretKeyRecord → List ℕ → ChosenComments → List ℕ → List ℕ
     → SignatureBoxRecord
 signed_box sign sk message chosen z1 z2 =
@@ -54,15 +54,15 @@ signed_box sign sk message chosen z1 z2 =
     (sign (signature ++ chosen.trusted) sk.secret (Some z2)))
 
 module _ {Z : Type 0} (z : RandomCall Z) where
-  -- these bytes were drawn, where they are known
+  -- These bytes were taken from the random source, as far as its bytes are known.
   abbrev pub HasDrawn : List ℕ → Type 0
   HasDrawn bytes = Consumes (z.random.random_ahead z.old) (z.random.random_ahead z.new) bytes
 
-  -- the random source did not fail
+  -- The random source did not fail.
   abbrev pub RandomHasNoNewFault : Type 0
   RandomHasNoNewFault = z.random.random_faults z.new ≡ z.random.random_faults z.old
 
--- the box is the one that signing makes with random bytes that were drawn, 64 for each signature
+-- The box is the one that signing makes with bytes of the random source, 64 for each signature.
 pub record IsSigned {Z : Type 0} (sign : Signer) (sk : SecretKeyRecord) (message : List ℕ)
     (chosen : ChosenComments)
     (z : RandomCall Z) (x : SignatureBoxRecord) : Type 0 where
@@ -73,19 +73,19 @@ pub record IsSigned {Z : Type 0} (sign : Signer) (sk : SecretKeyRecord) (message
   pub drawn : HasDrawn z (first ++ second)
   pub box : x ≡ signed_box sign sk message chosen first second
 
--- an opened key whose secret is a seed and the seed's public key
+-- A decrypted key whose secret is a seed and the seed's public key.
 pub record IsGenuine (public_of : List ℕ → List ℕ) (sk : SecretKeyRecord) (seed : List ℕ) : Type 0 where
   pub seed_length : length seed ≡ 32
   pub seed_bytes : IsBytes seed
   pub secret : sk.secret ≡ seed ++ public_of seed
   pub opened : is_encrypted sk ≡ false
 
--- the chosen comments are read back as they were written
+-- The chosen comments are read back as they were written.
 abbrev pub AreChosenReadBack : ChosenComments → Type 0
 AreChosenReadBack chosen = AreReadBack chosen.untrusted chosen.trusted
 
--- signing with an opened key fails: an allocation fails, with no new error of a source; the data fails, with
--- nothing drawn; or all of it was read, and the random source fails
+-- Signing with a decrypted key fails: an allocation fails, and no source does; the data source fails, with
+-- no random bytes taken; or all the data was read, and the random source fails.
 abbrev pub OpenedSigningFails : {R Z : Type 0} → SourceCall R → RandomCall Z → Fault → Type 0
 OpenedSigningFails r z e =
     (((e ≡ Named named.OutOfMemory) × RandomHasNoNewFault z)
@@ -94,8 +94,8 @@ OpenedSigningFails r z e =
     ⊎ ((message : List ℕ) × ReadsWhole r.source r.old r.new message
     × HasFailed named.RandomSourceFailed z.random.random_faults z.old z.new e)
 
--- signing fails: the key is sealed, with nothing read or drawn; signing with the opened one fails; or the
--- public key that was given does not accept the comment signature of the box that was made
+-- Signing fails: the key is encrypted, with nothing read from either source; signing with the decrypted key
+-- fails; or the given public key does not accept the comment signature of the box that was made.
 abbrev pub SigningFails : {S R Z : Type 0} → SchemeOf S → S → Option PublicKeyRecord → SecretKeyRecord
     → ChosenComments → SourceCall R → RandomCall Z → Fault → Type 0
 SigningFails s scheme pk sk chosen r z e =
@@ -106,8 +106,8 @@ SigningFails s scheme pk sk chosen r z e =
     × ReadsWhole r.source r.old r.new message × IsSigned (s.signature_of scheme) sk message chosen z made
     × (accepts_comments (s.accepts scheme) p made ≡ false))
 
--- signing bytes fails: the key is sealed, with nothing drawn; or it is opened, and an allocation fails, with
--- no new error of the random source, or that source fails
+-- Signing bytes fails: the key is encrypted, with no random bytes taken; or it is decrypted, and an
+-- allocation fails while the random source does not, or the random source fails.
 abbrev pub BytesSigningFails : {Z : Type 0} → SecretKeyRecord → RandomCall Z → Fault → Type 0
 BytesSigningFails sk z e =
     ((e ≡ Named named.EncryptedKeyRefused) × (is_encrypted sk ≡ true) × (z.new ≡ z.old))
@@ -117,8 +117,8 @@ BytesSigningFails sk z e =
 
 -- == Boxes and texts ==
 
--- signing with a genuine key: where neither comment has a line feed and the trusted one is trimmed, the text
--- reads as a box that every public key of its seed and key ID vouches for the message with
+-- Signing with a genuine key: if neither comment has a line feed and the trusted one is trimmed, the text
+-- parses to a box that is valid for the message under every public key of the seed and the key ID.
 abbrev pub SigningHeadline : Verifier → (List ℕ → List ℕ) → SecretKeyRecord → List ℕ → ChosenComments → List ℕ
     → Type 0
 SigningHeadline accepts public_of sk message chosen text =
@@ -126,24 +126,25 @@ SigningHeadline accepts public_of sk message chosen text =
     → (x : SignatureBoxRecord) × (read_signature_box text ≡ Ok x)
     × VouchesUnderEachKey accepts (public_of seed) sk.keynum message x
 
--- the text is that of this key, which it gives under some password
+-- The text gives this key under some password.
 abbrev pub IsKeyOf : List ℕ → SecretKeyRecord → Type 0
 IsKeyOf text key = (password : List ℕ) × (key_with_password text password ≡ Ok key)
 
--- the headline of signing with the text of a secret key: for the data that was ahead, and a key of the text
+-- The headline of signing with the text of a secret key: for the data that was ahead, and a key of the
+-- text.
 abbrev pub TextSigningHeadline : Verifier → (List ℕ → List ℕ) → List ℕ → Option (List ℕ) → ChosenComments
     → List ℕ → Type 0
 TextSigningHeadline accepts public_of sk_text ahead chosen text = (sk : SecretKeyRecord) × (message : List ℕ)
     × IsAhead ahead message × IsKeyOf sk_text sk × SigningHeadline accepts public_of sk message chosen text
 
--- what comes of a text that a key is wanted of: where the key wants a password, that of opening it; else a
--- key that was never sealed, or why there is none, with nothing asked
+-- The key that a text gives for signing. If the key needs a password, the result is that of decrypting it.
+-- Otherwise it is a key that was never encrypted, or the reason why there is none, with nothing asked.
 abbrev pub GivesKey : {R W : Type 0} → PromptCall R W → Option (List ℕ) → List ℕ
     → Result SecretKeyRecord Fault → Type 0
 GivesKey p password text answer = ((is_sealed_text text ≡ true) × IsOpening p password text None answer)
     ⊎ ((is_sealed_text text ≡ false) × (p.new ≡ p.old) × (answer ≡ read_unencrypted_key text))
 
--- the text of the box that signing makes of the message with random bytes that were drawn
+-- The text of the box that signing makes for the message with bytes of the random source.
 pub record IsSignedText {Z : Type 0} (sign : Signer) (sk : SecretKeyRecord) (message : List ℕ)
     (chosen : ChosenComments) (z : RandomCall Z) (text : List ℕ) : Type 0 where
   pub box : SignatureBoxRecord
@@ -153,37 +154,38 @@ pub record IsSignedText {Z : Type 0} (sign : Signer) (sk : SecretKeyRecord) (mes
   pub written : text ≡ signature_text box.signature comments
 
 module _ {S Z : Type 0} (s : SchemeOf S) (scheme : S) (sk : SecretKeyRecord) where
-  -- the box is signed with the key, and where that is genuine it is accepted under its own public key
+  -- The box is signed with the key, and if the key is genuine, the box is valid under its own public key.
   abbrev pub HasSignedBox : List ℕ → ChosenComments → RandomCall Z → SignatureBoxRecord → Type 0
   HasSignedBox message chosen z x = IsSigned (s.signature_of scheme) sk message chosen z x
       × ((seed : List ℕ) → IsGenuine (s.public_of scheme) sk seed
       → VouchesUnderEachKey (s.accepts scheme) (s.public_of scheme seed) sk.keynum message x)
 
-  -- all the data was read, and the box is signed so over it
+  -- All the data was read, and the box is signed for it in this way.
   abbrev pub HasSignedData : {R : Type 0} → SourceCall R → ChosenComments → RandomCall Z → SignatureBoxRecord
       → Type 0
   HasSignedData r chosen z x = (message : List ℕ) × ReadsWhole r.source r.old r.new message
       × HasSignedBox message chosen z x
 
-  -- the text is that of a box that is signed with the key, and where that is genuine it is read back as one
-  -- that vouches
+  -- The text is that of a box that is signed with the key, and if the key is genuine, the text parses to a
+  -- box that is valid.
   abbrev pub HasSignedText : List ℕ → ChosenComments → RandomCall Z → List ℕ → Type 0
   HasSignedText message chosen z text = IsSignedText (s.signature_of scheme) sk message chosen z text
       × SigningHeadline (s.accepts scheme) (s.public_of scheme) sk message chosen text
 
-  -- all the data was read, and the text is that of a box that is signed so over it
+  -- All the data was read, and the text is that of a box that is signed for it in this way.
   abbrev pub HasSignedDataText : {R : Type 0} → SourceCall R → ChosenComments → RandomCall Z → List ℕ → Type 0
   HasSignedDataText r chosen z text = (message : List ℕ) × ReadsWhole r.source r.old r.new message
       × HasSignedText message chosen z text
 
--- the text of a secret key gave a key, and this is the text of a box that is signed over the data with it
+-- The text of a secret key gave a key, and this is the text of a box that is signed for the data with it.
 abbrev pub HasSignedWithText : {S P Q R Z : Type 0} → SchemeOf S → S → PromptCall P Q → Option (List ℕ)
     → List ℕ
     → SourceCall R → ChosenComments → RandomCall Z → List ℕ → Type 0
 HasSignedWithText s scheme p password sk_text r chosen z text = (sk : SecretKeyRecord)
     × GivesKey p password sk_text (Ok sk) × HasSignedDataText s scheme sk r chosen z text
 
--- signing with a text fails: it gives no key, with nothing read or drawn, or signing with its key fails
+-- Signing with a text fails: it gives no key, with nothing read from either source, or signing with its key
+-- fails.
 abbrev pub TextSigningFails : {P Q R Z : Type 0} → PromptCall P Q → Option (List ℕ) → List ℕ → SourceCall R
     → RandomCall Z → Fault → Type 0
 TextSigningFails p password text r z e =

@@ -1,5 +1,6 @@
--- How verifying ends, with a key and a box or with two texts: its stages, and how each ends; what holds on
--- success, and that otherwise it failed at a stage. The devices: the source of data, the status, the output.
+-- How verification ends, with a key and a box or with two texts: its stages, and how each one ends; what
+-- holds on success; and that it otherwise failed at one stage. The devices are the source of the data, the
+-- status and the output.
 use Rattle.std.specs.Prelude.{◌≡◌, ◌≢◌, ◌⊎◌, ⊤, ℕ, Bool, true, false, ◌&&◌, List, [], ◌∷◌, ◌++◌, Result, Ok}
 use Rattle.std.specs.Prelude.{Err, MatchResult, IsErrAnd, if◌then◌else◌, IsSome}
 use Rattle.minisign_hash.specs.Blake2b.{blake2b_digest}
@@ -20,9 +21,10 @@ use Rattle.minisign.specs.KeyTexts.{read_public_key}
 use Rattle.minisign.specs.SignatureText.{read_signature_box}
 use Rattle.minisign_base.specs.declared.faults.NamedFault.TheVariants as named
 
--- a stage: the place is marked; the data is read to its end, which gives these bytes; the box is judged for
--- this message; the status gets a text; the mark is gone back to; the data is read again, and put to the
--- output; the digest of the copy is compared with this one; the output gets these bytes; it is flushed
+-- The stages. Mark marks the place. Read reads the data to its end, which gives these bytes. Judge checks
+-- the box for this message. Report writes a text to the status. Return goes back to the mark. Copy reads
+-- the data again and writes it to the output. Compare compares the digest of the copy with this one. Put
+-- writes these bytes to the output. Flush flushes it.
 pub data Stage : Type 0 where
   Mark : Stage
   Read : List ℕ → Stage
@@ -34,14 +36,14 @@ pub data Stage : Type 0 where
   Put : List ℕ → Stage
   Flush : Stage
 
--- the devices at one time
+-- The devices at one time.
 pub record Devices (R W O : Type 0) : Type 0 where
   pub reader : R
   pub status : W
   pub out : O
 
 module _ {R W O : Type 0} (reader : RereaderCall R) (status : SinkCall W) (out : SinkCall O) where
-  -- the reader, the status, the output is as it was: so is what a stage does not use
+  -- The reader, the status or the output is unchanged, because the stage does not use it.
   abbrev pub Unread : Type 0
   Unread = reader.new ≡ reader.old
 
@@ -51,7 +53,7 @@ module _ {R W O : Type 0} (reader : RereaderCall R) (status : SinkCall W) (out :
   abbrev pub Uncopied : Type 0
   Uncopied = out.new ≡ out.old
 
-  -- how a stage ends
+  -- How a stage ends.
   abbrev pub StageEnds : Stage → Result ⊤ Fault → Type 0
   StageEnds Mark answer = EndsWith (Marks reader (Ok tt)) named.GoingBackFailed (Marks reader (Err tt)) answer
       × Unsaid × Uncopied
@@ -81,8 +83,7 @@ module _ {R W O : Type 0} (reader : RereaderCall R) (status : SinkCall W) (out :
       × Unread × Unsaid
 
 module _ {R W O : Type 0} (reader : RereaderCall R) (status : SinkCall W) (out : SinkCall O) where
-  -- how these stages end, one after another: all were passed; or verifying failed at one of them, and none
-  -- after it was begun
+  -- How these stages end, one after another: all succeeded; or one failed, and none after it was begun.
   abbrev pub StagesEnd : List Stage → Result ⊤ Fault → Type 0
   StagesEnd stages answer =
       StepsEnd
@@ -92,31 +93,31 @@ module _ {R W O : Type 0} (reader : RereaderCall R) (status : SinkCall W) (out :
       stages (record { reader = reader.old; status = status.old; out = out.old })
       (record { reader = reader.new; status = status.new; out = out.new }) answer
 
--- the data is read, and its place is marked first where it is to be read again
+-- The data is read, after its place is marked if it will be read again.
 abbrev pub reading_stages : Bool → List ℕ → List Stage
 reading_stages true message = Mark ∷ Read message ∷ []
 reading_stages false message = Read message ∷ []
 
--- the lines of a box that was accepted are reported
+-- The status lines of a valid box are written, unless quiet is set.
 abbrev pub reporting_stages : Bool → SignatureBoxRecord → List Stage
 reporting_stages true x = []
 reporting_stages false x = Report (status_lines x) ∷ []
 
--- a second reading is copied, which has to have this digest
+-- A second reading is copied, and must have this digest.
 abbrev pub second_copy_stages : List ℕ → List ℕ → List Stage
 second_copy_stages digest second = Return ∷ Copy second ∷ Compare digest second ∷ Flush ∷ []
 
--- where the data is to be copied, it is read again if the signature is over its digest, and else was kept
+-- If the data is to be copied, it is read again for a prehashed signature, and was kept for a legacy one.
 abbrev pub copying_stages : Bool → Bool → List ℕ → List ℕ → List Stage
 copying_stages false hashed message second = []
 copying_stages true true message second = second_copy_stages (blake2b_digest 64 message) second
 copying_stages true false message second = Put message ∷ Flush ∷ []
 
--- the data is read again where it is copied and its digest is signed
+-- The data is read again: it is copied, and its signature is prehashed.
 abbrev pub is_reread : Bool → SignatureBoxRecord → Bool
 is_reread output x = output && is_prehashed x.signature
 
--- verifying: the data is read, the box is judged, and that is reported; then the data is copied
+-- Verification: the data is read, the box is checked, the status lines are written, and the data is copied.
 abbrev pub verifying_stages : Verifier → PublicKeyRecord → SignatureBoxRecord → VerifyOptions → List ℕ
     → List ℕ
     → List Stage
@@ -126,14 +127,14 @@ verifying_stages accepts pk x options message second = reading_stages (is_reread
     (reporting_stages options.quiet x
     ++ copying_stages options.output (is_prehashed x.signature) message second))
 
--- the bytes that are held
+-- The bytes that are held.
 abbrev pub held_bytes : SignedData → List ℕ
 held_bytes (Digest digest) = digest
 held_bytes (Kept bytes) = bytes.items
 held_bytes Unkept = []
 
--- of a message its digest is held for a prehashed box, and for another the message itself, where that is
--- allowed
+-- What is held of a message: its digest for a prehashed signature, and the message itself for a legacy one
+-- if that is allowed.
 abbrev pub HoldsSigned : SignedData → SignatureBoxRecord → Bool → List ℕ → Type 0
 HoldsSigned (Digest digest) x legacy message = (is_prehashed x.signature ≡ true)
     × (digest ≡ blake2b_digest 64 message)
@@ -141,26 +142,26 @@ HoldsSigned (Kept bytes) x legacy message =
     (is_prehashed x.signature ≡ false) × (bytes.items ≡ message) × (legacy ≡ true)
 HoldsSigned Unkept x legacy message = (is_prehashed x.signature ≡ false) × (legacy ≡ false)
 
--- what is copied of data that was read
+-- How data that was read is copied.
 abbrev pub held_copy_stages : Bool → SignedData → List ℕ → List Stage
 held_copy_stages false signed second = []
 held_copy_stages true (Digest digest) second = second_copy_stages digest second
 held_copy_stages true (Kept bytes) second = Put bytes.items ∷ Flush ∷ []
 held_copy_stages true Unkept second = []
 
--- what is to be said of a box that was accepted
+-- What the status has to receive for a valid box.
 abbrev pub wanted_status : Bool → SignatureBoxRecord → List ℕ
 wanted_status quiet x = if quiet then [] else status_lines x
 
--- the data was read to its end, which gave the message, and from its mark to its end again, which gave the
--- copy; both have one digest
+-- The data was read to its end, which gave the message, and from its mark to its end again, which gave the
+-- copy. Both have the same digest.
 abbrev pub ReadsTwice : {R O : Type 0} → RereaderCall R → SinkCall O → List ℕ → List ℕ → Type 0
 ReadsTwice reader out message copy = StagesEnd reader unused out
     (reading_stages true message ++ second_copy_stages (blake2b_digest 64 message) copy) (Ok tt)
 
--- the output took a copy, and flushed it, that the box vouches for as it does for the message: where its
--- digest is signed, a second reading gave it, with the digest of the first; where the data itself is signed,
--- or over a steady source whose bytes are known, it is the message
+-- The output took and flushed a copy for which the box is valid, as it is for the message. If the signature
+-- is prehashed, a second reading gave the copy, with the digest of the first. If it is a legacy signature,
+-- or the source is steady and its bytes are known, the copy is the message.
 pub record HasCopy {R O : Type 0} (accepts : Verifier) (pk : PublicKeyRecord) (x : SignatureBoxRecord)
     (legacy : Bool)
     (reader : RereaderCall R) (out : SinkCall O) (message : List ℕ) : Type 0 where
@@ -173,8 +174,8 @@ pub record HasCopy {R O : Type 0} (accepts : Verifier) (pk : PublicKeyRecord) (x
   pub legacy_same : is_prehashed x.signature ≡ false → copy ≡ message
   pub steady_same : IsSteady reader → IsSome (reader.source.ahead reader.old) → copy ≡ message
 
--- verifying succeeds: all the data was read, the box vouches for it, what is to be said was said and not
--- flushed, and the output holds a copy where one is wanted
+-- Verification succeeds: all the data was read, the box is valid for it, the status lines were written and
+-- not flushed, and the output holds a copy if one was requested.
 pub record VerifyingSucceeds {R W O : Type 0} (accepts : Verifier) (pk : PublicKeyRecord)
     (x : SignatureBoxRecord)
     (options : VerifyOptions) (reader : RereaderCall R) (status : SinkCall W) (out : SinkCall O)
@@ -192,18 +193,18 @@ pub record VerifyingSucceeds {R W O : Type 0} (accepts : Verifier) (pk : PublicK
   pub copied : options.output ≡ true → HasCopy accepts pk x options.allow_legacy reader out message
   pub out_no_new_fault : SinkHasNoNewFault out
 
--- verifying fails at one of its stages, for some message and some second reading
+-- Verification fails at one of its stages, for some message and some second reading.
 abbrev pub VerifyingFails : {R W O : Type 0} → Verifier → PublicKeyRecord → SignatureBoxRecord → VerifyOptions
     → RereaderCall R → SinkCall W → SinkCall O → Fault → Type 0
 VerifyingFails accepts pk x options reader status out e = (message : List ℕ) × (second : List ℕ)
     × StagesEnd reader status out (verifying_stages accepts pk x options message second) (Err e)
 
--- what two texts read as, the public key's first; or the first case that fails
+-- What two texts parse to, the public key's first; or the first check that fails.
 abbrev pub read_texts : List ℕ → List ℕ → Result (PublicKeyRecord × SignatureBoxRecord) Fault
 read_texts pk_text sig_text =
     and_then (read_public_key pk_text) (λ key. map_ok (λ box. (key, box)) (read_signature_box sig_text))
 
--- the texts read as a key and a box, and verifying succeeds with these
+-- The texts parse to a key and a box, and verification with these succeeds.
 pub record VerifyingTextsSucceeds {R W O : Type 0} (accepts : Verifier) (pk_text sig_text : List ℕ)
     (options : VerifyOptions) (reader : RereaderCall R) (status : SinkCall W) (out : SinkCall O)
     : Type 0 where
@@ -213,8 +214,8 @@ pub record VerifyingTextsSucceeds {R W O : Type 0} (accepts : Verifier) (pk_text
   pub box_read : read_signature_box sig_text ≡ Ok box
   pub verified : VerifyingSucceeds accepts key box options reader status out
 
--- a text is rejected, or an allocation failed for one, before anything is read, said or copied; or verifying
--- fails with what the texts read as
+-- A text is rejected, or an allocation for one failed, before anything is read, reported or copied; or
+-- verification fails with what the texts parse to.
 abbrev pub VerifyingTextsFails : {R W O : Type 0} → Verifier → List ℕ → List ℕ → VerifyOptions
     → RereaderCall R → SinkCall W → SinkCall O → Fault → Type 0
 VerifyingTextsFails accepts pk_text sig_text options reader status out e =

@@ -1,4 +1,4 @@
-//! Base64 that is decoded without allocating: the bytes at the front are kept, and all of the text is judged.
+//! Base64 decoding without allocating: the bytes at the front are kept, and the whole text is checked.
 
 ghost use Rattle.std.specs.Prelude.{◌≡◌, ◌+◌, ◌*◌, ◌/◌, ◌%◌, ◌≤◌, List, ℕ, false, length, min, take};
 ghost use Rattle.std.specs.Prelude.{MatchOption};

@@ -1,4 +1,4 @@
-//! Calls for callers: verifying with texts, and the comment that was signed.
+//! Calls that verify data with two texts and return the trusted comment.
 
 ghost use Rattle.std.specs.Prelude.{◌≡◌, ◌≤◌, ◌⊎◌, ℕ, List, Ok, Err, true, false, length, string_bytes, IfOk};
 ghost use Rattle.std.specs.Prelude.{IfErr, OnOk};
@@ -31,12 +31,12 @@ use std::alloc::Global;
 use std::fs;
 use std::rt::Files;
 
-/// Verifies that the texts of a public key and of a signature vouch for all the data ahead of
-/// `data_reader`, as `verify_texts` does, with options in place of three flags, and returns the
-/// trusted comment, which was signed with the data.
+/// Verifies that `sig_text` is a valid signature of all the data ahead of `data_reader` under the public
+/// key in `pk_text`, and returns the trusted comment, which was signed with the data. Does what
+/// `verify_texts` does, with named options in place of three flags.
 ///
-/// What is rejected, and in which order, is as `verify_texts` says. Until the comment is held in
-/// memory nothing is read from `data_reader`, and nothing is said or copied.
+/// Errors and their order are those of `verify_texts`. Memory for the trusted comment is allocated before
+/// anything is read, reported or copied.
 pub fn verify_with<S: Scheme, R: Rereader, W: Sink, O: Sink>(
     alloc: Global,
     scheme: &S,
@@ -47,18 +47,19 @@ pub fn verify_with<S: Scheme, R: Rereader, W: Sink, O: Sink>(
     status: &mut W,
     out: &mut O,
 ) -> Result<String>
-    // Over data that is known, where no device fails, and over a steady source where the data is copied: the
-    // answer is the verdict, a function of the two texts, the data and the flag, or out of memory.
+    // If the source's bytes are known, no device fails, and the source is steady if the data is copied,
+    // then the result is out of memory or exactly the verdict on the two texts and the data: the trusted
+    // comment if the signature is valid, and otherwise the first check that fails.
     ensures headline { IsVerdictWhereNothingFails (S.accepts scheme.now) pk_text.now sig_text.now options
         (rereader_call R.Source R.steady data_reader.old data_reader.new) (sink_call W.Sink status.old
         status.new) (sink_call O.Sink out.old out.new) (map_ok string_bytes result) }
 
-    // What is returned is the comment that the signature text holds.
+    // On success, the result is the trusted comment of the signature text.
     ensures comment { IfOk result
         (λ t. map_ok (λ s. s.comments.trusted) (read_signature sig_text.now) ≡ Ok (string_bytes t)) }
 
-    // What is said of success and of a rejection is what the clauses `accepted` and `refused` of
-    // `verify_texts` say.
+    // On success and after an error, everything holds that the clauses `accepted` and `refused` of
+    // `verify_texts` promise.
     ensures accepted { OnOk result (VerifyingTextsSucceeds (S.accepts scheme.now) pk_text.now sig_text.now
         options (rereader_call R.Source R.steady data_reader.old data_reader.new)
         (sink_call W.Sink status.old status.new) (sink_call O.Sink out.old out.new)) }
@@ -66,11 +67,12 @@ pub fn verify_with<S: Scheme, R: Rereader, W: Sink, O: Sink>(
         options (rereader_call R.Source R.steady data_reader.old data_reader.new)
         (sink_call W.Sink status.old status.new) (sink_call O.Sink out.old out.new)) }
 
-    // With quiet the status is untouched, and without `output` the output.
+    // With `quiet`, `status` is unchanged. Without `output`, `out` is unchanged.
     ensures quiet { options.quiet ≡ true → status.new ≡ status.old }
     ensures out { options.output ≡ false → out.new ≡ out.old }
 
-    // Without `output` the reader lost at most some bytes at its front, whatever the result.
+    // Without `output`, the bytes still ahead of `data_reader` are a suffix of those that were ahead before
+    // the call, whatever the result.
     ensures given { options.output ≡ false → HasGiven (R.ahead data_reader.old) (R.ahead data_reader.new) }
 {
     let (pk, signature_box, comment) = read_with_comment(alloc, pk_text, sig_text)?;
@@ -106,13 +108,12 @@ fn read_with_comment(
     Ok((pk, signature_box, comment))
 }
 
-/// Verifies that the texts of a public key and of a signature vouch for the data in memory, and
-/// returns the trusted comment, which was signed with the data.
+/// Verifies that `sig_text` is a valid signature of `message` under the public key in `pk_text`, and
+/// returns the trusted comment, which was signed with the message.
 ///
-/// Rejected are the text of the public key, as `PublicKey::from_box` says, the text of the
-/// signature, as `SignatureBox::from_string` says, and then what `verify` rejects of the data; a
-/// signature over the data itself is never taken. An allocation may fail at any time; the data is
-/// not copied.
+/// Errors come in this order: the public key text, as for `PublicKey::from_box`; the signature text, as for
+/// `SignatureBox::from_string`; then the checks of `verify`. A legacy signature is always rejected. An
+/// allocation may fail at any time. The message is not copied.
 ///
 /// ```
 /// let comment = verify_bytes(alloc, &scheme, PUBLIC_KEY, signature, update)?;
@@ -124,8 +125,8 @@ pub fn verify_bytes<S: Scheme>(
     sig_text: &str,
     message: &[u8],
 ) -> Result<String>
-    // Of data in memory: the answer is the verdict, a function of the two texts and the data, or out of
-    // memory.
+    // The result is out of memory or exactly the verdict on the two texts and the message: the trusted
+    // comment if the signature is valid, and otherwise the first check that fails.
     ensures { IsGivenOrNoMemory (map_ok string_bytes result)
         (verdict (S.accepts scheme.now) pk_text.now sig_text.now message.now false) }
 {
@@ -134,15 +135,15 @@ pub fn verify_bytes<S: Scheme>(
     Ok(String::from_str(alloc, comment)?)
 }
 
-/// Verifies that the texts of a public key and of a signature vouch for the data in memory, and returns the
-/// trusted comment, which was signed with the data, where it lies in the text of the signature. Does not
-/// allocate: `room` has as many bytes as the text of the signature at least; what it holds afterwards is not
-/// said.
+/// Verifies that `sig_text` is a valid signature of `message` under the public key in `pk_text`, and
+/// returns the trusted comment, which was signed with the message, as a slice of `sig_text`. Does not
+/// allocate. `room` is scratch space at least as long as `sig_text`; its contents afterwards are
+/// unspecified.
 ///
-/// These are rejected, in this order: the text of the public key, as `read_public_key` says; the text of the
-/// signature, as `read_signature` says; key IDs that differ; a signature over the data itself, unless
-/// `allow_legacy`; a signature that the scheme does not accept; a comment signature that has fewer than 64
-/// bytes, or that the scheme does not accept.
+/// Errors come in this order: the public key text, as for `read_public_key`; the signature text, as for
+/// `read_signature`; key IDs that differ; a legacy signature, unless `allow_legacy` is set; a signature
+/// that the scheme does not accept; a comment signature that has fewer than 64 bytes or that the scheme
+/// does not accept.
 ///
 /// ```
 /// let comment = verify_in_place(&scheme, PUBLIC_KEY, signature, update, false, &mut room)?;
@@ -157,8 +158,9 @@ pub fn verify_in_place<'a, S: Scheme>(
 ) -> Result<&'a str>
     requires { length sig_text.now ≤ length room.old }
 
-    // Of every scheme, all texts and all data: the answer is the verdict, a function of the two texts, the
-    // data and the flag.
+    // For every scheme, all texts and every message, the result is exactly the verdict: the trusted comment
+    // if the signature is valid, and otherwise the first check that fails. The verdict is a function of the
+    // two texts, the message and `allow_legacy`.
     ensures { map_ok (λ t. t.now) result
         ≡ verdict (S.accepts scheme.now) pk_text.now sig_text.now message.now allow_legacy }
 {
@@ -168,15 +170,14 @@ pub fn verify_in_place<'a, S: Scheme>(
     Ok(view.trusted_comment())
 }
 
-/// Verifies that the text of a public key and the signature text in the file at `sig_path` vouch
-/// for the data in the file at `data_path`, and returns the trusted comment, which was signed with
-/// the data. The paths are taken as they stand. The data is read in pieces of 64 KiB, so that
-/// memory does not grow with it.
+/// Verifies that the file at `sig_path` holds a valid signature of the file at `data_path` under the public
+/// key in `pk_text`, and returns the trusted comment, which was signed with the data. The paths are used as
+/// given. The data is read in pieces of 64 KiB, so memory use does not grow with its size.
 ///
-/// Rejected are, in this order: a signature file that cannot be opened or read, `ReadingFailed`;
-/// one that is not UTF-8, `NotUtf8`; a data file that cannot be opened, `ReadingFailed`; a text,
-/// as `verify_bytes` says; a data file that cannot be read, `ReadingFailed`; and what
-/// `verify_bytes` rejects of the data. An allocation may fail at any time.
+/// Errors come in this order: a signature file that cannot be opened or read, `ReadingFailed`; a signature
+/// file that is not UTF-8, `NotUtf8`; a data file that cannot be opened, `ReadingFailed`; a text, as for
+/// `verify_bytes`; a data file that cannot be read, `ReadingFailed`; then the checks of the signature, as
+/// for `verify_bytes`. An allocation may fail at any time.
 ///
 /// ```
 /// let comment = verify_file(&rt, rt.alloc(), &scheme, PUBLIC_KEY, "update.tar.minisig", "update.tar")?;
@@ -189,9 +190,10 @@ pub fn verify_file<F: Files, S: Scheme>(
     sig_path: &str,
     data_path: &str,
 ) -> Result<String>
-    // Of files by name: the answer is the verdict on the text of the key, some signature text and some data;
-    // or out of memory, `reading failed` or the error of a text that is not UTF-8, and no contract says when.
-    // That the named files are the ones that are read, the code and tests show.
+    // The result is the verdict on the public key text, some signature text and some data; or it is out of
+    // memory, `reading failed` or the error for a text that is not UTF-8, and no contract says when. No
+    // contract says either that the signature text and the data are those of the named files: the code and
+    // tests show that.
     ensures { (message : List ℕ)
         × IsReadFromFile (λ sig_text. verdict (S.accepts scheme.now) pk_text.now sig_text message false)
         (map_ok string_bytes result) }
@@ -209,13 +211,13 @@ pub fn verify_file<F: Files, S: Scheme>(
     }
 }
 
-/// Verifies that the texts of a public key and of a signature vouch for all the data ahead of
-/// `data_reader`, and returns the trusted comment, which was signed with the data. The data is read
-/// in pieces of 64 KiB, so that memory does not grow with it, and it is not copied.
+/// Verifies that `sig_text` is a valid signature of all the data ahead of `data_reader` under the public
+/// key in `pk_text`, and returns the trusted comment, which was signed with the data. The data is read in
+/// pieces of 64 KiB, so memory use does not grow with its size, and it is not copied.
 ///
-/// Rejected are, in this order: a text, as `verify_bytes` says; data that cannot be read,
-/// `ReadingFailed`, which comes only where `data_reader` failed; and what `verify_bytes` rejects of
-/// the data. An allocation may fail at any time.
+/// Errors come in this order: a text, as for `verify_bytes`; data that cannot be read, `ReadingFailed`,
+/// only if `data_reader` failed; then the checks of the signature, as for `verify_bytes`. An allocation may
+/// fail at any time.
 ///
 /// ```
 /// let comment = verify_reader(alloc, &scheme, PUBLIC_KEY, signature, &mut ReaderSource::new(reader))?;
@@ -227,32 +229,34 @@ pub fn verify_reader<S: Scheme, R: Rereader>(
     sig_text: &str,
     data_reader: &mut R,
 ) -> Result<String>
-    // Over a source whose bytes are known, if it does not fail: the answer is the verdict, a function of the
-    // two texts and the data, or out of memory.
+    // If the source's bytes are known and it does not fail, then the result is out of memory or exactly the
+    // verdict on the two texts and the data: the trusted comment if the signature is valid, and otherwise
+    // the first check that fails.
     ensures headline { IsVerdictWhereNothingFails (S.accepts scheme.now) pk_text.now sig_text.now
         (options_of true false false) (rereader_call R.Source R.steady data_reader.old data_reader.new) unused
         unused (map_ok string_bytes result) }
 
-    // Whether its bytes are known or not: on success the texts vouch for what was ahead, with the
-    // comment that is returned; all of it was read to its end, without an error.
+    // On success, all the data that was ahead was read to its end without an error, and the texts are valid
+    // for it with the comment that is returned. This holds even if the source's bytes are not known.
     ensures vouched { IfOk result
         (λ t. (message : List ℕ) × ReadsWhole R.Source data_reader.old data_reader.new message
         × TextsVouchWith (S.accepts scheme.now) pk_text.now sig_text.now message false (string_bytes t)) }
 
-    // Otherwise out of memory; or `reading failed`, only if the reader's count of errors rose; or the
-    // verdict's rejection.
+    // An error is out of memory; or `reading failed`, only if the source's error count rose; or the error
+    // of the verdict on the two texts and the data.
     ensures refused { IfErr result (λ e. (e ≡ Named OutOfMemory) ⊎ HasFailed ReadingFailed R.faults
         data_reader.old data_reader.new e ⊎ ((bytes : List ℕ) × IsAhead (R.ahead data_reader.old)
         bytes × (verdict (S.accepts scheme.now) pk_text.now sig_text.now bytes false ≡ Err e))) }
 
-    // After a rejection a text was rejected, or an allocation for one failed, with the reader as it was; or
-    // it failed at one of the stages of `verify`: at the reading, where an allocation failed or the reader
-    // failed, or at the judging, which comes once all was read to its end without an error.
+    // After an error, either a text was rejected or an allocation for one failed, and `data_reader` is
+    // unchanged; or a stage of `verify` failed. That stage is either reading, if an allocation or the
+    // source failed, or checking the signature, after all the data was read without an error.
     ensures failed { IfErr result
         (VerifyingTextsFails (S.accepts scheme.now) pk_text.now sig_text.now (options_of true false false)
         (rereader_call R.Source R.steady data_reader.old data_reader.new) unused unused) }
 
-    // Whatever the result, the reader lost at most some bytes at its front.
+    // The bytes still ahead of `data_reader` are a suffix of those that were ahead before the call,
+    // whatever the result.
     ensures given { HasGiven (R.ahead data_reader.old) (R.ahead data_reader.new) }
 {
     let silent = VerifyOptions::SILENT;
@@ -283,17 +287,17 @@ fn verify_opened_file<S: Scheme, R: Rereader>(
     verify_reader(alloc, scheme, pk_text, sig_text, data_reader)
 }
 
-/// Copies all the data ahead of `data_reader` to `out`, where the texts of a public key and of a
-/// signature vouch for it, and returns the trusted comment, which was signed with the data.
+/// Verifies that `sig_text` is a valid signature of all the data ahead of `data_reader` under the public
+/// key in `pk_text`, copies the data to `out`, and returns the trusted comment, which was signed with the
+/// data.
 ///
-/// The data is read twice in pieces of 64 KiB, so that memory does not grow with it, and nothing is
-/// copied before it is vouched for. Rejected are, in this order: a text; for a prehashed signature a
-/// place that cannot be marked, `GoingBackFailed`; a first reading that fails, `ReadingFailed`;
-/// what `verify_bytes` rejects of the data; all these with `out` untouched. Then a source that
-/// cannot go back, `GoingBackFailed`; a second reading or an `out` that fails, whichever comes
-/// first; a second reading that has another digest, `DataChanged`; an `out` that fails at its
-/// flush. An allocation may fail until the second reading begins. After any rejection nobody may rely on what
-/// `out` holds. On success `out` is flushed.
+/// The data is read twice in pieces of 64 KiB, so memory use does not grow with its size. Nothing is copied
+/// before the signature has been verified. Errors come in this order: a text; for a prehashed signature, a
+/// place that cannot be marked, `GoingBackFailed`; a first reading that fails, `ReadingFailed`; a check of
+/// the signature, as for `verify_bytes`. After all of these `out` is unchanged. Then come a source that
+/// cannot go back, `GoingBackFailed`; a second reading or an `out` that fails, whichever is first; a second
+/// reading with a different digest, `DataChanged`; and a flush of `out` that fails. An allocation may fail
+/// until the second reading begins. After any error, discard what `out` holds. On success `out` is flushed.
 ///
 /// ```
 /// let comment = copy_verified(alloc, &scheme, PUBLIC_KEY, signature, &mut download, &mut new_file)?;
@@ -306,23 +310,24 @@ pub fn copy_verified<S: Scheme, R: Rereader, O: Sink>(
     data_reader: &mut R,
     out: &mut O,
 ) -> Result<String>
-    // Over a steady source whose bytes are known, if no device fails: the answer is the verdict, a function
-    // of the two texts and the data, or out of memory.
+    // If the source is steady, its bytes are known and no device fails, then the result is out of memory or
+    // exactly the verdict on the two texts and the data: the trusted comment if the signature is valid, and
+    // otherwise the first check that fails.
     ensures headline { IsVerdictWhereNothingFails (S.accepts scheme.now) pk_text.now sig_text.now
         (options_of true true false) (rereader_call R.Source R.steady data_reader.old data_reader.new) unused
         (sink_call O.Sink out.old out.new) (map_ok string_bytes result) }
 
-    // What the output took and flushed is itself vouched for, with the comment that is returned; a
-    // second reading gave it, with the digest of the first; and it is what was ahead of a steady
-    // source, where that is known.
+    // On success, the texts are valid, with the comment that is returned, for the bytes that `out`
+    // received, and these were flushed. They are what a second reading returned, and have the digest of the
+    // first. If the source is steady and its bytes are known, they are the bytes that were ahead.
     ensures copied { IfOk result (λ t. CopyIsVouchedWith (S.accepts scheme.now) pk_text.now sig_text.now
         (rereader_call R.Source R.steady data_reader.old data_reader.new) (sink_call O.Sink out.old out.new)
         (string_bytes t)) }
 
-    // After a rejection a text was rejected, with nothing read or copied; or it failed at one of the
-    // stages of `verify`. So nothing was copied, or the texts vouch for what was read first, and
-    // going back, memory, the second reading or the output failed, or the second reading had
-    // another digest.
+    // After an error, either a text was rejected or an allocation for one failed, and nothing was read or
+    // copied; or a stage of `verify` failed. So either nothing was copied, or the signature is valid for
+    // what was read first, and then going back, an allocation, the second reading or `out` failed, or the
+    // second reading had a different digest.
     ensures refused { IfErr result (VerifyingTextsFails (S.accepts scheme.now) pk_text.now sig_text.now
         (options_of true true false) (rereader_call R.Source R.steady data_reader.old data_reader.new) unused
         (sink_call O.Sink out.old out.new)) }

@@ -1,4 +1,4 @@
-//! Where in the text of a signature its trusted comment stands, for callers that keep the place and not the
+//! The place of the trusted comment in a signature text, for callers that keep the place and not the
 //! comment.
 
 ghost use Rattle.std.specs.Prelude.{◌≡◌, ◌+◌, ◌≤◌, ◌++◌, [], List, ℕ, Ok, length, slice_index_or};
@@ -12,12 +12,12 @@ use crate::signature_box::trusted_comment_in;
 use crate::texts::next_line;
 use std::mem::forget;
 
-/// Where in the text of a signature its trusted comment stands: how many bytes come before it, and how many
-/// it has. It stands in the third line, between the label and white space on either side. Of a text that does
-/// not read as a signature nothing is said. Does not allocate.
+/// Returns the place of the trusted comment in a signature text: the number of bytes before it, and its
+/// length in bytes. The comment is in the third line, between the label and any white space on either side.
+/// For a text that does not parse as a signature the result is unspecified. Does not allocate.
 pub fn trusted_comment_place(text: &str) -> (usize, usize)
-    // Of a text that reads as a signature the place is a function of the text, and the trusted comment stands
-    // there.
+    // If the text parses as a signature, the trusted comment is at the returned offset with the returned
+    // length, and the offset is a function of the text.
     ensures { (t : SignatureTextRecord) → read_signature text.now ≡ Ok t
         → (result.0 ≡ comment_offset text.now) × (result.1 ≡ length t.comments.trusted)
         × StandsAt t.comments.trusted text.now result.0 }

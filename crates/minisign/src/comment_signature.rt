@@ -1,4 +1,4 @@
-//! Whether the comment signature of a box is accepted, which signing and verifying both ask.
+//! The check of a comment signature, which signing and verifying share.
 
 ghost use Rattle.std.specs.Prelude.{◌≡◌, Some, MatchResult};
 ghost use Rattle.minisign_base.specs.Fault.{Named};

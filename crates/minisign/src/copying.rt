@@ -1,5 +1,5 @@
-//! Copying the data of a box that was accepted: the data that was kept, or a second pass over the
-//! source that has to give the digest of the first.
+//! Copying verified data: either the data that was kept in memory, or a second reading of the source, which
+//! must have the digest of the first.
 
 ghost use Rattle.std.specs.Prelude.{◌≡◌, ◌⊎◌, ℕ, ◌<◌, ◌++◌, List, true, false, bytes_eq, length, Ok, Err};
 ghost use Rattle.std.specs.Prelude.{IfOk, IfErr, OnOk, MatchResult};

@@ -1,4 +1,4 @@
-//! The fields of a record, taken off the front of bytes and put after them.
+//! The fixed-size fields of a record, split off the front of bytes or appended to them.
 
 ghost use Rattle.std.specs.Prelude.{◌≡◌, ◌+◌, ◌<◌, ◌++◌, length, IfOk, IfErr, MatchResult};
 ghost use Rattle.minisign_base.specs.Fault.{Named};

@@ -1,5 +1,5 @@
-//! Reading the texts of public keys and signatures where they lie, without allocating: what is decoded stands
-//! in arrays, and the comments stay in the text.
+//! Parsing the texts of public keys and signatures without allocating: decoded bytes are in arrays, and
+//! comments are slices of the text.
 
 ghost use Rattle.std.specs.Prelude.{◌≡◌, ◌==◌, ◌⊎◌, ◌+◌, ◌≤◌, ◌<◌, [], ◌∷◌, true, false, Ok, Err, length};
 ghost use Rattle.std.specs.Prelude.{MatchResult, IfOk, IfErr};
@@ -27,8 +27,8 @@ use std::marker::Model;
 // The length of a public key in base64.
 const ENCODED_BYTES: usize = 56;
 
-/// What a signature text reads as: the signature, the comments where they lie in the text, and of the comment
-/// signature the first 64 bytes.
+/// A parsed signature text: the signature, the comments as slices of the text, and the first 64 bytes of
+/// the comment signature.
 #[derive(Drop)]
 pub struct SignatureView<'a> {
     signature: Signature,
@@ -51,35 +51,35 @@ impl<'a> Model for SignatureView<'a> {
 }
 
 impl<'a> SignatureView<'a> {
-    /// The signature, with its algorithm and the key ID of its key.
+    /// Returns the signature, with its algorithm and the key ID of the key that made it.
     pub fn signature(&self) -> &Signature
         ensures { result.now ≡ self.now.signature }
     {
         &self.signature
     }
 
-    /// The comment that nothing vouches for.
+    /// Returns the untrusted comment, which is not signed.
     pub fn untrusted_comment(&self) -> &'a str
         ensures { result.now ≡ self.now.untrusted }
     {
         self.untrusted_comment
     }
 
-    /// The comment that the comment signature vouches for, trimmed.
+    /// Returns the trusted comment, which the comment signature signs, trimmed.
     pub fn trusted_comment(&self) -> &'a str
         ensures { result.now ≡ self.now.trusted }
     {
         self.trusted_comment
     }
 
-    /// The first 64 bytes of the comment signature; nothing where it has fewer.
+    /// Returns the first 64 bytes of the comment signature, or `None` if it is shorter.
     pub fn comment_signature(&self) -> Option<[u8; 64]>
         ensures { result ≡ self.now.comment_signature }
     {
         self.comment_signature
     }
 
-    /// Whether the signature is over the digest of the data and not over the data itself.
+    /// Returns true if the signature is prehashed: it signs the digest of the data, not the data itself.
     pub fn is_prehashed(&self) -> bool
         ensures { result ≡ is_prehashed self.now.signature }
     {
@@ -87,14 +87,14 @@ impl<'a> SignatureView<'a> {
     }
 }
 
-/// Reads a public key text: a first line that may be anything, and a second of 56 bytes that, trimmed of
+/// Parses a public key text. The first line may be anything. The second line has 56 bytes and, trimmed of
 /// white space, is the base64 of the 42 bytes of a key. Later lines are ignored.
 ///
-/// These are rejected, in this order: a text with no first line, one with no second line, another length of
-/// that line, what is not base64, fewer than 42 bytes. Does not allocate.
+/// Errors come in this order: no first line, no second line, a different length of the second line, a
+/// second line that is not base64, fewer than 42 bytes. Does not allocate.
 pub fn read_public_key(text: &str) -> Result<PublicKey>
-    // A public key text is read as its grammar has it, a function of the text: as the key, or the first case
-    // that fails.
+    // The result depends only on the text, as its grammar says: the public key in the text, or the first
+    // check that fails.
     ensures { result ≡ read_public_key text.now }
 {
     let mut lines = text.lines();
@@ -107,13 +107,13 @@ pub fn read_public_key(text: &str) -> Result<PublicKey>
     read_key_line(encoded)
 }
 
-/// Reads the bare base64 of a key, 56 bytes with nothing around them.
+/// Parses the bare base64 of a public key, 56 bytes.
 ///
-/// These are rejected, in this order: a text that, trimmed of white space, has another length, what is not
-/// base64 as it stands, fewer than 42 bytes. Does not allocate.
+/// Errors come in this order: a text that has another length once white space is trimmed, a text that is
+/// not base64 as it is, fewer than 42 bytes. Does not allocate.
 pub fn read_bare_public_key(text: &str) -> Result<PublicKey>
-    // The base64 of a key is read as its grammar has it, a function of the text: as the key, or the first
-    // case that fails.
+    // The result depends only on the text, as its grammar says: the public key that the text is the base64
+    // of, or the first check that fails.
     ensures { result ≡ read_bare_public_key text.now }
 {
     if text.trim().len() != ENCODED_BYTES {
@@ -122,21 +122,21 @@ pub fn read_bare_public_key(text: &str) -> Result<PublicKey>
     decode_key(text, NamedFault::BarePublicKeyNotBase64)
 }
 
-/// Reads a signature text, as `SignatureBox::from_string` does, and tells of it all but what stands after the
-/// first 64 bytes of the comment signature. It has four lines: `untrusted comment: ` and a comment; the
-/// base64 of the 74 bytes of a signature; `trusted comment: ` and the comment that is signed; the base64 of
-/// the comment signature, of any length. The second and the fourth line and the trusted comment are trimmed
-/// of white space, the untrusted comment is kept as it stands, and later lines are ignored.
+/// Parses a signature text as `SignatureBox::from_string` does, and returns all of it except the comment
+/// signature's bytes after the 64th. The text has four lines: `untrusted comment: ` and the untrusted
+/// comment; the base64 of the 74 bytes of a signature; `trusted comment: ` and the trusted comment; the
+/// base64 of the comment signature, of any length. The second line, the fourth line and the trusted comment
+/// are trimmed of white space. The untrusted comment is kept as it is, and later lines are ignored.
 ///
-/// These are rejected, in this order: a missing line, the first one first; another prefix of the first line;
-/// a second line that is not base64, or of fewer than 74 bytes; another prefix of the third line; an
+/// Errors come in this order: a missing line, the first one first; a different label of the first line; a
+/// second line that is not base64, or of fewer than 74 bytes; a different label of the third line; an
 /// algorithm other than `Ed` and `ED`; a fourth line that is not base64. Does not allocate.
 pub fn read_signature(text: &str) -> Result<SignatureView<'_>>
-    // A signature text is read as its grammar has it, a function of the text: as the signature with its
-    // comments, or the first case that fails. Of the comment signature the first 64 bytes are told.
+    // The result depends only on the text, as its grammar says: the signature with its comments, or the
+    // first check that fails. Only the first 64 bytes of the comment signature are returned.
     ensures view { result ≡ map_ok view_of (read_signature text.now) }
 
-    // The trusted comment and the 64 bytes of a signature have no more bytes than the text.
+    // On success, the trusted comment is at least 64 bytes shorter than the text.
     ensures size { IfOk result (λ v. 64 + length v.trusted ≤ length text.now) }
 {
     let parts = read_parts(text)?;

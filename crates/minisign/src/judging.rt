@@ -1,5 +1,5 @@
-//! The conditions of acceptance in their order, of data in memory and a signature text that is read where it
-//! lies: none of it takes memory.
+//! The checks of a signature, in their order, for data in memory and a signature text that is parsed in
+//! place. Nothing here allocates.
 
 ghost use Rattle.std.specs.Prelude.{◌≡◌, ◌+◌, ◌≤◌, if◌then◌else◌, length};
 ghost use Rattle.minisign_hash.specs.Blake2b.{blake2b_digest};
@@ -16,12 +16,11 @@ use minisign_base::scheme::Scheme;
 use minisign_base::{NamedFault, Result};
 use minisign_hash::blake2b::Blake2b;
 
-/// What the key ID of a key and a signature alone decide, before a scheme is asked. Rejected are, in this
-/// order: a signature of another key ID, `DifferentKeyIds`; one over the data itself, unless `allow_legacy`,
-/// `LegacyNotAccepted`. Does not allocate.
+/// Makes the checks that need no signature scheme: the key IDs must match (`DifferentKeyIds`), and the
+/// signature must be prehashed unless `allow_legacy` is set (`LegacyNotAccepted`). Does not allocate.
 pub fn judge_key(key_id: &[u8; 8], signature: &Signature, allow_legacy: bool) -> Result<()>
-    // A signature is taken exactly if it has this key ID and is over the digest of the data, or may be over
-    // the data itself; otherwise it is the first reason.
+    // Succeeds exactly if the signature has this key ID and is prehashed or `allow_legacy` is set.
+    // Otherwise the error is the first check that fails: the key ID, then the kind of signature.
     ensures { result ≡ judge_key key_id.now signature.now allow_legacy }
 {
     if signature.keynum != *key_id {
@@ -37,8 +36,7 @@ pub fn judge_key(key_id: &[u8; 8], signature: &Signature, allow_legacy: bool) ->
     Ok(())
 }
 
-// Whether a signature text that was read where it lies vouches for the message; `room` takes what the comment
-// signature is over.
+// Verifies a parsed signature over the message. `room` is scratch space for the comment message.
 pub(crate) fn judge_view<S: Scheme>(
     scheme: &S,
     pk: &PublicKey,

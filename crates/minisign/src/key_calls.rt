@@ -1,5 +1,5 @@
-//! Calls for callers: opening a key with a password, making a pair under one, and signing bytes in
-//! memory, what a reader has ahead, or a file.
+//! Calls that decrypt a secret key with a password, generate a key pair under a password, and sign data in
+//! memory, from a reader or from a file.
 
 ghost use Rattle.std.specs.Prelude.{◌≡◌, ◌≤◌, List, ℕ, false, None, Some, length, string_bytes, IfOk, IfErr};
 ghost use Rattle.std.specs.Prelude.{OnOk, ◌⊎◌};
@@ -26,22 +26,22 @@ use std::alloc::Global;
 use std::fs;
 use std::rt::Files;
 
-/// The secret key that a text gives: a key that was never sealed as it stands, and any other opened
-/// with the password. Nothing is asked for and nothing is said.
+/// Returns the secret key in `sk_text`, decrypted with the password if it is encrypted. Never prompts and
+/// writes nothing.
 ///
-/// Rejected are, in this order: a text that reads as no key; of a key that was never sealed a
-/// checksum that does not match, `CorruptedKey`; of any other what `SecretKey::from_box` rejects
-/// with a password that is passed in, `WrongPassword` among it. An allocation may fail only where a
-/// sealed key is opened, which takes 128 * 8 * N bytes, 32 MiB with the usual limits. The password
-/// is not copied.
+/// Errors come in this order: a text that does not parse; for a key that was never encrypted, a checksum
+/// that does not match, `CorruptedKey`; for any other key, the errors of `SecretKey::from_box` with a given
+/// password, among them `WrongPassword`. An allocation may fail only while a key is decrypted, which takes
+/// 128 * 8 * N bytes (32 MiB with the default limits). The password is not copied.
 ///
 /// ```
 /// let sk = open_with_password(alloc, sk_text, password)?;
 /// ```
 pub fn open_with_password(alloc: Global, sk_text: &str, password: &str) -> Result<SecretKey>
-    // What the text gives to who has its password: a key that was never sealed as it stands, where
-    // its checksum matches, and any other one opened; otherwise the first error. Only a text whose key
-    // is sealed by scrypt, with limits that are allowed, may meet out of memory.
+    // The result is out of memory or exactly what the secret key text gives under the password: a key that
+    // was never encrypted, unchanged, if its checksum matches; an encrypted key, decrypted; or else the
+    // first check that fails. Out of memory is returned only if the key is encrypted with scrypt and its
+    // limits are allowed.
     ensures { IsOpenedOrNoMemory sk_text.now None result
         (key_with_password sk_text.now password.now) }
 {
@@ -49,13 +49,13 @@ pub fn open_with_password(alloc: Global, sk_text: &str, password: &str) -> Resul
 }
 
 impl KeyPair {
-    /// Makes a pair whose secret key is sealed under the password, as `generate_encrypted_keypair`
-    /// does where one is passed in: of 32 random bytes of a seed, then 8 of a key ID, and then
-    /// 32 of a salt. Nothing is asked for and nothing is said.
+    /// Generates a key pair whose secret key is encrypted under the password, as
+    /// `generate_encrypted_keypair` does with a given password. Takes 32 random bytes for the seed, then 8
+    /// for the key ID, then 32 for the salt. Never prompts and writes nothing.
     ///
-    /// Rejected are, in this order: a password of more than 1024 bytes, which could not be typed
-    /// when the key is opened (`PasswordTooLong`), with nothing drawn; a failing `random`; memory
-    /// for the derivation, some 32 MiB. An empty password is taken.
+    /// Errors come in this order: a password of more than 1024 bytes, which could not be typed when the key
+    /// is decrypted, `PasswordTooLong`, with no random bytes taken; a failing `random`; memory for the
+    /// derivation, some 32 MiB. An empty password is accepted.
     ///
     /// ```
     /// let pair = KeyPair::generate_with_password(alloc, &scheme, &mut random, password)?;
@@ -67,26 +67,27 @@ impl KeyPair {
         random: &mut Z,
         password: &str,
     ) -> Result<KeyPair>
-        // The pair is the one that the definition makes of random bytes that were drawn, sealed
-        // under the password.
+        // On success, the pair is computed as `specs/Generation` defines it from bytes that were read from
+        // the random source, and the secret key is encrypted under the password.
         ensures made { IfOk result (λ pair. IsSealedPair (S.public_of scheme.now) password.now
             (random_call Z.RandomSource random.old random.new) pair.pk pair.sk) }
 
-        // The secret key opens under the password, and then belongs to the public key; each text
-        // that reads as it opens under the password to that key, and to no other.
+        // On success, the secret key decrypts under the password to the key that belongs to the public key.
+        // Each text that parses to the secret key decrypts under the password to that key, and to no other.
         ensures opens { IfOk result
             (λ pair. OpensToPair (S.public_of scheme.now) password.now pair.pk pair.sk) }
 
-        // On success the password has 1024 bytes at most, and the random source did not fail.
+        // On success, the password has at most 1024 bytes, and the random source did not fail.
         ensures typed { OnOk result (length password.now ≤ 1024) }
         ensures no_new_fault { OnOk result (Z.random_faults random.new ≡ Z.random_faults random.old) }
 
-        // The rejections: a password of more than 1024 bytes, with nothing drawn; and with any other
-        // a failing random source, and out of memory once all was drawn.
+        // An error is one of these: the password has more than 1024 bytes, and no random bytes were taken;
+        // the random source failed; or an allocation failed after all random bytes were taken.
         ensures refused { IfErr result
             (PasswordPairFails password.now (random_call Z.RandomSource random.old random.new)) }
 
-        // Whatever the result, the random source lost at most some bytes at its front.
+        // The bytes still ahead of the random source are a suffix of those that were ahead before the call,
+        // whatever the result.
         ensures given { HasGiven (Z.random_ahead random.old) (Z.random_ahead random.new) }
     {
         if password.len() > PASSWORD_BYTES {
@@ -97,14 +98,14 @@ impl KeyPair {
     }
 }
 
-/// Signs the message in memory, and returns the text of the signature. Without a trusted comment it
-/// gets `timestamp:` and the `moment`, in seconds since 1970; the untrusted one is
-/// `signature from rsign secret key`. Two draws of 64 random bytes are made.
+/// Signs the message and returns the signature text. Without a trusted comment, `timestamp:` and the
+/// `moment`, in seconds since 1970, become the trusted comment. The untrusted comment is `signature from
+/// rsign secret key`. Takes 64 random bytes twice.
 ///
-/// Rejected are, in this order: a sealed key, `EncryptedKeyRefused`, with nothing drawn; a failing
-/// `random`. An allocation may fail at any time after the key was tested. A trusted comment with
-/// a line feed, or with white space at its ends, is written as it stands: the text need not verify
-/// then, or may read with another comment.
+/// Errors come in this order: an encrypted key, `EncryptedKeyRefused`, with no random bytes taken; a
+/// failing `random`. An allocation may fail at any time after the key was checked. A trusted comment with a
+/// line feed, or with white space at its ends, is written unchanged: the signature may then fail to verify,
+/// or be read with a different comment.
 ///
 /// ```
 /// let sig_text = sign_bytes(alloc, &scheme, &sk, update, Some("update-1.2.tar"), &mut random, moment)?;
@@ -118,26 +119,29 @@ pub fn sign_bytes<S: Scheme, Z: RandomSource>(
     random: &mut Z,
     moment: u64,
 ) -> Result<String>
-    // What a genuine key signed is read back as a box that vouches for the data, if neither comment
-    // has a line feed and the trusted one is trimmed.
+    // On success with a genuine key, the signature text parses to a signature box that is valid for the
+    // message under every public key with the same key bytes and key ID, if neither comment has a line feed
+    // and the trusted comment is trimmed.
     ensures headline { IfOk result
         (λ t. SigningHeadline (S.accepts scheme.now) (S.public_of scheme.now) sk.now message.now
         (given_comments trusted_comment.entry None moment) (string_bytes t)) }
 
-    // The text is that of the box that signing makes of the data, with an opened key.
+    // On success, the secret key is not encrypted, and the result is the text of the signature box that
+    // signing makes from the key, the message, the comments and bytes of the random source.
     ensures signed { IfOk result (λ t. IsSignedText (S.signature_of scheme.now) sk.now message.now
         (given_comments trusted_comment.entry None moment)
         (random_call Z.RandomSource random.old random.new) (string_bytes t)) }
     ensures opened { OnOk result (is_encrypted sk.now ≡ false) }
 
-    // On success the random source did not fail.
+    // On success, the random source did not fail.
     ensures random_no_new_fault { OnOk result (Z.random_faults random.new ≡ Z.random_faults random.old) }
 
-    // Whatever the result, the random source lost at most some bytes at its front.
+    // The bytes still ahead of the random source are a suffix of those that were ahead before the call,
+    // whatever the result.
     ensures drawn { HasGiven (Z.random_ahead random.old) (Z.random_ahead random.new) }
 
-    // The rejections: a sealed key, with nothing drawn; and with an opened one out of memory, with no
-    // new error of the random source, and a failing random source.
+    // If the key is encrypted, it is rejected, and no random bytes were taken. Otherwise an error is out of
+    // memory, and the random source did not fail; or the random source failed.
     ensures refused { IfErr result
         (BytesSigningFails sk.now (random_call Z.RandomSource random.old random.new)) }
 {
@@ -153,17 +157,16 @@ pub fn sign_bytes<S: Scheme, Z: RandomSource>(
     )
 }
 
-/// Signs all the data ahead of `data_reader`, as `sign_bytes` signs data in memory. The data is
-/// read in pieces of 64 KiB, so that memory does not grow with it.
+/// Signs all the data ahead of `data_reader`, as `sign_bytes` signs data in memory. The data is read in
+/// pieces of 64 KiB, so memory use does not grow with its size.
 ///
-/// Rejected are, in this order: a sealed key, `EncryptedKeyRefused`, with nothing read or drawn; a
-/// failing `data_reader`, `ReadingFailed`, with nothing drawn; a failing `random`, once the data
-/// was read. An allocation may fail at any time after the key was tested. What `sign_bytes` says
-/// of the trusted comment holds here too.
+/// Errors come in this order: an encrypted key, `EncryptedKeyRefused`, with nothing read from `data_reader`
+/// or `random`; a failing `data_reader`, `ReadingFailed`, with no random bytes taken; a failing `random`,
+/// after the data was read. An allocation may fail at any time after the key was checked. The note on the
+/// trusted comment of `sign_bytes` applies here too.
 ///
 /// ```
-/// let sig_text = sign_reader(alloc, &scheme, &sk, &mut data_reader, Some("update-1.2.tar"), &mut random,
-/// moment)?;
+/// let sig_text = sign_reader(alloc, &scheme, &sk, &mut data_reader, Some("update-1.2.tar"), &mut random, moment)?;
 /// ```
 pub fn sign_reader<S: Scheme, R: Source, Z: RandomSource>(
     alloc: Global,
@@ -174,25 +177,26 @@ pub fn sign_reader<S: Scheme, R: Source, Z: RandomSource>(
     random: &mut Z,
     moment: u64,
 ) -> Result<String>
-    // The text is that of the box that signing makes of all the data ahead, with an opened key; what
-    // a genuine key signed is read back as a box that vouches for this data, if neither comment has
-    // a line feed and the trusted one is trimmed.
+    // On success, the result is the text of the signature box that signing makes for all the data that was
+    // ahead, and with a genuine key it parses to a signature box that is valid for this data, if neither
+    // comment has a line feed and the trusted comment is trimmed. The secret key is not encrypted.
     ensures signed { IfOk result (λ t. HasSignedDataText S.Scheme scheme.now sk.now
         (source_call R.Source data_reader.old data_reader.new) (given_comments trusted_comment.entry None
         moment) (random_call Z.RandomSource random.old random.new) (string_bytes t)) }
     ensures opened { OnOk result (is_encrypted sk.now ≡ false) }
 
-    // On success the random source did not fail.
+    // On success, the random source did not fail.
     ensures random_no_new_fault { OnOk result (Z.random_faults random.new ≡ Z.random_faults random.old) }
 
-    // The rejections: a sealed key, with nothing read or drawn; and with an opened one out of memory,
-    // with no new error of either, a failing reader, with nothing drawn, and a failing random source,
-    // once all was read.
+    // If the key is encrypted, it is rejected, and nothing was read from either source. Otherwise an error
+    // is out of memory, and neither source failed; or the reader failed, and no random bytes were taken; or
+    // the random source failed after all the data was read.
     ensures refused { IfErr result (SigningFails S.Scheme scheme.now None
         sk.now (given_comments trusted_comment.entry None moment) (source_call R.Source data_reader.old
         data_reader.new) (random_call Z.RandomSource random.old random.new)) }
 
-    // Whatever the result, the reader and the random source lost at most some bytes at their front.
+    // The bytes still ahead of the reader and of the random source are suffixes of those that were ahead
+    // before the call, whatever the result.
     ensures given { HasGiven (R.ahead data_reader.old) (R.ahead data_reader.new) }
     ensures drawn { HasGiven (Z.random_ahead random.old) (Z.random_ahead random.new) }
 {
@@ -207,18 +211,17 @@ pub fn sign_reader<S: Scheme, R: Source, Z: RandomSource>(
     sign_opened(alloc, scheme, sk, data_reader, comments, random)
 }
 
-/// Signs the data in the file at `data_path`, as `sign_bytes` signs data in memory. The path is
-/// taken as it stands. The data is read in pieces of 64 KiB, so that memory does not grow with it.
-/// The text is returned, and no file is written.
+/// Signs the data in the file at `data_path`, as `sign_bytes` signs data in memory. The path is used as
+/// given. The data is read in pieces of 64 KiB, so memory use does not grow with its size. The signature
+/// text is returned; no file is written.
 ///
-/// Rejected are, in this order: a sealed key, `EncryptedKeyRefused`, with nothing opened, read or
-/// drawn; a file that cannot be opened or read, `ReadingFailed`, with nothing drawn; a failing
-/// `random`, once the file was read. An allocation may fail at any time after the key was tested.
-/// What `sign_bytes` says of the trusted comment holds here too.
+/// Errors come in this order: an encrypted key, `EncryptedKeyRefused`, with nothing opened, read or taken
+/// from `random`; a file that cannot be opened or read, `ReadingFailed`, with no random bytes taken; a
+/// failing `random`, after the file was read. An allocation may fail at any time after the key was checked.
+/// The note on the trusted comment of `sign_bytes` applies here too.
 ///
 /// ```
-/// let sig_text = sign_file(&rt, rt.alloc(), &scheme, &sk, "update.tar", Some("update-1.2.tar"), &mut random,
-/// moment)?;
+/// let sig_text = sign_file(&rt, rt.alloc(), &scheme, &sk, "update.tar", Some("update-1.2.tar"), &mut random, moment)?;
 /// ```
 pub fn sign_file<F: Files, S: Scheme, Z: RandomSource>(
     files: &F,
@@ -230,26 +233,27 @@ pub fn sign_file<F: Files, S: Scheme, Z: RandomSource>(
     random: &mut Z,
     moment: u64,
 ) -> Result<String>
-    // The text is that of the box that signing makes of some data, with an opened key; what a
-    // genuine key signed is read back as a box that vouches for this data, if neither comment has a
-    // line feed and the trusted one is trimmed. No byte of std's files is known: that it is the data of
-    // the named file, the code and tests show.
+    // On success, the result is the text of the signature box that signing makes for some data, and with a
+    // genuine key it parses to a signature box that is valid for this data, if neither comment has a line
+    // feed and the trusted comment is trimmed. The secret key is not encrypted. No contract says that the
+    // data is that of the named file: the code and tests show that.
     ensures signed { IfOk result (λ t. (message : List ℕ) × HasSignedText S.Scheme scheme.now sk.now message
         (given_comments trusted_comment.entry None moment) (random_call Z.RandomSource random.old random.new)
         (string_bytes t)) }
     ensures opened { OnOk result (is_encrypted sk.now ≡ false) }
 
-    // On success the random source did not fail.
+    // On success, the random source did not fail.
     ensures random_no_new_fault { OnOk result (Z.random_faults random.new ≡ Z.random_faults random.old) }
 
-    // The rejections: a sealed key, with nothing drawn; and with an opened one out of memory, with no
-    // new error of the random source, a file that is not opened or not read, with nothing drawn, and
-    // a failing random source.
+    // If the key is encrypted, it is rejected, and no random bytes were taken. Otherwise an error is out of
+    // memory, and the random source did not fail; or the file could not be opened or read, and no random
+    // bytes were taken; or the random source failed.
     ensures refused { IfErr result (λ e. BytesSigningFails sk.now (random_call Z.RandomSource random.old
         random.new) e ⊎ ((is_encrypted sk.now ≡ false) × (e ≡ Named ReadingFailed)
         × (random.new ≡ random.old))) }
 
-    // Whatever the result, the random source lost at most some bytes at its front.
+    // The bytes still ahead of the random source are a suffix of those that were ahead before the call,
+    // whatever the result.
     ensures drawn { HasGiven (Z.random_ahead random.old) (Z.random_ahead random.new) }
 {
     if sk.is_encrypted() {

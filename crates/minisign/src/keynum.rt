@@ -1,4 +1,4 @@
-//! A key's bytes beside its key ID.
+//! The bytes of a key together with its key ID.
 
 ghost use Rattle.std.specs.Prelude.{◌≡◌, ◌&&◌, Some, bytes_eq};
 ghost use Rattle.std.specs.Cmp.{on_per, on_equiv, and_per, and_equiv, partial_equiv_from_equiv};
@@ -8,16 +8,16 @@ ghost use Rattle.minisign.specs.Records.{secret_text};
 use minisign_hash::util::fixed_time_eq;
 use std::fmt;
 
-/// A public key: a key ID of 8 bytes, and the 32 bytes of the key.
+/// A public key: a key ID of 8 bytes and 32 key bytes.
 #[derive(Clone, Debug, Drop)]
 pub struct KeynumPK {
-    /// The key ID, which a signature repeats.
+    /// The key ID, which each signature of the key repeats.
     pub keynum: [u8; 8],
-    /// The bytes of the key.
+    /// The key bytes.
     pub pk: [u8; 32],
 }
 
-/// The key ID and the key bytes count. This is an equivalence.
+/// Two values are equal if their key IDs and key bytes are equal. This is an equivalence relation.
 impl PartialEq for KeynumPK {
     ghost eq = { λ a b. bytes_eq a.keynum b.keynum && bytes_eq a.pk b.pk };
 
@@ -34,11 +34,11 @@ impl Eq for KeynumPK {
         (on_equiv (λ k. k.pk) nat_list_eq_equiv) };
 }
 
-/// A secret key: a key ID of 8 bytes, the 64 secret bytes, which are those of a seed and of
-/// its public key, and a checksum of 32.
+/// A secret key: a key ID of 8 bytes, 64 secret bytes (a seed and its public key) and a checksum of 32
+/// bytes.
 #[derive(Clone, Drop)]
 pub struct KeynumSK {
-    /// The key ID, which a signature repeats.
+    /// The key ID, which each signature of the key repeats.
     pub keynum: [u8; 8],
     /// The secret bytes.
     pub sk: [u8; 64],
@@ -47,7 +47,7 @@ pub struct KeynumSK {
 }
 
 impl KeynumSK {
-    /// The number of bytes: 104.
+    /// Returns the number of bytes, which is 104.
     pub fn len(&self) -> usize
         ensures { result ≡ 104 }
     {
@@ -55,7 +55,7 @@ impl KeynumSK {
     }
 }
 
-/// Prints the secret: its 64 bytes in lower hexadecimal, each without leading zeros. Keep it out of
+/// Prints the secret: its 64 bytes in lowercase hexadecimal, each without leading zeros. Keep it out of
 /// logs.
 impl fmt::Debug for KeynumSK {
     ghost debug_output = { λ k. Some (secret_text k.sk) };
@@ -68,7 +68,7 @@ impl fmt::Debug for KeynumSK {
     }
 }
 
-/// The key ID and the secret bytes count, and not the checksum.
+/// Two values are equal if their key IDs and secret bytes are equal; the checksums are not compared.
 impl PartialEq for KeynumSK {
     ghost eq = { λ a b. bytes_eq a.keynum b.keynum && bytes_eq a.sk b.sk };
 

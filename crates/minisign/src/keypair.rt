@@ -1,4 +1,4 @@
-//! Pairs of keys, and how they are made.
+//! Key pairs and their generation.
 
 ghost use Rattle.std.specs.Prelude.{◌≡◌, ℕ, List, ◌++◌, length, string_bytes, None, Ok, Err, IfSome, IfOk};
 ghost use Rattle.std.specs.Prelude.{IfErr, OnOk, OnErr};
@@ -43,7 +43,7 @@ use std::alloc::Global;
 pub struct KeyPair {
     /// The public key.
     pub pk: PublicKey,
-    /// The secret key, sealed or not.
+    /// The secret key, encrypted or not.
     pub sk: SecretKey,
 }
 
@@ -56,54 +56,55 @@ pub(crate) struct Drawn {
 }
 
 impl KeyPair {
-    /// Makes a pair that is not sealed, of 32 random bytes of a seed and then 8 of a key ID.
+    /// Generates a key pair that is not encrypted. Takes 32 random bytes for the seed and then 8 for the
+    /// key ID.
     ///
-    /// Does not allocate: it succeeds unless the random source failed.
+    /// Does not allocate. Fails only if the random source failed.
     #[tactic(auto, using(crate::proofs::GeneratedKeys::unsealed_pair, crate::proofs::GeneratedKeys::seed_and_keynum))]
     pub fn generate_unencrypted_keypair<S: Scheme, Z: RandomSource>(
         scheme: &S,
         random: &mut Z,
     ) -> Result<KeyPair>
-        // The pair is the one that its definition makes of the bytes that were drawn: 32 of a seed,
-        // 8 of a key ID, and for a sealed one 32 of a salt.
+        // On success, the pair is computed as `specs/Generation` defines it from bytes that were read from
+        // the random source: 32 for the seed, 8 for the key ID and, for an encrypted pair, 32 for the salt.
         ensures made { IfOk result
             (λ pair. IsUnsealedPair (S.public_of scheme.now)
             (random_call Z.RandomSource random.old random.new) pair.pk pair.sk) }
 
-        // The two keys belong together: the secret one is genuine, not sealed, and the public one
-        // has its public half and its key ID.
+        // On success, the two keys belong together: the secret key is genuine and not encrypted, and the
+        // public key has its public half and its key ID.
         ensures genuine { IfOk result
             (λ pair. IsGenuinePair (S.public_of scheme.now) pair.pk pair.sk) }
         ensures unencrypted { IfOk result (λ pair. unencrypted_key pair.sk ≡ Ok pair.sk) }
 
-        // Each text that reads as an unsealed pair's secret key is accepted by
-        // `SecretKey::from_unencrypted_box`.
+        // On success, `SecretKey::from_unencrypted_box` accepts each text that parses to the secret key of
+        // an unencrypted pair.
         ensures texts { IfOk result
             (λ pair. (text : List ℕ) → read_secret_key text ≡ Ok pair.sk
             → read_unencrypted_key text ≡ Ok pair.sk) }
 
-        // On success the random source did not fail.
+        // On success, the random source did not fail.
         ensures no_new_fault { OnOk result (Z.random_faults random.new ≡ Z.random_faults random.old) }
 
-        // An unsealed pair, which does not allocate, fails only if the random source's count of
-        // errors rose.
+        // The only error is that of the random source, and its error count rose.
         ensures refused { IfErr result
             (HasFailed RandomSourceFailed Z.random_faults random.old random.new) }
 
-        // Whatever the result, the random source lost at most some bytes at its front.
+        // The bytes still ahead of the random source are a suffix of those that were ahead before the call,
+        // whatever the result.
         ensures given { HasGiven (Z.random_ahead random.old) (Z.random_ahead random.new) }
     {
         let (seed, keynum) = draw_two(random)?;
         Ok(make_pair(scheme, &seed, keynum))
     }
 
-    /// Makes a pair that is not sealed, and writes the 42 bytes of its public key to `pk_sink` and
-    /// the 158 of its secret key to `sk_sink`.
+    /// Generates a key pair that is not encrypted, and writes the 42 bytes of its public key to `pk_sink`
+    /// and the 158 bytes of its secret key to `sk_sink`.
     ///
-    /// Rejected are, in this order: a failing `random`; memory for the bytes of both keys, with
-    /// neither sink touched; a failing `pk_sink`; and a failing `sk_sink`. The public key is
-    /// written and flushed before the secret one is begun, and the secret one is flushed at the
-    /// end. A sink that failed took a prefix of its key.
+    /// Errors come in this order: a failing `random`; memory for the bytes of both keys, with both sinks
+    /// unchanged; a failing `pk_sink`; a failing `sk_sink`. The public key is written and flushed before
+    /// the secret key is begun, and the secret key is flushed at the end. A sink that failed has received a
+    /// prefix of its key.
     pub fn generate_and_write_unencrypted_keypair<S: Scheme, Z: RandomSource, P: Sink, K: Sink>(
         alloc: Global,
         scheme: &S,
@@ -111,7 +112,7 @@ impl KeyPair {
         pk_sink: &mut P,
         sk_sink: &mut K,
     ) -> Result<KeyPair>
-        // The pair is made as `KeyPair::generate_unencrypted_keypair` says.
+        // On success, the pair is made as `KeyPair::generate_unencrypted_keypair` promises.
         ensures made { IfOk result
             (λ pair. IsUnsealedPair (S.public_of scheme.now)
             (random_call Z.RandomSource random.old random.new) pair.pk pair.sk) }
@@ -119,7 +120,7 @@ impl KeyPair {
             (λ pair. IsGenuinePair (S.public_of scheme.now) pair.pk pair.sk) }
         ensures unencrypted { IfOk result (λ pair. unencrypted_key pair.sk ≡ Ok pair.sk) }
 
-        // The sinks took the raw bytes of both keys, and did not fail.
+        // On success, the sinks received the raw bytes of both keys and did not fail.
         ensures public { IfOk result
             (λ pair. TakesPart (sink_call P.Sink pk_sink.old pk_sink.new)
             (public_key_bytes pair.pk)) }
@@ -127,18 +128,19 @@ impl KeyPair {
             (λ pair. TakesPart (sink_call K.Sink sk_sink.old sk_sink.new)
             (secret_key_bytes pair.sk)) }
 
-        // On success the random source did not fail.
+        // On success, the random source did not fail.
         ensures no_new_fault { OnOk result (Z.random_faults random.new ≡ Z.random_faults random.old) }
 
-        // If a pair is not made, or an allocation fails for its bytes or texts, which comes only where
-        // the random source did not fail, neither sink is touched; otherwise a sink failed: the public
-        // one with the secret one untouched, or the secret one after the public one took everything
-        // and flushed it; a sink that failed took a prefix.
+        // If no pair is made, or an allocation fails for its bytes, both sinks are unchanged; such an
+        // allocation fails only if the random source did not fail. Otherwise a sink failed: either
+        // `pk_sink`, and `sk_sink` is unchanged, or `sk_sink`, after `pk_sink` received and flushed
+        // everything. The sink that failed has received a prefix.
         ensures refused { IfErr result (RawPairFails (S.public_of scheme.now)
             (random_call Z.RandomSource random.old random.new) (sink_call P.Sink pk_sink.old pk_sink.new)
             (sink_call K.Sink sk_sink.old sk_sink.new)) }
 
-        // Whatever the result, the random source lost at most some bytes at its front.
+        // The bytes still ahead of the random source are a suffix of those that were ahead before the call,
+        // whatever the result.
         ensures given { HasGiven (Z.random_ahead random.old) (Z.random_ahead random.new) }
     {
         let pair = KeyPair::generate_unencrypted_keypair(scheme, random)?;
@@ -146,17 +148,16 @@ impl KeyPair {
         Ok(pair)
     }
 
-    /// Makes a pair whose secret key is sealed under a password, of 32 random bytes of a seed, then
-    /// 8 of a key ID, and then 32 of a salt. All of them are drawn before anything is asked.
+    /// Generates a key pair whose secret key is encrypted under a password. Takes 32 random bytes for the
+    /// seed, then 8 for the key ID, then 32 for the salt, all before anything is asked.
     ///
-    /// Where no `password` is passed in, the prompt says what it is for, asks for it twice, and
-    /// tells of the derivation, which takes some 32 MiB of memory; otherwise the prompt is left
-    /// alone. The secret key is opened again by `SecretKey::from_box` with the same password.
+    /// If no `password` is given, the prompt says what the password is for, asks for it twice, and reports
+    /// the derivation, which takes some 32 MiB of memory. If one is given, the prompt is unchanged.
+    /// `SecretKey::from_box` decrypts the secret key with the same password.
     ///
-    /// Rejected are, in this order: a failing `random`, with nothing asked; what `get_password`
-    /// rejects, at the first question and then at the second; two passwords that differ
-    /// (`PasswordsDiffer`); memory for the derivation. A prompt that cannot be written to is
-    /// rejected at each text.
+    /// Errors come in this order: a failing `random`, with nothing asked; the errors of `get_password`, for
+    /// the first prompt and then for the second; two passwords that differ, `PasswordsDiffer`; memory for
+    /// the derivation. A prompt that cannot be written to is an error at each text.
     pub fn generate_encrypted_keypair<S: Scheme, Z: RandomSource, R: Source, W: Sink>(
         alloc: Global,
         scheme: &S,
@@ -164,41 +165,41 @@ impl KeyPair {
         password: Option<String>,
         prompt: &mut Prompt<R, W>,
     ) -> Result<KeyPair>
-        // The pair is the one that its definition makes of the bytes that were drawn: 32 of a seed,
-        // 8 of a key ID, and for a sealed one 32 of a salt.
+        // On success, the pair is computed as `specs/Generation` defines it from bytes that were read from
+        // the random source: 32 for the seed, 8 for the key ID and, for an encrypted pair, 32 for the salt.
         //
-        // A sealed pair's secret key opens under the password that was passed in or typed, and is
-        // genuine then; each text that reads as it opens too, to this key and no other (`opens`). A
-        // password that is passed in leaves the prompt untouched; otherwise what was asked, typed
-        // and written is what docs/FORMATS.md says (`prompted`).
+        // On success, the secret key of an encrypted pair decrypts under the password that was given or
+        // typed, and is then genuine. Each text that parses to the secret key decrypts to this key and to
+        // no other. A given password leaves the prompt unchanged; otherwise the prompts, the answers and
+        // all that was written are as docs/FORMATS.md says.
         ensures made { IfOk result (λ pair. HasSealed (S.public_of scheme.now)
             (random_call Z.RandomSource random.old random.new) (prompt_call R.Source W.Sink prompt.old
             prompt.new) (option_map string_bytes password) pair.pk pair.sk) }
 
-        // On success the random source did not fail.
+        // On success, the random source did not fail.
         ensures no_new_fault { OnOk result (Z.random_faults random.new ≡ Z.random_faults random.old) }
 
-        // A sealed pair fails if the random source did, with nothing asked; otherwise all 72 bytes
-        // were drawn, and an allocation failed, the prompt failed, a line gave no password, or two
-        // were typed that differ.
+        // If the random source failed, nothing was asked. Otherwise all 72 random bytes were taken, and an
+        // allocation failed, the prompt failed, a line gave no password, or the two typed passwords differ.
         ensures refused { IfErr result (SealedPairFails (random_call Z.RandomSource random.old random.new)
             (prompt_call R.Source W.Sink prompt.old prompt.new) (option_map string_bytes password)) }
 
-        // Whatever the result, the random source lost at most some bytes at its front.
+        // The bytes still ahead of the random source are a suffix of those that were ahead before the call,
+        // whatever the result.
         ensures given { HasGiven (Z.random_ahead random.old) (Z.random_ahead random.new) }
     {
         let drawn = draw_with_salt(random)?;
         seal_pair(alloc, scheme, &drawn, password, prompt)
     }
 
-    /// Makes a sealed pair as `generate_encrypted_keypair` does, and writes the text of its public
-    /// key to `pk_sink` and the one of its secret key, with the `comment` or the default one, to
+    /// Generates an encrypted key pair as `generate_encrypted_keypair` does, and writes the text of its
+    /// public key to `pk_sink` and the text of its secret key, with `comment` or the default comment, to
     /// `sk_sink`.
     ///
-    /// Rejected are, in this order: what that call rejects, and memory for the two texts, with
-    /// neither sink touched; a failing `pk_sink`; and a failing `sk_sink`. The public key is
-    /// written and flushed before the secret one is begun, and the secret one is flushed at the
-    /// end. A sink that failed took a prefix of its text.
+    /// Errors come in this order: those of `generate_encrypted_keypair`, and memory for the two texts, with
+    /// both sinks unchanged; a failing `pk_sink`; a failing `sk_sink`. The public key is written and
+    /// flushed before the secret key is begun, and the secret key is flushed at the end. A sink that failed
+    /// has received a prefix of its text.
     pub fn generate_and_write_encrypted_keypair<
         S: Scheme,
         Z: RandomSource,
@@ -216,12 +217,12 @@ impl KeyPair {
         password: Option<String>,
         prompt: &mut Prompt<R, W>,
     ) -> Result<KeyPair>
-        // The pair is made as `KeyPair::generate_encrypted_keypair` says.
+        // On success, the pair is made as `KeyPair::generate_encrypted_keypair` promises.
         ensures made { IfOk result (λ pair. HasSealed (S.public_of scheme.now)
             (random_call Z.RandomSource random.old random.new) (prompt_call R.Source W.Sink prompt.old
             prompt.new) (option_map string_bytes password) pair.pk pair.sk) }
 
-        // The sinks took the texts of both keys, and did not fail.
+        // On success, the sinks received the texts of both keys and did not fail.
         ensures public { IfOk result
             (λ pair. TakesPart (sink_call P.Sink pk_sink.old pk_sink.new)
             (public_key_text pair.pk)) }
@@ -229,25 +230,26 @@ impl KeyPair {
             (λ pair. TakesPart (sink_call K.Sink sk_sink.old sk_sink.new)
             (secret_key_text (option_copied comment.entry) pair.sk)) }
 
-        // The secret key's text opens under the password, to the key of the public one, if the
-        // comment has no line feed.
+        // On success, if the comment has no line feed, the text of the secret key decrypts under the
+        // password to the key that belongs to the public key.
         ensures opens_again { IfSome comment.entry (λ s. LacksByte 10 s.now) → IfOk result (λ pair.
             (typed : List ℕ) → OpensToPair (S.public_of scheme.now) typed pair.pk pair.sk → OpensTo
             (secret_key_text (option_copied comment.entry) pair.sk) typed 1 (xored_key pair.sk typed)) }
 
-        // On success the random source did not fail.
+        // On success, the random source did not fail.
         ensures no_new_fault { OnOk result (Z.random_faults random.new ≡ Z.random_faults random.old) }
 
-        // If a pair is not made, or an allocation fails for its bytes or texts, which comes only where
-        // the random source did not fail, neither sink is touched; otherwise a sink failed: the public
-        // one with the secret one untouched, or the secret one after the public one took everything
-        // and flushed it; a sink that failed took a prefix.
+        // If no pair is made, or an allocation fails for its texts, both sinks are unchanged; such an
+        // allocation fails only if the random source did not fail. Otherwise a sink failed: either
+        // `pk_sink`, and `sk_sink` is unchanged, or `sk_sink`, after `pk_sink` received and flushed
+        // everything. The sink that failed has received a prefix.
         ensures refused { IfErr result (SealedTextsFail (S.public_of scheme.now)
             (random_call Z.RandomSource random.old random.new) (prompt_call R.Source W.Sink prompt.old
             prompt.new) (option_map string_bytes password) (sink_call P.Sink pk_sink.old pk_sink.new)
             (sink_call K.Sink sk_sink.old sk_sink.new) (option_copied comment.entry)) }
 
-        // Whatever the result, the random source lost at most some bytes at its front.
+        // The bytes still ahead of the random source are a suffix of those that were ahead before the call,
+        // whatever the result.
         ensures given { HasGiven (Z.random_ahead random.old) (Z.random_ahead random.new) }
     {
         let pair = KeyPair::generate_encrypted_keypair(alloc, scheme, random, password, prompt)?;

@@ -1,6 +1,7 @@
-//! Minisign: keys, signatures, and whether a signature vouches for data under a public key.
+//! Minisign: keys, signatures, and the verification of data with a public key and a signature.
 //!
-//! You pass in a signature scheme, random bytes, and the devices that bytes come from and go to.
+//! The caller passes in a signature scheme, a source of random bytes, and the devices that bytes are read
+//! from and written to.
 
 #![tactic(auto)]
 

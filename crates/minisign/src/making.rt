@@ -1,5 +1,5 @@
-//! The texts of keys that are made of their parts: so a password is changed, and a public key is
-//! written again.
+//! Texts of keys that are made from their parts, for example to change a password or to write a public key
+//! again.
 
 ghost use Rattle.std.specs.Prelude.{◌≡◌, ◌≤◌, ◌+◌, List, ℕ, Some, Ok, IfOk, IfErr, length};
 ghost use Rattle.std.specs.Str.Iter.{LacksByte};
@@ -17,33 +17,32 @@ use crate::secret_key_box::SecretKeyBox;
 use minisign_base::Result;
 use std::alloc::Global;
 
-/// How a secret key that is made is sealed, with the layout of C. The limits are those of
-/// libsodium's `crypto_pwhash_scryptsalsa208sha256`.
+/// How `make_secret_key` encrypts a key, with C layout. The limits are those of libsodium's
+/// `crypto_pwhash_scryptsalsa208sha256`.
 #[repr(C)]
 #[derive(Clone, Copy)]
 pub struct Sealing {
-    /// The salt, 32 random bytes that no other key has.
+    /// The salt: 32 random bytes that are used for no other key.
     pub salt: [u8; 32],
-    /// The operations limit: how much work scrypt is.
+    /// The operations limit: how much work scrypt does.
     pub operations_limit: u64,
     /// The memory limit in bytes.
     pub memory_limit: u64,
 }
 
-/// Makes the text of a secret key of its parts: a key ID of 8 bytes, and 64 secret bytes,
-/// those of a seed and of its public key. With a password the key is sealed under it, with the salt
-/// and the limits of `sealing`; without one it is not sealed, `sealing` is not looked at, and the
-/// text has zeros for the salt and the limits.
+/// Makes the text of a secret key from a key ID of 8 bytes and 64 secret bytes, a seed followed by its
+/// public key. With a password, the key is encrypted under it with the salt and limits of `sealing`.
+/// Without one, the key is not encrypted, `sealing` is ignored, and the text has zeros for the salt and the
+/// limits.
 ///
-/// The text opens under the password to exactly this key, or reads as this key where there is none;
-/// the comment stands in its first line. It has 233 bytes more than the comment. Every k-th row of
-/// scrypt is kept, for k from 1 on, as `SecretKey::from_box_keeping` keeps them; the text is the
-/// same for every k.
+/// The text decrypts under the password to exactly this key, or parses to this key if there is no password.
+/// The comment is in its first line. The text is 233 bytes longer than the comment. scrypt keeps every k-th
+/// row, k at least 1, as in `SecretKey::from_box_keeping`; the text is the same for every k.
 ///
-/// Rejected are, with a password: a memory limit above 1073741824 bytes or a cost above 2^20,
-/// `ParametersTooHigh`; limits that lead to parameters that scrypt does not take,
-/// `InvalidParameters`. These do not allocate. Then an allocation may fail. A comment with a line
-/// feed is written as it stands, and the text reads as no key then, or as another one.
+/// Errors, with a password: a memory limit above 1073741824 bytes or a cost above 2^20,
+/// `ParametersTooHigh`; limits that give parameters that scrypt rejects, `InvalidParameters`. These checks
+/// do not allocate. After them an allocation may fail. A comment with a line feed is written unchanged, and
+/// the text then parses to no key or to a different one.
 pub fn make_secret_key(
     alloc: Global,
     key_id: [u8; 8],
@@ -55,17 +54,17 @@ pub fn make_secret_key(
 ) -> Result<SecretKeyBox>
     requires kept { 1 ≤ k }
 
-    // The text of a secret key is the one by definition: with a password the record sealed under it
-    // with the salt and the limits that were passed in, without one the record as it stands. If the
-    // comment has no line feed, it opens under the password to the key of these parts, within each
-    // bound that p is within, and to no other key, or reads without a password as this key and no
-    // other. It has 233 bytes more than the comment. This is so for every salt, all limits and
-    // every k.
+    // On success, the result is the text, with the comment, of the secret key of these parts, encrypted
+    // under the password with the given salt and limits, or unencrypted if there is no password. It is 233
+    // bytes longer than the comment. If the comment has no line feed, the text decrypts under the password
+    // to the key of these parts, within each work limit that p is within, and to no other key; without a
+    // password it parses to this key and to no other. All this holds for every salt, all limits and every
+    // k.
     ensures text { IfOk result (IsMadeText key_id secret (option_map (λ p. p.now) password.entry) sealing.now
         comment.now) }
 
-    // It is rejected exactly where a password is passed in and sealing does not allow the limits,
-    // with their error, or else an allocation failed.
+    // If a password is given and its limits are not allowed, the only error is the one for the limits.
+    // Otherwise the only error is out of memory.
     ensures refused { IfErr result
         (λ e. e ≡ making_fault (option_map (λ p. p.now) password.entry) sealing.now) }
 {
@@ -94,23 +93,23 @@ fn make_sealed(
     sealed.to_box(alloc, Some(comment))
 }
 
-/// Makes the text of the public key of these parts, which is the one of the secret key that
-/// `make_secret_key` makes of them: the last 32 of the secret bytes, under the key ID. It has 77
-/// bytes more than the comment, which stands in its first line; Minisign's own comment is
-/// `minisign public key ` and the key ID, read little endian, in upper hexadecimal digits
-/// without leading zeros.
+/// Makes the text of the public key that belongs to the secret key that `make_secret_key` makes of the same
+/// parts: the last 32 of the secret bytes, under the key ID. The text is 77 bytes longer than the comment,
+/// which is in its first line. Minisign's own comment is `minisign public key ` and the key ID, read little
+/// endian, in uppercase hexadecimal digits without leading zeros.
 ///
-/// Fails only where an allocation does. A comment with a line feed is written as it stands, and
-/// the text reads as no key then, or as another one.
+/// Fails only if an allocation fails. A comment with a line feed is written unchanged, and the text then
+/// parses to no key or to a different one.
 pub fn make_public_key(
     alloc: Global,
     key_id: [u8; 8],
     secret: [u8; 64],
     comment: &str,
 ) -> Result<PublicKeyBox>
-    // The text of a public key is the one by definition; if the comment has no line feed, it reads
-    // as the public key of these parts, so of the key that the other text gives; it has 77 bytes
-    // more than the comment; the only rejection is out of memory.
+    // On success, the result is the text of the public key of these parts with the comment, in the form
+    // that `specs/KeyTexts` defines. It is 77 bytes longer than the comment. If the comment has no line
+    // feed, the text parses to the public key of these parts, which is that of the secret key made of them.
+    // The only error is out of memory.
     ensures written { IfOk result (λ t. t ≡ commented_public_key_text comment.now
         (own_public_key (unsealed_key key_id secret))) }
     ensures reads { LacksByte 10 comment.now

@@ -1,11 +1,11 @@
-//! A device that never fails: the bytes of a slice.
+//! A source that never fails: the bytes of a slice.
 
 ghost use Rattle.std.specs.Prelude.{◌≡◌, true, Some, length, ⊤};
 
 use minisign_base::devices::DeviceFault;
 use minisign_base::devices::sources::{Rereader, Source};
 
-// The bytes of a slice, which counts no errors since it has none. Its beginning is marked at first.
+// The bytes of a slice. This source never fails, and its beginning is marked at first.
 #[derive(Drop)]
 pub(crate) struct MemorySource<'a> {
     rest: &'a [u8],

@@ -1,5 +1,4 @@
-//! What a password does with a secret key: it seals one that was made, and opens that of a text, or one that
-//! was read.
+//! Decrypting secret keys with a password, from a text or a parsed key, and encrypting new ones.
 
 ghost use Rattle.std.specs.Prelude.{◌≡◌, ◌≤◌, ◌⊎◌, ◌∷◌, [], ℕ, List, None, Some, Ok, Err, false};
 ghost use Rattle.std.specs.Prelude.{string_bytes, IfOk, IfErr, IsOk, IsErrAnd, MatchResult, OnOk, ◌*◌, ◌^◌};
@@ -39,15 +38,14 @@ use std::alloc::Global;
 use std::rt::Files;
 
 impl SecretKeyBox {
-    /// The key, opened where it is sealed: `SecretKey::from_box`.
+    /// Returns the secret key in the text, decrypted, as `SecretKey::from_box` does.
     pub fn into_secret_key<R: Source, W: Sink>(
         self,
         alloc: Global,
         password: Option<String>,
         prompt: &mut Prompt<R, W>,
     ) -> Result<SecretKey>
-        // Of the text that it holds: as `SecretKey::from_box_within` says, with no bound on the
-        // work.
+        // The text is decrypted as `SecretKey::from_box_within` promises, without a bound on the work.
         ensures opens { IsOpening (prompt_call R.Source W.Sink prompt.old prompt.new)
             (option_map string_bytes password) self None result }
         ensures headline { IfSome (option_map string_bytes password)
@@ -56,9 +54,10 @@ impl SecretKeyBox {
         SecretKey::from_box(alloc, self, password, prompt)
     }
 
-    /// The key, where it was never sealed: `SecretKey::from_unencrypted_box`.
+    /// Returns the secret key in the text if it was never encrypted, as `SecretKey::from_unencrypted_box`
+    /// does.
     pub fn into_unencrypted_secret_key(self) -> Result<SecretKey>
-        // The text that it holds is read, and rejected, as `SecretKey::from_unencrypted_box` says.
+        // The text is parsed and rejected as `SecretKey::from_unencrypted_box` promises.
         ensures { result ≡ read_unencrypted_key self }
     {
         SecretKey::from_unencrypted_box(self)
@@ -66,13 +65,12 @@ impl SecretKeyBox {
 }
 
 impl SecretKey {
-    /// Reads the secret key text that the file at `path` holds, and opens the key with the
-    /// password, as `from_box` does. The path is taken as it stands.
+    /// Parses the secret key text in the file at `path` and decrypts the key with the password, as
+    /// `from_box` does. The path is used as given.
     ///
-    /// These are rejected, in this order: a file that cannot be opened or read, `ReadingFailed`;
-    /// one that is not UTF-8, `NotUtf8`; and what `from_box` rejects. An allocation may fail at
-    /// any time. Until the file is read the prompt is left alone. No byte of std's files is known, so of
-    /// the text it is only said that there is one.
+    /// Errors come in this order: a file that cannot be opened or read, `ReadingFailed`; a file that is not
+    /// UTF-8, `NotUtf8`; the errors of `from_box`. An allocation may fail at any time. Until the file has
+    /// been read the prompt is unchanged. No contract says that the text is that of the named file.
     pub fn from_file<F: Files, R: Source, W: Sink>(
         files: &F,
         alloc: Global,
@@ -80,11 +78,11 @@ impl SecretKey {
         password: Option<String>,
         prompt: &mut Prompt<R, W>,
     ) -> Result<SecretKey>
-        // What is returned is opened from some text, as `SecretKey::from_box` opens it; otherwise
-        // an allocation failed, the file could not be opened or read, it is not UTF-8, or that call
-        // rejects a text.
+        // On success, the key was decrypted from some text, as `SecretKey::from_box` does it. An error is
+        // out of memory, a file that could not be opened or read, a file that is not UTF-8, or an error of
+        // `SecretKey::from_box` for some text.
         //
-        // Until the file was read the prompt is left alone.
+        // If the file could not be read as a text, the prompt is unchanged.
         ensures opens { (IsErrAnd result IsTextFileFault × (prompt.new ≡ prompt.old))
             ⊎ ((text : List ℕ) × IsOpening (prompt_call R.Source W.Sink prompt.old prompt.new)
             (option_map string_bytes password) text None result) }
@@ -93,15 +91,15 @@ impl SecretKey {
         SecretKey::from_box(alloc, SecretKeyBox::from(text), password, prompt)
     }
 
-    /// Reads a sealed key and opens it with the password: as `from_box_within`, with no bound, so
-    /// that `WorkTooHigh` never comes.
+    /// Parses the text of an encrypted key and decrypts it with the password, as `from_box_within` does,
+    /// without a bound on the work, so `WorkTooHigh` is never returned.
     pub fn from_box<R: Source, W: Sink>(
         alloc: Global,
         sk_box: SecretKeyBox,
         password: Option<String>,
         prompt: &mut Prompt<R, W>,
     ) -> Result<SecretKey>
-        // As `SecretKey::from_box_within` says, with no bound on the work.
+        // The text is decrypted as `SecretKey::from_box_within` promises, without a bound on the work.
         ensures opens { IsOpening (prompt_call R.Source W.Sink prompt.old prompt.new)
             (option_map string_bytes password) sk_box None result }
         ensures headline { IfSome (option_map string_bytes password)
@@ -111,11 +109,11 @@ impl SecretKey {
         SecretKey::open_box(alloc, sk_box, password, prompt, derivation)
     }
 
-    /// Reads a sealed key and opens it with the password in a fraction of the memory: `from_box`
-    /// with only every k-th of scrypt's rows kept, for k from 1 on. The others are made again when
-    /// they are named, so that what is opened and what is rejected is the same for every k, and the
-    /// time grows with it. Memory for the kept rows is asked for once, 128 * 8 bytes for each of N
-    /// / k, rounded up.
+    /// Parses the text of an encrypted key and decrypts it with the password, as `from_box` does, in a
+    /// fraction of the memory: only every k-th of scrypt's rows is kept, for k from 1 on, and the others
+    /// are computed again when they are needed. The result and the errors are the same for every k; the
+    /// time grows with k. Memory for the kept rows is allocated once: 128 * 8 bytes for each of N / k rows,
+    /// rounded up.
     pub fn from_box_keeping<R: Source, W: Sink>(
         alloc: Global,
         sk_box: SecretKeyBox,
@@ -125,8 +123,8 @@ impl SecretKey {
     ) -> Result<SecretKey>
         requires kept { 1 ≤ k }
 
-        // With every k-th row of scrypt kept, for every k from 1 on: as
-        // `SecretKey::from_box_within` says, with no bound on the work.
+        // For every k from 1 on, with every k-th row of scrypt kept, the text is decrypted as
+        // `SecretKey::from_box_within` promises, without a bound on the work.
         ensures opens { IsOpening (prompt_call R.Source W.Sink prompt.old prompt.new)
             (option_map string_bytes password) sk_box None result }
         ensures headline { IfSome (option_map string_bytes password)
@@ -136,22 +134,21 @@ impl SecretKey {
         SecretKey::open_box(alloc, sk_box, password, prompt, derivation)
     }
 
-    /// Reads a sealed key and opens it with the password, within a bound on the work of a
-    /// stranger's key: `max_p` is the greatest parallelization p of scrypt (RFC 7914, section 2)
-    /// that is allowed. Memory for the rows of scrypt is asked for once, 128 * 8 * N bytes.
+    /// Parses the text of an encrypted key and decrypts it with the password, within a bound on the work
+    /// that an untrusted key may cause: `max_p` is the greatest parallelization p of scrypt (RFC 7914,
+    /// section 2) that is allowed. Memory for the rows of scrypt is allocated once, 128 * 8 * N bytes.
     ///
-    /// Where no password is passed in, the prompt writes `Password: ` and reads a line, writes
-    /// `Deriving a key from the password and decrypting the secret key... `, and after the
-    /// derivation `done` and a line feed; a password that is passed in leaves the prompt untouched.
+    /// If no password is given, the prompt writes `Password: `, reads a line, writes `Deriving a key from
+    /// the password and decrypting the secret key... `, and after the derivation writes `done` and a line
+    /// feed. A given password leaves the prompt unchanged.
     ///
-    /// Rejected are, in this order: a text without a first line, without a second one, with a second
-    /// line that is not base64, or of fewer than 158 bytes; a key that was never sealed,
-    /// `KeyNotEncrypted`; one that is not sealed by scrypt, `UnsupportedEncryptionAlgorithm`;
-    /// what `get_password` rejects; a writer that fails before the derivation; a memory limit above
-    /// 1073741824 bytes or a cost above 2^20, `ParametersTooHigh`; limits that lead to parameters
-    /// that scrypt does not take, `InvalidParameters`; p above `max_p`, `WorkTooHigh`; a writer
-    /// that fails at `done`; a checksum that opening does not restore, `WrongPassword`. What the
-    /// limits and the bound reject allocates no rows.
+    /// Errors come in this order: no first line, no second line, a second line that is not base64, fewer
+    /// than 158 bytes; a key that was never encrypted, `KeyNotEncrypted`; a key derivation other than
+    /// scrypt, `UnsupportedEncryptionAlgorithm`; the errors of `get_password`; a writer that fails before
+    /// the derivation; a memory limit above 1073741824 bytes or a cost above 2^20, `ParametersTooHigh`;
+    /// limits that give parameters that scrypt rejects, `InvalidParameters`; p above `max_p`,
+    /// `WorkTooHigh`; a writer that fails at `done`; a checksum that does not match after decryption,
+    /// `WrongPassword`. Limits that are rejected cause no allocation of rows.
     pub fn from_box_within<R: Source, W: Sink>(
         alloc: Global,
         sk_box: SecretKeyBox,
@@ -159,19 +156,21 @@ impl SecretKey {
         prompt: &mut Prompt<R, W>,
         max_p: u32,
     ) -> Result<SecretKey>
-        // With a password that is passed in: what the text opens to under it within the bound, key
-        // or first error; or out of memory, but only where that derives. The prompt is left untouched.
+        // With a given password, the result is exactly what the text decrypts to under it within the bound
+        // (the key, or the first check that fails), or out of memory, which is possible only for a key
+        // whose derivation is allowed. The prompt is unchanged.
         //
-        // With a password that is asked for: what was typed opens the key so, and the prompt wrote
-        // what docs/FORMATS.md says; a text that no password opens leaves the prompt untouched;
-        // then come the prompt's errors, and what rejects the key with the password, each with
-        // what was written by then (`StepEnds`).
+        // Without a given password, a text that no password can decrypt is rejected with the prompt
+        // unchanged. Otherwise the prompt asks for the password and writes what docs/FORMATS.md says, and
+        // on success the key is decrypted with the password that was typed. An error is one of the prompt
+        // or the first check that fails for the key and the password, after what was written up to that
+        // point.
         ensures opens { IsOpening (prompt_call R.Source W.Sink prompt.old prompt.new)
             (option_map string_bytes password) sk_box (Some max_p) result }
 
-        // In one piece, with a password that is passed in: a text opens exactly when it reads as a
-        // key that is sealed by scrypt, its limits are allowed and within the bound, and the stream
-        // of RFC 7914 restores its checksum.
+        // With a given password, a text is decrypted exactly if it parses to a key that is encrypted with
+        // scrypt, its limits are allowed and within the bound, and the scrypt stream of RFC 7914 restores
+        // its checksum; or else the result is out of memory.
         ensures headline { IfSome (option_map string_bytes password)
             (λ p. IsOpenedOrNoMemory sk_box (Some max_p) result (open_key sk_box p (Some max_p))) }
     {
@@ -180,13 +179,11 @@ impl SecretKey {
         SecretKey::open_box(alloc, sk_box, password, prompt, derivation)
     }
 
-    /// Reads a sealed key and opens it with the password, within a bound on the work and in a
-    /// fraction of the memory: `from_box_within` with only every k-th of scrypt's rows kept, for k
-    /// from 1 on, as `from_box_keeping` keeps them. N is at most 2^20, so that with k 16 no key
-    /// takes more than 64 MiB of rows.
+    /// Parses the text of an encrypted key and decrypts it with the password, as `from_box_within` does,
+    /// with only every k-th of scrypt's rows kept, for k from 1 on, as in `from_box_keeping`. N is at most
+    /// 2^20, so with k = 16 no key needs more than 64 MiB for rows.
     ///
-    /// What is opened and what is rejected, and in which order, is that of `from_box_within`, for
-    /// every k.
+    /// The result, the errors and their order are those of `from_box_within` for every k.
     pub fn from_box_keeping_within<R: Source, W: Sink>(
         alloc: Global,
         sk_box: SecretKeyBox,
@@ -197,8 +194,8 @@ impl SecretKey {
     ) -> Result<SecretKey>
         requires kept { 1 ≤ k }
 
-        // With every k-th row of scrypt kept, for every k from 1 on: as
-        // `SecretKey::from_box_within` says.
+        // For every k from 1 on, with every k-th row of scrypt kept, the text is decrypted as
+        // `SecretKey::from_box_within` promises.
         ensures opens { IsOpening (prompt_call R.Source W.Sink prompt.old prompt.new)
             (option_map string_bytes password) sk_box (Some max_p) result }
         ensures headline { IfSome (option_map string_bytes password)
@@ -209,16 +206,15 @@ impl SecretKey {
         SecretKey::open_box(alloc, sk_box, password, prompt, derivation)
     }
 
-    /// Reads a key that was never sealed. Its text is read as two lines: one of comment, and one
-    /// that is the base64 of the key's 158 bytes, with nothing trimmed off; later bytes and later
-    /// lines are ignored.
+    /// Parses the text of a key that was never encrypted. The text has two lines: a comment, and the base64
+    /// of the key's 158 bytes, which is not trimmed. Later bytes and later lines are ignored.
     ///
-    /// Rejected are, in this order: a text without a first line, without a second one, with a second
-    /// line that is not base64, or of fewer than 158 bytes; a key derivation other than two zero
-    /// bytes; a checksum that does not match. Does not allocate.
+    /// Errors come in this order: no first line, no second line, a second line that is not base64, fewer
+    /// than 158 bytes; a key derivation other than two zero bytes; a checksum that does not match. Does not
+    /// allocate.
     pub fn from_unencrypted_box(sk_box: SecretKeyBox) -> Result<SecretKey>
-        // A key that was never sealed is read exactly when its text reads as a key, names no key
-        // derivation and has a matching checksum; otherwise it is the first error.
+        // Succeeds exactly if the text parses to a key that names no key derivation and whose checksum
+        // matches. Otherwise the error is the first check that fails.
         ensures { result ≡ read_unencrypted_key sk_box }
     {
         let sk = SecretKey::from_text(sk_box.as_str())?;
@@ -226,11 +222,11 @@ impl SecretKey {
         Ok(sk)
     }
 
-    /// What opening the key takes: scrypt's N, as its logarithm to base 2, at most 20, and its p: N rows of 1
-    /// KiB are made p times. Zeros where the key wants no password, and where opening rejects its limits.
-    /// Does not allocate.
+    /// Returns the work that decrypting the key takes: scrypt's N, as its logarithm to base 2, at most 20,
+    /// and its p. N rows of 1 KiB are computed p times. Both are zero if the key needs no password, or if
+    /// its limits are rejected. Does not allocate.
     pub fn opening_work(&self) -> (u8, u32)
-        // The work of opening is that of the parameters that the limits of the key lead to.
+        // The result is the work of the scrypt parameters that the key's limits give.
         ensures { result ≡ opening_work self.now }
     {
         if !self.wants_password() {
@@ -242,10 +238,11 @@ impl SecretKey {
         }
     }
 
-    /// The greatest parallelization p with which opening the key makes at most so many rows, N for each of
-    /// the p parts; 0 where opening rejects the limits of the key. Does not allocate.
+    /// Returns the greatest parallelization p with which decrypting the key computes at most `most_rows`
+    /// rows, N for each of the p parts; 0 if the key's limits are rejected. Does not allocate.
     pub fn times_within(&self, most_rows: u64) -> u32
-        // Within that p opening allows what it allows where at most so many rows are made.
+        // With the result as the bound on p, decrypting this key is allowed exactly if it is allowed when
+        // at most `most_rows` rows may be computed.
         ensures { allowed_work self.now (Some result) ≡ allowed_rows self.now most_rows }
     {
         match key_params(self) {
@@ -254,14 +251,13 @@ impl SecretKey {
         }
     }
 
-    /// Opens a sealed key that was read with a password, within a bound on the work and with every k-th of
-    /// scrypt's rows kept, for k from 1 on: as `from_box_keeping_within` does with its text. Nobody is asked
-    /// for a password.
+    /// Decrypts a parsed key with a password, within a bound on the work and with every k-th of scrypt's
+    /// rows kept, for k from 1 on, as `from_box_keeping_within` does with the key's text. Never prompts.
     ///
-    /// Rejected are, in this order: a key that was never sealed, `KeyNotEncrypted`; one that is not sealed by
-    /// scrypt, `UnsupportedEncryptionAlgorithm`; limits, with `ParametersTooHigh` or `InvalidParameters`; p
-    /// above `max_p`, `WorkTooHigh`; a checksum that opening does not restore, `WrongPassword`. An allocation
-    /// may fail for the rows, where all of these but the last let it derive.
+    /// Errors come in this order: a key that was never encrypted, `KeyNotEncrypted`; a key derivation other
+    /// than scrypt, `UnsupportedEncryptionAlgorithm`; limits, `ParametersTooHigh` or `InvalidParameters`; p
+    /// above `max_p`, `WorkTooHigh`; a checksum that does not match after decryption, `WrongPassword`. The
+    /// allocation for the rows may fail, after all of these checks but the last.
     pub fn open_keeping_within(
         self,
         alloc: Global,
@@ -271,9 +267,9 @@ impl SecretKey {
     ) -> Result<SecretKey>
         requires kept { 1 ≤ k }
 
-        // A key that was read opens under the password as its text does, whatever number of rows is kept: it
-        // is the key opened, or the first error. Only a key that is sealed by scrypt, with limits that are
-        // allowed and p within the bound, may meet out of memory.
+        // For every k, the result is out of memory or exactly what the key decrypts to under the password:
+        // the decrypted key, or the first check that fails. Out of memory is possible only for a key that
+        // is encrypted with scrypt, with limits that are allowed and p within the bound.
         ensures { (result ≡ and_then (sealed_by_scrypt self) (λ sealed. open_sealed sealed password.now
             (Some max_p))) ⊎ ((result ≡ Err (Named OutOfMemory)) × IsOk
             (and_then (sealed_by_scrypt self) (λ sealed. allowed_work sealed (Some max_p)))) }
@@ -283,14 +279,14 @@ impl SecretKey {
         self.open_with(alloc, password, Derivation { bound, k })
     }
 
-    /// How much memory `open_in_place` takes with every k-th of scrypt's rows kept, for k from 1 on: so many
-    /// words of 32 bits and so many bytes, 1 KiB for each kept row, of which there are at most 2^20 / k, for
-    /// three more, and for each of p parts. Zeros where the key wants no password, and where opening rejects
-    /// its limits. Does not allocate.
+    /// Returns the memory that `open_in_place` needs if every k-th of scrypt's rows is kept, for k from 1
+    /// on: a number of 32-bit words and a number of bytes. They make 1 KiB for each kept row, of which
+    /// there are at most 2^20 / k, for three more, and for each of the p parts. Both are zero if the key
+    /// needs no password, or if its limits are rejected. Does not allocate.
     pub fn opening_memory(&self, k: u64) -> (u64, u64)
         requires { 1 ≤ k }
 
-        // The memory of opening in place is that of the parameters that the limits of the key lead to.
+        // The result is the memory for the scrypt parameters that the key's limits give.
         ensures { result ≡ opening_memory self.now k }
     {
         if !self.wants_password() {
@@ -302,12 +298,13 @@ impl SecretKey {
         }
     }
 
-    /// Opens a sealed key that was read with a password, as `open_keeping_within` does, in memory that is
-    /// passed in: `words` and `bytes` have at least the lengths that `opening_memory` tells for the same k.
-    /// So an allocation never fails. What the memory held is not read, and all of it is left with zeros,
-    /// after an error too.
+    /// Decrypts a parsed key with a password, as `open_keeping_within` does, in memory that the caller
+    /// provides: `words` and `bytes` must have at least the lengths that `opening_memory` returns for the
+    /// same k. So no allocation can fail. The previous contents of the memory are ignored, and all of it is
+    /// zero afterwards, even after an error.
     ///
-    /// What is rejected, and in which order, `open_keeping_within` says. Does not allocate.
+    /// The errors and their order are those of `open_keeping_within`, without out of memory. Does not
+    /// allocate.
     pub fn open_in_place(
         self,
         password: &[u8],
@@ -320,14 +317,14 @@ impl SecretKey {
         requires words { (opening_memory self k).0 ≤ length words.old }
         requires bytes { (opening_memory self k).1 ≤ length bytes.old }
 
-        // In memory that is passed in, whatever it held, a key that was read opens under the password as its
-        // text does: it is the key opened, or the first error, and never out of memory.
+        // Whatever the caller's memory held, the result is exactly what the key decrypts to under the
+        // password: the decrypted key, or the first check that fails. It is never out of memory.
         ensures opens { (text : List ℕ) → read_secret_key text ≡ Ok self
             → result ≡ open_key text password.now (Some max_p) }
         ensures result { result ≡ and_then (sealed_by_scrypt self)
             (λ sealed. open_sealed sealed password.now (Some max_p)) }
 
-        // That memory then holds zeros, all of it, whatever the result.
+        // Afterwards all of the caller's memory is zero, whatever the result.
         ensures words_cleared { words.new ≡ replicate (length words.old) 0 }
         ensures bytes_cleared { bytes.new ≡ replicate (length bytes.old) 0 }
     {
@@ -464,7 +461,7 @@ impl SecretKey {
         ensures { MatchResult result (λ _. restored_key self.now ≡ Ok self.now)
             (λ e. restored_key self.now ≡ Err e) }
     {
-        if self.keynum_sk.chk != self.read_checksum() {
+        if !self.has_right_checksum() {
             return Err(NamedFault::WrongPassword.into());
         }
         Ok(())

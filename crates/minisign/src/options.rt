@@ -1,28 +1,29 @@
-//! How to verify, as one value with named fields.
+//! The options of verification, as one value with named fields.
 
 ghost use Rattle.std.specs.Prelude.{◌≡◌, true, false};
 
-/// How data is verified. The default says the status, copies nothing, and rejects a signature that
-/// is over the data itself.
+/// Options of verification. By default the status lines are written, nothing is copied, and legacy
+/// signatures are rejected.
 #[derive(Clone, Copy, Debug, Drop)]
 pub struct VerifyOptions {
     /// Write no status lines.
     pub quiet: bool,
     /// Copy the verified data to the output.
     pub output: bool,
-    /// Accept a signature over the data itself, and not only over its digest.
+    /// Accept a legacy signature, which signs the data itself, as well as a prehashed one, which signs its
+    /// digest.
     pub allow_legacy: bool,
 }
 
 impl VerifyOptions {
-    /// Nothing is said and nothing is copied.
+    /// Writes no status lines and copies nothing.
     pub const SILENT: VerifyOptions = VerifyOptions {
         quiet: true,
         output: false,
         allow_legacy: false,
     };
 
-    /// Nothing is said, and the verified data is copied.
+    /// Writes no status lines, and copies the verified data.
     pub const COPYING: VerifyOptions = VerifyOptions {
         quiet: true,
         output: true,
@@ -30,7 +31,7 @@ impl VerifyOptions {
     };
 }
 
-/// The status is said, nothing is copied, and a signature over the data itself is rejected.
+/// By default, the status lines are written, nothing is copied, and legacy signatures are rejected.
 impl Default for VerifyOptions {
     ghost is_default = { λ o. (o.quiet ≡ false) × (o.output ≡ false) × (o.allow_legacy ≡ false) };
 

@@ -1,4 +1,5 @@
-//! The parts of public keys and boxes that a caller needs whose signature scheme stands outside.
+//! Access to the parts of public keys and signature boxes, for callers whose signature scheme is outside
+//! the library.
 
 ghost use Rattle.std.specs.Prelude.{◌≡◌, ◌≤◌, ◌+◌, ◌++◌, None, IfOk, IfErr, MatchOption, IsSomeAnd, length};
 ghost use Rattle.std.specs.Prelude.{take, drop};
@@ -15,14 +16,14 @@ use minisign_base::Result;
 use std::alloc::Global;
 
 impl PublicKey {
-    /// The 32 bytes of the key.
+    /// Returns the 32 key bytes.
     pub fn key(&self) -> &[u8; 32]
         ensures { result.now ≡ self.now.key }
     {
         &self.keynum_pk.pk
     }
 
-    /// The key ID, as an array.
+    /// Returns the key ID as an array.
     pub fn key_id(&self) -> &[u8; 8]
         ensures { result.now ≡ self.now.keynum }
     {
@@ -30,13 +31,13 @@ impl PublicKey {
     }
 }
 
-/// Writes the message of a comment signature to the front of `message`: the signature of the data followed by
-/// the trusted comment, 64 bytes more than the comment has. Does not allocate.
+/// Writes the comment message, which the comment signature signs, to the front of `message`: the signature
+/// of the data followed by the trusted comment. It is 64 bytes longer than the comment. Does not allocate.
 pub fn write_comment_message(signature: &[u8; 64], trusted: &[u8], message: &mut [u8])
     requires room { 64 + length trusted.now ≤ length message.old }
 
-    // The message stands at the front of the buffer, whose length stays; so does what stands behind the
-    // message.
+    // The comment message is at the front of the buffer. The buffer's length and the bytes after the
+    // message are unchanged.
     ensures size { length message.new ≡ length message.old }
     ensures written { take (64 + length trusted.now) message.new ≡ signature.now ++ trusted.now }
     ensures rest { drop (64 + length trusted.now) message.new ≡ drop (64 + length trusted.now) message.old }
@@ -56,9 +57,9 @@ fn fill(to: &mut [u8], signature: &[u8; 64], trusted: &[u8])
 }
 
 impl SignatureBox {
-    /// The box of a signature over the digest of the data, under the key ID of the key that
-    /// signed, with both comments and the signature of that signature followed by the trusted one.
-    /// Nothing of it is tested. The only error is `OutOfMemory`.
+    /// Makes the signature box of a prehashed signature from its parts: the key ID, the signature, both
+    /// comments and the comment signature, which signs the signature followed by the trusted comment.
+    /// Nothing is checked. The only error is `OutOfMemory`.
     pub fn from_parts(
         alloc: Global,
         key_id: &[u8; 8],
@@ -67,7 +68,8 @@ impl SignatureBox {
         trusted_comment: &str,
         comment_signature: &[u8; 64],
     ) -> Result<SignatureBox>
-        // A box of parts is the box of these parts; the only error is out of memory.
+        // On success, the signature box has exactly these parts and is prehashed. The only error is out of
+        // memory.
         ensures parts { IfOk result (λ x. x ≡ box_of (with_comments
             (prehashed_signature key_id.now signature.now) untrusted_comment.now
             trusted_comment.now comment_signature.now)) }
@@ -88,15 +90,15 @@ impl SignatureBox {
         })
     }
 
-    /// The signature, with its algorithm and the key ID of its key.
+    /// Returns the signature, with its algorithm and the key ID of the key that made it.
     pub fn signature(&self) -> &Signature
         ensures { result.now ≡ self.now.signature }
     {
         &self.signature
     }
 
-    /// The comment that is signed, and the signature of the box's signature and that comment, as
-    /// many bytes as its text has; a bare signature has none.
+    /// Returns the trusted comment and the whole comment signature, however long its text is; a bare
+    /// signature has neither.
     pub fn signed_comment(&self) -> Option<(&str, &[u8])>
         ensures { MatchOption self.now.comments (result ≡ None)
             (λ c. IsSomeAnd result

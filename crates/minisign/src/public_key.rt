@@ -1,4 +1,4 @@
-//! A public key, which vouches for what was signed with its secret key.
+//! A public key, which verifies what its secret key signed.
 
 ghost use Rattle.std.specs.Prelude.{◌≡◌, ◌<◌, ◌+◌, Ok, length, string_bytes, MatchResult, IsOk, IfOk, IfErr};
 ghost use Rattle.std.specs.Prelude.{bytes_eq};
@@ -27,8 +27,8 @@ use std::alloc::Global;
 use std::marker::Model;
 use std::rt::Files;
 
-/// A public key: an algorithm of 2 bytes, a key ID of 8 and a key of 32. The algorithm is kept
-/// as it was read and never tested.
+/// A public key: an algorithm of 2 bytes, a key ID of 8 and 32 key bytes. The algorithm is kept as it was
+/// read and never checked.
 #[derive(Clone, Debug, Drop)]
 pub struct PublicKey {
     pub(crate) sig_alg: [u8; 2],
@@ -46,18 +46,18 @@ impl Model for PublicKey {
 impl PublicKey {
     ghost use Rattle.minisign.specs.Records.{PublicKeyRecord, ReadsPublicKey, public_key_bytes};
 
-    /// The key ID, 8 bytes.
+    /// Returns the key ID, 8 bytes.
     pub fn keynum(&self) -> &[u8]
         ensures { result.now ≡ self.now.keynum }
     {
         &self.keynum_pk.keynum[..]
     }
 
-    /// Reads the 42 bytes at the front: algorithm, key ID, key. Fewer bytes are rejected, and
-    /// later ones are ignored. Does not allocate.
+    /// Parses the first 42 bytes: algorithm, key ID, key. Fewer bytes are rejected, and later bytes are
+    /// ignored. Does not allocate.
     pub fn from_bytes(bytes: &[u8]) -> Result<PublicKey>
-        // The lists that begin with a record are read as that record; exactly those that are too
-        // short are rejected.
+        // If there are at least as many bytes as the record needs, the result is the record at their front.
+        // If there are fewer, they are rejected.
         ensures { MatchResult result (ReadsPublicKey bytes.now)
             (λ e. (e ≡ Named RecordTooShort) × (length bytes.now < 42)) }
     {
@@ -68,54 +68,52 @@ impl PublicKey {
         })
     }
 
-    /// Reads a public key text, as `read_public_key` does: a first line that may be anything, and a second of
-    /// 56 bytes that, trimmed of white space, is the base64 of the 42 bytes of a key. Later lines are
+    /// Parses a public key text, as `read_public_key` does. The first line may be anything. The second line
+    /// has 56 bytes and, trimmed of white space, is the base64 of the 42 bytes of a key. Later lines are
     /// ignored.
     ///
-    /// These are rejected, in this order: a text with no first line, one with no second line,
-    /// another length of that line, what is not base64, fewer than 42 bytes. Does not allocate.
+    /// Errors come in this order: no first line, no second line, a different length of the second line, a
+    /// second line that is not base64, fewer than 42 bytes. Does not allocate.
     pub fn from_box(_alloc: Global, public_key_box: PublicKeyBox) -> Result<PublicKey>
-        // A public key text is read as its grammar has it, a function of the text: as the key, or the first
-        // case that fails.
+        // The result depends only on the text, as its grammar says: the public key in the text, or the
+        // first check that fails.
         ensures { result ≡ read_public_key public_key_box }
     {
         read_public_key(public_key_box.as_str())
     }
 
-    /// Reads the public key text that the file at `path` holds, as `from_box` does. The path is
-    /// taken as it stands.
+    /// Parses the public key text in the file at `path`, as `from_box` does. The path is used as given.
     ///
-    /// These are rejected, in this order: a file that cannot be opened or read, `ReadingFailed`;
-    /// one that is not UTF-8, `NotUtf8`; and what `from_box` rejects. An allocation may fail at
-    /// any time. No byte of std's files is known, so of the text it is only said that there is one.
+    /// Errors come in this order: a file that cannot be opened or read, `ReadingFailed`; a file that is not
+    /// UTF-8, `NotUtf8`; the errors of `from_box`. An allocation may fail at any time. No contract says
+    /// that the text is that of the named file.
     pub fn from_file<F: Files>(files: &F, alloc: Global, path: &str) -> Result<PublicKey>
-        // What is returned is read from some text, as the calls over texts read it; otherwise an
-        // allocation failed, the file could not be opened or read, it is not UTF-8, or these calls
-        // reject a text. No byte of std's files is known, so that it is the text of this file no contract
-        // says.
+        // On success, the result was parsed from some text, as the call that takes a text parses it. An
+        // error is out of memory, a file that could not be opened or read, a file that is not UTF-8, or a
+        // text that is rejected. No contract says that the text is that of the named file.
         ensures { IsReadFromFile read_public_key result }
     {
         let text = read_text_file(files, alloc, path)?;
         PublicKey::from_box(alloc, PublicKeyBox::from(text))
     }
 
-    /// Reads the bare base64 of a key, 56 bytes with nothing around them, as `read_bare_public_key` does.
+    /// Parses the bare base64 of a public key, 56 bytes, as `read_bare_public_key` does.
     ///
-    /// These are rejected, in this order: a text that, trimmed of white space, has another length,
-    /// what is not base64 as it stands, fewer than 42 bytes. Does not allocate.
+    /// Errors come in this order: a text that has another length once white space is trimmed, a text that
+    /// is not base64 as it is, fewer than 42 bytes. Does not allocate.
     pub fn from_base64(_alloc: Global, text: &str) -> Result<PublicKey>
-        // The base64 of a key is read as its grammar has it, a function of the text: as the key, or the first
-        // case that fails.
+        // The result depends only on the text, as its grammar says: the public key that the text is the
+        // base64 of, or the first check that fails.
         ensures { result ≡ read_bare_public_key text.now }
     {
         read_bare_public_key(text)
     }
 
-    /// The public key of a secret key: its algorithm, its key ID and the last 32 bytes of its
-    /// secret, as they stand in a sealed key too. Never rejects, and does not allocate.
+    /// Returns the public key of a secret key: its algorithm, its key ID and the last 32 bytes of its
+    /// secret, which for an encrypted key are the encrypted bytes. Never fails, and does not allocate.
     pub fn from_secret_key(sk: &SecretKey) -> Result<PublicKey>
-        // A public key made from a secret one has its algorithm, its key ID as it stands, and
-        // the last 32 of its secret bytes; making it never fails.
+        // Always succeeds. The public key has the algorithm and the key ID of the secret key and the last
+        // 32 of its secret bytes, all as the secret key holds them.
         ensures succeeds { IsOk result }
         ensures key { IfOk result (λ v. v ≡ own_public_key sk.now) }
     {
@@ -131,12 +129,12 @@ impl PublicKey {
         })
     }
 
-    /// The text of the key, two lines: `untrusted comment: minisign public key: ` and the
-    /// key ID, read little endian, in 16 upper hexadecimal digits; the base64 of the 42 bytes.
-    /// The only error is `OutOfMemory`.
+    /// Returns the text of the key in two lines: `untrusted comment: minisign public key: ` and the key ID,
+    /// read little endian, in 16 uppercase hexadecimal digits; then the base64 of the 42 bytes. The only
+    /// error is `OutOfMemory`.
     pub fn to_box(&self, alloc: Global) -> Result<PublicKeyBox>
-        // The text of a key, and its base64, are the ones by definition, and read as this key; the
-        // only error is out of memory.
+        // On success, the result is the text of this key in the form that `specs/KeyTexts` defines, and it
+        // parses to this key. The only error is out of memory.
         ensures text { IfOk result (λ b. b ≡ public_key_text self.now) }
         ensures reads_back { IfOk result (λ b. read_public_key b ≡ Ok self.now) }
         ensures refused { IfErr result (λ e. e ≡ Named OutOfMemory) }
@@ -150,15 +148,14 @@ impl PublicKey {
         Ok(PublicKeyBox::from(text))
     }
 
-    /// The text of the key with a comment of the caller's, two lines: `untrusted comment: ` and the
-    /// comment; the base64 of the 42 bytes. It has 77 bytes more than the comment. Where no line
-    /// feed stands in the comment, the text reads as the key again. The
-    /// only error is `OutOfMemory`.
+    /// Returns the text of the key with the given comment in two lines: `untrusted comment: ` and the
+    /// comment; then the base64 of the 42 bytes. The text is 77 bytes longer than the comment. If the
+    /// comment has no line feed, the text parses to the key again. The only error is `OutOfMemory`.
     #[tactic(auto, unfolding(crate::specs::Texts::untrusted_comment_label))]
     pub fn to_box_with_comment(&self, alloc: Global, comment: &str) -> Result<PublicKeyBox>
-        // The text of a public key with a comment of the caller's is the one by definition, and if
-        // the comment has no line feed it reads as this key; it has 77 bytes more than the comment;
-        // the only error is out of memory.
+        // On success, the result is the text of this key with the given comment, in the form that
+        // `specs/KeyTexts` defines. It is 77 bytes longer than the comment. If the comment has no line
+        // feed, the text parses to this key. The only error is out of memory.
         ensures text { IfOk result (λ b. b ≡ commented_public_key_text comment.now self.now) }
         ensures reads_back { LacksByte 10 comment.now → IfOk result (λ b. read_public_key b ≡ Ok self.now) }
         ensures size { IfOk result (λ b. length b ≡ length comment.now + 77) }
@@ -171,10 +168,10 @@ impl PublicKey {
         Ok(PublicKeyBox::from(text))
     }
 
-    /// The base64 of the 42 bytes, 56 characters. The only error is `OutOfMemory`.
+    /// Returns the base64 of the 42 bytes, 56 characters. The only error is `OutOfMemory`.
     pub fn to_base64(&self, alloc: Global) -> Result<String>
-        // The text of a key, and its base64, are the ones by definition, and read as this key; the
-        // only error is out of memory.
+        // On success, the result is the text of this key in the form that `specs/KeyTexts` defines, and it
+        // parses to this key. The only error is out of memory.
         ensures text { IfOk result (λ t. string_bytes t ≡ base64_of (public_key_bytes self.now)) }
         ensures reads_back { IfOk result (λ t. read_bare_public_key (string_bytes t) ≡ Ok self.now) }
         ensures refused { IfErr result (λ e. e ≡ Named OutOfMemory) }
@@ -184,10 +181,10 @@ impl PublicKey {
         Ok(text)
     }
 
-    /// The 42 bytes that `from_bytes` reads as this key. The only error is `OutOfMemory`.
+    /// Returns the 42 bytes that `from_bytes` parses to this key. The only error is `OutOfMemory`.
     pub fn to_bytes(&self, alloc: Global) -> Result<Vec<u8>>
-        // The bytes are those of the record, and are read as this record, and by the law `texts_are_decided`
-        // as no other; the only error is out of memory.
+        // On success, the bytes are those of the record. They parse to this record and, by the law
+        // `texts_are_decided`, to no other. The only error is out of memory.
         ensures bytes { IfOk result (λ v. v.items ≡ public_key_bytes self.now) }
         ensures reads_back { IfOk result (λ v. ReadsPublicKey v.items self.now) }
         ensures refused { IfErr result (λ e. e ≡ Named OutOfMemory) }
@@ -199,7 +196,7 @@ impl PublicKey {
     }
 }
 
-/// Two public keys are equal where their 32 key bytes are, whatever their key IDs.
+/// Two public keys are equal if their 32 key bytes are equal, whatever their key IDs.
 impl PartialEq for PublicKey {
     ghost eq = { λ a b. bytes_eq a.key b.key };
 

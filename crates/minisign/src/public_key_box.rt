@@ -1,4 +1,4 @@
-//! A public key as a text.
+//! The text of a public key.
 
 ghost use Rattle.std.specs.Prelude.{◌≡◌, Some, IfOk, IfErr, string_bytes};
 ghost use Rattle.minisign_base.specs.Fault.{Named};
@@ -11,8 +11,8 @@ use std::alloc::Global;
 use std::fmt;
 use std::marker::Model;
 
-/// A text that may hold a public key; nothing is tested before a key is read from it. `Display`
-/// writes the text.
+/// A text that may hold a public key. Nothing is checked until a key is parsed from it. `Display` writes
+/// the text.
 #[derive(Debug, Drop)]
 pub struct PublicKeyBox(String);
 
@@ -25,7 +25,7 @@ impl Model for PublicKeyBox {
 }
 
 impl PublicKeyBox {
-    /// A box that holds a copy of the text. The only error is `OutOfMemory`.
+    /// Returns a box that holds a copy of the text. The only error is `OutOfMemory`.
     pub fn from_string(alloc: Global, text: &str) -> Result<PublicKeyBox>
         ensures text { IfOk result (λ b. b ≡ text.now) }
         ensures refused { IfErr result (λ e. e ≡ Named OutOfMemory) }
@@ -33,7 +33,7 @@ impl PublicKeyBox {
         Ok(PublicKeyBox::from(String::from_str(alloc, text)?))
     }
 
-    /// The text. Does not allocate.
+    /// Returns the text. Does not allocate.
     pub fn into_string(self) -> String
         ensures { string_bytes result ≡ self }
     {
@@ -41,7 +41,7 @@ impl PublicKeyBox {
         text
     }
 
-    /// The bytes of the text. The only error is `OutOfMemory`.
+    /// Returns the bytes of the text. The only error is `OutOfMemory`.
     pub fn to_bytes(&self, alloc: Global) -> Result<Vec<u8>>
         ensures bytes { IfOk result (λ v. v.items ≡ self.now) }
         ensures refused { IfErr result (λ e. e ≡ Named OutOfMemory) }
@@ -49,7 +49,7 @@ impl PublicKeyBox {
         Ok(Vec::from_slice(alloc, self.as_str().as_bytes())?)
     }
 
-    /// A box with the same text. The only error is `OutOfMemory`.
+    /// Returns a box with the same text. The only error is `OutOfMemory`.
     pub fn try_clone(&self, alloc: Global) -> Result<PublicKeyBox>
         ensures text { IfOk result (λ b. b ≡ self.now) }
         ensures refused { IfErr result (λ e. e ≡ Named OutOfMemory) }
@@ -57,9 +57,9 @@ impl PublicKeyBox {
         PublicKeyBox::from_string(alloc, self.as_str())
     }
 
-    /// The public key that the text holds: `PublicKey::from_box` of this box.
+    /// Parses the public key in the text, as `PublicKey::from_box` does.
     pub fn into_public_key(self, alloc: Global) -> Result<PublicKey>
-        // The text that it holds is read as `PublicKey::from_box` reads it.
+        // The text is parsed as `PublicKey::from_box` promises.
         ensures { result ≡ read_public_key self }
     {
         PublicKey::from_box(alloc, self)
@@ -73,7 +73,7 @@ impl PublicKeyBox {
     }
 }
 
-/// A box of this text. Does not allocate.
+/// Returns a box of this text. Does not allocate.
 impl From<String> for PublicKeyBox {
     ghost from_gives = { λ text b. b ≡ string_bytes text };
 
@@ -82,7 +82,7 @@ impl From<String> for PublicKeyBox {
     }
 }
 
-/// The text of the box. Does not allocate.
+/// Returns the text of the box. Does not allocate.
 impl From<PublicKeyBox> for String {
     ghost from_gives = { λ b text. string_bytes text ≡ b };
 
@@ -91,7 +91,7 @@ impl From<PublicKeyBox> for String {
     }
 }
 
-/// The text.
+/// Writes the text.
 impl fmt::Display for PublicKeyBox {
     ghost output = { λ b. Some b };
 

@@ -1,4 +1,4 @@
-//! Reading data to its end: hashed as it comes, kept whole, or taken as a text.
+//! Reading data to its end: hashed while it is read, kept in memory, or taken as a text.
 
 ghost use Rattle.std.specs.Prelude.{◌≡◌, ℕ, ◌<◌, List, ◌++◌, false, length, string_bytes, vec_len};
 ghost use Rattle.std.specs.Prelude.{MatchResult, IfOk, IfErr};
@@ -31,11 +31,12 @@ pub(crate) fn read_text_file<F: Files>(files: &F, alloc: Global, path: &str) -> 
     }
 }
 
-/// All that is ahead, as a text in memory. Rejected are a failing source (`ReadingFailed`), bytes
-/// that are not UTF-8 (`NotUtf8`), and a failed allocation, which may come at any time.
+/// Reads all that is ahead and returns it as a text. Errors: a failing source (`ReadingFailed`), bytes that
+/// are not UTF-8 (`NotUtf8`), and a failed allocation, which may come at any time.
 pub fn read_text<S: Source>(alloc: Global, source: &mut S) -> Result<String>
-    // A text is all the bytes that were ahead, if these are UTF-8; otherwise an allocation failed, with no
-    // new error of the source, the source failed, or they are not UTF-8.
+    // On success, the text is all the bytes that were ahead, and these are UTF-8. An error is out of
+    // memory, and the source did not fail; or the source failed; or the bytes that were ahead are not
+    // UTF-8.
     ensures text { IfOk result (λ t. ReadsWhole S.Source source.old source.new (string_bytes t)) }
     ensures refused { IfErr result (IsTextFault S.Source source.old source.new) }
     ensures given { HasGiven (S.ahead source.old) (S.ahead source.new) }
@@ -47,12 +48,12 @@ pub fn read_text<S: Source>(alloc: Global, source: &mut S) -> Result<String>
     }
 }
 
-/// All that is ahead, in memory. It is read in pieces of 64 KiB. Rejected are a failing source, and
-/// a failed allocation, for the buffer or for what is kept; some bytes may have been read by
-/// then.
+/// Reads all that is ahead, in pieces of 64 KiB, and returns it. Errors: a failing source, and a failed
+/// allocation, for the buffer or for the data. Some bytes may have been read by then.
 pub fn read_to_end<S: Source>(alloc: Global, source: &mut S) -> Result<Vec<u8>>
-    // All the bytes that were ahead are given; or an allocation failed, with no new error of the source, or
-    // a read failed and its count of errors rose. A place that is marked stays marked.
+    // On success, the result is all the bytes that were ahead. An error is out of memory, and the source
+    // did not fail; or a read failed, and the source's error count rose. A place that was marked is still
+    // marked.
     ensures bytes { IfOk result (λ v. ReadsWhole S.Source source.old source.new v.items) }
     ensures refused { IfErr result (IsReadFault S.Source source.old source.new) }
     ensures given { HasGiven (S.ahead source.old) (S.ahead source.new) }

@@ -1,4 +1,4 @@
-//! The stream of scrypt that the last 104 bytes of a secret key are xored with, to seal and to open it.
+//! The scrypt stream that is xored with the last 104 bytes of a secret key, to encrypt and to decrypt it.
 
 ghost use Rattle.std.specs.Prelude.{◌≡◌, ◌≤◌, ◌⊎◌, Some, Ok, Err, length, bit_xor, IsOk, MatchResult, IfOk};
 ghost use Rattle.std.specs.Prelude.{IfErr, OnOk, replicate};

@@ -29,10 +29,10 @@ use std::alloc::Global;
 use std::fmt;
 use std::marker::Model;
 
-/// A secret key: an algorithm of 2 bytes, the key derivation of 2, the checksum's algorithm of 2, a
-/// salt of 32, the limits of the key derivation of 8 each, and then a key ID of 8, a secret of
-/// 64 and a checksum of 32, which are sealed where the key is. The two algorithms are kept as they
-/// were read and never tested.
+/// A secret key: an algorithm of 2 bytes, the key derivation of 2, the checksum's algorithm of 2, a salt of
+/// 32, the two limits of the key derivation of 8 each, and then a key ID of 8, a secret of 64 and a
+/// checksum of 32. The last three are encrypted if the key is. The two algorithms are kept as they were
+/// read and never checked.
 #[derive(Clone, Drop)]
 pub struct SecretKey {
     pub(crate) sig_alg: [u8; 2],
@@ -67,7 +67,7 @@ impl SecretKey {
     ghost use Rattle.minisign.specs.KeyTexts.{read_secret_key_bytes};
     ghost use Rattle.minisign.specs.Sealing.{checksum_of, is_encrypted};
 
-    // The checksum that the other fields call for.
+    // Computes the checksum of the other fields.
     pub(crate) fn read_checksum(&self) -> [u8; 32]
         ensures { result ≡ checksum_of self.now }
     {
@@ -80,87 +80,95 @@ impl SecretKey {
         checksum
     }
 
-    // Writes that checksum.
+    // Returns true if the checksum matches the other fields. All 32 bytes are compared, so the time does
+    // not depend on how many of the first ones match.
+    pub(crate) fn has_right_checksum(&self) -> bool
+        ensures { result ≡ bytes_eq self.now.checksum (checksum_of self.now) }
+    {
+        fixed_time_eq(&self.keynum_sk.chk, &self.read_checksum())
+    }
+
+    // Writes the checksum of the other fields.
     pub(crate) fn write_checksum(&mut self)
         ensures { self.new ≡ record self.old { checksum = checksum_of self.old } }
     {
         self.keynum_sk.chk = self.read_checksum();
     }
 
-    /// The key ID, 8 bytes, as it stands: of a sealed key the sealed one.
+    /// Returns the key ID, 8 bytes; of an encrypted key, the encrypted bytes.
     pub fn keynum(&self) -> &[u8]
         ensures { result.now ≡ self.now.keynum }
     {
         &self.keynum_sk.keynum[..]
     }
 
-    /// The key ID, as an array, as it stands: of a sealed key the sealed one.
+    /// Returns the key ID as an array; of an encrypted key, the encrypted bytes.
     pub fn key_id(&self) -> &[u8; 8]
         ensures { result.now ≡ self.now.keynum }
     {
         &self.keynum_sk.keynum
     }
 
-    /// The 64 secret bytes, as they stand: of an opened key the 32 bytes of the seed and the 32 of
-    /// its public key, of a sealed key the sealed ones.
+    /// Returns the 64 secret bytes: of a decrypted key, the 32 bytes of the seed and the 32 of its public
+    /// key; of an encrypted key, the encrypted bytes.
     pub fn secret(&self) -> &[u8; 64]
         ensures { result.now ≡ self.now.secret }
     {
         &self.keynum_sk.sk
     }
 
-    /// The key derivation that the key names: two zeros where it was never sealed.
+    /// Returns the key derivation that the key names, which is two zero bytes for a key that was never
+    /// encrypted.
     pub fn key_derivation(&self) -> &[u8; 2]
         ensures { result.now ≡ self.now.kdf }
     {
         &self.kdf_alg
     }
 
-    /// The 32 bytes of the checksum, as they stand: of a sealed key the sealed ones.
+    /// Returns the 32 bytes of the checksum; of an encrypted key, the encrypted bytes.
     pub fn checksum(&self) -> &[u8; 32]
         ensures { result.now ≡ self.now.checksum }
     {
         &self.keynum_sk.chk
     }
 
-    /// Whether the key is sealed and has to be opened before it signs: it names a key derivation,
-    /// and its checksum does not match. Does not allocate.
+    /// Returns true if the key is encrypted and has to be decrypted before it can sign: it names a key
+    /// derivation, and its checksum does not match. Does not allocate.
     pub fn is_encrypted(&self) -> bool
-        // A secret key is taken as sealed exactly when it names a key derivation and its checksum
-        // does not match.
+        // The result is true exactly if the key names a key derivation and its checksum does not match.
         ensures { result ≡ is_encrypted self.now }
     {
-        self.kdf_alg != KDF_NONE && self.keynum_sk.chk != self.read_checksum()
+        self.kdf_alg != KDF_NONE && !self.has_right_checksum()
     }
 
-    /// Whether the key names a key derivation, and so does not open without a password. Does not allocate.
+    /// Returns true if the key names a key derivation, so that it needs a password. Does not allocate.
     pub fn wants_password(&self) -> bool
         ensures { result ≡ wants_password self.now }
     {
         self.kdf_alg != KDF_NONE
     }
 
-    /// Tests that the key was never sealed (otherwise `KeyMightBeEncrypted`), and then that its
+    /// Checks that the key was never encrypted (otherwise `KeyMightBeEncrypted`), and then that its
     /// checksum matches (otherwise `CorruptedKey`). Does not allocate.
     pub fn test_unencrypted(&self) -> Result<()>
-        // A key is taken exactly if it was never sealed and its checksum matches; otherwise it is
-        // the first reason.
+        // Succeeds exactly if the key was never encrypted and its checksum matches. Otherwise the error is
+        // the first of these checks that fails.
         ensures { result ≡ without_value (unencrypted_key self.now) }
     {
         if self.kdf_alg != KDF_NONE {
             return Err(NamedFault::KeyMightBeEncrypted.into());
         }
-        if self.keynum_sk.chk != self.read_checksum() {
+        if !self.has_right_checksum() {
             return Err(NamedFault::CorruptedKey.into());
         }
         Ok(())
     }
 
-    /// Reads the 158 bytes at the front. Fewer bytes are rejected, and later ones are ignored. The
-    /// bytes are kept as they stand: nothing is opened or tested. Does not allocate.
+    /// Parses the first 158 bytes. Fewer bytes are rejected, and later bytes are ignored. The bytes are
+    /// kept as they are: nothing is decrypted or checked. Does not allocate.
     pub fn from_bytes(bytes: &[u8]) -> Result<SecretKey>
-        // The lists that begin with a record are read as that record; exactly those that are too
-        // short are rejected.
+        // If there are at least as many bytes as the record needs, the result is the record at their front.
+        // If there are fewer, they are rejected.
         ensures { result ≡ read_secret_key_bytes bytes.now }
     {
         let (sig_alg, kdf_alg, chk_alg, rest) = split_three(bytes)?;
@@ -177,10 +185,10 @@ impl SecretKey {
         })
     }
 
-    /// The 158 bytes that `from_bytes` reads as this key. The only error is `OutOfMemory`.
+    /// Returns the 158 bytes that `from_bytes` parses to this key. The only error is `OutOfMemory`.
     pub fn to_bytes(&self, alloc: Global) -> Result<Vec<u8>>
-        // The bytes are those of the record, and are read as this record, and by the law `texts_are_decided`
-        // as no other; the only error is out of memory.
+        // On success, the bytes are those of the record. They parse to this record and, by the law
+        // `texts_are_decided`, to no other. The only error is out of memory.
         ensures bytes { IfOk result (λ v. v.items ≡ secret_key_bytes self.now) }
         ensures reads_back { IfOk result (λ v. read_secret_key_bytes v.items ≡ Ok self.now) }
         ensures refused { IfErr result (λ e. e ≡ Named OutOfMemory) }
@@ -198,32 +206,31 @@ impl SecretKey {
         Ok(bytes)
     }
 
-    /// Reads the text of a secret key as it stands, of a sealed key the sealed bytes: the second
-    /// line, which nothing is trimmed off, is the base64 of the key's 158 bytes. The first line is
-    /// not looked at; later bytes and later lines are ignored.
+    /// Parses the text of a secret key without decrypting it. The second line, which is not trimmed, is the
+    /// base64 of the key's 158 bytes. The first line is not checked; later bytes and later lines are
+    /// ignored.
     ///
-    /// Rejected are, in this order: a text without a first line, without a second one, with a second
-    /// line that is not base64, or of fewer than 158 bytes. Does not allocate.
+    /// Errors come in this order: no first line, no second line, a second line that is not base64, fewer
+    /// than 158 bytes. Does not allocate.
     pub fn from_text(text: &str) -> Result<SecretKey>
-        // What the text reads as, by the function of its grammar: the key, sealed or not, or the
-        // first error.
+        // The result depends only on the text, as its grammar says: the secret key in the text, encrypted
+        // or not, or the first check that fails.
         ensures { result ≡ read_secret_key text.now }
     {
         let record = read_secret_key(text)?;
         SecretKey::from_bytes(&record)
     }
 
-    /// Writes the key as a text: `untrusted comment: ` and the comment, or
-    /// `rsign encrypted secret key` where none is given, on one line, and the base64 of the 158
-    /// bytes on another, each ended by a line feed. The bytes are written as they stand: of an
-    /// opened sealed key the opened ones, still under the name of its key derivation. Where no line
-    /// feed stands in the comment, the text reads as the key again. It has 233 bytes more than the
-    /// comment. The only error is `OutOfMemory`.
+    /// Returns the text of the key: `untrusted comment: ` and the comment, or `rsign encrypted secret key`
+    /// if none is given, on one line, and the base64 of the 158 bytes on the next, each ended by a line
+    /// feed. The bytes are written as they are: a key that was decrypted is written decrypted, although it
+    /// still names its key derivation. If the comment has no line feed, the text parses to the key again.
+    /// The text is 233 bytes longer than the comment. The only error is `OutOfMemory`.
     #[tactic(auto, unfolding(crate::specs::KeyTexts::secret_key_text, crate::specs::KeyTexts::default_secret_key_comment))]
     pub fn to_box(&self, alloc: Global, comment: Option<&str>) -> Result<SecretKeyBox>
-        // The text of a secret key is the one by definition, and if the comment has no line feed it
-        // reads as this key; it has 233 bytes more than the comment; the only error is out of
-        // memory.
+        // On success, the result is the text of this key in the form that `specs/KeyTexts` defines. If a
+        // comment is given, the text is 233 bytes longer than the comment. If the comment has no line feed,
+        // the text parses to this key. The only error is out of memory.
         ensures text { IfOk result
             (λ b. b ≡ secret_key_text (option_copied comment.entry) self.now) }
         ensures reads_back { IfSome comment.entry (λ s. LacksByte 10 s.now)
@@ -255,12 +262,12 @@ impl SecretKey {
         Ok(SecretKeyBox::from(text))
     }
 
-    /// The secret key of its parts, which is not sealed: a key ID of 8 bytes, and 64 secret
-    /// bytes, those of a seed and of its public key. Its salt and its limits are zeros. Does not
-    /// allocate.
+    /// Returns the unencrypted secret key of a key ID of 8 bytes and 64 secret bytes, a seed followed by
+    /// its public key. Its salt and its limits are zeros. Does not allocate.
     #[tactic(auto, unfolding(crate::specs::Generation::unsealed_key))]
     pub fn from_parts(key_id: [u8; 8], secret: [u8; 64]) -> SecretKey
-        // The key of its parts is the one by definition, not sealed.
+        // The result is an unencrypted secret key with this key ID and these secret bytes, as
+        // `specs/Records` defines it.
         ensures { result ≡ unsealed_key key_id secret }
     {
         let mut sk = SecretKey {
@@ -297,7 +304,7 @@ impl SecretKey {
     }
 }
 
-/// Two secret keys are equal where their 64 secret bytes are, whatever their other fields.
+/// Two secret keys are equal if their 64 secret bytes are equal, whatever their other fields.
 impl PartialEq for SecretKey {
     ghost eq = { λ a b. bytes_eq a.secret b.secret };
 
@@ -312,7 +319,7 @@ impl Eq for SecretKey {
     ghost laws = { on_equiv (λ k. k.secret) nat_list_eq_equiv };
 }
 
-/// Prints the secret: its 64 bytes in lower hexadecimal, each without leading zeros. Keep it out of
+/// Prints the secret: its 64 bytes in lowercase hexadecimal, each without leading zeros. Keep it out of
 /// logs.
 impl fmt::Debug for SecretKey {
     ghost use Rattle.minisign.specs.Records.{secret_text};

@@ -1,4 +1,4 @@
-//! The text of a secret key, held as it is.
+//! The text of a secret key.
 
 ghost use Rattle.std.specs.Prelude.{◌≡◌, Some, string_bytes, IfOk, IfErr};
 ghost use Rattle.minisign_base.specs.Fault.{Named};
@@ -9,7 +9,7 @@ use std::alloc::Global;
 use std::fmt;
 use std::marker::Model;
 
-/// A text that stands for a secret key. Nothing of it is tested before the key is read.
+/// A text that may hold a secret key. Nothing is checked until the key is parsed.
 #[derive(Debug, Drop)]
 pub struct SecretKeyBox {
     text: String,
@@ -24,7 +24,7 @@ impl Model for SecretKeyBox {
 }
 
 impl SecretKeyBox {
-    /// A box of this text. The only error is `OutOfMemory`.
+    /// Returns a box that holds a copy of the text. The only error is `OutOfMemory`.
     pub fn from_string(alloc: Global, s: &str) -> Result<SecretKeyBox>
         ensures text { IfOk result (λ b. b ≡ s.now) }
         ensures refused { IfErr result (λ e. e ≡ Named OutOfMemory) }
@@ -32,7 +32,7 @@ impl SecretKeyBox {
         Ok(SecretKeyBox::from(String::from_str(alloc, s)?))
     }
 
-    /// The text. Does not allocate.
+    /// Returns the text. Does not allocate.
     pub fn into_string(self) -> String
         ensures { string_bytes result ≡ self }
     {
@@ -40,7 +40,7 @@ impl SecretKeyBox {
         text
     }
 
-    /// The bytes of the text. The only error is `OutOfMemory`.
+    /// Returns the bytes of the text. The only error is `OutOfMemory`.
     pub fn to_bytes(&self, alloc: Global) -> Result<Vec<u8>>
         ensures bytes { IfOk result (λ v. v.items ≡ self.now) }
         ensures refused { IfErr result (λ e. e ≡ Named OutOfMemory) }
@@ -48,7 +48,7 @@ impl SecretKeyBox {
         Ok(Vec::from_slice(alloc, self.as_str().as_bytes())?)
     }
 
-    /// Another box of the same text. The only error is `OutOfMemory`.
+    /// Returns a box with the same text. The only error is `OutOfMemory`.
     pub fn try_clone(&self, alloc: Global) -> Result<SecretKeyBox>
         ensures same { IfOk result (λ b. b ≡ self.now) }
         ensures refused { IfErr result (λ e. e ≡ Named OutOfMemory) }
@@ -64,7 +64,7 @@ impl SecretKeyBox {
     }
 }
 
-/// A box of this text. Does not allocate.
+/// Returns a box of this text. Does not allocate.
 impl From<String> for SecretKeyBox {
     ghost from_gives = { λ s b. b ≡ string_bytes s };
 
@@ -73,7 +73,7 @@ impl From<String> for SecretKeyBox {
     }
 }
 
-/// The text of the box. Does not allocate.
+/// Returns the text of the box. Does not allocate.
 impl From<SecretKeyBox> for String {
     ghost from_gives = { λ b s. string_bytes s ≡ b };
 
@@ -82,7 +82,7 @@ impl From<SecretKeyBox> for String {
     }
 }
 
-/// The text.
+/// Writes the text.
 impl fmt::Display for SecretKeyBox {
     ghost output = { λ b. Some b };
 

@@ -1,4 +1,4 @@
-//! Reading the text of a secret key where it lies, without allocating.
+//! Parsing the text of a secret key without allocating.
 
 ghost use Rattle.std.specs.Prelude.{◌≡◌};
 ghost use Rattle.minisign_base.specs.declared.faults.NamedFault.TheVariants.{SecretKeyNotBase64};
@@ -9,14 +9,14 @@ use crate::base64_front::decode_front;
 use crate::texts::next_line;
 use minisign_base::{NamedFault, Result};
 
-/// Reads the text of a secret key as it stands, of a sealed key the sealed bytes: the 158 bytes of the key's
-/// record, which `SecretKey::from_bytes` reads.
+/// Parses the text of a secret key without decrypting it, and returns the 158 bytes of the key's record,
+/// which `SecretKey::from_bytes` parses.
 ///
-/// Rejected are, in this order: a text without a first line, without a second one, with a second line that is
-/// not base64, or of fewer than 158 bytes. Does not allocate.
+/// Errors come in this order: no first line, no second line, a second line that is not base64, fewer than
+/// 158 bytes. Does not allocate.
 pub fn read_secret_key(text: &str) -> Result<[u8; 158]>
-    // The text of a secret key is read as its grammar has it, a function of the text: the record is that of
-    // the key that it reads as, and otherwise the error is the first case that fails.
+    // The result depends only on the text, as its grammar says: the bytes of the secret key in the text, or
+    // the first check that fails.
     ensures { read_secret_key text.now ≡ map_ok secret_key_of_bytes result }
 {
     let mut lines = text.lines();

@@ -15,7 +15,8 @@ use std::alloc::Global;
 use std::fmt;
 use std::marker::Model;
 
-/// A signature: an algorithm of 2 bytes, the key ID of the key of 8, and the signature of 64.
+/// A signature: an algorithm of 2 bytes, the key ID of the signing key of 8 bytes, and the signature of 64
+/// bytes.
 #[derive(Clone, Drop)]
 pub struct Signature {
     /// The algorithm, kept as it was read.
@@ -40,11 +41,10 @@ impl Signature {
     /// The length of a stored signature in bytes.
     pub const BYTES: usize = 74;
 
-    /// The 74 bytes that `from_bytes` reads as this signature. The
-    /// only error is `OutOfMemory`.
+    /// Returns the 74 bytes that `from_bytes` parses to this signature. The only error is `OutOfMemory`.
     pub fn to_bytes(&self, alloc: Global) -> Result<Vec<u8>>
-        // The bytes are those of the record, and are read as this record, and by the law `texts_are_decided`
-        // as no other; the only error is out of memory.
+        // On success, the bytes are those of the record. They parse to this record and, by the law
+        // `texts_are_decided`, to no other. The only error is out of memory.
         ensures bytes { IfOk result (λ v. v.items ≡ signature_bytes self.now) }
         ensures reads_back { IfOk result (λ v. ReadsSignature v.items self.now) }
         ensures len { IfOk result (λ v. vec_len v ≡ Self.BYTES) }
@@ -55,11 +55,11 @@ impl Signature {
         Ok(bytes)
     }
 
-    /// Reads the 74 bytes at the front: algorithm, key ID, signature. Fewer bytes are rejected,
-    /// and later ones are ignored. Does not allocate.
+    /// Parses the first 74 bytes: algorithm, key ID, signature. Fewer bytes are rejected, and later bytes
+    /// are ignored. Does not allocate.
     pub fn from_bytes(bytes: &[u8]) -> Result<Signature>
-        // The lists that begin with a record are read as that record; exactly those that are too
-        // short are rejected.
+        // If there are at least as many bytes as the record needs, the result is the record at their front.
+        // If there are fewer, they are rejected.
         ensures { MatchResult result (ReadsSignature bytes.now)
             (λ e. (e ≡ Named RecordTooShort) × (length bytes.now < 74)) }
     {
@@ -108,7 +108,7 @@ fn joined(alloc: Global, front: &[u8], back: &[u8]) -> Result<Vec<u8>>
     Ok(bytes)
 }
 
-/// The base64 of the 74 bytes, 100 characters.
+/// Writes the base64 of the 74 bytes, 100 characters.
 impl fmt::Display for Signature {
     ghost use Rattle.minisign.specs.Records.{signature_bytes};
     ghost use Rattle.minisign.specs.Texts.{base64_of};
@@ -121,7 +121,7 @@ impl fmt::Display for Signature {
     }
 }
 
-/// 74 zeros.
+/// The default signature is 74 zero bytes.
 impl Default for Signature {
     ghost is_default = { λ s. s
         ≡ record { algorithm = replicate 2 0; keynum = replicate 8 0; signature = replicate 64 0 } };

@@ -1,4 +1,4 @@
-//! A signature with no comments.
+//! A signature without comments.
 
 ghost use Rattle.std.specs.Prelude.{◌≡◌, ◌<◌, ◌≤◌, ◌⊎◌, length, take, vec_len, IfOk, IfErr};
 ghost use Rattle.minisign_base.specs.Fault.{Named};
@@ -12,7 +12,7 @@ use minisign_base::{NamedFault, Result};
 use std::alloc::Global;
 use std::marker::Model;
 
-/// A bare signature, of an algorithm that is known.
+/// A bare signature, without comments, with a known algorithm.
 #[derive(Clone, Drop)]
 pub struct SignatureBones {
     pub(crate) signature: Signature,
@@ -35,18 +35,18 @@ impl SignatureBones {
     /// The length of a stored signature in bytes.
     pub const BYTES: usize = Signature::BYTES;
 
-    /// Whether the signature is over the digest of the data and not over the data itself.
+    /// Returns true if the signature is prehashed: it signs the digest of the data, not the data itself.
     pub fn is_prehashed(&self) -> bool
         ensures { result ≡ is_prehashed self.now }
     {
         self.signature.sig_alg == SIGALG_PREHASHED
     }
 
-    /// Reads the 74 bytes at the front. Fewer bytes are rejected, then an algorithm other than `Ed`
-    /// and `ED`; later bytes are ignored. Does not allocate.
+    /// Parses the first 74 bytes. Fewer bytes are rejected, then an algorithm other than `Ed` and `ED`.
+    /// Later bytes are ignored. Does not allocate.
     pub fn from_bytes(bytes: &[u8]) -> Result<SignatureBones>
-        // A bare signature is read as its record if its algorithm is `Ed` or `ED`; too few bytes
-        // are rejected, and then every other algorithm.
+        // On success, the result is the record at the front of the bytes, and its algorithm is `Ed` or
+        // `ED`. The errors are, in this order, fewer than 74 bytes and any other algorithm.
         ensures read { IfOk result
             (λ s. ReadsSignature bytes.now s × IsKnownAlgorithm s.algorithm) }
         ensures refused { IfErr result (λ e. ((e ≡ Named RecordTooShort) × (length bytes.now < 74))
@@ -60,11 +60,10 @@ impl SignatureBones {
         Ok(SignatureBones { signature })
     }
 
-    /// The 74 bytes that `from_bytes` reads as this signature. The only error is
-    /// `OutOfMemory`.
+    /// Returns the 74 bytes that `from_bytes` parses to this signature. The only error is `OutOfMemory`.
     pub fn to_bytes(&self, alloc: Global) -> Result<Vec<u8>>
-        // The bytes are those of the record, and are read as this record, and by the law `texts_are_decided`
-        // as no other; the only rejection is out of memory.
+        // On success, the bytes are those of the record. They parse to this record and, by the law
+        // `texts_are_decided`, to no other. The only error is out of memory.
         ensures bytes { IfOk result (λ v. v.items ≡ signature_bytes self.now) }
         ensures reads_back { IfOk result (λ v. ReadsSignature v.items self.now) }
         ensures len { IfOk result (λ v. vec_len v ≡ Self.BYTES) }
@@ -74,7 +73,7 @@ impl SignatureBones {
     }
 }
 
-/// The signature of a box, without its comments. Does not allocate.
+/// Returns the signature of a box, without its comments. Does not allocate.
 impl From<SignatureBox> for SignatureBones {
     ghost from_gives = { λ signature_box bones. bones ≡ signature_box.signature };
 

@@ -29,16 +29,15 @@ use std::alloc::Global;
 use std::marker::Model;
 use std::rt::Files;
 
-/// A signature of an algorithm that is known, and the comments unless it was made from a bare
-/// signature.
+/// A signature with a known algorithm, and its comments unless it was made from a bare signature.
 #[derive(Drop)]
 pub struct SignatureBox {
     pub(crate) signature: Signature,
     pub(crate) comments: Option<Comments>,
 }
 
-// The comments of a signature box. The last field is the signature of the box's signature followed
-// by the trusted comment.
+// The comments of a signature box. The last field signs the box's signature followed by the trusted
+// comment.
 #[derive(Drop)]
 pub(crate) struct Comments {
     pub(crate) untrusted_comment: String,
@@ -73,7 +72,7 @@ impl SignatureBox {
     ghost use Rattle.std.specs.Option.{option_map_or};
     ghost use Rattle.minisign.specs.Records.{is_prehashed};
 
-    /// A box with no comments. Does not allocate.
+    /// Returns a box without comments. Does not allocate.
     pub fn from_bones(bones: SignatureBones) -> SignatureBox
         ensures { result ≡ record { signature = bones; comments = None } }
     {
@@ -83,71 +82,67 @@ impl SignatureBox {
         }
     }
 
-    /// Reads a signature text of four lines: `untrusted comment: ` and a comment; the base64 of the
-    /// 74 bytes of a signature; `trusted comment: ` and the comment that is signed; the base64 of
-    /// the comment signature, of any length. The second and the fourth line and the trusted comment
-    /// are trimmed of white space, the untrusted comment is kept as it stands, and later lines are
-    /// ignored.
+    /// Parses a signature text of four lines: `untrusted comment: ` and the untrusted comment; the base64
+    /// of the 74 bytes of a signature; `trusted comment: ` and the trusted comment; the base64 of the
+    /// comment signature, of any length. The second line, the fourth line and the trusted comment are
+    /// trimmed of white space. The untrusted comment is kept as it is, and later lines are ignored.
     ///
-    /// These are rejected, in this order: a missing line, the first one first; another prefix of
-    /// the first line; a second line that is not base64, or of fewer than 74 bytes; another
-    /// prefix of the third line; an algorithm other than `Ed` and `ED`; a fourth line that is
-    /// not base64. An allocation may fail once the text is read.
+    /// Errors come in this order: a missing line, the first one first; a different label of the first line;
+    /// a second line that is not base64, or of fewer than 74 bytes; a different label of the third line; an
+    /// algorithm other than `Ed` and `ED`; a fourth line that is not base64. An allocation may fail after
+    /// the text was parsed.
     pub fn from_string(alloc: Global, text: &str) -> Result<SignatureBox>
-        // A signature text is read as the box that its grammar has it, a function of the text, or the first
-        // case that fails; otherwise out of memory.
+        // The result is out of memory, or it depends only on the text, as its grammar says: the signature
+        // box in the text, or the first check that fails.
         ensures { IsGivenOrNoMemory result (read_signature_box text.now) }
     {
         read_text(alloc, text)
     }
 
-    /// As `from_string`, of a text that is handed over.
+    /// Parses a signature text as `from_string` does, and takes ownership of it.
     pub fn try_from_string(alloc: Global, text: String) -> Result<SignatureBox>
-        // The text is read, and rejected, as `SignatureBox::from_string` says.
+        // The text is parsed and rejected as `SignatureBox::from_string` promises.
         ensures { IsGivenOrNoMemory result (read_signature_box (string_bytes text)) }
     {
         read_text(alloc, text.as_str())
     }
 
-    /// Reads the signature text that the file at `path` holds, as `from_string` does. The path is
-    /// taken as it stands.
+    /// Parses the signature text in the file at `path`, as `from_string` does. The path is used as given.
     ///
-    /// These are rejected, in this order: a file that cannot be opened or read, `ReadingFailed`;
-    /// one that is not UTF-8, `NotUtf8`; and what `from_string` rejects. An allocation may fail
-    /// at any time. No byte of std's files is known, so of the text it is only said that there is one.
+    /// Errors come in this order: a file that cannot be opened or read, `ReadingFailed`; a file that is not
+    /// UTF-8, `NotUtf8`; the errors of `from_string`. An allocation may fail at any time. No contract says
+    /// that the text is that of the named file.
     pub fn from_file<F: Files>(files: &F, alloc: Global, path: &str) -> Result<SignatureBox>
-        // What is returned is read from some text, as the calls over texts read it; otherwise an
-        // allocation failed, the file could not be opened or read, it is not UTF-8, or these calls
-        // reject a text. No byte of std's files is known, so that it is the text of this file no contract
-        // says.
+        // On success, the result was parsed from some text, as the call that takes a text parses it. An
+        // error is out of memory, a file that could not be opened or read, a file that is not UTF-8, or a
+        // text that is rejected. No contract says that the text is that of the named file.
         ensures { IsReadFromFile read_signature_box result }
     {
         let text = read_text_file(files, alloc, path)?;
         SignatureBox::from_string(alloc, text.as_str())
     }
 
-    /// The text of the box, the four lines that `from_string` reads, each ended by a line feed. A
-    /// box that was made from a bare signature is rejected, and a failed allocation.
+    /// Returns the text of the box: the four lines that `from_string` parses, each ended by a line feed.
+    /// The errors are a box that was made from a bare signature, and a failed allocation.
     ///
-    /// Comments are written as they stand: they are read back where the untrusted one has no line
-    /// feed and no carriage return at its end, and the trusted one no line feed and no white space
-    /// at its ends. Where the untrusted one ends in a carriage return, it is read back without that
-    /// one.
+    /// Comments are written as they are. They are read back unchanged if the untrusted comment has no line
+    /// feed and no carriage return at its end, and the trusted comment has no line feed and no white space
+    /// at its ends. A carriage return at the end of the untrusted comment is dropped when the text is read.
     pub fn to_string(&self, alloc: Global) -> Result<String>
-        // The text of a box is the one by definition; rejected are a box from a bare signature, and
-        // a failed allocation.
+        // On success, the result is the text of this box in the form that `specs/SignatureText` defines.
+        // The errors are a box made from a bare signature, which is always rejected, and out of memory.
         ensures text { MatchOption self.now.comments (result ≡ Err (Named SignatureBoxIncomplete))
             (λ c. MatchResult result (λ t. string_bytes t ≡ signature_text self.now.signature c)
             (λ e. e ≡ Named OutOfMemory)) }
 
-        // The text is read as the box if the untrusted comment has no line feed and does not end
-        // with a carriage return, and the trusted one has no line feed and is its own trim.
+        // On success, the text parses to this box if the untrusted comment has no line feed and no carriage
+        // return at its end, and the trusted comment has no line feed and is trimmed.
         ensures reads_back { IfSome self.now.comments (λ c. AreReadBack c.untrusted c.trusted)
             → IfOk result (λ t. read_signature_box (string_bytes t) ≡ Ok self.now) }
 
-        // One carriage return at the end of the untrusted comment is dropped, and everything else
-        // is read as it was written, if neither comment has a line feed and the trusted one is its
-        // own trim.
+        // On success, if neither comment has a line feed and the trusted comment is trimmed, the text
+        // parses to this box, except that one carriage return at the end of the untrusted comment is
+        // dropped.
         ensures reads { IfSome self.now.comments (λ c. AreOneLine c.untrusted c.trusted)
             → IfOk result (λ t. read_signature_box (string_bytes t) ≡ Ok (box_read_back self.now)) }
     {
@@ -157,9 +152,9 @@ impl SignatureBox {
         }
     }
 
-    /// As `to_string`, of a box that is handed over.
+    /// Returns the text of the box as `to_string` does, and consumes the box.
     pub fn into_string(self, alloc: Global) -> Result<String>
-        // The text, what is rejected, and what is read back are as `SignatureBox::to_string` says.
+        // The text, the errors and what the text parses to are as `SignatureBox::to_string` promises.
         ensures text { MatchOption self.comments (result ≡ Err (Named SignatureBoxIncomplete))
             (λ c. MatchResult result (λ t. string_bytes t ≡ signature_text self.signature c)
             (λ e. e ≡ Named OutOfMemory)) }
@@ -171,9 +166,10 @@ impl SignatureBox {
         self.to_string(alloc)
     }
 
-    /// The bytes of the text of the box, rejected as `to_string`.
+    /// Returns the bytes of the box's text, with the errors of `to_string`.
     pub fn to_bytes(&self, alloc: Global) -> Result<Vec<u8>>
-        // The bytes of a box are those of its text, and what is rejected is the same.
+        // On success, the bytes are those of the text that `SignatureBox::to_string` returns. The errors
+        // are the same.
         ensures { MatchOption self.now.comments (result ≡ Err (Named SignatureBoxIncomplete))
             (λ c. MatchResult result (λ v. v.items ≡ signature_text self.now.signature c)
             (λ e. e ≡ Named OutOfMemory)) }
@@ -181,7 +177,7 @@ impl SignatureBox {
         Ok(self.to_string(alloc)?.into_bytes())
     }
 
-    /// A box that holds the same. The only error is `OutOfMemory`.
+    /// Returns a copy of the box. The only error is `OutOfMemory`.
     pub fn try_clone(&self, alloc: Global) -> Result<SignatureBox>
         ensures same { IfOk result (λ b. b ≡ self.now) }
         ensures refused { IfErr result (λ e. e ≡ Named OutOfMemory) }
@@ -198,18 +194,18 @@ impl SignatureBox {
         }
     }
 
-    /// Whether the signature is over the digest of the data and not over the data itself.
+    /// Returns true if the signature is prehashed: it signs the digest of the data, not the data itself.
     pub fn is_prehashed(&self) -> bool
         ensures { result ≡ is_prehashed self.now.signature }
     {
         self.signature.sig_alg == SIGALG_PREHASHED
     }
 
-    /// The comment that nothing vouches for; a bare signature has an empty one. The
-    /// only error is `OutOfMemory`.
+    /// Returns the untrusted comment, which is not signed; it is empty for a bare signature. The only error
+    /// is `OutOfMemory`.
     pub fn untrusted_comment(&self, alloc: Global) -> Result<String>
-        // The untrusted comment, which of a bare signature is empty; the only error is out of
-        // memory.
+        // On success, the result is the untrusted comment, which is empty for a bare signature. The only
+        // error is out of memory.
         ensures comment { IfOk result
             (λ t. string_bytes t ≡ option_map_or (λ c. c.untrusted) self.now.comments []) }
         ensures refused { IfErr result (λ e. e ≡ Named OutOfMemory) }
@@ -220,10 +216,11 @@ impl SignatureBox {
         }
     }
 
-    /// The comment that the comment signature vouches for. A bare signature, which has none, is
-    /// rejected, and a failed allocation.
+    /// Returns the trusted comment, which is signed. The errors are a bare signature, which has none, and a
+    /// failed allocation.
     pub fn trusted_comment(&self, alloc: Global) -> Result<String>
-        // The trusted comment; a box without comments is rejected, and a failed allocation.
+        // On success, the result is the trusted comment. The errors are a box without comments, which is
+        // always rejected, and out of memory.
         ensures { MatchOption self.now.comments (result ≡ Err (Named TrustedCommentAbsent))
             (λ c. MatchResult result (λ t. string_bytes t ≡ c.trusted) (λ e. e ≡ Named OutOfMemory)) }
     {
@@ -233,7 +230,7 @@ impl SignatureBox {
         }
     }
 
-    /// The key ID of the key that signed, 8 bytes.
+    /// Returns the key ID of the key that signed, 8 bytes.
     pub fn keynum(&self) -> &[u8]
         ensures { result.now ≡ self.now.signature.keynum }
     {

@@ -1,4 +1,4 @@
-//! What a signature is over, as it is held once the data was read: its digest, or the data itself.
+//! The signed data as it is held after it was read: its digest, or the data itself.
 
 ghost use Rattle.std.specs.Prelude.{◌≡◌, List, ℕ, MatchResult};
 ghost use Rattle.minisign_base.specs.Devices.{HasGiven};

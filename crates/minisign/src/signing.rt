@@ -1,4 +1,4 @@
-//! Signing with an opened secret key.
+//! Signing with a decrypted secret key.
 
 ghost use Rattle.std.specs.Prelude.{◌≡◌, ℕ, true, false, List, None, Some, ◌⊎◌, string_bytes, IfOk, IfErr};
 ghost use Rattle.std.specs.Prelude.{OnOk, IfSome, IsSomeAnd};
@@ -30,28 +30,27 @@ use minisign_base::scheme::Scheme;
 use minisign_base::{NamedFault, Result};
 use std::alloc::Global;
 
-/// The comments of a signature as a caller gives them, and the moment that stands for a trusted one.
+/// The comments of a signature as the caller gives them, and the time for the default trusted comment.
 #[derive(Clone, Copy)]
 pub(crate) struct GivenComments<'a> {
-    /// The comment that is signed. Without one it is `timestamp:` and the moment.
+    /// The trusted comment, which is signed. The default is `timestamp:` and the moment.
     pub(crate) trusted: Option<&'a str>,
-    /// The comment that nothing vouches for. Without one it is `signature from rsign secret key`.
+    /// The untrusted comment, which is not signed. The default is `signature from rsign secret key`.
     pub(crate) untrusted: Option<&'a str>,
-    /// In seconds since 1970.
+    /// The time in seconds since 1970.
     pub(crate) moment: u64,
 }
 
-/// Signs all the data ahead of `data_reader` with `sk`, and returns a box with both comments.
+/// Signs all the data ahead of `data_reader` with `sk`, and returns a signature box with both comments.
 ///
-/// The data is hashed in pieces of 64 KiB, so that memory does not grow with it. Without a trusted
-/// comment the box gets `timestamp:` and the `moment`, in seconds since 1970, and without an
-/// untrusted one `signature from rsign secret key`. Two draws of 64 random bytes are made.
+/// The data is hashed in pieces of 64 KiB, so memory use does not grow with its size. The default trusted
+/// comment is `timestamp:` and the `moment`, in seconds since 1970. The default untrusted comment is
+/// `signature from rsign secret key`. Takes 64 random bytes twice.
 ///
-/// Rejected are, in this order: a sealed key, with nothing read or drawn; a failing `data_reader`; a
-/// failing `random`, once the data was read; and, where `pk` is given, a comment signature that its
-/// 32 key bytes do not accept. Key IDs are not compared. An allocation may fail once the key was
-/// tested: for the buffer of the reading, the two comments, and the comment signature and what it
-/// is over.
+/// Errors come in this order: an encrypted key, with nothing read from `data_reader` or `random`; a failing
+/// `data_reader`; a failing `random`, after the data was read; and, if `pk` is given, a comment signature
+/// that its 32 key bytes do not accept. Key IDs are not compared. An allocation may fail after the key was
+/// checked: for the read buffer, the two comments, the comment signature and the comment message.
 pub fn sign<S: Scheme, R: Source, Z: RandomSource>(
     alloc: Global,
     scheme: &S,
@@ -63,34 +62,35 @@ pub fn sign<S: Scheme, R: Source, Z: RandomSource>(
     random: &mut Z,
     moment: u64,
 ) -> Result<SignatureBox>
-    // The box is made from all the bytes that were ahead, the comments or their defaults, and two
-    // times 64 random bytes. What a genuine key signed is accepted under its own public key with
-    // the same key ID, whatever the comments (`HasSignedBox`).
+    // On success, the signature box is made from all the bytes that were ahead, the comments or their
+    // defaults, and two times 64 random bytes, and if the key is genuine, the box is valid for these bytes
+    // under its own public key with the same key ID. This holds for all comments.
     ensures signed { IfOk result (HasSignedData S.Scheme scheme.now sk.now
         (source_call R.Source data_reader.old data_reader.new) (given_comments trusted_comment.entry
         untrusted_comment.entry moment) (random_call Z.RandomSource random.old random.new)) }
 
-    // On success the key is not sealed.
+    // On success, the secret key is not encrypted.
     ensures opened { OnOk result (is_encrypted sk.now ≡ false) }
 
-    // On success the 32 bytes of a given public key accept the comment signature; key IDs are
-    // not compared.
+    // On success, if a public key is given, its 32 bytes accept the comment signature. Key IDs are not
+    // compared.
     ensures given_key { IfOk result
         (λ x. IfSome pk.entry (λ p. accepts_comments (S.accepts scheme.now) p.now x ≡ true)) }
 
-    // On success the random source did not fail.
+    // On success, the random source did not fail.
     ensures random_no_new_fault { OnOk result (Z.random_faults random.new ≡ Z.random_faults random.old) }
 
-    // A key is rejected as sealed exactly when it is sealed, with nothing read or drawn
-    // (`SigningFails`). `reading failed` comes only if the source's count of errors rose, with
-    // nothing drawn; `random source failed` only if that source's count did, once all the data was
-    // read; out of memory only if neither count rose (`OpenedSigningFails`); a given public key is
-    // rejected exactly when its 32 bytes do not accept the comment signature (`SigningFails`).
+    // The error for an encrypted key is returned exactly if the key is encrypted, with nothing read from
+    // either source. `reading failed` is returned only if the source's error count rose, and no random
+    // bytes were taken. `random source failed` is returned only if the random source's error count rose,
+    // after all the data was read. Out of memory is returned only if neither count rose. The given public
+    // key is rejected exactly if its 32 bytes do not accept the comment signature.
     ensures refused { IfErr result (SigningFails S.Scheme scheme.now (option_copied pk.entry) sk.now
         (given_comments trusted_comment.entry untrusted_comment.entry moment) (source_call R.Source
         data_reader.old data_reader.new) (random_call Z.RandomSource random.old random.new)) }
 
-    // Whatever the result, the source and the random source lost at most some bytes at their front.
+    // The bytes still ahead of the source and of the random source are suffixes of those that were ahead
+    // before the call, whatever the result.
     ensures given { HasGiven (R.ahead data_reader.old) (R.ahead data_reader.new) }
     ensures drawn { HasGiven (Z.random_ahead random.old) (Z.random_ahead random.new) }
 {
@@ -107,10 +107,11 @@ pub fn sign<S: Scheme, R: Source, Z: RandomSource>(
     Ok(signature_box)
 }
 
-/// A law, for which nothing is done: the comments that a signature gets where none are given meet
-/// what the headlines ask of comments, whatever the moment is.
+/// States that the default comments meet the headline's premises on comments, whatever the time is. This
+/// function is a law: it does nothing, and its contract is what it is for.
 pub fn default_comments_are_read_back(moment: u64)
-    // The default comments are read back as they were written.
+    // If no comments are given, the default comments are read back from the signature text exactly as they
+    // were written.
     ensures { AreChosenReadBack (given_comments None None moment) }
 {}
 

@@ -20,19 +20,19 @@ use minisign_base::prompt::Prompt;
 use minisign_base::scheme::Scheme;
 use std::alloc::Global;
 
-/// Signs all the data ahead of `data_reader` with the key of a text, and returns the text of the
-/// signature.
+/// Signs all the data ahead of `data_reader` with the secret key in `sk_text`, and returns the signature
+/// text.
 ///
-/// A key that was never sealed is taken as it stands, where its checksum matches
-/// (`from_unencrypted_box`); any other is opened with the password that is passed in, or with one
-/// that the prompt asks for (`from_box`). Then the data is signed (`sign`, without a public key to
-/// test), and the box is written (`to_string`).
+/// A key that was never encrypted is used if its checksum matches (`from_unencrypted_box`). Any other key
+/// is decrypted with the given password, or with one that the prompt asks for (`from_box`). Then the data
+/// is signed (`sign`, without a public key to test), and the signature box is written as text
+/// (`to_string`).
 ///
-/// Rejected are, in this order: a text that reads as no key; a checksum of a key that was never
-/// sealed, or what `from_box` rejects; a failing `data_reader`; a failing `random`, once the data
-/// was read. Until the key is opened nothing is read from `data_reader` and nothing drawn. An
-/// allocation may fail at any time. A comment with a line feed, or a trusted one with white space at
-/// its ends, is written as it stands: the text need not verify then, or may read with another
+/// Errors come in this order: a text that does not parse as a key; a checksum that does not match, for a
+/// key that was never encrypted, or the errors of `from_box`; a failing `data_reader`; a failing `random`,
+/// after the data was read. Until the key is decrypted nothing is read from `data_reader` or `random`. An
+/// allocation may fail at any time. A comment with a line feed, or a trusted comment with white space at
+/// its ends, is written unchanged: the signature may then fail to verify, or be read with a different
 /// comment.
 pub fn sign_texts<S: Scheme, P: Source, Q: Sink, R: Source, Z: RandomSource>(
     alloc: Global,
@@ -46,38 +46,39 @@ pub fn sign_texts<S: Scheme, P: Source, Q: Sink, R: Source, Z: RandomSource>(
     random: &mut Z,
     moment: u64,
 ) -> Result<String>
-    // The text is that of a key, which it gives under some password, and a genuine key's text is
-    // read back as a box that every public key of its seed and key ID vouches with, if neither
-    // comment has a line feed and the trusted one is trimmed.
+    // On success, the secret key text gives the signing key under some password. If that key is genuine,
+    // neither comment has a line feed and the trusted comment is trimmed, the signature text parses to a
+    // signature box that is valid for the data under every public key of the key's seed and key ID.
     ensures headline { IfOk result (λ t. TextSigningHeadline (S.accepts scheme.now)
         (S.public_of scheme.now) sk_text.now (R.ahead data_reader.old) (given_comments
         trusted_comment.entry untrusted_comment.entry moment) (string_bytes t)) }
 
-    // On success the text gave a key: either one that was never sealed and whose checksum matches,
-    // with the prompt untouched, or a sealed one that opened under the password that was passed in or
-    // typed; and the result is the text of the box that signing makes with this key from all the
-    // data. Where this very key is genuine, the text is read back as clause `headline` says: so who
-    // signs with a sealed key and its password gets a text that verifies.
+    // On success, the text gave a key: either one that was never encrypted and whose checksum matches, with
+    // the prompt unchanged, or an encrypted one that was decrypted with the password that was given or
+    // typed. The result is the text of the signature box that signing makes with this key for all the data.
+    // If this key is genuine, the signature text is read back as the clause `headline` says. So whoever
+    // signs with an encrypted key and its password gets a signature that verifies.
     ensures signed { IfOk result (λ t. HasSignedWithText S.Scheme scheme.now
         (prompt_call P.Source Q.Sink prompt.old prompt.new) (option_map string_bytes password) sk_text.now
         (source_call R.Source data_reader.old data_reader.new) (given_comments trusted_comment.entry
         untrusted_comment.entry moment) (random_call Z.RandomSource random.old random.new) (string_bytes t)) }
 
-    // On success the random source did not fail.
+    // On success, the random source did not fail.
     ensures random_no_new_fault { OnOk result (Z.random_faults random.new ≡ Z.random_faults random.old) }
 
-    // A text that gives no key is rejected with nothing read or drawn, by the first reason;
-    // otherwise out of memory, with no new error of the source or of the random source, a failing
-    // source with nothing drawn, or a failing random source once everything was read. The error of a
-    // sealed key never comes (`GivesKey`, `OpenedSigningFails`).
+    // If the text gives no key, the error is the first reason, and nothing was read from either source.
+    // Otherwise an error is out of memory, and neither source failed; or the data source failed, and no
+    // random bytes were taken; or the random source failed after all the data was read. The error for an
+    // encrypted key is never returned.
     ensures refused { IfErr result (TextSigningFails (prompt_call P.Source Q.Sink prompt.old prompt.new)
         (option_map string_bytes password) sk_text.now (source_call R.Source data_reader.old data_reader.new)
         (random_call Z.RandomSource random.old random.new)) }
 
-    // A password that is passed in leaves the prompt untouched.
+    // If a password is given, the prompt is unchanged.
     ensures untouched { IfSome password (λ _. prompt.new ≡ prompt.old) }
 
-    // Whatever the result, the source and the random source lost at most some bytes at their front.
+    // The bytes still ahead of the source and of the random source are suffixes of those that were ahead
+    // before the call, whatever the result.
     ensures given { HasGiven (R.ahead data_reader.old) (R.ahead data_reader.new) }
     ensures drawn { HasGiven (Z.random_ahead random.old) (Z.random_ahead random.new) }
 {

@@ -1,4 +1,4 @@
-//! Reading and writing texts: their lines one after the other, and base64.
+//! Reading and writing texts: lines, one after the other, and base64.
 
 ghost use Rattle.std.specs.Prelude.{◌≡◌, ℕ, ◌+◌, ◌≤◌, List, [], ◌∷◌, ◌++◌, length, false, Option};
 ghost use Rattle.std.specs.Prelude.{string_bytes, IfOk, IfErr, OnOk, IfSome, IfNone};
@@ -21,14 +21,15 @@ use minisign_base::{NamedFault, Result};
 use std::alloc::Global;
 use std::str::Lines;
 
-/// A law, for which nothing is done: the functions that read texts, and those that open and take secret keys,
-/// agree with the relations that the grammars are.
+/// States that the functions that parse texts, and those that decrypt or accept secret keys, agree with the
+/// relations that define the grammars. This function is a law: it does nothing, and its contract is what it
+/// is for.
 #[tactic(auto, using(crate::proofs::PublicKeyTexts::read_as, crate::proofs::PublicKeyTexts::bare_read_as, crate::proofs::SignatureTexts::read_as, crate::proofs::SecretKeyTexts::read_as, crate::proofs::SecretKeyTexts::bytes_read_as, crate::proofs::Openings::opened_as, crate::proofs::Openings::unencrypted_as))]
 pub fn texts_are_decided()
-    // What is read of a text, by the function of its grammar, is a public key (of its text, or of bare
-    // base64), a signature with its comments or a secret key exactly where the text reads as these by the
-    // relation that its grammar is; it reads as one at most, and as none where what is read is an error. So
-    // do the bytes of a secret key.
+    // The functions that parse a public key text, a bare base64 public key, a signature text, a secret key
+    // text or the bytes of a secret key give a value exactly if the grammar, stated as a relation, relates
+    // the text to this value. The grammar relates a text to one value at most, and to none if the function
+    // gives an error.
     ensures public_key { (text : List ℕ) → IsReading (PublicKeyText text) (read_public_key text) }
     ensures bare_public_key { (text : List ℕ) → IsReading (BarePublicKey text) (read_bare_public_key text) }
     ensures signature { (text : List ℕ) → IsReading (SignatureText text) (read_signature text) }
@@ -36,16 +37,18 @@ pub fn texts_are_decided()
     ensures secret_key_bytes { (bytes : List ℕ)
         → IsReading (ReadsSecretKey bytes) (read_secret_key_bytes bytes) }
 
-    // The records of public keys and signatures are each the front of the bytes in one way at most.
+    // Given bytes begin with the record of one public key at most, and with the record of one signature at
+    // most.
     ensures public_key_bytes { (bytes : List ℕ) (k other : PublicKeyRecord)
         → ReadsPublicKey bytes k → ReadsPublicKey bytes other → k ≡ other }
     ensures signature_bytes { (bytes : List ℕ) (s other : SignatureRecord)
         → ReadsSignature bytes s → ReadsSignature bytes other → s ≡ other }
 
-    // A text opens under a password to a key exactly where it reads as a key that is sealed by scrypt, whose
-    // limits are allowed and within the bound and whose checksum the stream under the password restores, and
-    // this is the key opened; and it is taken as a key that was never sealed exactly where it reads as one
-    // whose checksum matches. In both cases there is one key at most, and none where what comes is an error.
+    // A text decrypts under a password to a key exactly if it parses to a key that is encrypted with
+    // scrypt, the key's limits are allowed and within the bound, and the stream under the password restores
+    // its checksum. A text is accepted as an unencrypted key exactly if it parses to a key that was never
+    // encrypted and whose checksum matches. In both cases there is one key at most, and none if the
+    // function gives an error.
     ensures opened_key { (text password : List ℕ) (bound : Option ℕ)
         → IsReading (IsOpened text password bound) (open_key text password bound) }
     ensures unencrypted_key { (text : List ℕ)

@@ -1,4 +1,4 @@
-//! Whether a signature box vouches for data under a public key.
+//! Verification of data with a parsed public key and signature box.
 
 ghost use Rattle.std.specs.Prelude.{◌≡◌, ◌↔◌, ℕ, Bool, List, true, false, ◌⊎◌, Ok, Err, IfOk, IfErr, OnOk};
 ghost use Rattle.std.specs.Prelude.{OnErr};
@@ -27,25 +27,25 @@ use minisign_base::scheme::Scheme;
 use minisign_base::{NamedFault, Result};
 use std::alloc::Global;
 
-/// Verifies that `signature_box` vouches for all the data ahead of `data_reader` under `pk`, and
-/// copies that data to `out` where `output` asks for it.
+/// Verifies that `signature_box` is a valid signature of all the data ahead of `data_reader` under `pk`.
+/// With `output`, copies the verified data to `out`.
 ///
-/// The data is read to its end first, in pieces of 64 KiB. It is kept in memory where the box is
-/// over the data itself and that is allowed; otherwise it is hashed, so that memory does not grow
-/// with it. Then the box is judged: rejected is the first of the conditions below that fails, with
-/// `status` and `out` untouched. On success `status` gets a line, and another one with the trusted
-/// comment where there is one, unless `quiet`. `status` is not flushed.
+/// The data is read to its end first, in pieces of 64 KiB. It is hashed while it is read, so memory use
+/// does not grow with its size. Only the data of a legacy signature is kept in memory, and only if
+/// `allow_legacy` is set. Then the signature is checked, and the first condition that fails is returned as
+/// an error, with `status` and `out` unchanged. On success, unless `quiet` is set, `status` receives a line
+/// that says so, and a second line with the trusted comment if there is one. `status` is not flushed.
 ///
-/// With `output` the data of a prehashed box is read twice: its place is marked first, and gone
-/// back to after the verdict; the second pass is hashed while it is copied. Where its digest is the
-/// first one's, `out` is flushed; otherwise `DataChanged` is returned, `out` holds what the second
-/// pass gave, and is not flushed: nobody may rely on it. The kept data of a legacy box is written
-/// and flushed without a second reading.
+/// With `output`, the data of a prehashed signature is read twice: its start is marked first, and after the
+/// verdict the source goes back to the mark. The second reading is hashed while it is copied. If its digest
+/// equals that of the first reading, `out` is flushed. Otherwise `DataChanged` is returned, and `out` holds
+/// the unverified data of the second reading, not flushed: discard it. The data of a legacy signature is
+/// written from memory and flushed, without a second reading.
 ///
-/// A failing `data_reader` is rejected before anything is judged, then a failing `status`, and a
-/// failing `out` last. An allocation may fail for the buffer of a reading, for the data of a legacy
-/// box, for the trusted comment after the signature, and for the lines of the status, with
-/// `status` and `out` untouched, and for the buffer of the second reading.
+/// Errors of `data_reader` come before any check of the signature, then errors of `status`, and errors of
+/// `out` last. An allocation may fail for the read buffer, the data of a legacy signature, the comment
+/// message and the status lines, with `status` and `out` unchanged, and for the buffer of the second
+/// reading.
 pub fn verify<S: Scheme, R: Rereader, W: Sink, O: Sink>(
     alloc: Global,
     scheme: &S,
@@ -58,91 +58,90 @@ pub fn verify<S: Scheme, R: Rereader, W: Sink, O: Sink>(
     status: &mut W,
     out: &mut O,
 ) -> Result<()>
-    // Over data that is known, where no device fails, and over a steady source where the data is copied: the
-    // answer is that of the function `judge`, of key, box, data and flag, or out of memory.
+    // If the source's bytes are known, no device fails, and the source is steady if the data is copied,
+    // then the result is out of memory or exactly what the function `judge` gives for the public key, the
+    // signature box, the data and `allow_legacy`.
     ensures headline { WhereNothingFails output (rereader_call R.Source R.steady data_reader.old
         data_reader.new) (sink_call W.Sink status.old status.new) (sink_call O.Sink out.old out.new) result
         (λ message. judge (S.accepts scheme.now) pk.now signature_box.now message allow_legacy) }
 
-    // On success the box vouches for all the bytes that were ahead: the key IDs are equal; the
-    // box is prehashed or legacy ones are allowed; the scheme accepts the signature for the Blake2b
-    // digest (or the data of a legacy box); and the comment signature, if there is one, has at
-    // least 64 bytes, of which the first 64 are accepted for the signature and the trusted comment.
-    // All the data was then read without an error (`given`, `end`, `no_new_fault`); the mark stays, except
-    // for a prehashed box with `output`, whose data is marked (`mark`).
+    // On success, the signature box is valid for all the bytes that were ahead of `data_reader`. That
+    // means: the key IDs are equal; the signature is prehashed, or `allow_legacy` is set; the scheme
+    // accepts the signature for the Blake2b digest of the data (for a legacy signature, for the data
+    // itself); and the comment signature, if there is one, has at least 64 bytes, and the scheme accepts
+    // the first 64 for the signature followed by the trusted comment. All the data was read to its end
+    // without an error. Unless the data of a prehashed signature is copied, the marked bytes are unchanged.
     //
-    // On success the status got exactly its lines, or nothing with quiet, and was not flushed;
-    // neither the status nor the output failed (`said`, `status_no_new_fault`, `status_unflushed`,
-    // `out_no_new_fault`).
+    // On success, `status` received exactly the status lines, or nothing with `quiet`, and was not flushed.
+    // Neither `status` nor `out` reported an error.
     //
-    // On success with `output` the box vouches for what the output took, whatever a second reading
-    // gave; the output took a list with the data's digest, or for a legacy box the data; and it is
-    // the data itself over a steady source whose bytes are known (`copied`: `HasCopy`, fields `all`,
-    // `vouched`, `signed_same`, `legacy_same`, `steady_same`).
+    // On success with `output`, the signature box is valid for the bytes that `out` received, whatever a
+    // second reading returned. These bytes have the digest of the verified data; for a legacy signature
+    // they are the verified data. They are also the verified data if the source is steady and its bytes are
+    // known.
     //
-    // On success with `output` for a prehashed box, the source was gone back to its mark and read
-    // to its end again; what that gave is the copy, and it has the digest of the first reading
-    // (`read_twice` of `HasCopy`). By this and by clause `refused` (`Compare` of `StageEnds`) data
-    // that changed is rejected exactly where the second digest is another one.
+    // On success with `output` for a prehashed signature, the source went back to the mark and was read to
+    // its end again. `out` received what the second reading returned, and its digest equals that of the
+    // first reading. So data that changes between the two readings is rejected exactly if its digest is
+    // different.
     //
-    // The copy is flushed on success (`flushed` of `HasCopy`), and by clause `refused` (`unflushed`
-    // of `Copies`) on no rejection before the digests are compared.
+    // On success with `output`, the copy was flushed. If verification fails before the digests are
+    // compared, `out` was not flushed.
     ensures accepted { OnOk result (VerifyingSucceeds (S.accepts scheme.now) pk.now signature_box.now
         (options_of quiet output allow_legacy) (rereader_call R.Source R.steady data_reader.old
         data_reader.new) (sink_call W.Sink status.old status.new) (sink_call O.Sink out.old out.new)) }
 
-    // Otherwise it failed at one of these stages, of which each one before was passed, and none
-    // after it was begun (`StagesEnd`): the place is marked, for a prehashed box with `output`;
-    // the data is read to its end; the box is judged; its lines are reported, unless `quiet`; and
-    // with `output` the mark is gone back to, what is ahead then is copied, its digest is compared
-    // with that of the data, and the output is flushed; or for a legacy box the data is put out and
-    // flushed (`verifying_stages`). A stage changes no device but its own (`StageEnds`).
+    // An error comes from one of the following stages. All earlier stages succeeded, no later stage was
+    // begun, and each stage changes only the devices that it uses. First the start of the data is marked,
+    // if the data of a prehashed signature is to be copied. Then the data is read to its end, the signature
+    // is checked, and unless `quiet` is set the status lines are written. With `output`, the data of a
+    // prehashed signature is then copied: the source goes back to the mark, the data is read again and
+    // written, its digest is compared, and `out` is flushed. The data of a legacy signature is written and
+    // flushed.
     //
-    // A rejection of the box is that of the function `judge` for the data, all of which was read without an
-    // error; status and output are untouched (`Judge`).
+    // If the signature is rejected, all the data was read without an error, the error is the one that the
+    // function `judge` gives for that data, and `status` and `out` are unchanged.
     //
-    // `going back failed` comes only at the mark, with nothing read, or at the return, with nothing
-    // copied; the source's count of errors rose, and no place is marked (`Mark`, `Return`).
+    // `going back failed` is returned only if marking fails, before anything is read, or if going back
+    // fails, before anything is copied. The source's error count rose, and no place is marked.
     //
-    // `reading failed` comes only if the source's count of errors rose at a read, which leaves the
-    // mark (`Read`, `Copy`). Nothing is said of what going back would bring then.
+    // `reading failed` is returned only if the source's error count rose at a read. A mark is kept, but
+    // nothing is promised about what going back would return.
     //
-    // `writing failed` of the status comes only if its count of errors rose, only for a box that
-    // vouches, and never with quiet; the status then took a prefix of its lines, and the output
-    // is untouched (`Report`).
+    // `writing failed` is returned for `status` only if its error count rose, only for a valid signature,
+    // and never with `quiet`. `status` has received a prefix of its lines, and `out` is unchanged.
     //
-    // `writing failed` of the output comes only if its count of errors rose, once the status took
-    // its lines: with a prefix taken of what the second reading gave, or of the data of a legacy
-    // box; or at the flush, with all of it taken (`Copy`, `Put`, `Flush`).
+    // `writing failed` is returned for `out` only if its error count rose, and after `status` received its
+    // lines. `out` has received a prefix of the second reading, or of the data of a legacy signature; if
+    // the flush failed, it has received all of it.
     //
-    // `Data changed between verification and output` comes only where all that the second reading
-    // gave was copied, and has a different digest from the data (`Compare`).
+    // `Data changed between verification and output` is returned only if the whole second reading was
+    // copied and its digest differs from that of the verified data.
     //
-    // Out of memory comes only where no count of errors rose: in the first reading, in judging or
-    // before the status took anything, with status and output untouched; or after the return,
-    // before the second reading began, with nothing copied (`failed` of `Copies`). So no error of a
-    // device, and no half of a copy, is told as out of memory.
+    // Out of memory is returned only if no error count rose. Either it occurs in the first reading, while
+    // the signature is checked or before `status` receives anything, and `status` and `out` are unchanged;
+    // or it occurs after going back and before the second reading begins, and nothing was copied. So
+    // neither a device's error nor a partial copy is ever reported as out of memory.
     //
-    // A reading takes at most some bytes off the front of what the source has ahead; going back
-    // puts those ahead that the mark keeps, which are what was ahead at first if it is steady
-    // (`Read`, `Copy`, `Return`, `Mark`).
+    // A read only removes bytes from the front of what is ahead of the source. Going back restores the
+    // marked bytes, which for a steady source are those that were ahead at first.
     ensures refused { IfErr result (VerifyingFails (S.accepts scheme.now) pk.now signature_box.now
         (options_of quiet output allow_legacy) (rereader_call R.Source R.steady data_reader.old
         data_reader.new) (sink_call W.Sink status.old status.new) (sink_call O.Sink out.old out.new)) }
 
-    // After a rejection the status took a prefix of the lines of the box.
+    // After an error, `status` has received a prefix of the status lines, which may be empty.
     ensures said_front { OnErr result
         (TakesFront (sink_call W.Sink status.old status.new) (wanted_status quiet signature_box.now)) }
 
-    // Whatever the result, but for `output` of a prehashed box, the source lost at most some bytes
-    // at its front.
+    // Unless the data of a prehashed signature is copied, the bytes still ahead of `data_reader` are a
+    // suffix of those that were ahead before the call, whatever the result.
     ensures given { is_reread output signature_box.now ≡ false
         → HasGiven (R.ahead data_reader.old) (R.ahead data_reader.new) }
 
-    // With quiet the status is untouched.
+    // With `quiet`, `status` is unchanged.
     ensures quiet { quiet ≡ true → status.new ≡ status.old }
 
-    // Without `output` the output is untouched.
+    // Without `output`, `out` is unchanged.
     ensures out { output ≡ false → out.new ≡ out.old }
 {
     let signed = read_data(alloc, signature_box, data_reader, output, allow_legacy)?;
@@ -158,27 +157,30 @@ pub fn verify<S: Scheme, R: Rereader, W: Sink, O: Sink>(
     copy_out(alloc, &signed, data_reader, output, out)
 }
 
-/// A law, for which nothing is done: what a verdict does not depend on, whatever the scheme accepts.
+/// States what a verdict does not depend on, for every scheme. This function is a law: it does nothing, and
+/// its contract is what it is for.
 #[tactic(auto, using(crate::proofs::Verdicts::unvouched_same))]
 pub fn unvouched_parts_change_no_verdict()
-    // The verdict does not depend on the untrusted comment, the key's algorithm bytes, or bytes
-    // past the 64th of the comment signature.
+    // The verdict does not depend on the untrusted comment, on the public key's algorithm bytes, or on any
+    // bytes after the 64th of the comment signature.
     ensures { (accepts : Verifier) (pk key : PublicKeyRecord) (x other : SignatureBoxRecord)
         (message : List ℕ) (legacy : Bool) → judged_parts key other ≡ judged_parts pk x →
         judge accepts key other message legacy ≡ judge accepts pk x message legacy }
 {}
 
-/// A law, for which nothing is done: the functions that judge a box, and two texts, agree with the records of
-/// conditions that acceptance is.
+/// States that the functions `judge` and `verdict` agree with the records that list the conditions for a
+/// valid signature. This function is a law: it does nothing, and its contract is what it is for.
 #[tactic(auto, using(crate::proofs::Verdicts::judge_decided, crate::proofs::Verdicts::verdict_decided))]
 pub fn verdicts_are_decided()
-    // The judge passes a box exactly where it vouches for the message under the key.
+    // The function `judge` accepts a signature box exactly if the box is valid for the message under the
+    // public key.
     ensures judge { (accepts : Verifier) (pk : PublicKeyRecord) (x : SignatureBoxRecord) (message : List ℕ)
         (legacy : Bool) →
         (judge accepts pk x message legacy ≡ Ok tt) ↔ Vouches accepts pk x message legacy }
 
-    // The verdict gives a comment exactly where the texts vouch for the message, with this comment; they do
-    // with one at most, and with none where the verdict is an error.
+    // The function `verdict` gives a comment exactly if the signature text is valid for the message under
+    // the public key text and has this trusted comment. There is at most one such comment, and there is
+    // none if `verdict` gives an error.
     ensures verdict { (accepts : Verifier) (pk_text sig_text message : List ℕ) (legacy : Bool) →
         IsReading (TextsVouchWith accepts pk_text sig_text message legacy)
         (verdict accepts pk_text sig_text message legacy) }

@@ -1,4 +1,4 @@
-//! Whether a public key text and a signature text vouch for data.
+//! Verification of data with the texts of a public key and a signature.
 
 ghost use Rattle.std.specs.Prelude.{◌≡◌, ◌⊎◌, true, false, Ok, IfErr, OnOk, OnErr};
 ghost use Rattle.minisign_base.specs.Devices.{HasGiven};
@@ -20,13 +20,12 @@ use minisign_base::devices::sources::Rereader;
 use minisign_base::scheme::Scheme;
 use std::alloc::Global;
 
-/// Verifies that the texts of a public key and of a signature, as signing tools write them, vouch
-/// for all the data ahead of `data_reader`: `PublicKey::from_box` of the one,
-/// `SignatureBox::from_string` of the other, and `verify` with what they read as.
+/// Verifies that `sig_text` is a valid signature of all the data ahead of `data_reader` under the public
+/// key in `pk_text`. Parses the public key as `PublicKey::from_box` does and the signature as
+/// `SignatureBox::from_string` does, and then calls `verify`.
 ///
-/// The public key text is judged first, then the signature text, both before anything is read.
-/// After a rejected text `data_reader`, `status` and `out` are untouched. All else is as `verify`
-/// says.
+/// The public key is parsed first, then the signature, both before any data is read. If either is rejected,
+/// `data_reader`, `status` and `out` are unchanged. Everything else is as documented for `verify`.
 pub fn verify_texts<S: Scheme, R: Rereader, W: Sink, O: Sink>(
     alloc: Global,
     scheme: &S,
@@ -39,47 +38,49 @@ pub fn verify_texts<S: Scheme, R: Rereader, W: Sink, O: Sink>(
     status: &mut W,
     out: &mut O,
 ) -> Result<()>
-    // The headline's first part: over data that is known, where no device fails, and over a steady source
-    // where the data is copied, the answer is the verdict, a function of the two texts, the data and the
-    // flag; or out of memory.
+    // If the source's bytes are known, no device fails, and the source is steady if the data is copied,
+    // then the result is out of memory or exactly the verdict: success if the signature is valid for the
+    // data under the public key, and otherwise the first check that fails. The verdict is a function of the
+    // two texts, the data and `allow_legacy`.
     ensures headline { WhereNothingFails output (rereader_call R.Source R.steady data_reader.old
         data_reader.new) (sink_call W.Sink status.old status.new) (sink_call O.Sink out.old out.new) result
         (λ bytes. map_ok (λ _. tt)
         (verdict (S.accepts scheme.now) pk_text.now sig_text.now bytes allow_legacy)) }
 
-    // On success both texts were read by the grammar, as a key and a box for which everything holds
-    // that `verify` promises on success.
+    // On success, both texts were parsed, and everything that `verify` promises on success holds for the
+    // parsed public key and signature box.
     ensures accepted { OnOk result (VerifyingTextsSucceeds (S.accepts scheme.now) pk_text.now sig_text.now
         (options_of quiet output allow_legacy) (rereader_call R.Source R.steady data_reader.old
         data_reader.new) (sink_call W.Sink status.old status.new) (sink_call O.Sink out.old out.new)) }
 
-    // On success with `output` the two texts vouch for what the output took, whatever a second
-    // reading gave.
+    // On success with `output`, the signature is valid for the bytes that `out` received, even if the
+    // second reading returned different data from the first.
     ensures vouched { output ≡ true
         → OnOk result (CopyIsVouchedFor (S.accepts scheme.now) pk_text.now sig_text.now allow_legacy
         (sink_call O.Sink out.old out.new)) }
 
-    // A rejection of the public key text comes before one of the signature text, and both come before
-    // anything is read, said or copied; so does a failed allocation for them (`read_texts`).
+    // If a text is rejected, or an allocation for one fails, nothing has been read, reported or copied. The
+    // public key text is checked before the signature text.
     //
-    // Otherwise verifying fails as `verify` does, with the key and the box that the texts read as
-    // (`VerifyingFails`).
+    // Any other error is one that `verify` returns for the parsed public key and signature box, and the
+    // promises that `verify` makes about errors hold.
     ensures refused { IfErr result (VerifyingTextsFails (S.accepts scheme.now) pk_text.now sig_text.now
         (options_of quiet output allow_legacy) (rereader_call R.Source R.steady data_reader.old
         data_reader.new) (sink_call W.Sink status.old status.new) (sink_call O.Sink out.old out.new)) }
 
-    // After a rejection the status is untouched, or took a prefix of the lines of the box.
+    // After an error, `status` is unchanged or has received a prefix of the status lines.
     ensures said_front { OnErr result ((status.new ≡ status.old) ⊎
         ((key : PublicKeyRecord) × (box : SignatureBoxRecord) × (read_texts pk_text.now sig_text.now
         ≡ Ok (key, box)) × TakesFront (sink_call W.Sink status.old status.new) (wanted_status quiet box))) }
 
-    // Without `output` the source lost at most some bytes at its front.
+    // Without `output`, the bytes still ahead of `data_reader` are a suffix of those that were ahead before
+    // the call.
     ensures given { output ≡ false → HasGiven (R.ahead data_reader.old) (R.ahead data_reader.new) }
 
-    // With quiet the status is untouched.
+    // With `quiet`, `status` is unchanged.
     ensures quiet { quiet ≡ true → status.new ≡ status.old }
 
-    // Without `output` the output is untouched.
+    // Without `output`, `out` is unchanged.
     ensures out { output ≡ false → out.new ≡ out.old }
 {
     let (pk, signature_box) = read_texts(alloc, pk_text, sig_text)?;
@@ -97,7 +98,7 @@ pub fn verify_texts<S: Scheme, R: Rereader, W: Sink, O: Sink>(
     )
 }
 
-// The key and the box that the texts read as, the key first.
+// Parses both texts, the public key first.
 pub(crate) fn read_texts(
     alloc: Global,
     pk_text: &str,

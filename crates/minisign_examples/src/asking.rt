@@ -8,9 +8,8 @@ ghost use Rattle.minisign_examples.specs.Asking.{IsOpeningAgain};
 use minisign::{NamedFault, Prompt, Result, SecretKey, SecretKeyBox, Sink, Source};
 use std::alloc::Global;
 
-/// Opens the sealed secret key of a text with the password that is typed, and asks again, up to
-/// `more` times, where it was wrong, and nowhere else: what another password cannot mend is
-/// returned at once.
+/// Decrypts the secret key in `sk_text` with the password that is typed. If the password was wrong, asks
+/// again, up to `more` times. Returns any other error at once, because another password would not help.
 pub fn open_asking<R: Source, W: Sink>(
     alloc: Global,
     sk_text: &str,

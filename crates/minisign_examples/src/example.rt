@@ -14,11 +14,11 @@ use minisign::{
 };
 use std::alloc::Global;
 
-/// Signs the message, and verifies what was signed under the public key. The trusted comment is the
-/// moment, in seconds since 1970.
+/// Signs the message, and verifies the signature under the public key. The trusted comment is the time, in
+/// seconds since 1970.
 ///
-/// The text that is returned vouches for the message. With a genuine secret key and its own public
-/// key it fails only where an allocation fails or the random source fails, never for the signature.
+/// The returned signature text is valid for the message. With a genuine secret key and its own public key,
+/// the call fails only if an allocation or the random source fails, never because of the signature.
 pub fn sign_and_verify<S: Scheme, Z: RandomSource>(
     alloc: Global,
     scheme: &S,
@@ -28,18 +28,18 @@ pub fn sign_and_verify<S: Scheme, Z: RandomSource>(
     random: &mut Z,
     moment: u64,
 ) -> Result<String>
-    // The text is that of the box that signing makes of the message.
+    // On success, the result is the text of the signature box that signing makes for the message.
     ensures signed { IfOk result (λ t. IsSignedText (S.signature_of scheme.now) secret_key.now message.now
         (given_comments None None moment) (random_call Z.RandomSource random.old random.new)
         (string_bytes t)) }
 
-    // It vouches for the message under the public key.
+    // On success, the text is valid for the message under the public key.
     ensures accepted { IfOk result
         (λ t. TextsVouchFor (S.accepts scheme.now) (public_key_text public_key.now) (string_bytes t)
         message.now false) }
 
-    // With a genuine secret key and its own public key it fails only where an allocation fails or the
-    // random source fails, never for the signature.
+    // With a genuine secret key and its own public key, the only errors are a failed allocation and a
+    // failing random source.
     ensures genuine { (seed : List ℕ) → IsGenuine (S.public_of scheme.now) secret_key.now seed
         → public_key.now.key ≡ S.public_of scheme.now seed → public_key.now.keynum ≡ secret_key.now.keynum
         → IfErr result (λ e. (e ≡ Named OutOfMemory) ⊎ (e ≡ Named RandomSourceFailed)) }

@@ -1,7 +1,6 @@
-//! Callers of the library, each proved: one that checks an update and its name, one that learns a
-//! new key from an old one, one that makes keys and releases, one that opens a key on a small
-//! device, one that asks for a password again, and one that signs and verifies with raw keys. The
-//! tests of `minisign_vectors` run them.
+//! Callers of the library, each proved: one checks an update and its name, one learns a new key from an old
+//! one, one makes keys and releases, one decrypts a key on a small device, one asks for a password again,
+//! and one signs and verifies with raw keys. The tests of `minisign_vectors` run them.
 
 #![tactic(auto)]
 

@@ -14,7 +14,7 @@ use minisign::{
 };
 use std::alloc::Global;
 
-/// What is published beside an update.
+/// The files that are published together with an update.
 #[derive(Debug, Drop)]
 pub struct Release {
     /// The text of the public key.
@@ -23,20 +23,20 @@ pub struct Release {
     pub sig_text: String,
 }
 
-/// The texts of a pair of keys.
+/// The texts of a key pair.
 #[derive(Debug, Drop)]
 pub struct KeyTexts {
     /// The public key.
     pub pk_text: String,
-    /// The secret key, sealed under a password.
+    /// The secret key, encrypted under a password.
     pub sk_text: String,
 }
 
-/// Makes a pair sealed under the password, signs the update with the text of its secret key, and
-/// verifies with what is published. The trusted comment is the moment, in seconds since 1970.
+/// Makes a key pair that is encrypted under the password, signs the update with the text of its secret key,
+/// and verifies the result with the published texts. The trusted comment is the time, in seconds since
+/// 1970.
 ///
-/// The only errors are a failed allocation, a failing random source and a password of more than 1024
-/// bytes.
+/// The only errors are a failed allocation, a failing random source and a password of more than 1024 bytes.
 pub fn sign_release<S: Scheme, Z: RandomSource>(
     alloc: Global,
     scheme: &S,
@@ -45,14 +45,14 @@ pub fn sign_release<S: Scheme, Z: RandomSource>(
     random: &mut Z,
     moment: u64,
 ) -> Result<Release>
-    // A pair is made and kept as texts, its key is opened again and signs, and what is published
-    // vouches for the update, whatever the scheme, the password, the update and the random bytes.
+    // On success, the published texts are valid for the update, whatever the scheme, the password, the
+    // update and the random bytes are.
     ensures vouches { IfOk result
         (λ r. TextsVouchFor (S.accepts scheme.now) (string_bytes r.pk_text) (string_bytes r.sig_text)
         update.now false) }
 
-    // The only errors are a failed allocation, a failing random source, and a password of more
-    // than 1024 bytes.
+    // The only errors are a failed allocation, a failing random source, and a password of more than 1024
+    // bytes.
     ensures refused { IfErr result (IsPairFault password.now) }
 {
     let KeyTexts { pk_text, sk_text } = make_keys(alloc, scheme, password, random)?;
@@ -62,20 +62,20 @@ pub fn sign_release<S: Scheme, Z: RandomSource>(
     Ok(Release { pk_text, sig_text })
 }
 
-/// Makes a pair whose secret key is sealed under the password.
+/// Makes a key pair whose secret key is encrypted under the password.
 pub fn make_keys<S: Scheme, Z: RandomSource>(
     alloc: Global,
     scheme: &S,
     password: &str,
     random: &mut Z,
 ) -> Result<KeyTexts>
-    // The texts are those of a pair whose secret key is sealed under the password.
+    // On success, the texts are those of a key pair whose secret key is encrypted under the password.
     ensures made { IfOk result (λ t. (pk : PublicKeyRecord) × (sk : SecretKeyRecord)
         × ArePairTexts (S.public_of scheme.now) password.now (string_bytes t.pk_text)
         (string_bytes t.sk_text) pk sk) }
 
-    // The only errors are a failed allocation, a failing random source, and a password of more
-    // than 1024 bytes.
+    // The only errors are a failed allocation, a failing random source, and a password of more than 1024
+    // bytes.
     ensures refused { IfErr result (IsPairFault password.now) }
 {
     let pair = KeyPair::generate_with_password(alloc, scheme, random, password)?;
@@ -94,8 +94,8 @@ pub fn sign_update<S: Scheme, Z: RandomSource>(
     random: &mut Z,
     moment: u64,
 ) -> Result<String>
-    // With the key of a genuine pair the text is that of a box that vouches for the update, and the
-    // only errors are a failed allocation and a failing random source.
+    // With the secret key of a genuine pair, the returned text is valid for the update under the pair's
+    // public key. The only errors then are a failed allocation and a failing random source.
     ensures { (pk : PublicKeyRecord) → IsGenuinePair (S.public_of scheme.now) pk sk.now → MatchResult result
         (λ t. (x : SignatureBoxRecord) × (read_signature_box (string_bytes t) ≡ Ok x)
         × Vouches (S.accepts scheme.now) pk x update.now false) IsMemoryOrRandomFault }

@@ -1,5 +1,4 @@
-//! A caller that knows an old public key and learns a new one: the old key vouches for the text of
-//! the new one.
+//! A caller that knows an old public key and learns a new one, whose text is signed with the old key.
 
 ghost use Rattle.minisign.specs.Texts.{IsGivenOrNoMemory, map_ok};
 ghost use Rattle.minisign_examples.specs.NewKeys.{verdict_by_new_key};
@@ -12,12 +11,13 @@ use std::alloc::Global;
 pub struct NewKey<'a> {
     /// The text of the new public key.
     pub pk_text: &'a str,
-    /// The text of the signature over that text.
+    /// The text of the signature of that text.
     pub sig_text: &'a str,
 }
 
-/// Success exactly where the old key vouches for the text of the new one, and the new key for the
-/// update. Otherwise the first reason, of the new key before the update; an allocation may fail.
+/// Succeeds exactly if the old key's signature is valid for the text of the new key and the new key's
+/// signature is valid for the update, unless an allocation fails. Otherwise returns the first check that
+/// fails, for the new key before the update.
 pub fn check_with_new_key<S: Scheme>(
     alloc: Global,
     scheme: &S,

@@ -1,4 +1,4 @@
-//! A caller that opens a sealed key where memory is scarce.
+//! A caller that decrypts a secret key with little memory.
 
 ghost use Rattle.std.specs.Prelude.{None};
 ghost use Rattle.minisign.specs.Sealing.{open_key};
@@ -7,13 +7,14 @@ ghost use Rattle.minisign.specs.Texts.{IsGivenOrNoMemory};
 use minisign::{Prompt, Result, SecretKey, SecretKeyBox};
 use std::alloc::Global;
 
-// Every how many rows of scrypt one is kept: an eighth of the memory, for twice the time.
+// One row of scrypt is kept of so many: an eighth of the memory, for twice the time.
 const KEPT_EVERY: u64 = 8;
 
-/// Opens the sealed secret key of a text with the password in an eighth of the memory that it takes
-/// otherwise: 4 MiB with the usual limits. What is opened and what is rejected is the same.
+/// Decrypts the secret key in `sk_text` with the password in an eighth of the usual memory: 4 MiB with the
+/// default limits. The result and the errors are those of a call that uses all the memory.
 pub fn open_in_little_memory(alloc: Global, sk_text: &str, password: &str) -> Result<SecretKey>
-    // A key opens in an eighth of the memory exactly when it opens.
+    // The result is out of memory, or exactly what the text decrypts to under the password: the key, or the
+    // first check that fails.
     ensures { IsGivenOrNoMemory result (open_key sk_text.now password.now None) }
 {
     let sk_box = SecretKeyBox::from_string(alloc, sk_text)?;

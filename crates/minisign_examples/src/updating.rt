@@ -6,9 +6,9 @@ ghost use Rattle.minisign_examples.specs.Updating.{named_verdict};
 use minisign::{ErrorKind, PError, Result, Scheme, verify_bytes};
 use std::alloc::Global;
 
-/// Success exactly where the texts of a public key and of a signature vouch for the update, and the
-/// comment that was signed with it is this name, as `tool-1.2.tar`: so nobody passes off an older
-/// release for a newer one. Otherwise the first reason why not; an allocation may fail.
+/// Accepts an update exactly if its signature is valid under this public key and the trusted
+/// comment is this name, such as `tool-1.2.tar`. Without the name, somebody could pass off an
+/// older release as a newer one. Otherwise returns the first check that failed, or out of memory.
 pub fn check_update<S: Scheme>(
     alloc: Global,
     scheme: &S,

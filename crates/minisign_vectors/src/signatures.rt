@@ -2,6 +2,7 @@
 
 pub mod calls;
 mod devices;
+mod published;
 mod signing;
 mod texts;
 mod verifying;
