@@ -10,12 +10,12 @@ use Rattle.minisign.specs.Records.{is_prehashed}
 use Rattle.minisign.specs.SignatureText.{SignatureTextRecord, box_of, read_signature}
 use Rattle.minisign.specs.Texts.{and_then, map_ok, require}
 use Rattle.minisign_external.specs.Signatures.{read_signature_value, signature_value}
-use Rattle.minisign_external.specs.PublicKeys.{read_utf8}
+use Rattle.minisign_external.specs.PublicKeys.{is_public_key, read_utf8}
 use Rattle.minisign_external.specs.Questions.{Answers, has_whole_signature, read_under, told_signature}
 use Rattle.minisign_external.specs.States.{AreAsked, IsBlank, IsFedState, asked_under, asking_misuse}
-use Rattle.minisign_external.specs.States.{asking_under, given_verdict, may_ask}
+use Rattle.minisign_external.specs.States.{asking_under, given_verdict, may_ask, with_public_key}
 use Rattle.minisign_external.specs.Questions.{verdict_under}
-use Rattle.minisign_external.specs.declared.state.Misuse.TheVariants.{NoRoom}
+use Rattle.minisign_external.specs.declared.state.Misuse.TheVariants.{NoRoom, PublicKeyNotRead}
 use Rattle.minisign_external.specs.declared.state.Refusal.{Refusal}
 use Rattle.minisign_external.specs.declared.state.Refusal.TheVariants.{Refused, WrongUse}
 use Rattle.minisign_external.specs.declared.state.State.{State}
@@ -112,13 +112,16 @@ module _ (accepts : Verifier) (v : PublicKeyValue) (text message : List ℕ) (ro
   of_asked (Err f) e h = rw e h
 
   -- what is rejected of a state that was just begun is what the verdict is
-  pub unasked : (s : State) → IsFedState s [] → IsBlank s → Err r ≡ asking_under s v text false room
+  pub unasked : (s : State) → is_public_key v ≡ true → IsFedState s [] → IsBlank s
+      → Err r ≡ asking_under s v text false room
       → Err r ≡ given_verdict (verdict_under accepts v text message false)
-  unasked s fed blank is =
+  unasked s public fed blank is =
       let may : may_ask s ≡ true = rw (fed.mark, blank.asked) refl in
       of_asked (read_under v false text) refl
-      (is ∙ ap (λ b. if b then asked_under (read_under v false text) room else Err
-      (WrongUse (asking_misuse s))) may)
+      (is ∙ ap (λ (b : Bool). if b then with_public_key v (asked_under (read_under v false text) room) else
+      Err (WrongUse (asking_misuse s))) may
+      ∙ ap (λ (b : Bool). if b then asked_under (read_under v false text) room else
+      Err (WrongUse PublicKeyNotRead)) public)
 
 -- what is rejected of the text itself is what the verdict is
 pub unread : (accepts : Verifier) (v : PublicKeyValue) (text message : List ℕ) (e : Fault)

@@ -1,9 +1,13 @@
+mod Words
 pub mod AnsweredBoxes
-pub mod Verdicts
+pub mod Facts
 pub mod GivenAnswers
-pub mod OwnTexts
-pub mod Utf8
-pub mod ReadValues
-pub mod UnopenedKeys
 pub mod OpenedKeys
+pub mod OwnTexts
+pub mod PublicHalves
+pub mod ReadValues
+pub mod Strictness
+pub mod UnopenedKeys
+pub mod Utf8
+pub mod Verdicts
 pub mod WithinRows

@@ -12,7 +12,7 @@ use Rattle.minisign.specs.Records.{CommentsRecord, SignatureBoxRecord}
 use Rattle.minisign.specs.SignatureText.{SignatureTextRecord, box_of, read_signature}
 use Rattle.minisign.specs.Signing.{ChosenComments}
 use Rattle.minisign.specs.Texts.{and_then, map_ok}
-use Rattle.minisign_external.specs.PublicKeys.{key_of, read_utf8}
+use Rattle.minisign_external.specs.PublicKeys.{key_of, public_mark, read_utf8}
 use Rattle.minisign_external.specs.Questions.{verdict_under}
 use Rattle.minisign_external.specs.Signing.{AcceptsAnswers, HoldsText, IsAnsweredText, IsPairOf, answered_box}
 use Rattle.minisign_external.specs.Signing.{answered_comments, comments_of}
@@ -69,7 +69,7 @@ half_of false v w m is h = cc is
 module _ (accepts : Verifier) (public_of : List ℕ → List ℕ) (seed : List ℕ) (v : SecretKeyValue)
     (w : PublicKeyValue)
     (pair : IsPairOf public_of seed v) (opened : is_opened v ≡ true) (public : public_value_of v ≡ Ok w) where
-  half : record { key = drop 32 v.secret; key_id = v.key_id } ≡ w
+  half : record { mark = public_mark; key = drop 32 v.secret; key_id = v.key_id } ≡ w
   half = half_of (is_opened v) _ w KeyNotOpened opened public
 
   own_key : public_of seed ≡ w.key

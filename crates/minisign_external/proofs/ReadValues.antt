@@ -11,7 +11,7 @@ use Rattle.minisign_base.specs.Fault.{Fault}
 use Rattle.minisign.specs.Acceptance.{judge_key}
 use Rattle.minisign.specs.SignatureText.{SignatureTextRecord, read_signature, StandsAt}
 use Rattle.minisign.specs.Texts.{and_then, map_ok}
-use Rattle.minisign_external.specs.PublicKeys.{read_utf8}
+use Rattle.minisign_external.specs.PublicKeys.{is_public_key, read_utf8}
 use Rattle.minisign_external.specs.Questions.{HoldsMessage, has_whole_signature, read_under}
 use Rattle.minisign_external.specs.Signatures.{IsReadFrom, comment_bytes, comment_of, is_text_of}
 use Rattle.minisign_external.specs.Signatures.{read_signature_value, signature_mark, signature_of_value}
@@ -19,10 +19,13 @@ use Rattle.minisign_external.specs.Signatures.{signature_value}
 use Rattle.minisign_external.specs.States.{HasAsked, IsTextRefusal, asked_about, asked_of, asked_under}
 use Rattle.minisign_external.specs.States.{asking_misuse, asking_result, asking_under, judged_before, may_ask}
 use Rattle.minisign_external.specs.States.{placed_before, questions_about, questions_of, room_for}
+use Rattle.minisign_external.specs.States.{with_public_key}
 use Rattle.minisign_external.specs.declared.public_keys.PublicKeyValue.{PublicKeyValue}
 use Rattle.minisign_external.specs.declared.signatures.SignatureValue.{SignatureValue}
 use Rattle.minisign_external.specs.declared.state.Misuse.{Misuse}
-use Rattle.minisign_external.specs.declared.state.Misuse.TheVariants.{OtherSignatureText, SignatureNotRead}
+use Rattle.minisign_external.specs.declared.state.Misuse.TheVariants.{OtherSignatureText, PublicKeyNotRead}
+use Rattle.minisign_external.specs.declared.state.Misuse.TheVariants.{SignatureNotRead}
+use Rattle.minisign_external.specs.declared.state.Refusal.{Refusal}
 use Rattle.minisign_external.specs.declared.state.Refusal.TheVariants.{Refused, WrongUse}
 use Rattle.minisign_external.specs.declared.state.State.{State}
 use Rattle.minisign_external.proofs.Utf8.{not_true, of_text}
@@ -46,6 +49,12 @@ chosen : (a b : Bool) (x y : List ℕ) → a ≡ true → b ≡ true → x ≡ y
 chosen true true x y p q same = ap (λ c. Ok c) same
 chosen true false x y p q same = cc q
 chosen false b x y p q same = cc p
+
+-- nothing is rejected of a public key that was read
+of_public : (b : Bool) (x : Result Unit (Refusal Fault))
+    → (if b then x else Err (WrongUse PublicKeyNotRead)) ≡ Ok tt → x ≡ Ok tt
+of_public true x h = h
+of_public false x h = cc h
 
 one_or_zero : (b : Bool) → ((if b then 1 else 0) == 1) ≡ b
 one_or_zero true = refl
@@ -103,10 +112,10 @@ module _ (s : SignatureValue) (text : List ℕ) (t : SignatureTextRecord) (from 
   under v legacy = sym (ap
       (λ r. and_then r (λ x. and_then (judge_key v.key_id x.signature legacy) (λ _. Ok x))) from.read)
 
-  -- what is rejected is what the text is rejected for
-  pub asked_as : (v : PublicKeyValue) (legacy : Bool) (room : ℕ) → asked_of v s text legacy room
+  judged_under : (v : PublicKeyValue) (legacy : Bool) (room : ℕ) → placed_before (comment_of s text)
+      (judged_before (judge_key v.key_id (signature_of_value s) legacy) (room_for s.comment_len room))
       ≡ asked_under (read_under v legacy text) room
-  asked_as v legacy room =
+  judged_under v legacy room =
       ap (λ c. placed_before c
       (judged_before (judge_key v.key_id (signature_of_value s) legacy) (room_for s.comment_len room)))
       comment_is
@@ -114,6 +123,11 @@ module _ (s : SignatureValue) (text : List ℕ) (t : SignatureTextRecord) (from 
       (room_for x.comment_len room)) from.value
       ∙ judged_as (judge_key v.key_id t.signature legacy) t room
       ∙ ap (λ r. asked_under r room) (under v legacy)
+
+  -- what is rejected is what the text is rejected for
+  pub asked_as : (v : PublicKeyValue) (legacy : Bool) (room : ℕ) → asked_of v s text legacy room
+      ≡ with_public_key v (asked_under (read_under v legacy text) room)
+  asked_as v legacy room = ap (with_public_key v) (judged_under v legacy room)
 
   pub asking_as : (state : State) (v : PublicKeyValue) (legacy : Bool) (room : ℕ)
       → asking_result state v s text legacy room ≡ asking_under state v text legacy room
@@ -125,7 +139,8 @@ module _ (s : SignatureValue) (text : List ℕ) (t : SignatureTextRecord) (from 
       → read_under v legacy text ≡ Ok t
   reads_under v legacy room h =
       sym (under v legacy) ∙ judged_ok (judge_key v.key_id t.signature legacy) t room
-      (ap (λ r. asked_under r room) (under v legacy) ∙ sym (asked_as v legacy room) ∙ h)
+      (ap (λ r. asked_under r room) (under v legacy)
+      ∙ of_public (is_public_key v) _ (sym (asked_as v legacy room) ∙ h))
 
   -- the questions about it are those of the text
   pub questions_are : (v : PublicKeyValue) → questions_about v s ≡ questions_of v t

@@ -20,7 +20,10 @@ use Rattle.minisign.specs.Texts.{and_then, map_ok, require}
 use Rattle.minisign_external.specs.PublicKeys.{key_of, read_utf8, value_of}
 use Rattle.minisign_external.specs.Questions.{Answers, IsKeyText, has_whole_signature, read_under}
 use Rattle.minisign_external.specs.Questions.{verdict_under}
+use Rattle.minisign_external.specs.PublicKeys.{is_public_key}
 use Rattle.minisign_external.specs.States.{IsTextRefusal, asked_under, asking_misuse, asking_under, fed_mark}
+use Rattle.minisign_external.specs.States.{with_public_key}
+use Rattle.minisign_external.specs.declared.state.Misuse.TheVariants.{PublicKeyNotRead}
 use Rattle.minisign_external.specs.States.{is_asked}
 use Rattle.minisign_external.specs.declared.public_keys.PublicKeyValue.{PublicKeyValue}
 use Rattle.minisign_external.specs.declared.state.Misuse.{Misuse}
@@ -258,12 +261,15 @@ opening_refusal v sig_text legacy room (Refused e) h = λ utf8 pk_text message a
     refuse accepts pk_text sig_text message legacy v keyed utf8 e
     (rw (refused_text true (read_under v legacy sig_text) room NotBegun e h) refl)
 
-pub text_refusal : (s : State) (v : PublicKeyValue) (sig_text : List ℕ) (legacy : Bool) (room : ℕ)
-    (r : Refusal Fault)
-    → asking_under s v sig_text legacy room ≡ Err r → IsTextRefusal v sig_text legacy r
-text_refusal s v sig_text legacy room (WrongUse m) h = tt
-text_refusal s v sig_text legacy room (Refused e) h = λ utf8 pk_text message accepts keyed.
-    let failed : read_under v legacy sig_text ≡ Err e =
-    refused_text ((s.mark == fed_mark) && not (is_asked s)) (read_under v legacy sig_text) room
-    (asking_misuse s) e h in
-    refuse accepts pk_text sig_text message legacy v keyed utf8 e (rw failed refl)
+-- the same where a public key that was not read is rejected before
+under_of : (b : Bool) (v : PublicKeyValue) (sig_text : List ℕ) (legacy : Bool) (room : ℕ) (r : Refusal Fault)
+    → (if b then asked_under (read_under v legacy sig_text) room else Err (WrongUse PublicKeyNotRead)) ≡ Err r
+    → IsTextRefusal v sig_text legacy r
+under_of b v sig_text legacy room (WrongUse m) h = tt
+under_of true v sig_text legacy room (Refused e) h = opening_refusal v sig_text legacy room (Refused e) h
+under_of false v sig_text legacy room (Refused e) h = cc h
+
+pub opening_refusal_under : (v : PublicKeyValue) (sig_text : List ℕ) (legacy : Bool) (room : ℕ)
+    (r : Refusal Fault) → with_public_key v (asked_under (read_under v legacy sig_text) room) ≡ Err r
+    → IsTextRefusal v sig_text legacy r
+opening_refusal_under v sig_text legacy room r h = under_of (is_public_key v) v sig_text legacy room r h

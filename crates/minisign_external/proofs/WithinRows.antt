@@ -1,16 +1,22 @@
 -- Opening within a number of rows is opening within the greatest number of times that makes no more.
-use Rattle.std.proofs.Common.{◌≡◌, ◌⊎◌, ◌∙◌, ℕ, Bool, true, false, not, bytes_eq, List, Result, Some, Ok, Err}
-use Rattle.std.proofs.Common.{IsOk, ap, inl, inr, refl, subst}
+use Rattle.std.proofs.Common.{◌≡◌, ◌⊎◌, ◌∙◌, ◌*◌, ℕ, Bool, true, false, not, bytes_eq, List, Result, Some, Ok}
+use Rattle.std.proofs.Common.{Err, IsOk, ap, if◌then◌else◌, inl, inr, refl, rules, subst, sym}
+use Rattle.std.specs.Prelude.{◌^◌, None, nat_lt}
+use Rattle.std.specs.Option.{option_map_or}
+use Rattle.std.specs.Result.{result_ok}
 use Rattle.std.specs.Str.{IsUtf8}
 use Rattle.minisign_base.specs.Fault.{Fault, Named}
+use Rattle.minisign_base.specs.declared.faults.NamedFault.{NamedFault}
 use Rattle.minisign_base.specs.declared.faults.NamedFault.TheVariants.{KeyNotEncrypted, OutOfMemory}
 use Rattle.minisign_base.specs.declared.faults.NamedFault.TheVariants.{UnsupportedEncryptionAlgorithm}
+use Rattle.minisign_base.specs.declared.faults.NamedFault.TheVariants.{WorkTooHigh}
 use Rattle.minisign.specs.Records.{SecretKeyRecord}
-use Rattle.minisign.specs.Sealing.{allowed_rows, allowed_work, no_kdf, open_sealed}
-use Rattle.minisign.specs.Sealing.{restored_key, scrypt_kdf, sealed_by_scrypt, xored_key}
+use Rattle.minisign.specs.Sealing.{allowed_rows, allowed_work, key_limits, no_kdf, open_sealed, opening_work}
+use Rattle.minisign.specs.Sealing.{restored_key, scrypt_kdf, sealed_by_scrypt, wants_password, xored_key}
 use Rattle.minisign.specs.Texts.{and_then, require}
 use Rattle.minisign_external.specs.PublicKeys.{read_utf8}
-use Rattle.minisign_external.specs.SecretKeys.{DerivesWithin, is_read, open_within, opened_or_kept}
+use Rattle.minisign_external.specs.SecretKeys.{DerivesWithin, is_read, makes_within, open_within}
+use Rattle.minisign_external.specs.SecretKeys.{opened_or_kept}
 use Rattle.minisign_external.specs.SecretKeys.{opened_sealed, unopened_record, with_refusal}
 use Rattle.minisign_external.specs.declared.secrets.SecretKeyValue.{SecretKeyValue}
 use Rattle.minisign_external.specs.declared.state.Refusal.{Refusal}
@@ -92,3 +98,80 @@ sealed_or_none v password most old d answer read told (inl opened) =
     inl (rw read (told ∙ ap (λ x. opened_or_kept (with_refusal x) old) opened))
 sealed_or_none v password most old d answer read told (inr (memory, utf8, derives)) =
     inr (told ∙ ap (λ x. opened_or_kept (with_refusal x) old) memory, (read, utf8, derives))
+
+-- == Which keys make more rows ==
+
+no_less : (n : ℕ) → not (nat_lt n 0) ≡ true
+no_less n = search rules
+
+same_test : {T : Type 0} (a b : Bool) (f : NamedFault) (v : T)
+    → ◌≡◌ {A = Result T Fault} (require a f (Ok v)) (require b f (Ok v)) → a ≡ b
+same_test true true f v h = refl
+same_test true false f v h = cc h
+same_test false true f v h = cc h
+same_test false false f v h = refl
+
+abbrev work_of : {V : Type 0} → Result V Fault → (V → ℕ) → (V → ℕ) → Bool → ℕ × ℕ
+work_of l n p w = option_map_or (λ v. (n v, p v)) (if w then result_ok l else None) (0, 0)
+
+-- the work is within the rows where the parallelization is within the times, if both allow the same
+within_of : {V : Type 0} (l : Result V Fault) (n p : V → ℕ) (w : Bool) (times most : ℕ)
+    → and_then l (λ v. require (not (nat_lt times (p v))) WorkTooHigh (Ok v))
+    ≡ and_then l (λ v. require (not (nat_lt most (2 ^ n v * p v))) WorkTooHigh (Ok v))
+    → not (nat_lt times (work_of l n p w).1)
+    ≡ not (nat_lt most (2 ^ (work_of l n p w).0 * (work_of l n p w).1))
+within_of (Ok v) n p true times most same = same_test _ _ WorkTooHigh v same
+within_of (Err e) n p true times most same = no_less times ∙ sym (no_less most)
+within_of l n p false times most same = no_less times ∙ sym (no_less most)
+
+-- a key makes at most so many rows where its p is at most the times that are within them
+pub within_times : (k : SecretKeyRecord) (times most : ℕ) → allowed_work k (Some times) ≡ allowed_rows k most
+    → not (nat_lt times (opening_work k).1) ≡ makes_within k most
+within_times k times most same =
+    within_of (key_limits k) (λ v. v.n_log2) (λ v. v.p) (wants_password k) times most same
+
+-- what is derived of a key that makes more rows, by whether it is sealed by scrypt
+rejected_of : {V : Type 0} (l : Result V Fault) (n p : V → ℕ) (w b : Bool) (k : SecretKeyRecord) (most : ℕ)
+    (next : SecretKeyRecord → V → Result SecretKeyRecord Fault)
+    → not (nat_lt most (2 ^ (work_of l n p w).0 * (work_of l n p w).1)) ≡ false
+    → and_then (require w KeyNotEncrypted (require b UnsupportedEncryptionAlgorithm (Ok k)))
+    (λ s. and_then (and_then l (λ v. require (not (nat_lt most (2 ^ n v * p v))) WorkTooHigh (Ok v)))
+    (next s))
+    ≡ Err (Named (if b then WorkTooHigh else UnsupportedEncryptionAlgorithm))
+rejected_of (Ok v) n p true true k most next many = rw many refl
+rejected_of (Ok v) n p true false k most next many = refl
+rejected_of (Err e) n p true b k most next many = let none = sym (no_less most) ∙ many in cc none
+rejected_of l n p false b k most next many = let none = sym (no_less most) ∙ many in cc none
+
+too_many : (k : SecretKeyRecord) (password : List ℕ) (most : ℕ) → makes_within k most ≡ false
+    → open_within k password most
+    ≡ Err (Named (if bytes_eq k.kdf scrypt_kdf then WorkTooHigh else UnsupportedEncryptionAlgorithm))
+too_many k password most many =
+    let rejected = rejected_of (key_limits k) (λ v. v.n_log2) (λ v. v.p) (wants_password k)
+    (bytes_eq k.kdf scrypt_kdf) k most (λ s _. restored_key (xored_key s password)) many in
+    pass (wants_password k) (bytes_eq k.kdf scrypt_kdf) rejected
+  where
+    pass : (w b : Bool)
+        → and_then (require w KeyNotEncrypted (require b UnsupportedEncryptionAlgorithm (Ok k)))
+        (λ s. and_then (allowed_rows k most) (λ _. restored_key (xored_key s password)))
+        ≡ Err (Named (if bytes_eq k.kdf scrypt_kdf then WorkTooHigh else UnsupportedEncryptionAlgorithm))
+        → and_then (require w KeyNotEncrypted (require b UnsupportedEncryptionAlgorithm (Ok k)))
+        (λ s. and_then (allowed_rows s most) (λ _. restored_key (xored_key s password)))
+        ≡ Err (Named (if bytes_eq k.kdf scrypt_kdf then WorkTooHigh else UnsupportedEncryptionAlgorithm))
+    pass true true h = h
+    pass true false h = h
+    pass false b h = h
+
+-- a key that makes more is rejected for them, if it is sealed by scrypt
+pub too_many_of_scrypt : (k : SecretKeyRecord) (password : List ℕ) (most : ℕ)
+    → bytes_eq k.kdf scrypt_kdf ≡ true → makes_within k most ≡ false
+    → open_within k password most ≡ Err (Named WorkTooHigh)
+too_many_of_scrypt k password most is many = too_many k password most many
+    ∙ ap (λ (b : Bool). Err (Named (if b then WorkTooHigh else UnsupportedEncryptionAlgorithm))) is
+
+-- and otherwise for how it is sealed
+pub too_many_of_other : (k : SecretKeyRecord) (password : List ℕ) (most : ℕ)
+    → bytes_eq k.kdf scrypt_kdf ≡ false → makes_within k most ≡ false
+    → open_within k password most ≡ Err (Named UnsupportedEncryptionAlgorithm)
+too_many_of_other k password most is many = too_many k password most many
+    ∙ ap (λ (b : Bool). Err (Named (if b then WorkTooHigh else UnsupportedEncryptionAlgorithm))) is

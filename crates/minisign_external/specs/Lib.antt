@@ -6,3 +6,5 @@ pub mod Signing
 pub mod PublicKeys
 pub mod Signatures
 pub mod Making
+pub mod StrictEd25519
+pub mod StrictCalls

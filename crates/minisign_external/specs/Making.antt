@@ -9,9 +9,9 @@ use Rattle.minisign.specs.KeyTexts.{read_public_key, commented_public_key_text, 
 use Rattle.minisign.specs.Generation.{GivesParts, made_key, making_fault, unsealed_key}
 use Rattle.minisign.specs.Records.{own_public_key}
 use Rattle.minisign.specs.declared.making.Sealing.{Sealing}
-use Rattle.minisign_external.specs.Numbers.{fault_number, misuse_number, refusal_number}
+use Rattle.minisign_external.specs.Numbers.{fault_number, refusal_number}
 use Rattle.minisign_external.specs.declared.state.Misuse.{Misuse}
-use Rattle.minisign_external.specs.declared.state.Misuse.TheVariants.{BadComment, BadPasswordFlag}
+use Rattle.minisign_external.specs.declared.state.Misuse.TheVariants.{BadComment}
 use Rattle.minisign_external.specs.declared.state.Misuse.TheVariants.{KeyNotOpened, NoRoom, UnreadableComment}
 use Rattle.minisign_external.specs.SecretKeys.{is_opened}
 use Rattle.minisign_external.specs.declared.secrets.SecretKeyValue.{SecretKeyValue}
@@ -88,13 +88,7 @@ IsPublicKeyRefusal v comment bytes (Refused e) =
     × (((e ≡ Named NotUtf8) × ¬ (IsUtf8 comment))
     ⊎ (IsUtf8 comment × IsWritable comment 77 bytes × (e ≡ Named OutOfMemory)))
 
--- the numbers of these rejections
-abbrev pub IsMakingNumber : SecretKeyValue → Option (List ℕ) → ℕ → Sealing → List ℕ → List ℕ → ℕ → Type 0
-IsMakingNumber v password with_password s comment bytes n =
-    ((n ≡ misuse_number BadPasswordFlag) × (1 < with_password))
-    ⊎ ((with_password < 2) × (r : Refusal Fault) × (n ≡ refusal_number fault_number r)
-    × IsMakingRefusal v password s comment bytes r)
-
+-- the number of a rejection
 abbrev pub IsPublicKeyNumber : SecretKeyValue → List ℕ → List ℕ → ℕ → Type 0
 IsPublicKeyNumber v comment bytes n =
     (r : Refusal Fault) × (n ≡ refusal_number fault_number r) × IsPublicKeyRefusal v comment bytes r

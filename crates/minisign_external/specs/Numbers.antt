@@ -1,6 +1,6 @@
 -- The numbers by which a program in another language knows rejections, and what they mean. The numbers of
 -- named errors stand in their table.
-use Rattle.std.specs.Prelude.{◌≡◌, ◌==◌, ◌||◌, ℕ, Bool, true, ◌<◌, ◌-◌, ◌+◌, List, [], ◌∷◌, ◌++◌, codes}
+use Rattle.std.specs.Prelude.{◌≡◌, ◌≢◌, ◌==◌, ◌||◌, ℕ, Bool, true, ◌<◌, ◌-◌, ◌+◌, List, [], ◌∷◌, ◌++◌, codes}
 use Rattle.std.specs.Prelude.{length, take, drop, min}
 use Rattle.minisign_base.specs.Fault.{Fault, Named, Worded}
 use Rattle.minisign_base.specs.Faults.{fault_row}
@@ -9,9 +9,11 @@ use Rattle.minisign_external.specs.declared.state.Misuse.{Misuse}
 use Rattle.minisign_external.specs.declared.state.Misuse.TheVariants.{NotBegun, AlreadyAsked, NotAsked}
 use Rattle.minisign_external.specs.declared.state.Misuse.TheVariants.{BadAnswer, NoRoom, BadLegacyFlag}
 use Rattle.minisign_external.specs.declared.state.Misuse.TheVariants.{BadComment, BadPasswordFlag}
-use Rattle.minisign_external.specs.declared.state.Misuse.TheVariants.{UnreadableComment, NotDue, BadFirstFlag}
+use Rattle.minisign_external.specs.declared.state.Misuse.TheVariants.{UnreadableComment, NotDue, BadOption}
 use Rattle.minisign_external.specs.declared.state.Misuse.TheVariants.{BadNumbering, KeyNotOpened, KeyNotRead}
 use Rattle.minisign_external.specs.declared.state.Misuse.TheVariants.{SignatureNotRead, OtherSignatureText}
+use Rattle.minisign_external.specs.declared.state.Misuse.TheVariants.{EmptyPassword, PublicKeyNotRead}
+use Rattle.minisign_external.specs.declared.state.Misuse.TheVariants.{WeakSealing}
 use Rattle.minisign_external.specs.declared.state.Refusal.{Refusal}
 use Rattle.minisign_external.specs.declared.state.Refusal.TheVariants.{WrongUse, Refused}
 
@@ -26,32 +28,39 @@ misuse_number BadComment = 9
 misuse_number BadPasswordFlag = 10
 misuse_number UnreadableComment = 11
 misuse_number NotDue = 12
-misuse_number BadFirstFlag = 13
+misuse_number BadOption = 13
 misuse_number BadNumbering = 14
 misuse_number KeyNotOpened = 15
 misuse_number KeyNotRead = 63
 misuse_number SignatureNotRead = 62
 misuse_number OtherSignatureText = 61
+misuse_number PublicKeyNotRead = 82
+misuse_number EmptyPassword = 83
+misuse_number WeakSealing = 84
 
 abbrev pub misuse_text : Misuse → List ℕ
-misuse_text NotBegun = codes "the state was never begun"
-misuse_text AlreadyAsked = codes "the questions were asked before, or the digest was told"
-misuse_text NotAsked = codes "the questions were not asked, or the digest was not told"
-misuse_text BadAnswer = codes "an answer is neither MINISIGN_ANSWER_YES nor MINISIGN_ANSWER_NO"
-misuse_text NoRoom = codes "the buffer is too short"
-misuse_text BadLegacyFlag = codes "allow_legacy is neither 0 nor 1"
-misuse_text BadComment = codes "a comment has a line break, or the trusted one white space at an end"
-misuse_text BadPasswordFlag = codes "with_password is neither 0 nor 1"
+misuse_text NotBegun = codes "the state was not initialized, or a verdict has finished it"
+misuse_text AlreadyAsked = codes "minisign_ask or minisign_digest was already called"
+misuse_text NotAsked = codes "minisign_ask and minisign_digest must be called first"
+misuse_text BadAnswer = codes "an answer must be MINISIGN_ANSWER_YES or MINISIGN_ANSWER_NO"
+misuse_text NoRoom = codes "the buffer is too small"
+misuse_text BadLegacyFlag = codes "allow_legacy must be 0 or 1"
+misuse_text BadComment = codes
+    "a comment contains a line break, or the trusted comment begins or ends with white space"
+misuse_text BadPasswordFlag = codes "with_password must be 0, 1 or 2"
 misuse_text UnreadableComment = codes
-    "a comment is too long for minisign, or has a zero byte or a carriage return"
-misuse_text NotDue = codes "the call is not due, or cannot go so"
-misuse_text BadFirstFlag = codes "is_first is neither 0 nor 1"
+    "a comment is too long for Minisign, or contains a zero byte or a carriage return"
+misuse_text NotDue = codes "another call is due, or the arguments do not fit this call"
+misuse_text BadOption = codes "each option of an installation must be 0 or 1"
 misuse_text BadNumbering = codes
-    "numbering is neither MINISIGN_NUMBERING_TIMESTAMP nor MINISIGN_NUMBERING_VERSION"
-misuse_text KeyNotOpened = codes "the secret key was not opened"
-misuse_text KeyNotRead = codes "the secret key was not read"
-misuse_text SignatureNotRead = codes "the signature was not read"
+    "numbering must be MINISIGN_NUMBERING_TIMESTAMP or MINISIGN_NUMBERING_VERSION"
+misuse_text KeyNotOpened = codes "the secret key has not been opened"
+misuse_text KeyNotRead = codes "the secret key has not been read"
+misuse_text SignatureNotRead = codes "the signature has not been read"
 misuse_text OtherSignatureText = codes "the signature was read from another text"
+misuse_text PublicKeyNotRead = codes "the public key has not been read"
+misuse_text EmptyPassword = codes "the password is empty"
+misuse_text WeakSealing = codes "the salt is all zeros, or a limit is below the minimum of Minisign"
 
 -- the numbers of the two answers of a signature scheme: the letters "yes" and "no", each letter a byte. They
 -- are neither 0 nor 1, nor the number of an error, so that no such number is taken for an answer
@@ -68,6 +77,14 @@ is_answer n = (n == answer_yes) || (n == answer_no)
 abbrev pub IsAnswer : ℕ → Type 0
 IsAnswer n = is_answer n ≡ true
 
+-- the number and the text of the error of a public key or a signature that strict Ed25519 rejects, which the
+-- calls for other languages add to those of the library
+abbrev pub weak_number : ℕ
+weak_number = 81
+
+abbrev pub weak_text : List ℕ
+weak_text = codes "weak or non-canonical Ed25519 public key or signature"
+
 -- the number of an error: 255 where it has no name, which no call answers
 abbrev pub fault_number : Fault → ℕ
 fault_number (Named f) = (fault_row f).number
@@ -78,11 +95,27 @@ abbrev pub refusal_number : {F : Type 0} → (F → ℕ) → Refusal F → ℕ
 refusal_number number (WrongUse m) = misuse_number m
 refusal_number number (Refused e) = number e
 
--- the text is what the number means
-pub record IsMeaning (n : ℕ) (text : List ℕ) : Type 0 where
+-- the number is neither 0 nor that of an error of this library
+pub record IsUnlisted (n : ℕ) : Type 0 where
+  pub failure : n ≢ 0
+  pub misuse : (m : Misuse) → n ≢ misuse_number m
+  pub weak : n ≢ weak_number
+  pub fault : (f : NamedFault) → n ≢ (fault_row f).number
+
+-- the text is what the number means, if it is 0 or the number of an error of this library
+pub record IsListedMeaning (n : ℕ) (text : List ℕ) : Type 0 where
   pub success : n ≡ 0 → text ≡ codes "no error"
   pub misuse : (m : Misuse) → n ≡ misuse_number m → text ≡ misuse_text m
+  pub weak : n ≡ weak_number → text ≡ weak_text
   pub fault : (f : NamedFault) → n ≡ (fault_row f).number → text ≡ (fault_row f).summary
+
+abbrev pub unknown_text : List ℕ
+unknown_text = codes "unknown error"
+
+-- the text is what the number means: of any other number it is that of an unknown error
+pub record IsMeaning (n : ℕ) (text : List ℕ) : Type 0 where
+  pub listed : IsListedMeaning n text
+  pub unknown : IsUnlisted n → text ≡ unknown_text
 
 -- at the front the text, or as much of it as there is room for, and then a 0, and what stands behind it
 -- stays; where there is no byte nothing is written

@@ -1,5 +1,5 @@
 -- A public key as a value, and what is told of the text of one.
-use Rattle.std.specs.Prelude.{ℕ, List, [], Result, Ok, Err}
+use Rattle.std.specs.Prelude.{◌==◌, ℕ, Bool, List, [], Result, Ok, Err}
 use Rattle.std.specs.Str.{is_utf8}
 use Rattle.minisign_base.specs.Fault.{Fault}
 use Rattle.minisign_base.specs.declared.faults.NamedFault.TheVariants.{NotUtf8}
@@ -8,9 +8,16 @@ use Rattle.minisign.specs.Texts.{require}
 use Rattle.minisign_external.specs.Numbers.{fault_number}
 use Rattle.minisign_external.specs.declared.public_keys.PublicKeyValue.{PublicKeyValue}
 
--- the value of a key: its 32 bytes and its key ID
+-- the mark of a public key that was read, or told of a secret key: "minispub"
+abbrev pub public_mark : ℕ
+public_mark = 7094700428984478061
+
+abbrev pub is_public_key : PublicKeyValue → Bool
+is_public_key v = v.mark == public_mark
+
+-- the value of a key: the mark, its 32 bytes and its key ID
 abbrev pub value_of : PublicKeyRecord → PublicKeyValue
-value_of k = record { key = k.key; key_id = k.keynum }
+value_of k = record { mark = public_mark; key = k.key; key_id = k.keynum }
 
 -- a key of this value; its algorithm plays no part in verifying
 abbrev pub key_of : PublicKeyValue → PublicKeyRecord

@@ -1,7 +1,8 @@
 -- A secret key as a value: what a text reads as, which is not opened yet; what opening that gives; and a key
 -- that was opened or taken in.
-use Rattle.std.specs.Prelude.{◌≡◌, ◌==◌, ◌⊎◌, ◌&&◌, ℕ, max, not, nat_le, Bool, true, if◌then◌else◌, bytes_eq}
-use Rattle.std.specs.Prelude.{List, drop, Option, None, Some, Result, Ok, Err, IsOk, replicate}
+use Rattle.std.specs.Prelude.{◌≡◌, ◌==◌, ◌⊎◌, ◌&&◌, ◌*◌, ◌^◌, ℕ, max, not, nat_le, nat_lt, Bool, true}
+use Rattle.std.specs.Prelude.{if◌then◌else◌, bytes_eq, List, drop, Option, None, Some, Result, Ok, Err, IsOk}
+use Rattle.std.specs.Prelude.{replicate}
 use Rattle.std.specs.Str.{IsUtf8}
 use Rattle.minisign_base.specs.Fault.{Fault, Named}
 use Rattle.minisign_base.specs.declared.faults.NamedFault.TheVariants.{OutOfMemory}
@@ -11,7 +12,7 @@ use Rattle.minisign.specs.Sealing.{sealed_by_scrypt, unencrypted_key, wants_pass
 use Rattle.minisign.specs.KeyTexts.{read_secret_key, secret_key_of_bytes}
 use Rattle.minisign.specs.Texts.{and_then}
 use Rattle.minisign_external.specs.Numbers.{fault_number, misuse_number, refusal_number}
-use Rattle.minisign_external.specs.PublicKeys.{read_utf8}
+use Rattle.minisign_external.specs.PublicKeys.{public_mark, read_utf8}
 use Rattle.minisign_external.specs.declared.public_keys.PublicKeyValue.{PublicKeyValue}
 use Rattle.minisign_external.specs.declared.secrets.SecretKeyValue.{SecretKeyValue}
 use Rattle.minisign_external.specs.declared.unopened_keys.UnopenedKeyValue.{UnopenedKeyValue}
@@ -66,7 +67,8 @@ taken_key key_id secret = record { mark = opened_mark; key_id = key_id; secret =
 
 -- the public key of a key that was opened: the last 32 of its 64 secret bytes
 abbrev pub public_value_of : SecretKeyValue → Result PublicKeyValue Misuse
-public_value_of v = if is_opened v then Ok (record { key = drop 32 v.secret; key_id = v.key_id }) else
+public_value_of v =
+    if is_opened v then Ok (record { mark = public_mark; key = drop 32 v.secret; key_id = v.key_id }) else
     Err KeyNotOpened
 
 -- the same as a number, and the public key that is told or stays
@@ -118,20 +120,28 @@ abbrev pub DerivesWithin : UnopenedKeyValue → List ℕ → ℕ → Type 0
 DerivesWithin v password most_rows = (is_read v ≡ true) × IsUtf8 password
     × IsOk (and_then (sealed_by_scrypt (unopened_record v)) (λ s. allowed_rows s most_rows))
 
--- the memory that opening a value in place takes where every k-th row is kept, in words of 32 bits and in
--- bytes; 0 is for 1
-abbrev pub value_memory : UnopenedKeyValue → ℕ → ℕ × ℕ
-value_memory v k = opening_memory (unopened_record v) (max k 1)
+-- opening a key makes at most so many rows: N for each of p parts; none where it is rejected before
+abbrev pub makes_within : SecretKeyRecord → ℕ → Bool
+makes_within k most = not (nat_lt most (2 ^ (opening_work k).0 * (opening_work k).1))
+
+-- the memory that opening a value in place takes where every k-th row is kept and at most so many are made,
+-- in words of 32 bits and in bytes; 0 is for 1. A key that would make more takes none, as it is rejected
+-- before
+abbrev pub value_memory : UnopenedKeyValue → ℕ → ℕ → ℕ × ℕ
+value_memory v k most_rows =
+    if makes_within (unopened_record v) most_rows then opening_memory (unopened_record v) (max k 1) else
+    (0, 0)
 
 -- so much memory is enough for that
-abbrev pub is_enough : UnopenedKeyValue → ℕ → ℕ → ℕ → Bool
-is_enough v k words bytes = nat_le (value_memory v k).0 words && nat_le (value_memory v k).1 bytes
+abbrev pub is_enough : UnopenedKeyValue → ℕ → ℕ → ℕ → ℕ → Bool
+is_enough v k most_rows words bytes =
+    nat_le (value_memory v k most_rows).0 words && nat_le (value_memory v k most_rows).1 bytes
 
 -- what opening a value in so much memory gives: first it was read, and then the memory is enough
 abbrev pub opened_in_place : UnopenedKeyValue → List ℕ → ℕ → ℕ → ℕ → ℕ
     → Result SecretKeyRecord (Refusal Fault)
 opened_in_place v password k most_rows words bytes =
-    if is_read v && not (is_enough v k words bytes) then Err (WrongUse NoRoom) else
+    if is_read v && not (is_enough v k most_rows words bytes) then Err (WrongUse NoRoom) else
     opened_sealed v password most_rows
 
 -- what a key that was read opens to: without a password one that was never sealed, and with one a sealed key,

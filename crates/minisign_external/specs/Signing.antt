@@ -19,10 +19,14 @@ pub use Rattle.minisign.specs.Signing.{comments_of}
 use Rattle.minisign.specs.SignatureText.{read_signature_box, signature_text}
 use Rattle.minisign_external.specs.Numbers.{fault_number, refusal_number}
 use Rattle.minisign_external.specs.Questions.{verdict_under}
-use Rattle.minisign_external.specs.SecretKeys.{IsTextOpeningRefusal, is_opened, opened_text, taken_key}
+use Rattle.minisign_external.specs.PublicKeys.{is_public_key, public_mark}
+use Rattle.minisign_external.specs.SecretKeys.{IsTextOpeningRefusal, is_opened, opened_text, public_value_of}
+use Rattle.minisign_external.specs.SecretKeys.{taken_key}
+use Rattle.minisign_external.specs.declared.public_keys.PublicKeyValue.{PublicKeyValue}
 use Rattle.minisign_external.specs.declared.secrets.SecretKeyValue.{SecretKeyValue}
 use Rattle.minisign_external.specs.declared.state.Misuse.{Misuse}
 use Rattle.minisign_external.specs.declared.state.Misuse.TheVariants.{BadComment, KeyNotOpened, NoRoom}
+use Rattle.minisign_external.specs.declared.state.Misuse.TheVariants.{PublicKeyNotRead}
 use Rattle.minisign_external.specs.declared.state.Misuse.TheVariants.{UnreadableComment}
 use Rattle.minisign_external.specs.declared.state.Refusal.{Refusal}
 use Rattle.minisign_external.specs.declared.state.Refusal.TheVariants.{WrongUse, Refused}
@@ -122,23 +126,24 @@ abbrev pub HasNoRoom : List ℕ → ChosenComments → List ℕ → List ℕ →
 HasNoRoom key_id chosen first second bytes =
     length bytes < length (signature_text (answered_signature key_id first) (answered_comments chosen second))
 
--- the text was not written, and this is the first reason: the key was not opened, a comment is not UTF-8, a
--- comment is rejected, or the text has no room; or an allocation failed, of comments that are not rejected
-abbrev pub IsWritingRefusal : SecretKeyValue → ChosenComments → List ℕ → List ℕ → List ℕ → Refusal Fault
+-- the text was not written, and this is the first reason: the public key was not read, a comment is not
+-- UTF-8, a comment is rejected, or the text has no room; or an allocation failed, of comments that are not
+-- rejected
+abbrev pub IsWritingRefusal : PublicKeyValue → ChosenComments → List ℕ → List ℕ → List ℕ → Refusal Fault
     → Type 0
 IsWritingRefusal v chosen first second bytes (WrongUse m) =
-    ((m ≡ KeyNotOpened) × (is_opened v ≡ false))
-    ⊎ ((is_opened v ≡ true) × AreUtf8 chosen × IsCommentMisuse chosen m)
-    ⊎ ((m ≡ NoRoom) × (is_opened v ≡ true) × AreUtf8 chosen × AreChosenReadBack chosen
+    ((m ≡ PublicKeyNotRead) × (is_public_key v ≡ false))
+    ⊎ ((is_public_key v ≡ true) × AreUtf8 chosen × IsCommentMisuse chosen m)
+    ⊎ ((m ≡ NoRoom) × (is_public_key v ≡ true) × AreUtf8 chosen × AreChosenReadBack chosen
     × AreReadByMinisign chosen
     × HasNoRoom v.key_id chosen first second bytes)
 IsWritingRefusal v chosen first second bytes (Refused e) =
-    (is_opened v ≡ true)
+    (is_public_key v ≡ true)
     × (((e ≡ Named OutOfMemory) × AreUtf8 chosen × AreChosenReadBack chosen × AreReadByMinisign chosen)
     ⊎ ((e ≡ Named NotUtf8) × ¬ (AreUtf8 chosen)))
 
 -- the number of a rejection of writing a text
-abbrev pub IsWritingNumber : SecretKeyValue → ChosenComments → List ℕ → List ℕ → List ℕ → ℕ → Type 0
+abbrev pub IsWritingNumber : PublicKeyValue → ChosenComments → List ℕ → List ℕ → List ℕ → ℕ → Type 0
 IsWritingNumber v chosen first second bytes n =
     (r : Refusal Fault) × (n ≡ refusal_number fault_number r) × IsWritingRefusal v chosen first second bytes r
 
@@ -156,12 +161,14 @@ HoldsOwnText s scheme v chosen message bytes len = (is_opened v ≡ true)
     × HoldsText v.key_id chosen (first_signature (s.signature_of scheme) v.secret message)
     (second_signature (s.signature_of scheme) v.secret message chosen.trusted) bytes len
 
--- it is not written: as above
+-- it is not written: the key was not opened, or else as above, of its public key
 abbrev pub IsOwnRefusal : {S : Type 0} → SchemeOf S → S → SecretKeyValue → ChosenComments → List ℕ → List ℕ
     → Refusal Fault → Type 0
 IsOwnRefusal s scheme v chosen message bytes r =
-    IsWritingRefusal v chosen (first_signature (s.signature_of scheme) v.secret message)
-    (second_signature (s.signature_of scheme) v.secret message chosen.trusted) bytes r
+    ((r ≡ WrongUse KeyNotOpened) × (is_opened v ≡ false))
+    ⊎ ((w : PublicKeyValue) × (public_value_of v ≡ Ok w)
+    × IsWritingRefusal w chosen (first_signature (s.signature_of scheme) v.secret message)
+    (second_signature (s.signature_of scheme) v.secret message chosen.trusted) bytes r)
 
 -- the same with the key of a text, which may also not open
 abbrev pub IsTextSigningRefusal : {S : Type 0} → SchemeOf S → S → List ℕ → Option (List ℕ) → ℕ
@@ -177,6 +184,6 @@ abbrev pub OwnTextVerifies : {S : Type 0} → SchemeOf S → S → SecretKeyReco
     → Type 0
 OwnTextVerifies s scheme k message trusted text = (seed : List ℕ)
     → IsPairOf (s.public_of scheme) seed (taken_key k.keynum k.secret)
-    → verdict_under (s.accepts scheme) (record { key = drop 32 k.secret; key_id = k.keynum }) text message
-    false
+    → verdict_under (s.accepts scheme)
+    (record { mark = public_mark; key = drop 32 k.secret; key_id = k.keynum }) text message false
     ≡ Ok trusted

@@ -11,6 +11,7 @@ use Rattle.minisign.specs.Headline.{TextsVouchFor, verdict}
 use Rattle.minisign.specs.SignatureText.{SignatureTextRecord}
 use Rattle.minisign.specs.Texts.{require}
 use Rattle.minisign_external.specs.Questions.{Answers, AnswersTexts, HoldsMessage, IsKeyText}
+use Rattle.minisign_external.specs.PublicKeys.{is_public_key}
 use Rattle.minisign_external.specs.Questions.{has_whole_signature, read_under, told_signature}
 use Rattle.minisign_external.specs.Signatures.{comment_of, signature_of_value}
 use Rattle.minisign_external.specs.Numbers.{IsAnswer, answer_yes, is_answer, fault_number, misuse_number}
@@ -20,6 +21,7 @@ use Rattle.minisign_external.specs.declared.signatures.SignatureValue.{Signature
 use Rattle.minisign_external.specs.declared.state.Misuse.{Misuse}
 use Rattle.minisign_external.specs.declared.state.Misuse.TheVariants.{NotBegun, AlreadyAsked, NotAsked}
 use Rattle.minisign_external.specs.declared.state.Misuse.TheVariants.{BadAnswer, NoRoom, BadLegacyFlag}
+use Rattle.minisign_external.specs.declared.state.Misuse.TheVariants.{PublicKeyNotRead}
 use Rattle.minisign_external.specs.declared.state.Refusal.{Refusal}
 use Rattle.minisign_external.specs.declared.state.Refusal.TheVariants.{WrongUse, Refused}
 use Rattle.minisign_external.specs.declared.state.State.{State}
@@ -157,12 +159,16 @@ abbrev pub placed_before : Result (List ℕ) Misuse → Result Unit (Refusal Fau
 placed_before (Ok comment) more = more
 placed_before (Err m) more = Err (WrongUse m)
 
--- what asking about a key, a signature and its text is rejected for, whatever the state is: the signature was
--- not read, or from another text; then what is rejected under the key; and then too little room
+-- asking goes on where the public key was read
+abbrev pub with_public_key : PublicKeyValue → Result Unit (Refusal Fault) → Result Unit (Refusal Fault)
+with_public_key v more = if is_public_key v then more else Err (WrongUse PublicKeyNotRead)
+
+-- what asking about a key, a signature and its text is rejected for, whatever the state is: the public key
+-- was not read; the signature was not read, or from another text; then what is rejected under the key; and
+-- then too little room
 abbrev pub asked_of : PublicKeyValue → SignatureValue → List ℕ → Bool → ℕ → Result Unit (Refusal Fault)
-asked_of v s text legacy room =
-    placed_before (comment_of s text)
-    (judged_before (judge_key v.key_id (signature_of_value s) legacy) (room_for s.comment_len room))
+asked_of v s text legacy room = with_public_key v (placed_before (comment_of s text)
+    (judged_before (judge_key v.key_id (signature_of_value s) legacy) (room_for s.comment_len room)))
 
 -- why a state cannot be asked: it was asked before or has told its digest, or was never begun
 abbrev pub asking_misuse : State → Misuse
@@ -178,15 +184,16 @@ abbrev pub asking_result : State → PublicKeyValue → SignatureValue → List 
 asking_result s v signature text legacy room =
     if may_ask s then asked_of v signature text legacy room else Err (WrongUse (asking_misuse s))
 
--- the same of a signature that was read from this text: what the text is rejected for under the key, and then
--- too little room
+-- the same of a signature that was read from this text: the public key was not read, or what the text is
+-- rejected for under the key, and then too little room
 abbrev pub asked_under : Result SignatureTextRecord Fault → ℕ → Result Unit (Refusal Fault)
 asked_under (Ok t) room = room_for (length t.comments.trusted) room
 asked_under (Err e) room = Err (Refused e)
 
 abbrev pub asking_under : State → PublicKeyValue → List ℕ → Bool → ℕ → Result Unit (Refusal Fault)
 asking_under s v text legacy room =
-    if may_ask s then asked_under (read_under v legacy text) room else Err (WrongUse (asking_misuse s))
+    if may_ask s then with_public_key v (asked_under (read_under v legacy text) room) else
+    Err (WrongUse (asking_misuse s))
 
 -- why a state gives no verdict: the questions were not asked or the digest was not told, or it was never
 -- begun

@@ -1,6 +1,6 @@
 //! The questions and the verdict, over the state that a program in another language holds.
 
-ghost use Rattle.std.specs.Prelude.{◌≡◌, ◌<◌, ◌≤◌, ◌+◌, ℕ, Bool, List, Ok, Err, true, OnOk};
+ghost use Rattle.std.specs.Prelude.{◌≡◌, ◌≢◌, ◌<◌, ◌≤◌, ◌+◌, ℕ, Bool, List, Ok, Err, true, OnOk};
 ghost use Rattle.std.specs.Prelude.{OnErr, IfOk, IfErr, MatchResult, ◌++◌, length, drop, take};
 ghost use Rattle.minisign_hash.specs.Blake2b.{blake2b_digest};
 ghost use Rattle.minisign.specs.Acceptance.{Verifier};
@@ -13,7 +13,8 @@ ghost use Rattle.minisign_external.specs.States.{HasToldDigest, IsAskFedRefusal,
 ghost use Rattle.minisign_external.specs.States.{IsMarkedTold, IsTextRefusal, asked_about, asked_of};
 ghost use Rattle.minisign_external.specs.States.{asking_misuse, asking_result, asking_under, comment_result};
 ghost use Rattle.minisign_external.specs.States.{given_verdict, is_asked, is_begun};
-ghost use Rattle.minisign_external.specs.States.{questions_about, told_verdict, verdict_misuse};
+ghost use Rattle.minisign_external.specs.States.{questions_about, room_for, told_verdict, verdict_misuse};
+ghost use Rattle.minisign_external.specs.StrictCalls.{asked_strictly, is_strict_text, is_strict_value};
 ghost use Rattle.minisign_external.specs.declared.public_keys.PublicKeyValue.{PublicKeyValue};
 ghost use Rattle.minisign_external.specs.declared.state.Refusal.TheVariants.{WrongUse};
 
@@ -21,6 +22,7 @@ use crate::public_keys::PublicKeyValue;
 use crate::signatures::SignatureValue;
 use crate::signed_texts::write_comment_message;
 use crate::state::{ASKED, Asked, FED, Misuse, Questions, Refusal, State, TOLD};
+use crate::strict::is_strict_value;
 use crate::verdict::{comment_verdict, verdict};
 use minisign::judge_key;
 
@@ -40,30 +42,32 @@ impl State {
         questions: &mut Questions,
         message: &mut [u8],
     ) -> Result<(), Refusal>
-        // The answer is a function of the state, the key, the signature, the text, the flag and the room.
-        // The rejections come in one order: a state that was asked before, has told its digest or was
-        // never begun; a signature that was not read, or whose text is another one; a key ID that differs,
-        // and a signature over the data itself where that will not do; and too short a buffer.
+        // The result is a function of the state, the key, the signature, the text, the flag and the buffer
+        // size. If several reasons to reject apply, the result is the first one: the state was asked before,
+        // has told its digest or was never begun; the public key was not read; the signature was not read, or
+        // was read from another text; the key IDs differ, or the signature is over the data itself and that
+        // is not allowed; the buffer is too short.
         ensures value { result ≡ asking_result self.old key.now signature.now sig_text.now allow_legacy
             (length message.old) }
 
-        // For a signature that was read from this text, the answer is that of the text under the key.
+        // If the signature was read from this text, the result is that of asking about the text and the key.
         ensures text { (t : SignatureTextRecord) → IsReadFrom signature.now sig_text.now t
             → result ≡ asking_under self.old key.now sig_text.now allow_legacy (length message.old) }
 
-        // The questions are then those of the key and of what the text reads as, with zeros for the digest;
-        // the message of the second stands at the start of the buffer. They are asked; what was fed stays.
+        // On success the questions are those of the key and the signature text, with zeros for the digest,
+        // and the message of the second one is at the start of the buffer. The state records that they were
+        // asked. The data that it was fed is unchanged.
         ensures asked { OnOk result ((t : SignatureTextRecord) → IsReadFrom signature.now sig_text.now t
             → (read_under key.now allow_legacy sig_text.now ≡ Ok t) × AreAsked questions.new message.new
             key.now t × HasAsked self.new key.now sig_text.now allow_legacy) }
         ensures fed { (m : List ℕ) → IsFedState self.old m → IsFedState self.new m }
 
-        // The texts reject what is rejected of them: of every text that reads as the key, under every scheme
-        // and for every message.
+        // If the error is one of the key or the text, verification with them fails with the same error, under
+        // every scheme and for every message.
         ensures texts { (t : SignatureTextRecord) → IsReadFrom signature.now sig_text.now t
             → IfErr result (IsTextRefusal key.now sig_text.now allow_legacy) }
 
-        // What stands behind the message stays. After a rejection everything is as it was.
+        // On success the buffer behind the message is unchanged. After an error everything is unchanged.
         ensures rest { OnOk result
             (drop questions.new.message_len message.new ≡ drop questions.new.message_len message.old) }
         ensures kept { OnErr result
@@ -78,6 +82,73 @@ impl State {
         }
     }
 
+    /// Asks as `ask` does, if strict Ed25519 rejects neither the key nor a signature for its bytes. Returns
+    /// true if it asked. If `ask` rejects nothing, but strict Ed25519 rejects the key or a signature whatever
+    /// the message is, returns false. The comment signature counts if it has its 64 bytes. Does not allocate.
+    pub fn ask_strictly(
+        &mut self,
+        key: &PublicKeyValue,
+        signature: &SignatureValue,
+        sig_text: &[u8],
+        allow_legacy: bool,
+        questions: &mut Questions,
+        message: &mut [u8],
+    ) -> Result<bool, Refusal>
+        // The errors are those of `ask`. If there is none, the result is true exactly if strict Ed25519
+        // rejects neither the key nor a signature for its bytes.
+        ensures value { result ≡ asked_strictly (is_strict_value key.now signature.now)
+            (asking_result self.old key.now signature.now sig_text.now allow_legacy (length message.old)) }
+
+        // If the signature was read from this text, the result is that of asking about the text and the key.
+        ensures text { (t : SignatureTextRecord) → IsReadFrom signature.now sig_text.now t
+            → result ≡ asked_strictly (is_strict_text key.now t)
+            (asking_under self.old key.now sig_text.now allow_legacy (length message.old)) }
+
+        // If the result is true, the questions are asked as `ask` asks them. The data that the state was fed
+        // is unchanged.
+        ensures asked { result ≡ Ok true → (t : SignatureTextRecord) → IsReadFrom signature.now sig_text.now t
+            → (read_under key.now allow_legacy sig_text.now ≡ Ok t) × AreAsked questions.new message.new
+            key.now t × HasAsked self.new key.now sig_text.now allow_legacy }
+        ensures fed { (m : List ℕ) → IsFedState self.old m → IsFedState self.new m }
+
+        // If the result is true, the buffer behind the message is unchanged. Otherwise everything is
+        // unchanged.
+        ensures rest { result ≡ Ok true
+            → drop questions.new.message_len message.new ≡ drop questions.new.message_len message.old }
+        ensures kept { result ≢ Ok true
+            → (self.new ≡ self.old) × (questions.new ≡ questions.old) × (message.new ≡ message.old) }
+    {
+        if is_strict_value(key, signature) {
+            match self.ask(key, signature, sig_text, allow_legacy, questions, message) {
+                Ok(()) => Ok(true),
+                Err(refusal) => Err(refusal),
+            }
+        } else {
+            match self.test_asking(key, signature, sig_text, allow_legacy, message.len()) {
+                Ok(()) => Ok(false),
+                Err(refusal) => Err(refusal),
+            }
+        }
+    }
+
+    // What asking answers, without asking.
+    fn test_asking(
+        &self,
+        key: &PublicKeyValue,
+        signature: &SignatureValue,
+        sig_text: &[u8],
+        allow_legacy: bool,
+        room: usize,
+    ) -> Result<(), Refusal>
+        ensures { result ≡ asking_result self.now key.now signature.now sig_text.now allow_legacy room }
+    {
+        let may_ask = self.mark == FED && !self.is_asked();
+        if !may_ask {
+            return Err(Refusal::WrongUse(self.asking_misuse()));
+        }
+        test_questions(key, signature, sig_text, allow_legacy, room)
+    }
+
     /// The same about all that the state was fed, also where it was asked before: the digest is told as well,
     /// and the state takes no more data. Returns the trusted comment, which nothing vouches for yet. After a
     /// rejection everything is as it was.
@@ -90,9 +161,9 @@ impl State {
         questions: &mut Questions,
         message: &mut [u8],
     ) -> Result<&'a str, Refusal>
-        // Of a signature that was read from this text, the questions are those of the key and of what the
-        // text reads as; the comment is the one that was asked about. The digest is that of everything the
-        // state was fed, which it has then told.
+        // On success, if the signature was read from this text, the questions are those of the key and the
+        // text, and the result is its trusted comment. The digest in the questions is that of all data that
+        // the state was fed, and the state takes no more.
         ensures asked { IfOk result (λ c. (t : SignatureTextRecord) → IsReadFrom signature.now sig_text.now t
             → (read_under key.now allow_legacy sig_text.now ≡ Ok t) × AreQuestions questions.new message.new
             key.now t × HasAsked self.new key.now sig_text.now allow_legacy × (c.now ≡ t.comments.trusted)) }
@@ -101,9 +172,14 @@ impl State {
             × HasToldDigest self.new m) }
         ensures told { OnOk result (IsMarkedTold self.new) }
 
-        // A state that is not being fed is rejected first, and then what `ask` rejects of the signature, the
-        // text and the room. Everything is then as it was; what stands behind a message that is written
-        // stays.
+        // On success `ask` finds no error in the key, the signature, the text and the buffer size. So the key
+        // and the signature were read, and the signature was read from this text.
+        ensures taken { OnOk result
+            (asked_of key.now signature.now sig_text.now allow_legacy (length message.old) ≡ Ok tt) }
+
+        // The errors are, in this order: the state takes no data; those of `ask` in the key, the signature,
+        // the text and the buffer size. After an error everything is unchanged. On success the buffer behind
+        // the message is unchanged.
         ensures refused { IfErr result
             (IsAskFedRefusal self.old key.now signature.now sig_text.now allow_legacy (length message.old)) }
         ensures texts { (t : SignatureTextRecord) → IsReadFrom signature.now sig_text.now t
@@ -152,6 +228,9 @@ impl State {
         ensures rest { OnOk result
             (drop questions.new.message_len message.new ≡ drop questions.new.message_len message.old) }
     {
+        if !key.is_public_key() {
+            return Err(Refusal::WrongUse(Misuse::PublicKeyNotRead));
+        }
         let comment = signature.comment_in(sig_text)?;
         judge_key(&key.key_id, &signature.signature(), allow_legacy)?;
         let len = write_comment_message(&signature.signature, comment.as_bytes(), message)?;
@@ -167,15 +246,15 @@ impl State {
     /// 64 bytes and the scheme accepts it. Nothing is said of any data. A state that has not asked, or was
     /// ended, is rejected. Does not allocate.
     pub fn comment_verdict(&self, second: bool) -> Result<(), Refusal>
-        // For every relation that answers the second question so: success exactly when the trusted comment
-        // was signed, together with the first signature, by the key.
+        // For every scheme that gives this result for the second question: success exactly if the key signed
+        // the trusted comment, together with the first signature.
         ensures verdict { (v : PublicKeyValue) (sig_text : List ℕ) (legacy : Bool) (accepts : Verifier)
             → HasAsked self.now v sig_text legacy → AnswersComment accepts v sig_text second → is_begun
             self.now ≡ true → result ≡ given_verdict (comment_verdict_under accepts v sig_text legacy) }
 
-        // The result is a function of the state and the answer: a state that has not asked, or was ended, is
-        // rejected; otherwise it is success exactly where the comment signature has its 64 bytes and is
-        // accepted.
+        // The result is a function of the state and the answer. If nothing was asked, or the state was ended,
+        // it is an error. Otherwise it is success exactly if the comment signature has its 64 bytes and is
+        // valid.
         ensures value { result ≡ comment_result self.now second }
     {
         if !self.is_begun() || !self.is_asked() {
@@ -193,20 +272,21 @@ impl State {
     /// answered so, else the first condition that fails. A state that has not asked or not told its digest is
     /// rejected, and stays as it was. Does not allocate.
     pub fn verdict(&mut self, first: bool, second: bool) -> Result<(), Refusal>
-        // For every relation that answers the two questions as the caller says, and every message: the
-        // verdict on the key, the text and the message.
+        // For every scheme that gives these results for the two questions, and every message: the result is
+        // the verdict on the key, the text and the message.
         ensures verdict { (v : PublicKeyValue) (sig message : List ℕ) (legacy : Bool) (accepts : Verifier)
             → HasAsked self.old v sig legacy → IsMarkedTold self.old → Answers accepts v sig message first
             second → result ≡ given_verdict (verdict_under accepts v sig message legacy) }
 
-        // So for every text that reads as the key: success exactly where both texts vouch for the message.
+        // So for every public key file with this key: success exactly if the signature file is a valid
+        // signature of the message under it.
         ensures texts { (v : PublicKeyValue) (pk sig message : List ℕ) (legacy : Bool) (accepts : Verifier)
             → HasAsked self.old v sig legacy → IsMarkedTold self.old → IsKeyText pk v
             → Answers accepts v sig message first second → GivesVerdict accepts pk sig message legacy result }
 
-        // The result, and the state after it, are a function of the state and the answers. A state that has
-        // not asked or not told its digest is rejected, and stays as it was; otherwise the state is ended,
-        // and the result is what the answers decide.
+        // The result and the new state are a function of the state and the answers. If nothing was asked, or
+        // the digest was not returned, the result is an error and the state is unchanged. Otherwise the state
+        // is ended, and the answers decide.
         ensures value { (result, self.new) ≡ told_verdict self.old first second }
     {
         if self.mark != TOLD || !self.is_asked() {
@@ -240,6 +320,38 @@ impl State {
             Misuse::NotBegun
         }
     }
+}
+
+// What asking about a key and a signature answers, whatever the state is, with so much room.
+fn test_questions(
+    key: &PublicKeyValue,
+    signature: &SignatureValue,
+    sig_text: &[u8],
+    allow_legacy: bool,
+    room: usize,
+) -> Result<(), Refusal>
+    ensures { result ≡ asked_of key.now signature.now sig_text.now allow_legacy room }
+{
+    if !key.is_public_key() {
+        return Err(Refusal::WrongUse(Misuse::PublicKeyNotRead));
+    }
+    if let Err(misuse) = signature.comment_in(sig_text) {
+        return Err(Refusal::WrongUse(misuse));
+    }
+    match judge_key(&key.key_id, &signature.signature(), allow_legacy) {
+        Ok(()) => test_room(signature.comment_len, room),
+        Err(fault) => Err(Refusal::Refused(fault)),
+    }
+}
+
+// Tests that there is room for the message with a trusted comment of this length.
+fn test_room(comment_len: u64, room: usize) -> Result<(), Refusal>
+    ensures { result ≡ room_for comment_len room }
+{
+    if room < 64 || ((room - 64) as u64) < comment_len {
+        return Err(Refusal::WrongUse(Misuse::NoRoom));
+    }
+    Ok(())
 }
 
 // The questions about a key and a signature, of which the second has a message of this length.

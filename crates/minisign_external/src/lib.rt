@@ -12,5 +12,6 @@ pub mod secrets;
 pub mod signatures;
 pub mod signed_texts;
 pub mod state;
+pub mod strict;
 pub mod unopened_keys;
 pub mod verdict;

@@ -6,7 +6,7 @@ ghost use Rattle.std.specs.Prelude.{OnErr, IfOk, IfErr};
 ghost use Rattle.std.specs.Option.{option_copied};
 ghost use Rattle.minisign_external.specs.Making.{HoldsPublicKey, HoldsSecretKey, IsMadeRefusal};
 ghost use Rattle.minisign_external.specs.Making.{IsMakingRefusal, IsPublicKeyRefusal, IsReadInKey};
-ghost use Rattle.minisign_external.specs.Making.{IsUnwritable, IsWritable};
+ghost use Rattle.minisign_external.specs.Making.{IsKeyComment, IsUnwritable, IsWritable};
 ghost use Rattle.minisign_external.specs.SecretKeys.{is_opened};
 
 use crate::secrets::SecretKeyValue;
@@ -41,20 +41,23 @@ pub fn write_secret_key(
     comment: &[u8],
     to: &mut [u8],
 ) -> std::result::Result<usize, Refusal>
-    // The text of a secret key stands at the start of the buffer, in 233 bytes more than the comment has, and
-    // is the one by definition: it opens under the password, within each bound that its p is within, or reads
-    // without one, to the key with exactly this key ID and these 64 secret bytes, and to no other.
+    // On success the secret key file is at the start of the buffer, 233 bytes more than the comment has.
+    // Under the password, or without one, it opens to the key with exactly this key ID and these 64 secret
+    // bytes, for every bound on the work that is enough.
     ensures opened { OnOk result (is_opened key.now ≡ true) }
     ensures text { IfOk result (HoldsSecretKey key.now.key_id key.now.secret
         (option_copied password.entry) sealing.now comment.now to.new) }
 
-    // What stands behind the text stays: no byte of a secret is left there.
+    // On success Minisign reads the whole comment in the first line of the file.
+    ensures readable { OnOk result (IsKeyComment comment.now) }
+
+    // The rest of the buffer is unchanged: no byte of a secret is left there.
     ensures rest { IfOk result (λ len. drop len to.new ≡ drop len to.old) }
 
-    // What is rejected comes in this order: a key that was not opened; a comment or a password that is not
-    // UTF-8; a comment with a line feed; one with a carriage return or a zero byte, or of more than 1003
-    // bytes, which Minisign does not read whole; too short a buffer; with a password limits that sealing does
-    // not allow; out of memory. The buffer is then as it was.
+    // The errors are, in this order: the key was not opened; the comment or the password is not UTF-8; the
+    // comment has a line feed; Minisign does not read all of it, because it has a carriage return, a zero
+    // byte or more than 1003 bytes; the buffer is too short; with a password, sealing does not allow the
+    // limits; out of memory. After an error the buffer is unchanged.
     ensures refused { IfErr result
         (IsMakingRefusal key.now (option_copied password.entry) sealing.now comment.now to.old) }
     ensures kept { OnErr result (to.new ≡ to.old) }
@@ -98,6 +101,7 @@ fn write_made(
 ) -> std::result::Result<usize, Refusal>
     ensures text { IfOk result (HoldsSecretKey key_id secret (option_copied password.entry)
         sealing.now comment.now to.new) }
+    ensures readable { OnOk result (IsKeyComment comment.now) }
     ensures rest { IfOk result (λ len. drop len to.new ≡ drop len to.old) }
     ensures refused { IfErr result
         (IsMadeRefusal (option_copied password.entry) sealing.now comment.now to.old) }
@@ -121,14 +125,16 @@ pub fn write_public_key(
     comment: &[u8],
     to: &mut [u8],
 ) -> std::result::Result<usize, Refusal>
-    // The text of a public key stands at the start of the buffer, in 77 bytes more than the comment has, and
-    // reads as the public key of every secret key of these parts; what stands behind it stays.
+    // On success the public key file is at the start of the buffer, 77 bytes more than the comment has. It
+    // reads as the public key of every secret key of these parts, and Minisign reads the whole comment. The
+    // rest of the buffer is unchanged.
     ensures opened { OnOk result (is_opened key.now ≡ true) }
     ensures text { IfOk result (HoldsPublicKey key.now.key_id key.now.secret comment.now to.new) }
+    ensures readable { OnOk result (IsKeyComment comment.now) }
     ensures rest { IfOk result (λ len. drop len to.new ≡ drop len to.old) }
 
-    // What is rejected comes in the order of `write_secret_key`, less what concerns a password. The buffer is
-    // then as it was.
+    // The errors are those of `write_secret_key` that do not concern a password, in the same order. After an
+    // error the buffer is unchanged.
     ensures refused { IfErr result (IsPublicKeyRefusal key.now comment.now to.old) }
     ensures kept { OnErr result (to.new ≡ to.old) }
 {

@@ -1,7 +1,7 @@
 //! The numbers by which a program in another language knows errors, and what they mean. None of it
 //! allocates.
 
-ghost use Rattle.std.specs.Prelude.{◌≡◌, ◌==◌, ◌<◌, List, ℕ, find, length};
+ghost use Rattle.std.specs.Prelude.{◌≡◌, ◌==◌, ◌<◌, IfSome, List, ℕ, find, length};
 ghost use Rattle.minisign_base.specs.Faults.{fault_row};
 ghost use Rattle.minisign_external.specs.Numbers.{IsMeaning, WritesCut, is_answer, fault_number};
 ghost use Rattle.minisign_external.specs.Numbers.{misuse_number, misuse_text, refusal_number};
@@ -23,6 +23,11 @@ pub fn is_answer(number: u32) -> bool
     number == ANSWER_YES || number == ANSWER_NO
 }
 
+/// The public key or a signature is one that strict Ed25519 rejects: a point has a small order or is not
+/// canonical, or the second half of a signature is not below the group order. The calls for other languages
+/// add this error to those of the library.
+pub const WEAK_ED25519: u32 = 81;
+
 // The number of an error without a name, which no call of this library answers.
 const UNNAMED: u32 = 255;
 
@@ -33,7 +38,7 @@ pub trait Numbered {
 
     /// The number of the error.
     fn number(&self) -> u32
-        // The number of an error is that of a table.
+        // The number is that of the error in its table.
         ensures { result ≡ number_of self.now };
 }
 
@@ -52,8 +57,8 @@ impl Numbered for PError {
 impl<F: Numbered> Refusal<F> {
     /// The number of the rejection: that of the usage error, or that of the error.
     pub fn number(&self) -> u32
-        // The number of a rejection is that of its usage error or of its error, by a table: of the library's
-        // 7 is out of memory and nothing else.
+        // The number is that of the API misuse or of the error, by a table. In the library's table 7 is out
+        // of memory, and no other error.
         ensures { result ≡ refusal_number F.number_of self.now }
     {
         match self {
@@ -65,7 +70,7 @@ impl<F: Numbered> Refusal<F> {
 
 impl Misuse {
     /// All usage errors.
-    pub const ALL: [Misuse; 16] = [
+    pub const ALL: [Misuse; 19] = [
         Misuse::NotBegun,
         Misuse::AlreadyAsked,
         Misuse::NotAsked,
@@ -76,15 +81,18 @@ impl Misuse {
         Misuse::BadPasswordFlag,
         Misuse::UnreadableComment,
         Misuse::NotDue,
-        Misuse::BadFirstFlag,
+        Misuse::BadOption,
         Misuse::BadNumbering,
         Misuse::KeyNotOpened,
         Misuse::KeyNotRead,
         Misuse::SignatureNotRead,
         Misuse::OtherSignatureText,
+        Misuse::PublicKeyNotRead,
+        Misuse::EmptyPassword,
+        Misuse::WeakSealing,
     ];
 
-    /// The number of the usage error, from 1 to 15, or from 61 to 63.
+    /// Returns the number of the usage error: 1 to 15, 61 to 63, or 82 to 84.
     pub fn number(&self) -> u32
         ensures { result ≡ misuse_number self.now }
     {
@@ -99,12 +107,15 @@ impl Misuse {
             Misuse::BadPasswordFlag => 10,
             Misuse::UnreadableComment => 11,
             Misuse::NotDue => 12,
-            Misuse::BadFirstFlag => 13,
+            Misuse::BadOption => 13,
             Misuse::BadNumbering => 14,
             Misuse::KeyNotOpened => 15,
             Misuse::KeyNotRead => 63,
             Misuse::SignatureNotRead => 62,
             Misuse::OtherSignatureText => 61,
+            Misuse::PublicKeyNotRead => 82,
+            Misuse::EmptyPassword => 83,
+            Misuse::WeakSealing => 84,
         }
     }
 
@@ -113,30 +124,33 @@ impl Misuse {
         ensures { result.now ≡ misuse_text self.now }
     {
         match self {
-            Misuse::NotBegun => "the state was never begun",
-            Misuse::AlreadyAsked => "the questions were asked before, or the digest was told",
-            Misuse::NotAsked => "the questions were not asked, or the digest was not told",
-            Misuse::BadAnswer => {
-                "an answer is neither MINISIGN_ANSWER_YES nor MINISIGN_ANSWER_NO"
-            },
-            Misuse::NoRoom => "the buffer is too short",
-            Misuse::BadLegacyFlag => "allow_legacy is neither 0 nor 1",
+            Misuse::NotBegun => "the state was not initialized, or a verdict has finished it",
+            Misuse::AlreadyAsked => "minisign_ask or minisign_digest was already called",
+            Misuse::NotAsked => "minisign_ask and minisign_digest must be called first",
+            Misuse::BadAnswer => { "an answer must be MINISIGN_ANSWER_YES or MINISIGN_ANSWER_NO" },
+            Misuse::NoRoom => "the buffer is too small",
+            Misuse::BadLegacyFlag => "allow_legacy must be 0 or 1",
             Misuse::BadComment => {
-                "a comment has a line break, or the trusted one white space at an end"
+                "a comment contains a line break, or the trusted comment begins or ends with white space"
             }
-            Misuse::BadPasswordFlag => "with_password is neither 0 nor 1",
+            Misuse::BadPasswordFlag => "with_password must be 0, 1 or 2",
             Misuse::UnreadableComment => {
-                "a comment is too long for minisign, or has a zero byte or a carriage return"
+                "a comment is too long for Minisign, or contains a zero byte or a carriage return"
             }
-            Misuse::NotDue => "the call is not due, or cannot go so",
-            Misuse::BadFirstFlag => "is_first is neither 0 nor 1",
+            Misuse::NotDue => "another call is due, or the arguments do not fit this call",
+            Misuse::BadOption => "each option of an installation must be 0 or 1",
             Misuse::BadNumbering => {
-                "numbering is neither MINISIGN_NUMBERING_TIMESTAMP nor MINISIGN_NUMBERING_VERSION"
+                "numbering must be MINISIGN_NUMBERING_TIMESTAMP or MINISIGN_NUMBERING_VERSION"
             }
-            Misuse::KeyNotOpened => "the secret key was not opened",
-            Misuse::KeyNotRead => "the secret key was not read",
-            Misuse::SignatureNotRead => "the signature was not read",
+            Misuse::KeyNotOpened => "the secret key has not been opened",
+            Misuse::KeyNotRead => "the secret key has not been read",
+            Misuse::SignatureNotRead => "the signature has not been read",
             Misuse::OtherSignatureText => "the signature was read from another text",
+            Misuse::PublicKeyNotRead => "the public key has not been read",
+            Misuse::EmptyPassword => "the password is empty",
+            Misuse::WeakSealing => {
+                "the salt is all zeros, or a limit is below the minimum of Minisign"
+            }
         }
     }
 }
@@ -145,8 +159,9 @@ impl Misuse {
 /// is no room for more: returns the length of the whole text, which is at most 127 bytes. What stands
 /// behind the 0 stays; where `to` has no byte nothing is written.
 pub fn write_error_text(number: u32, to: &mut [u8]) -> usize
-    // The text of a number is that of the usage error, or what the error of this number says without its key
-    // IDs; it has less than 128 bytes, is cut to its room and ended by a 0, behind which the buffer stays.
+    // The text is that of the API misuse, or that of the error without its key IDs. For any other number but
+    // 0 it is "unknown error". It has less than 128 bytes, is cut to the buffer and ends with a 0 byte. The
+    // rest of the buffer is unchanged.
     ensures written { (text : List ℕ) × IsMeaning number text × (result ≡ length text)
         × WritesCut text to.old to.new }
     ensures room { result < 128 }
@@ -156,8 +171,8 @@ pub fn write_error_text(number: u32, to: &mut [u8]) -> usize
 
 /// Writes a text, cut where there is no room for more, and a 0. Returns the length of the text.
 pub fn write_cut(text: &str, to: &mut [u8]) -> usize
-    // The text stands at the start of the buffer, cut where there is no room for more, and a 0 after it; the
-    // rest of the buffer stays.
+    // The text, cut if the buffer is shorter, is at the start of the buffer, followed by a 0 byte. The rest
+    // of the buffer is unchanged.
     ensures length { result ≡ length text.now }
     ensures cut { WritesCut text.now to.old to.new }
 {
@@ -181,6 +196,9 @@ pub fn error_text(number: u32) -> &'static str
     if number == 0 {
         return "no error";
     }
+    if number == WEAK_ED25519 {
+        return "weak or non-canonical Ed25519 public key or signature";
+    }
     if let Some(misuse) = misuse_of(number) {
         return misuse.text();
     }
@@ -192,7 +210,8 @@ pub fn error_text(number: u32) -> &'static str
 
 // The usage error of a number.
 fn misuse_of(number: u32) -> Option<Misuse>
-    ensures { result ≡ find (λ m. misuse_number m == number) Misuse.ALL }
+    ensures found { IfSome result (λ m. number ≡ misuse_number m) }
+    ensures first { result ≡ find (λ m. misuse_number m == number) Misuse.ALL }
 {
     Misuse::ALL
         .iter()
@@ -202,7 +221,8 @@ fn misuse_of(number: u32) -> Option<Misuse>
 
 // The named error of a number, with key IDs of zeros.
 fn fault_of(number: u32) -> Option<NamedFault>
-    ensures { result ≡ find (λ f. (fault_row f).number == number) NamedFault.ALL }
+    ensures found { IfSome result (λ f. number ≡ (fault_row f).number) }
+    ensures first { result ≡ find (λ f. (fault_row f).number == number) NamedFault.ALL }
 {
     NamedFault::ALL
         .iter()

@@ -15,10 +15,13 @@ ghost use Rattle.minisign_external.specs.Signatures.{IsReadFrom};
 ghost use Rattle.minisign_external.specs.Signing.{HoldsText, IsPairOf, comments_of, HoldsOwnText};
 ghost use Rattle.minisign_external.specs.Signing.{IsOwnRefusal, OwnTextVerifies, joined};
 ghost use Rattle.minisign_external.specs.Signing.{IsTextSigningRefusal};
+ghost use Rattle.minisign_external.specs.PublicKeys.{is_public_key};
 ghost use Rattle.minisign_external.specs.States.{AreAsked, HasAsked, IsFedState, KeepsAsked, given_verdict};
+ghost use Rattle.minisign_external.specs.States.{with_public_key};
 ghost use Rattle.minisign_external.specs.declared.public_keys.PublicKeyValue.{PublicKeyValue};
 ghost use Rattle.minisign_external.specs.declared.secrets.SecretKeyValue.{SecretKeyValue};
 ghost use Rattle.minisign_external.specs.declared.state.Questions.{Questions};
+ghost use Rattle.minisign_external.specs.declared.state.Misuse.TheVariants.{KeyNotOpened};
 
 use crate::public_keys::PublicKeyValue;
 use crate::secrets::SecretKeyValue;
@@ -42,13 +45,16 @@ pub fn verify_pieces<S: Scheme>(
 ) -> Result<(), Refusal>
     requires { length sig_text.now ≤ length room.old }
 
-    // **Of every scheme, key, text and data, however it is cut, the answer is the verdict on the key, the
-    // text and the joined pieces: success exactly where they vouch for the data, otherwise the first case
-    // that fails.**
-    ensures { result ≡ given_verdict
+    // **For every scheme, public key that was read, signature text and data, split in any way: the result is
+    // the verdict on the key, the text and the joined pieces. It is success exactly if the signature is
+    // valid, otherwise the first check that fails. A public key that was not read is API misuse.**
+    ensures { result ≡ with_public_key key.now (given_verdict
         (verdict_under (S.accepts scheme.now) key.now sig_text.now (joined pieces.now)
-        false) }
+        false)) }
 {
+    if !key.is_public_key() {
+        return Err(Refusal::WrongUse(Misuse::PublicKeyNotRead));
+    }
     match SignatureValue::read(sig_text) {
         Ok(signature) => verify_read(scheme, key, &signature, sig_text, pieces, room),
         Err(fault) => Err(Refusal::Refused(fault)),
@@ -71,27 +77,30 @@ pub fn sign_pieces<S: Scheme>(
 ) -> Result<usize, Refusal>
     requires { 64 + length trusted.now ≤ length room.old }
 
-    // **Of every scheme, key of a seed, data, however it is cut, and comments, the text verifies: the verdict
-    // on it and the joined pieces, under the public key of the key, is the trusted comment.**
+    // **For every scheme, secret key made of a seed, data, split in any way, and comments: on success the
+    // signature verifies. The verdict on it and the joined pieces, under the public key of the key, is the
+    // trusted comment.**
     ensures verifies { IfOk result (λ len. (seed : List ℕ) (w : PublicKeyValue) → IsPairOf (S.public_of
         scheme.now) seed key.now → public_value_of key.now ≡ Ok w → verdict_under (S.accepts scheme.now) w
         (take len to.new) (joined pieces.now) false ≡ Ok trusted.now) }
 
-    // It is the text of the two signatures that the scheme makes with the key: of the digest of the joined
-    // pieces, and of that signature followed by the trusted comment. What stands behind it stays.
+    // On success the text is that of the two signatures that the scheme makes with the key: of the digest of
+    // the joined pieces, and of that signature followed by the trusted comment. The rest of the buffer is
+    // unchanged.
     ensures text { IfOk result (HoldsOwnText S.Scheme scheme.now key.now
         (comments_of trusted.now untrusted.now) (joined pieces.now) to.new) }
     ensures rest { IfOk result (λ len. drop len to.new ≡ drop len to.old) }
 
-    // Nothing is rejected but what `write_signed_text` rejects of this key, these comments and this room. The
-    // buffer is then as it was.
+    // The errors are that the key was not opened, and those of `write_signed_text` for its public key, these
+    // comments and this buffer. After an error the buffer is unchanged.
     ensures refused { IfErr result (IsOwnRefusal S.Scheme scheme.now key.now
         (comments_of trusted.now untrusted.now) (joined pieces.now) to.old) }
     ensures kept { OnErr result (to.new ≡ to.old) }
 {
+    let public_key = public_half(key)?;
     let digest = digest_of(pieces)?;
     let (first, second) = sign_both(scheme, key, &digest, trusted, room)?;
-    write_signed_text(alloc, key, &first, &second, trusted, untrusted, to)
+    write_signed_text(alloc, &public_key, &first, &second, trusted, untrusted, to)
 }
 
 /// The same from the text of the secret key on, which is read and opened first, with its password where there
@@ -108,15 +117,15 @@ pub fn sign_pieces_by_text<S: Scheme>(
 ) -> Result<usize, Refusal>
     requires { 64 + length trusted.now ≤ length room.old }
 
-    // **Of every scheme, text of a key, data, however it is cut, and comments: the text opens to a key, and
-    // if that is one of a seed, the text of the signature verifies: the verdict on it and the joined pieces,
-    // under the public half of the key, is the trusted comment.**
+    // **For every scheme, key file, data, split in any way, and comments: on success the file opens to a key.
+    // If that key was made of a seed, the signature verifies: the verdict on it and the joined pieces, under
+    // the public half of the key, is the trusted comment.**
     ensures verifies { IfOk result (λ len. (k : SecretKeyRecord) ×
         (opened_text key_text.now.text.now (option_copied key_text.now.password) key_text.now.most_rows
         ≡ Ok k) × OwnTextVerifies S.Scheme scheme.now k (joined pieces.now) trusted.now (take len to.new)) }
 
-    // Nothing is rejected but a text that does not open, and what `sign_pieces` rejects with the key of it.
-    // The buffer is then as it was, and what stands behind a text that is written stays.
+    // The errors are those of opening the key file, and then those of `sign_pieces` with that key. After an
+    // error the buffer is unchanged. On success the rest of the buffer is unchanged.
     ensures refused { IfErr result (IsTextSigningRefusal S.Scheme scheme.now key_text.now.text.now
         (option_copied key_text.now.password) key_text.now.most_rows
         (comments_of trusted.now untrusted.now) (joined pieces.now) to.old) }
@@ -139,6 +148,7 @@ fn verify_read<S: Scheme>(
     room: &mut [u8],
 ) -> Result<(), Refusal>
     requires room { length sig_text.now ≤ length room.old }
+    requires key { is_public_key key.now ≡ true }
     requires read { (t : SignatureTextRecord) × IsReadFrom signature.now sig_text.now t }
     ensures { result ≡ given_verdict
         (verdict_under (S.accepts scheme.now) key.now sig_text.now (joined pieces.now)
@@ -153,6 +163,16 @@ fn verify_read<S: Scheme>(
         }
         Err(refusal) => Err(refusal),
     }
+}
+
+// Returns the public key of a key.
+#[tactic(auto, using(crate::proofs::PublicHalves::told_half, crate::proofs::PublicHalves::untold_half))]
+fn public_half(key: &SecretKeyValue) -> Result<PublicKeyValue, Misuse>
+    ensures told { IfOk result (λ w. (is_opened key.now ≡ true) × (public_value_of key.now ≡ Ok w)
+        × (w.key_id ≡ key.now.key_id)) }
+    ensures refused { IfErr result (λ m. (m ≡ KeyNotOpened) × (is_opened key.now ≡ false)) }
+{
+    key.public_key()
 }
 
 // Feeds one piece after another.
@@ -229,15 +249,15 @@ fn sign_both<S: Scheme>(
 /// A law, for which nothing is done: what the calls of any host come to.
 #[tactic(auto, using(crate::proofs::GivenAnswers::given, crate::proofs::OwnTexts::own_verdict))]
 pub fn answers_decide()
-    // What a scheme answers to the questions that were asked, with the digest of a message, it answers to
-    // those of the key, the text and the message.
+    // If a scheme checks the two questions that were asked, with the digest of a message, its results are
+    // those for the key, the text and the message.
     ensures given { (accepts : Verifier) (v : PublicKeyValue) (text message room digest : List ℕ)
         (t : SignatureTextRecord) (q : Questions) → read_under v false text ≡ Ok t → AreAsked q room v t
         → digest ≡ blake2b_digest 64 message → (first second : Bool) → first ≡ accepts digest q.public_key
         q.signature → second ≡ accepts (take q.message_len room) q.public_key q.comment_signature
         → Answers accepts v text message first second }
 
-    // The text of two signatures that a scheme accepts under the public half of a key verifies under it: the
+    // If a scheme accepts two signatures under the public half of a key, their text verifies under it: the
     // verdict is the trusted comment.
     ensures own { (accepts : Verifier) (public_of : List ℕ → List ℕ) (seed : List ℕ) (v : SecretKeyValue)
         (w : PublicKeyValue) → IsPairOf public_of seed v → is_opened v ≡ true → public_value_of v ≡ Ok w

@@ -2,39 +2,54 @@
 
 ghost use Rattle.std.specs.Prelude.{◌≡◌};
 ghost use Rattle.minisign.specs.KeyTexts.{read_bare_public_key, read_public_key};
-ghost use Rattle.minisign_external.specs.PublicKeys.{read_utf8, told_key};
+ghost use Rattle.minisign_external.specs.PublicKeys.{is_public_key, read_utf8, told_key};
 
 use minisign::{PublicKey, Result, read_bare_public_key, read_public_key};
 use minisign_base::NamedFault;
 
-/// A public key, 40 bytes with the layout of C.
+// A public key that was read, or told of a secret key, begins with the letters `minispub`.
+pub(crate) const PUBLIC: u64 = 7094700428984478061;
+
+/// A public key, 48 bytes with the layout of C.
 #[repr(C)]
 #[derive(Clone, Copy)]
 pub struct PublicKeyValue {
+    /// The mark of a public key that was read, or told of a secret key.
+    pub mark: u64,
     /// Its 32 bytes.
     pub key: [u8; 32],
     /// Its key ID.
     pub key_id: [u8; 8],
 }
 
-/// Writes the value of the key that a text of two lines reads as.
+impl PublicKeyValue {
+    /// Returns true if the key was read, or told of a secret key.
+    pub fn is_public_key(&self) -> bool
+        ensures { result ≡ is_public_key self.now }
+    {
+        self.mark == PUBLIC
+    }
+}
+
+/// Reads a public key file, two lines, into a value.
 ///
-/// Rejected are, in this order: a text that is not UTF-8; what `minisign::read_public_key` rejects. Then the
-/// value stays as it was.
+/// The errors are, in this order: the text is not UTF-8; those of `minisign::read_public_key`. After an error
+/// the value is unchanged.
 pub fn tell_public_key(text: &[u8], value: &mut PublicKeyValue) -> Result<()>
-    // The value is that of the public key that a text of two lines reads as: a function of the bytes, which
-    // have to be UTF-8. Otherwise the error is the first case that fails, and the value stays.
+    // On success the value has the mark, the 32 bytes and the key ID of the public key in the file. The
+    // result is a function of the bytes, which must be UTF-8: the error is the first check that fails. After
+    // an error the value is unchanged.
     ensures { (result, value.new) ≡ told_key (read_utf8 read_public_key text.now) value.old }
 {
     tell(read(text), value)
 }
 
-/// Writes the value of the key that a bare base64 reads as, 56 bytes.
+/// Reads the base64 of a public key, 56 bytes, into a value.
 ///
-/// Rejected are, in this order: a text that is not UTF-8; what `minisign::read_bare_public_key` rejects. Then
-/// the value stays as it was.
+/// The errors are, in this order: the text is not UTF-8; those of `minisign::read_bare_public_key`. After an
+/// error the value is unchanged.
 pub fn tell_bare_public_key(text: &[u8], value: &mut PublicKeyValue) -> Result<()>
-    // The same of the base64 of a public key alone.
+    // The same for the base64 of a public key.
     ensures { (result, value.new) ≡ told_key (read_utf8 read_bare_public_key text.now) value.old }
 {
     tell(read_bare(text), value)
@@ -67,6 +82,7 @@ fn tell(read: Result<PublicKey>, value: &mut PublicKeyValue) -> Result<()>
     match read {
         Ok(pk) => {
             *value = PublicKeyValue {
+                mark: PUBLIC,
                 key: *pk.key(),
                 key_id: *pk.key_id(),
             };

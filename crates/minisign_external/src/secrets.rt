@@ -3,7 +3,7 @@
 ghost use Rattle.std.specs.Prelude.{◌≡◌};
 ghost use Rattle.minisign_external.specs.SecretKeys.{is_opened, public_value_of, taken_key};
 
-use crate::public_keys::PublicKeyValue;
+use crate::public_keys::{PUBLIC, PublicKeyValue};
 use crate::state::Misuse;
 
 // A key that was opened or taken in begins with the letters `minissec`.
@@ -34,17 +34,18 @@ impl SecretKeyValue {
         }
     }
 
-    /// Whether the key was opened or taken in.
+    /// Returns true if the key was opened or taken in.
     pub fn is_opened(&self) -> bool
         ensures { result ≡ is_opened self.now }
     {
         self.mark == OPENED
     }
 
-    /// The public key of the key: the last 32 bytes of the secret, under its key ID. A key that was not
-    /// opened is rejected.
+    /// Returns the public key of the key: the last 32 bytes of the secret, under its key ID. A key that was
+    /// not opened is an error.
     pub fn public_key(&self) -> Result<PublicKeyValue, Misuse>
-        // The last 32 bytes and the key ID of a key that was opened; another is rejected.
+        // On success the secret key was opened, and the public key is the last 32 bytes of its secret, with
+        // its key ID. If it was not opened, the result is an error.
         ensures { result ≡ public_value_of self.now }
     {
         if !self.is_opened() {
@@ -54,6 +55,7 @@ impl SecretKeyValue {
         let mut key = [0u8; 32];
         key.copy_from_slice(public_half);
         Ok(PublicKeyValue {
+            mark: PUBLIC,
             key,
             key_id: self.key_id,
         })

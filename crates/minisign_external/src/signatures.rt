@@ -62,16 +62,16 @@ impl SignatureValue {
     /// Rejected are, in this order: a text that is not UTF-8, `NotUtf8`; what `minisign::read_signature`
     /// rejects. Does not allocate.
     pub fn read(sig_text: &[u8]) -> Result<SignatureValue>
-        // A text is read as the value of what it reads as, a function of the bytes, which have to be UTF-8:
-        // the key ID, the algorithm, both signatures, where the trusted comment stands in it, and its digest;
-        // otherwise the error is the first case that fails.
+        // On success the value has the key ID, the algorithm, both signatures, the place of the trusted
+        // comment in the text, and the digest of the text. The result is a function of the bytes, which must
+        // be UTF-8: the error is the first check that fails.
         ensures value { result ≡ read_signature_value sig_text.now }
 
-        // The trusted comment stands there.
+        // On success the trusted comment is at that place in the text.
         ensures read { IfOk result (λ s. (t : SignatureTextRecord) × IsReadFrom s sig_text.now t) }
 
-        // Every text that reads as a key and this one reject what is rejected, under every scheme and for
-        // every message.
+        // If reading fails, verification with this text fails with the same error, under every public key and
+        // scheme and for every message.
         ensures texts { (v : PublicKeyValue) (legacy : Bool)
             → IfErr result (λ e. IsTextRefusal v sig_text.now legacy (Refused e)) }
     {

@@ -10,12 +10,12 @@ ghost use Rattle.minisign.specs.SignatureText.{read_signature_box, signature_tex
 ghost use Rattle.minisign_external.specs.Signing.{AreReadByMinisign, HoldsText, IsAnsweredText};
 ghost use Rattle.minisign_external.specs.Signing.{IsCommentMisuse, IsWritingRefusal, answered_box};
 ghost use Rattle.minisign_external.specs.Signing.{answered_comments, answered_signature, comments_of};
-ghost use Rattle.minisign_external.specs.SecretKeys.{is_opened};
+ghost use Rattle.minisign_external.specs.PublicKeys.{is_public_key};
 ghost use Rattle.minisign_external.specs.declared.state.Misuse.{Misuse};
 ghost use Rattle.minisign_external.specs.declared.state.Misuse.TheVariants.{NoRoom};
 ghost use Rattle.minisign_external.specs.declared.state.Refusal.TheVariants.{Refused, WrongUse};
 
-use crate::secrets::SecretKeyValue;
+use crate::public_keys::PublicKeyValue;
 use crate::state::{Misuse, Refusal};
 use minisign::SignatureBox;
 use minisign_base::NamedFault;
@@ -32,19 +32,19 @@ pub fn signed_text(
     trusted: &str,
     untrusted: &str,
 ) -> std::result::Result<String, Refusal>
-    // The text of two signatures reads as the box with exactly this key ID, these comments and these
-    // signatures; for every scheme that answers the two questions so, that is the box that signing makes;
-    // under every public key under which the signatures are accepted it vouches for the message, and for a
-    // genuine key the headline's third part holds of it.
+    // On success the text reads as the box with exactly this key ID, these comments and these signatures. For
+    // every scheme that made these two signatures, that is the box that signing makes. The text is a valid
+    // signature of the message under every public key under which both signatures are valid, and for a
+    // genuine key the headline's third part holds for it.
     ensures text { IfOk result (λ t.
         IsAnsweredText key_id.now (comments_of trusted.now untrusted.now) first.now second.now
         (string_bytes t)) }
 
-    // Rejected are comments that would not be read back as they are: one with a line feed, an untrusted one
-    // with a carriage return at its end, a trusted one with white space at either end. Then those that
-    // Minisign 0.11 would not read back: an untrusted one of 1,004 bytes or more, a trusted one of 8,174 or
-    // more, one with a zero byte or a carriage return. For all others there is a text, unless an allocation
-    // fails: a rejected comment is never reported as out of memory.
+    // The errors are, in this order. First, a comment would not be read back as it is: it has a line feed,
+    // the untrusted one a carriage return at its end, or the trusted one white space at either end. Second,
+    // Minisign 0.11 would not read a comment back: the untrusted one has 1,004 bytes or more, the trusted one
+    // 8,174 or more, or one has a zero byte or a carriage return. Otherwise only a failed allocation is an
+    // error, and that is never reported for such a comment.
     ensures refused { IfErr result (λ r. ((r ≡ Refused (Named OutOfMemory)) × AreChosenReadBack
         (comments_of trusted.now untrusted.now) × AreReadByMinisign (comments_of trusted.now untrusted.now))
         ⊎ ((m : Misuse) × (r ≡ WrongUse m) × IsCommentMisuse (comments_of trusted.now untrusted.now) m)) }
@@ -55,31 +55,32 @@ pub fn signed_text(
     Ok(written(alloc, key_id, first, second, trusted, untrusted)?)
 }
 
-/// Writes that text, under the key ID of a key that was opened, to the start of `to`, and returns its length.
+/// Writes the text of `signed_text`, under the key ID of a public key that was read, to the start of `to`.
+/// Returns its length.
 pub fn write_signed_text(
     alloc: Global,
-    key: &SecretKeyValue,
+    key: &PublicKeyValue,
     first: &[u8; 64],
     second: &[u8; 64],
     trusted: &[u8],
     untrusted: &[u8],
     to: &mut [u8],
 ) -> std::result::Result<usize, Refusal>
-    // The text is that of `signed_text`, under the key ID of the key, which was opened, at the start of the
-    // buffer, behind which the buffer stays.
-    ensures text { IfOk result (λ len. (is_opened key.now ≡ true)
+    // On success the public key was read, and the text that `signed_text` returns for its key ID is at the
+    // start of the buffer. The rest of the buffer is unchanged.
+    ensures text { IfOk result (λ len. (is_public_key key.now ≡ true)
         × HoldsText key.now.key_id (comments_of trusted.now untrusted.now) first.now second.now to.new len) }
     ensures rest { IfOk result (λ len. drop len to.new ≡ drop len to.old) }
     ensures readable { OnOk result (AreReadByMinisign (comments_of trusted.now untrusted.now)) }
 
-    // Rejected are, in this order: a key that was not opened, comments that are not UTF-8, what `signed_text`
-    // rejects, and too short a buffer, which is then as it was.
+    // The errors are, in this order: the public key was not read, a comment is not UTF-8, those of
+    // `signed_text`, and the buffer is too short. After an error the buffer is unchanged.
     ensures refused { IfErr result
         (IsWritingRefusal key.now (comments_of trusted.now untrusted.now) first.now second.now to.old) }
     ensures kept { OnErr result (to.new ≡ to.old) }
 {
-    if !key.is_opened() {
-        return Err(Refusal::WrongUse(Misuse::KeyNotOpened));
+    if !key.is_public_key() {
+        return Err(Refusal::WrongUse(Misuse::PublicKeyNotRead));
     }
     let Ok(trusted) = str::from_utf8(trusted) else {
         return Err(Refusal::Refused(NamedFault::NotUtf8.into()));
@@ -118,8 +119,8 @@ pub fn write_comment_message(
     trusted: &[u8],
     message: &mut [u8],
 ) -> Result<usize, Misuse>
-    // The message of the second question is the first signature followed by the trusted comment, behind which
-    // the buffer stays; where there is no room for it, it stays as it was.
+    // On success the first signature, followed by the trusted comment, is at the start of the buffer. The
+    // rest of the buffer is unchanged. If the buffer is too short, it is unchanged.
     ensures message { IfOk result (λ n. (n ≡ 64 + length trusted.now) × (n ≤ length message.new)
         × (take n message.new ≡ first.now ++ trusted.now)) }
     ensures rest { IfOk result (λ n. drop n message.new ≡ drop n message.old) }

@@ -85,15 +85,15 @@ pub enum Misuse {
     BadLegacyFlag,
     /// A comment of a signature would not be read back as it is.
     BadComment,
-    /// `with_password` is neither 0 nor 1.
+    /// `with_password` is not 0, 1 or 2.
     BadPasswordFlag,
     /// A comment of a signature is one that Minisign would not read back: too long, or with a zero
     /// byte or a carriage return.
     UnreadableComment,
     /// A call of installing is not due, or cannot go so.
     NotDue,
-    /// `is_first` is neither 0 nor 1.
-    BadFirstFlag,
+    /// An option of an installation is neither 0 nor 1.
+    BadOption,
     /// A numbering is neither `MINISIGN_NUMBERING_TIMESTAMP` nor `MINISIGN_NUMBERING_VERSION`.
     BadNumbering,
     /// A secret key was neither opened nor taken in.
@@ -104,6 +104,12 @@ pub enum Misuse {
     SignatureNotRead,
     /// The text is not the one that the signature was read from.
     OtherSignatureText,
+    /// A public key was not read.
+    PublicKeyNotRead,
+    /// The password is empty, and `with_password` does not allow that.
+    EmptyPassword,
+    /// The salt is all zeros, or a limit is below the minimum of Minisign.
+    WeakSealing,
 }
 
 /// Why a call did not go: mostly for an error of the library.
@@ -136,7 +142,7 @@ impl<F> From<Misuse> for Refusal<F> {
 impl Questions {
     /// No questions yet: zeros, for asking to write over. Does not allocate.
     pub fn none() -> Questions
-        // Before anything was asked, each number is 0.
+        // Every byte and every number is 0.
         ensures { result ≡ no_questions }
     {
         Questions {
@@ -156,7 +162,7 @@ impl Questions {
 impl State {
     /// A state that was fed nothing. Does not allocate.
     pub fn new() -> State
-        // A new state was fed nothing, and all else in it is 0.
+        // A new state was fed nothing, and everything else in it is 0.
         ensures fed { IsFedState result [] }
         ensures blank { IsBlank result }
     {
@@ -171,8 +177,8 @@ impl State {
     /// Feeds the next bytes of the data. Does not allocate. A state that was never begun is rejected,
     /// and one that has told its digest; then it stays as it was.
     pub fn update(&mut self, piece: &[u8]) -> Result<(), Misuse>
-        // Each update appends to what the state was fed, and what was asked stays. A state that is not being
-        // fed takes no data, and stays as it was.
+        // On success the piece is appended to the data that the state was fed. What was asked is unchanged. A
+        // state that was never begun, or whose digest was returned, takes no data: it is unchanged.
         ensures fed { (m : List ℕ) → IsFedState self.old m
             → MatchResult result (λ _. IsFedState self.new (m ++ piece.now)) (λ _. ⊥) }
         ensures asked { KeepsAsked self.old self.new }
@@ -188,8 +194,9 @@ impl State {
     /// Tells the digest of what the state was fed, 64 bytes; the state then takes no more data.
     /// Rejected as `update`; then the state and the digest stay as they were.
     pub fn digest(&mut self, digest: &mut [u8; 64]) -> Result<(), Misuse>
-        // The digest of everything the state was fed, which it has then told; what was asked stays. A state
-        // that is not being fed tells none, and stays as it was.
+        // On success the digest is that of all data that the state was fed, and the state takes no more. What
+        // was asked is unchanged. If the state was never begun, or its digest was returned before, the result
+        // is an error, and the state and the digest are unchanged.
         ensures digest { (m : List ℕ) → IsFedState self.old m
             → MatchResult result (λ _. (digest.new ≡ blake2b_digest 64 m) × HasToldDigest self.new m)
             (λ _. ⊥) }

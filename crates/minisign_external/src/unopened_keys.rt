@@ -1,14 +1,16 @@
 //! A secret key as its text has it: a value that is read once, tells what opening takes, and can be
 //! opened.
 
-ghost use Rattle.std.specs.Prelude.{◌≡◌, ◌⊎◌, if◌then◌else◌, true, false, None, Some, MatchResult, Ok, Err};
+ghost use Rattle.std.specs.Prelude.{◌≡◌, ◌≤◌, ◌⊎◌, ℕ, List, if◌then◌else◌, true, false, None, Some, Ok, Err};
+ghost use Rattle.std.specs.Prelude.{MatchResult};
 ghost use Rattle.std.specs.Prelude.{OnOk, OnErr, IfErr, IsOk, length, replicate};
 ghost use Rattle.std.specs.Option.{option_copied};
 ghost use Rattle.std.specs.Str.{IsUtf8};
 ghost use Rattle.minisign_base.specs.Fault.{Named};
 ghost use Rattle.minisign_base.specs.Steps.{without_value};
 ghost use Rattle.minisign_base.specs.declared.faults.NamedFault.TheVariants.{OutOfMemory};
-ghost use Rattle.minisign.specs.Sealing.{allowed_rows, opening_work, sealed_by_scrypt, wants_password};
+ghost use Rattle.minisign.specs.Sealing.{allowed_rows, opening_memory, opening_work, sealed_by_scrypt};
+ghost use Rattle.minisign.specs.Sealing.{wants_password};
 ghost use Rattle.minisign.specs.Records.{SecretKeyRecord};
 ghost use Rattle.minisign.specs.KeyTexts.{read_secret_key, secret_key_of_bytes};
 ghost use Rattle.minisign.specs.Texts.{and_then, map_ok};
@@ -17,6 +19,7 @@ ghost use Rattle.minisign_external.specs.declared.state.Misuse.TheVariants.{KeyN
 ghost use Rattle.minisign_external.specs.declared.state.Refusal.TheVariants.{Refused};
 ghost use Rattle.minisign_external.specs.SecretKeys.{DerivesWithin, IsOpeningRefusal, IsTextOpeningRefusal};
 ghost use Rattle.minisign_external.specs.SecretKeys.{OpensAs, is_enough, is_read, lacks_checksum};
+ghost use Rattle.minisign_external.specs.SecretKeys.{makes_within};
 ghost use Rattle.minisign_external.specs.SecretKeys.{open_record, open_unsealed, open_within};
 ghost use Rattle.minisign_external.specs.SecretKeys.{opened_in_place, opened_or_kept, opened_sealed};
 ghost use Rattle.minisign_external.specs.SecretKeys.{opened_text, opened_unsealed, read_value, taken_key};
@@ -30,6 +33,9 @@ use std::alloc::Global;
 
 // A key that was read and is not opened yet begins with the letters `minisrec`.
 const READ: u64 = 7162256622418291053;
+
+// The key derivation of a sealed key: scrypt.
+const SCRYPT: [u8; 2] = [83, 99];
 
 // No key derivation: the secret key was never sealed.
 const UNSEALED: [u8; 2] = [0, 0];
@@ -73,8 +79,8 @@ pub struct KeyText<'a> {
 impl<'a> KeyText<'a> {
     /// Reads the key and opens it, as `read_unopened_key` and the calls that open do.
     pub fn open(&self, alloc: Global) -> std::result::Result<SecretKeyValue, Refusal>
-        // The key is the one that the text opens to, with the mark of one that was opened; otherwise the
-        // error is the first case that fails or, where opening derives, a failed allocation.
+        // On success the result is the key that the text opens to, with the mark of an opened key. The error
+        // is the first check that fails or, if a key is derived from the password, a failed allocation.
         ensures { MatchResult result (λ v. (k : SecretKeyRecord) × (opened_text self.now.text.now
             (option_copied self.now.password) self.now.most_rows ≡ Ok k) × (v ≡ taken_key k.keynum k.secret))
             (IsTextOpeningRefusal self.now.text.now (option_copied self.now.password) self.now.most_rows) }
@@ -199,13 +205,13 @@ fn told_by(key: &SecretKey) -> (u8, u8, u32)
 /// Rejected are, in this order: a text that is not UTF-8; what `minisign::read_secret_key` rejects. Then the
 /// value stays as it was. Does not allocate.
 pub fn read_unopened_key(sk_text: &[u8], value: &mut UnopenedKeyValue) -> Result<()>
-    // Whether a text is read is a function of the bytes, which have to be UTF-8: otherwise the error is the
-    // first case that fails, and the value stays.
+    // The result is a function of the bytes, which must be UTF-8: the error is the first check that fails.
+    // After an error the value is unchanged.
     ensures result { result ≡ without_value (read_utf8 read_secret_key sk_text.now) }
     ensures kept { OnErr result (value.new ≡ value.old) }
 
-    // The value holds the record of the key that the text reads as, and tells what opening it takes. Opening
-    // it gives what the text gives, under each password and within each bound on the work.
+    // On success the value holds the key record of the text and says what opening it takes. Opening the value
+    // gives what opening the text gives, under every password and for every bound on the work.
     ensures read { OnOk result (read_utf8 read_secret_key sk_text.now ≡ Ok (unopened_record value.new)) }
     ensures told { OnOk result (value.new ≡ read_value value.new.bytes) }
     ensures opens { OnOk result (OpensAs value.new sk_text.now) }
@@ -238,8 +244,8 @@ pub fn open_unsealed_key(
     unopened: &UnopenedKeyValue,
     value: &mut SecretKeyValue,
 ) -> std::result::Result<(), Refusal>
-    // The result, and the key: a key that was read and was never sealed is the one opened, with the mark of
-    // one that was; otherwise the result is the first reason, and the key as it was.
+    // On success the key was read, was never sealed and is now in the value, with the mark of an opened key.
+    // The error is the first check that fails. After an error the value is unchanged.
     ensures { (result, value.new) ≡ opened_or_kept (opened_unsealed unopened.now) value.old }
 {
     if unopened.is_read() {
@@ -269,9 +275,10 @@ pub fn open_sealed_key(
     most_rows: u64,
     value: &mut SecretKeyValue,
 ) -> std::result::Result<(), Refusal>
-    // The result, and the key, whatever number of rows is kept: a key that was read and that the password
-    // opens is the one opened, with the mark of one that was; otherwise the result is the first reason, and
-    // the key as it was. Only where opening derives may it be out of memory instead.
+    // On success the key was read, the password opens it within `most_rows`, and it is now in the value, with
+    // the mark of an opened key. The error is the first check that fails or, if a key is derived from the
+    // password, a failed allocation. After an error the value is unchanged. None of this depends on
+    // `keep_every`.
     ensures { ((result, value.new) ≡ opened_or_kept (opened_sealed unopened.now password.now most_rows)
         value.old) ⊎ (((result, value.new) ≡ opened_or_kept (Err (Refused (Named OutOfMemory))) value.old)
         × DerivesWithin unopened.now password.now most_rows) }
@@ -284,22 +291,57 @@ pub fn open_sealed_key(
     }
 }
 
-/// How much memory `open_sealed_key_in_place` takes with every k-th of scrypt's rows kept, where k is
-/// `keep_every`: so many words of 32 bits and so many bytes. Zeros for a key that wants no password, and
-/// where its limits are rejected. Does not allocate.
-pub fn memory_to_open(unopened: &UnopenedKeyValue, keep_every: u64) -> (u64, u64)
-    // The memory is that of the key in the value.
-    ensures { result ≡ value_memory unopened.now keep_every }
+/// Returns how much memory `open_sealed_key_in_place` takes with the same `keep_every` and `most_rows`: a
+/// number of words of 32 bits, and a number of bytes. Zeros for a key that wants no password, whose limits
+/// are rejected, or that makes more than `most_rows` rows. Does not allocate.
+pub fn memory_to_open(unopened: &UnopenedKeyValue, keep_every: u64, most_rows: u64) -> (u64, u64)
+    // The memory is that of opening the key in the value, or zeros if that makes too many rows.
+    ensures { result ≡ value_memory unopened.now keep_every most_rows }
 {
     match key_of(&unopened.bytes) {
-        Ok(key) => key.opening_memory(keep_every.max(1)),
+        Ok(key) => memory_within(&key, keep_every.max(1), most_rows),
         Err(_fault) => (0, 0),
+    }
+}
+
+// Returns the memory that opening a key in place takes, or zeros if that makes more rows.
+fn memory_within(key: &SecretKey, k: u64, most_rows: u64) -> (u64, u64)
+    requires { 1 ≤ k }
+    ensures { result ≡ (if makes_within key.now most_rows then opening_memory key.now k else (0, 0)) }
+{
+    if makes_within(key, most_rows) {
+        key.opening_memory(k)
+    } else {
+        (0, 0)
+    }
+}
+
+// Returns true if opening a key makes at most so many rows.
+#[tactic(auto, using(crate::proofs::WithinRows::within_times))]
+fn makes_within(key: &SecretKey, most_rows: u64) -> bool
+    ensures { result ≡ makes_within key.now most_rows }
+{
+    let times = key.times_within(most_rows);
+    let (_, work) = key.opening_work();
+    !(times < work)
+}
+
+// Returns the error of opening a key that makes more rows.
+#[tactic(auto, using(crate::proofs::WithinRows::too_many_of_scrypt, crate::proofs::WithinRows::too_many_of_other))]
+fn too_many_rows(key: &SecretKey, most_rows: u64) -> PError
+    requires { makes_within key.now most_rows ≡ false }
+    ensures { (password : List ℕ) → open_within key.now password most_rows ≡ Err result }
+{
+    if *key.key_derivation() == SCRYPT {
+        NamedFault::WorkTooHigh.into()
+    } else {
+        NamedFault::UnsupportedEncryptionAlgorithm.into()
     }
 }
 
 /// Opens a sealed secret key that was read, with its password, in memory that is passed in, as
 /// `open_sealed_key` does, and allocates none: `words` and `bytes` have at least the lengths that
-/// `memory_to_open` tells. What they held is not read, and all of both is left with zeros, after an error
+/// `memory_to_open` returns. What they held is not read, and all of both is left with zeros, after an error
 /// too.
 ///
 /// Rejected is what `open_sealed_key` rejects, and behind a key that was not read too little memory,
@@ -313,17 +355,18 @@ pub fn open_sealed_key_in_place(
     bytes: &mut [u8],
     value: &mut SecretKeyValue,
 ) -> std::result::Result<(), Refusal>
-    // What is answered, and the key, whatever the memory held and whatever number of rows is kept: a key that
-    // was read and that the password opens is the one opened, with the mark of one that was; otherwise it is
-    // the first reason, which is never out of memory, and the key as it was.
+    // On success the key was read, the memory is enough, the password opens the key within `most_rows`, and
+    // it is now in the value, with the mark of an opened key. The error is the first check that fails, and
+    // never out of memory. After an error the value is unchanged. None of this depends on what the memory
+    // held.
     ensures opened { (result, value.new) ≡ opened_or_kept (opened_in_place unopened.now password.now
         keep_every most_rows (length words.old) (length bytes.old)) value.old }
 
-    // That memory then holds zeros, all of it, whatever the result.
+    // All of that memory then holds zeros, after an error too.
     ensures words_cleared { words.new ≡ replicate (length words.old) 0 }
     ensures bytes_cleared { bytes.new ≡ replicate (length bytes.old) 0 }
 {
-    if let Err(misuse) = test_room(unopened, keep_every, words, bytes) {
+    if let Err(misuse) = test_room(unopened, keep_every, most_rows, words, bytes) {
         clear_memory(words, bytes);
         return Err(Refusal::WrongUse(misuse));
     }
@@ -335,21 +378,22 @@ pub fn open_sealed_key_in_place(
 fn test_room(
     unopened: &UnopenedKeyValue,
     keep_every: u64,
+    most_rows: u64,
     words: &[u32],
     bytes: &[u8],
 ) -> std::result::Result<(), Misuse>
     ensures passed { OnOk result
         ((is_read unopened.now ≡ true)
-        × (is_enough unopened.now keep_every (length words.now) (length bytes.now) ≡ true)) }
+        × (is_enough unopened.now keep_every most_rows (length words.now) (length bytes.now) ≡ true)) }
     ensures refused { IfErr result (λ m. ((m ≡ KeyNotRead) × (is_read unopened.now ≡ false))
         ⊎ ((m ≡ NoRoom) × (is_read unopened.now ≡ true)
-        × (is_enough unopened.now keep_every (length words.now) (length bytes.now) ≡ false))) }
+        × (is_enough unopened.now keep_every most_rows (length words.now) (length bytes.now) ≡ false))) }
 {
     let is_read = unopened.is_read();
     if !is_read {
         return Err(Misuse::KeyNotRead);
     }
-    let (wanted_words, wanted_bytes) = memory_to_open(unopened, keep_every);
+    let (wanted_words, wanted_bytes) = memory_to_open(unopened, keep_every, most_rows);
     if wanted_words <= words.len() as u64 && wanted_bytes <= bytes.len() as u64 {
         Ok(())
     } else {
@@ -403,7 +447,7 @@ fn derive_in_place(
     words: &mut [u32],
     bytes: &mut [u8],
 ) -> Result<SecretKey>
-    requires { is_enough unopened.now keep_every (length words.old) (length bytes.old) ≡ true }
+    requires { is_enough unopened.now keep_every most_rows (length words.old) (length bytes.old) ≡ true }
     ensures opened { result ≡ read_utf8 (λ p. open_within (unopened_record unopened.now) p most_rows)
         password.now }
     ensures words_cleared { words.new ≡ replicate (length words.old) 0 }
@@ -415,6 +459,10 @@ fn derive_in_place(
         return Err(refused);
     };
     let key = key_of(&unopened.bytes)?;
+    if !makes_within(&key, most_rows) {
+        clear_memory(words, bytes);
+        return Err(too_many_rows(&key, most_rows));
+    }
     let times = key.times_within(most_rows);
     key.open_in_place(typed.as_bytes(), keep_every.max(1), times, words, bytes)
 }

@@ -13,4 +13,5 @@ returns-in-Err g c =
     let both = sym from.read ∙ opened c.args.key.now false c.args.sig_text.now s read in
     let same : length t.comments.trusted ≡ length s.comments.trusted = cc both in
     omega (arith, same, from.room, c.requires.room))
-    c.new-state.result c.new-state.ensures.fed c.new-state.ensures.blank (c.in-Err.ensures.text t from)
+    c.new-state.result c.requires.key c.new-state.ensures.fed c.new-state.ensures.blank
+    (c.in-Err.ensures.text t from)

@@ -3,7 +3,7 @@ use Rattle.minisign_base.specs.Fault.{Fault}
 use Rattle.minisign_external.specs.States.{asking_result}
 use Rattle.minisign_external.specs.declared.state.Refusal.{Refusal}
 use Rattle.minisign_external.proofs.ReadValues.{asked_as, asking_as}
-use Rattle.minisign_external.proofs.Verdicts.{opening_refusal}
+use Rattle.minisign_external.proofs.Verdicts.{opening_refusal_under}
 use Rattle.minisign_external.proofs.state.State.ask.Goals as goal
 
 pub returns-in-Err-clause-text : goal.returns-in-Err-clause-text
@@ -18,6 +18,6 @@ returns-in-Err-clause-text c = λ t from.
 pub returns-in-Err-clause-texts : goal.returns-in-Err-clause-texts
 returns-in-Err-clause-texts c = λ t from.
     let a = c.args in
-    opening_refusal a.key.now a.sig_text.now a.allow_legacy (length a.message.now) c.in-Err.refusal
+    opening_refusal_under a.key.now a.sig_text.now a.allow_legacy (length a.message.now) c.in-Err.refusal
     (sym (asked_as a.signature.now a.sig_text.now t from a.key.now a.allow_legacy (length a.message.now))
     ∙ c.in-Err.ensures.value)
