@@ -41,57 +41,57 @@ enum minisign_due {
     MINISIGN_DUE_NOTHING = 0,
     /* Lock the target, without waiting for another run. */
     MINISIGN_DUE_LOCK = 1,
-    /* Read what the record holds. */
+    /* Read the record. */
     MINISIGN_DUE_READ_RECORD = 2,
-    /* Have the signature scheme answer the two questions about the signed comment and the record. */
+    /* Get the scheme's answers to the two questions about the signed comment and the record. */
     MINISIGN_DUE_JUDGE = 3,
-    /* Read the next piece of the file at the target. */
+    /* Read the next piece of the installed file. */
     MINISIGN_DUE_LOOK = 4,
-    /* Have the signature scheme answer the two questions about what the file at the target holds. */
+    /* Get the scheme's answers to the two questions about the installed file. */
     MINISIGN_DUE_JUDGE_TARGET = 5,
-    /* Sync the file at the target, which is the update. */
+    /* Sync the installed file, which is the update. */
     MINISIGN_DUE_SYNC_TARGET = 6,
-    /* Sync the directory; so the file at the target keeps its name. */
+    /* Sync the directory, so that the installed file keeps its name. */
     MINISIGN_DUE_SYNC_TARGET_NAME = 7,
-    /* Let go of the lock. */
+    /* Release the lock. */
     MINISIGN_DUE_UNLOCK = 8,
     /* Receive the next piece of the data into a file without a name. */
     MINISIGN_DUE_RECEIVE = 9,
-    /* Remove the stages that killed runs have left, as far as they can be removed. */
+    /* Remove the temporary files that killed runs have left, as far as possible. */
     MINISIGN_DUE_CLEAR = 10,
-    /* Draw a name, and make the stage under it. */
+    /* Generate a random name, and create the temporary file under it. */
     MINISIGN_DUE_CREATE = 11,
-    /* Copy the next piece of the data into the stage. */
+    /* Copy the next piece of the data to the temporary file. */
     MINISIGN_DUE_COPY = 12,
-    /* Read back the next piece of what the stage holds. */
+    /* Read back the next piece of the temporary file. */
     MINISIGN_DUE_READ_BACK = 13,
-    /* Have the signature scheme answer the two questions about what the stage holds. */
+    /* Get the scheme's answers to the two questions about the temporary file. */
     MINISIGN_DUE_ANSWER = 14,
-    /* Give the stage the permissions of the file at the target. */
+    /* Give the temporary file the permissions of the installed file. */
     MINISIGN_DUE_TAKE_PERMISSIONS = 15,
-    /* Sync what the stage holds. */
+    /* Sync the temporary file. */
     MINISIGN_DUE_SYNC = 16,
-    /* Draw a name, and make the stage of the record under it. */
+    /* Generate a random name, and create the temporary file of the record under it. */
     MINISIGN_DUE_CREATE_RECORD = 17,
-    /* Write the record into its stage. */
+    /* Write the record to its temporary file. */
     MINISIGN_DUE_WRITE_RECORD = 18,
-    /* Sync what the stage of the record holds. */
+    /* Sync the record's temporary file. */
     MINISIGN_DUE_SYNC_RECORD = 19,
-    /* Give the stage of the record the record's name. */
+    /* Rename the record's temporary file to the record. */
     MINISIGN_DUE_RENAME_RECORD = 20,
-    /* Sync the directory; so the record keeps its name. */
+    /* Sync the directory, so that the record keeps its name. */
     MINISIGN_DUE_SYNC_RECORD_NAME = 21,
-    /* Give the stage the target's name. */
+    /* Rename the temporary file to the target. */
     MINISIGN_DUE_RENAME = 22,
-    /* Sync the directory; so the target keeps its name. */
+    /* Sync the directory, so that the target keeps its name. */
     MINISIGN_DUE_SYNC_NAME = 23,
-    /* Remove the stage of the record: the run is rejected for this error. */
+    /* Remove the record's temporary file: the run is rejected for this error. */
     MINISIGN_DUE_REMOVE_RECORD = 24,
-    /* Remove the stage: the run is rejected for this error. */
+    /* Remove the temporary file: the run is rejected for this error. */
     MINISIGN_DUE_REMOVE = 25,
     /* Nothing: the update is installed. */
     MINISIGN_DUE_INSTALLED = 26,
-    /* Nothing: the update stands at the target already. */
+    /* Nothing: the update was already installed. */
     MINISIGN_DUE_ALREADY = 27,
     /* Nothing: the update would be installed. */
     MINISIGN_DUE_WOULD_INSTALL = 28,
@@ -103,12 +103,25 @@ enum minisign_due {
 /* Which field of the signed comment has the number. */
 /* Numberings, made by tools/header.py. */
 enum minisign_numbering {
-    /* timestamp:, as signing writes it if no comment is given. */
+    /* timestamp:, which signing writes if no comment is given. */
     MINISIGN_NUMBERING_TIMESTAMP = 0,
     /* version:, which the signer writes. */
     MINISIGN_NUMBERING_VERSION = 1
 };
 /* The end of the numberings. */
+
+/* What an installation is to do. Each field but the first is 1 for yes and 0 for no, and a field that you do not
+ * name in an initializer is 0. */
+typedef struct minisign_install_options {
+    uint32_t numbering;   /* MINISIGN_NUMBERING_TIMESTAMP or MINISIGN_NUMBERING_VERSION: stay with one at a target */
+    uint32_t is_first;    /* install even if no number of that field is recorded: none, none that reads as one, one of
+                           * the other field, or one of neither key, which gets over what a stolen key has signed */
+    uint32_t again;       /* replace other data of the recorded number */
+    uint32_t is_check;    /* only return what a run would do: nothing is locked, synced or written */
+    uint32_t is_waiting;  /* the data may stand still, as that of a pipe: it is received while nothing is locked */
+    uint32_t must_expire; /* reject a comment that does not say when the update expires, or has a field that differs
+                           * from "expires:" in white space or case alone */
+} minisign_install_options;
 
 /* An installation: yours, of fixed size, its bytes the library's. No call on it allocates. */
 typedef struct minisign_installation {
@@ -116,29 +129,17 @@ typedef struct minisign_installation {
 } minisign_installation;
 
 /*
- * Begins an installation: MINISIGN_DUE_LOCK is due. key must have signed where the signature has its key ID,
- * otherwise other must. If you have one key, pass it twice. numbering says which field of the signed comment has the
- * number. Stay with one at a target, since the record is kept by it.
- *
- * is_first is 1 at a first installation, otherwise 0. Then an update is taken also where no number of that field is
- * kept: none at all, none that reads as one, or one of the other field. A record that names a key that is neither
- * key nor other counts as none, which gets over what a stolen key has signed.
- *
- * Of the others any number but 0 is yes. again: other data of the kept number is replaced. is_check: you are only
- * told what a run would do. MINISIGN_DUE_READ_RECORD is due first, and nothing is locked, synced or written.
- * is_waiting: the data may stand still, as that of a pipe. It is then received while nothing is locked. must_expire:
- * a comment is rejected that does not say when the update expires, or has a field that differs from "expires:" in
- * white space or case alone.
+ * Begins an installation: MINISIGN_DUE_LOCK is due, or for a check MINISIGN_DUE_READ_RECORD. key must have signed where
+ * the signature has its key ID, otherwise other must. If you have one key, pass it twice.
  *
  * Of two keys with one key ID only key is asked. If you have two such keys, and the installation ends with
  * MINISIGN_COMMENT_SIGNATURE_REFUSED, begin a second one with the two keys exchanged: the first one has made nothing.
  *
- * MINISIGN_BAD_FIRST_FLAG, then MINISIGN_BAD_NUMBERING: nothing is written. Since 0.3.
+ * MINISIGN_BAD_OPTION, then MINISIGN_BAD_NUMBERING, then MINISIGN_PUBLIC_KEY_NOT_READ: nothing is written. Since 0.3.
  */
 MINISIGN_MUST_USE enum minisign_error minisign_install_init(
     minisign_installation *installation, const minisign_public_key *key, const minisign_public_key *other,
-    uint32_t is_first, uint32_t again, uint32_t is_check, uint32_t is_waiting, uint32_t must_expire,
-    uint32_t numbering);
+    const minisign_install_options *options);
 
 /*
  * Returns what is due, or MINISIGN_DUE_NOTHING for an installation that was not begun. Make that call, and tell its
@@ -155,7 +156,7 @@ enum minisign_due minisign_install_due(const minisign_installation *installation
  *
  * MINISIGN_NOT_DUE for calls that you tell otherwise: MINISIGN_DUE_READ_RECORD, MINISIGN_DUE_JUDGE,
  * MINISIGN_DUE_LOOK, MINISIGN_DUE_JUDGE_TARGET, MINISIGN_DUE_READ_BACK and MINISIGN_DUE_ANSWER; and once the run has
- * ended. Nothing changes. Since 0.1.
+ * ended. Nothing changes. Since 0.3.
  */
 MINISIGN_MUST_USE enum minisign_error minisign_install_done(minisign_installation *installation);
 
@@ -179,7 +180,7 @@ MINISIGN_MUST_USE enum minisign_error minisign_install_more(minisign_installatio
  * MINISIGN_DUE_SYNC_TARGET_NAME and MINISIGN_DUE_SYNC_NAME the error becomes MINISIGN_DIRECTORY_NOT_SYNCED: the
  * update stands at the target.
  *
- * MINISIGN_NOT_DUE for another number, and once the run has ended: nothing changes. Since 0.1.
+ * MINISIGN_NOT_DUE for another number, and once the run has ended: nothing changes. Since 0.3.
  */
 MINISIGN_MUST_USE enum minisign_error minisign_install_failed(
     minisign_installation *installation, enum minisign_error why);
@@ -235,13 +236,15 @@ MINISIGN_MUST_USE enum minisign_error minisign_install_no_target(minisign_instal
  * first installation, it counts as the greatest number: what expires has expired.
  *
  * The errors, in this order: MINISIGN_NOT_DUE; MINISIGN_NOT_UTF8 of the name; those of minisign_read_signature;
- * those of minisign_ask. After MINISIGN_NOT_DUE and MINISIGN_NO_ROOM nothing changes; as much room as the text has
- * bytes is enough. After the others the run is rejected for that, and what comes of it is due; the questions and the
+ * MINISIGN_ALREADY_ASKED, where you have not answered since you asked; MINISIGN_DIFFERENT_KEY_IDS,
+ * MINISIGN_LEGACY_NOT_ACCEPTED; MINISIGN_NO_ROOM. After MINISIGN_NOT_DUE, MINISIGN_ALREADY_ASKED and
+ * MINISIGN_NO_ROOM nothing changes; as much room as the text has bytes is enough. After the others the run is rejected for that, and what comes of it is due; the questions and the
  * message stay as they were. Since 0.3.
  */
 MINISIGN_MUST_USE enum minisign_error minisign_install_ask(
     minisign_installation *installation, const uint8_t *sig_text, size_t sig_text_len, const uint8_t *file,
-    size_t file_len, uint64_t now, minisign_questions *questions, uint8_t *message, size_t room);
+    size_t file_len, uint64_t now, minisign_questions *questions MINISIGN_ROLE(output),
+    uint8_t *message MINISIGN_ROLE(room 64 + sig_text_len), size_t room);
 
 /*
  * Then: takes what Ed25519 answered to the two questions. MINISIGN_OK where the run goes on or ends well:
@@ -256,7 +259,7 @@ MINISIGN_MUST_USE enum minisign_error minisign_install_ask(
  * MINISIGN_BAD_EXPIRY or MINISIGN_EXPIRED, MINISIGN_BAD_SIZE, MINISIGN_OLDER_UPDATE; for MINISIGN_DUE_JUDGE_TARGET
  * also MINISIGN_SAME_NUMBER.
  *
- * MINISIGN_BAD_ANSWER, then MINISIGN_NOT_DUE, MINISIGN_NOT_ASKED: nothing changes. Since 0.1.
+ * MINISIGN_BAD_ANSWER, then MINISIGN_NOT_DUE, MINISIGN_NOT_ASKED: nothing changes. Since 0.3.
  */
 MINISIGN_MUST_USE enum minisign_error minisign_install_answer(
     minisign_installation *installation, enum minisign_answer first, enum minisign_answer second);
@@ -273,6 +276,8 @@ uint32_t minisign_install_is_vouched(const minisign_installation *installation);
  * it has one; otherwise 0. Since 0.3. */
 uint64_t minisign_install_number(const minisign_installation *installation);
 
+#define MINISIGN_RECORD_TEXT_BYTES 258
+
 /*
  * MINISIGN_DUE_WRITE_RECORD: writes the record, which you write into its stage, to the beginning of text, of room
  * bytes: the label of the field and decimal digits, as "version:2"; and in two more lines, each after a line feed,
@@ -280,11 +285,11 @@ uint64_t minisign_install_number(const minisign_installation *installation);
  * them. Returns how many bytes. Returns 0, and writes nothing, where no record is to be written or it has no room.
  * Since 0.3.
  */
-#define MINISIGN_RECORD_TEXT_BYTES 258
-size_t minisign_install_record_text(const minisign_installation *installation, uint8_t *text, size_t room);
+size_t minisign_install_record_text(
+    const minisign_installation *installation, uint8_t *text MINISIGN_ROLE(room RECORD_TEXT_BYTES), size_t room);
 
 /* Returns why the run was rejected, where MINISIGN_DUE_REFUSED is due. MINISIGN_OK before its end, and where it has
- * ended well. Since 0.1. */
+ * ended well. Since 0.3. */
 enum minisign_error minisign_install_error(const minisign_installation *installation);
 
 /*
@@ -300,6 +305,40 @@ enum minisign_error minisign_install_error(const minisign_installation *installa
 MINISIGN_MUST_USE enum minisign_error minisign_judge_comment(
     const uint8_t *comment, size_t comment_len, const uint8_t *file, size_t file_len, uint32_t numbering,
     uint64_t now, uint64_t kept, uint64_t *number);
+
+/* Attributes, made by tools/header.py. */
+#if defined(__GNUC__) && !defined(__TINYC__)
+#pragma GCC diagnostic push
+#pragma GCC diagnostic ignored "-Wredundant-decls"
+#define MINISIGN_WITH(call, ...) __typeof__(call) call __attribute__((__VA_ARGS__))
+#if defined(__clang__) || __GNUC__ < 10
+#define MINISIGN_ACCESS(mode, pointer, length)
+#else
+#define MINISIGN_ACCESS(mode, pointer, length) __access__(mode, pointer, length)
+#endif
+MINISIGN_WITH(minisign_install_init, __nonnull__(1, 2, 3, 4));
+MINISIGN_WITH(minisign_install_due, __nonnull__(1));
+MINISIGN_WITH(minisign_install_done, __nonnull__(1));
+MINISIGN_WITH(minisign_install_more, __nonnull__(1));
+MINISIGN_WITH(minisign_install_failed, __nonnull__(1));
+MINISIGN_WITH(minisign_install_record, MINISIGN_ACCESS(__read_only__, 2, 3), __nonnull__(1));
+MINISIGN_WITH(minisign_install_no_record, __nonnull__(1));
+MINISIGN_WITH(minisign_install_piece, MINISIGN_ACCESS(__read_only__, 2, 3), __nonnull__(1));
+MINISIGN_WITH(minisign_install_no_target, __nonnull__(1));
+MINISIGN_WITH(minisign_install_ask, MINISIGN_ACCESS(__read_only__, 2, 3), MINISIGN_ACCESS(__read_only__, 4, 5),
+                                    MINISIGN_ACCESS(__write_only__, 8, 9), __nonnull__(1, 7));
+MINISIGN_WITH(minisign_install_answer, __nonnull__(1));
+MINISIGN_WITH(minisign_install_is_vouched, __nonnull__(1));
+MINISIGN_WITH(minisign_install_number, __nonnull__(1));
+MINISIGN_WITH(minisign_install_record_text, MINISIGN_ACCESS(__write_only__, 2, 3), __nonnull__(1));
+MINISIGN_WITH(minisign_install_error, __nonnull__(1));
+MINISIGN_WITH(minisign_judge_comment, MINISIGN_ACCESS(__read_only__, 1, 2), MINISIGN_ACCESS(__read_only__, 3, 4),
+                                      __nonnull__(8));
+#undef MINISIGN_ACCESS
+#undef MINISIGN_WITH
+#pragma GCC diagnostic pop
+#endif
+/* The end of the attributes. */
 
 #ifdef __cplusplus
 }

@@ -1,3 +1,6 @@
-pub mod ToldKeys
+pub mod MakingNumbers
 pub mod Positive
+pub mod PublicHalves
 pub mod Refusals
+pub mod StrictVerdicts
+pub mod ToldKeys

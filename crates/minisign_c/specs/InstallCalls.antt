@@ -1,15 +1,22 @@
 -- What the calls of an installation answer and are told, by numbers.
-use Rattle.std.specs.Prelude.{◌≡◌, ◌⊎◌, ◌==◌, ℕ, List, IfSome, Err}
+use Rattle.std.specs.Prelude.{◌≡◌, ◌⊎◌, ◌==◌, ◌&&◌, nat_lt, not, ℕ, Bool, if◌then◌else◌, List, Option, None}
+use Rattle.std.specs.Prelude.{Some, IfSome, Err}
 use Rattle.minisign.specs.Acceptance.{Verifier}
 use Rattle.minisign_external.specs.Numbers.{IsAnswer, answer_yes, misuse_number, refusal_number}
-use Rattle.minisign_external.specs.declared.state.Misuse.TheVariants.{BadAnswer, NotDue}
+use Rattle.minisign_external.specs.PublicKeys.{is_public_key}
+use Rattle.minisign_external.specs.declared.state.Misuse.{Misuse}
+use Rattle.minisign_external.specs.declared.state.Misuse.TheVariants.{BadAnswer, BadNumbering, BadOption}
+use Rattle.minisign_external.specs.declared.state.Misuse.TheVariants.{NotDue, PublicKeyNotRead}
 use Rattle.minisign_external.specs.declared.state.Refusal.{Refusal}
 use Rattle.minisign_external.specs.declared.public_keys.PublicKeyValue.{PublicKeyValue}
+use Rattle.minisign_c.specs.declared.InstallOptions.{InstallOptions}
 use Rattle.minisign_install.specs.Faults.{install_number}
 use Rattle.minisign_install.specs.Hosted.{AnswersJudgeComment, IsNumberOf, IsAnswerRefusal, IsWorth}
 use Rattle.minisign_install.specs.Hosted.{TextsAreRead, due_of}
 use Rattle.minisign_install.specs.Comments.{Terms}
 use Rattle.minisign_install.specs.declared.faults.InstallFault.{InstallFault}
+use Rattle.minisign_install.specs.declared.comments.Numbering.{Numbering}
+use Rattle.minisign_install.specs.declared.hosted.Choices.{Choices}
 use Rattle.minisign_install.specs.declared.hosted.Installation.{Installation}
 use Rattle.minisign_install.specs.declared.order.Due.{Due}
 
@@ -40,3 +47,29 @@ IsAnswerNumber first second old new n =
 abbrev pub IsJudgedNumber : List ℕ → List ℕ → Terms → ℕ → ℕ → Type 0
 IsJudgedNumber comment file terms kept n = (e : InstallFault) × (n ≡ install_number e)
     × TextsAreRead comment file (IsWorth terms kept comment) (Err e)
+
+-- == Options ==
+
+-- each option but the numbering is 0 or 1
+abbrev pub are_flags : InstallOptions → Bool
+are_flags o = nat_lt o.is_first 2 && nat_lt o.again 2 && nat_lt o.is_check 2 && nat_lt o.is_waiting 2
+    && nat_lt o.must_expire 2
+
+-- the choices of options: of each 1 is yes
+abbrev pub choices_of : InstallOptions → Numbering → Choices
+choices_of o numbering = record {
+  is_first = o.is_first == 1;
+  again = o.again == 1;
+  is_check = o.is_check == 1;
+  is_waiting = o.is_waiting == 1;
+  must_expire = o.must_expire == 1;
+  numbering = numbering;
+}
+
+-- an installation is not begun for this: an option, or else the numbering, or else a public key that was not
+-- read
+abbrev pub starting_misuse : PublicKeyValue → PublicKeyValue → InstallOptions → Option Misuse
+starting_misuse key other o =
+    if not (are_flags o) then Some BadOption else
+    if nat_lt 1 o.numbering then Some BadNumbering else
+    if is_public_key key && is_public_key other then None else Some PublicKeyNotRead

@@ -1,12 +1,20 @@
--- What the text of a secret key opens to, and what signing with that answers by numbers.
-use Rattle.std.specs.Prelude.{◌≡◌, ℕ, List, Result, option_copied}
+-- What the text of a secret key opens to, what signing with that answers by numbers, and what is an error of
+-- how a key is sealed.
+use Rattle.std.specs.Prelude.{◌≡◌, ◌==◌, ◌&&◌, ◌||◌, not, nat_le, nat_lt, ℕ, Bool, List, length, replicate}
+use Rattle.std.specs.Prelude.{if◌then◌else◌, bytes_eq, Option, None, Some, Result, option_copied}
 use Rattle.minisign_base.specs.Fault.{Fault}
 use Rattle.minisign_base.specs.Members.{SchemeOf}
 use Rattle.minisign.specs.Records.{SecretKeyRecord}
 use Rattle.minisign.specs.Signing.{ChosenComments}
-use Rattle.minisign_external.specs.Numbers.{fault_number, refusal_number}
+use Rattle.minisign.specs.declared.making.Sealing.{Sealing}
+use Rattle.minisign_external.specs.Making.{IsMakingRefusal}
+use Rattle.minisign_external.specs.Numbers.{fault_number, misuse_number, refusal_number}
 use Rattle.minisign_external.specs.SecretKeys.{opened_text}
 use Rattle.minisign_external.specs.Signing.{IsTextSigningRefusal}
+use Rattle.minisign_external.specs.declared.secrets.SecretKeyValue.{SecretKeyValue}
+use Rattle.minisign_external.specs.declared.state.Misuse.{Misuse}
+use Rattle.minisign_external.specs.declared.state.Misuse.TheVariants.{BadPasswordFlag, EmptyPassword}
+use Rattle.minisign_external.specs.declared.state.Misuse.TheVariants.{WeakSealing}
 use Rattle.minisign_external.specs.declared.state.Refusal.{Refusal}
 use Rattle.minisign_external.specs.declared.unopened_keys.KeyText.{KeyText}
 
@@ -19,3 +27,32 @@ abbrev pub IsSigningNumber : {S : Type 0} → SchemeOf S → S → KeyText → C
     → Type 0
 IsSigningNumber s scheme t chosen message bytes n = (r : Refusal Fault) × (n ≡ refusal_number fault_number r)
     × IsTextSigningRefusal s scheme t.text.now (option_copied t.password) t.most_rows chosen message bytes r
+
+-- == How a key is sealed ==
+
+-- a password is an error: with_password is not 0, 1 or 2, or it is 1 and the password is empty
+abbrev pub password_misuse : ℕ → List ℕ → Option Misuse
+password_misuse with_password password =
+    if nat_lt 2 with_password then Some BadPasswordFlag else
+    if (with_password == 1) && (length password == 0) then Some EmptyPassword else None
+
+-- the salt is all zeros, or a limit is below the least one under which Minisign seals a key
+abbrev pub is_weak : Sealing → Bool
+is_weak s =
+    bytes_eq s.salt (replicate 32 0) || nat_lt s.operations_limit 524288 || nat_lt s.memory_limit 16777216
+
+-- the password is an error, or else how the key is sealed, if it is
+abbrev pub first_misuse : Option Misuse → Option Misuse → Option Misuse
+first_misuse (Some m) more = Some m
+first_misuse None more = more
+
+abbrev pub sealing_misuse : ℕ → List ℕ → Sealing → Option Misuse
+sealing_misuse with_password password s = first_misuse (password_misuse with_password password)
+    (if not (with_password == 0) && is_weak s then Some WeakSealing else None)
+
+-- the number is that of why the text of a secret key was not written: a usage error, or else a rejection
+abbrev pub IsMakingNumber : Option Misuse → SecretKeyValue → Option (List ℕ) → Sealing → List ℕ → List ℕ → ℕ
+    → Type 0
+IsMakingNumber (Some m) v password s comment bytes n = n ≡ misuse_number m
+IsMakingNumber None v password s comment bytes n =
+    (r : Refusal Fault) × (n ≡ refusal_number fault_number r) × IsMakingRefusal v password s comment bytes r

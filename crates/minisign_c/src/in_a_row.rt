@@ -3,7 +3,7 @@
 //! make.
 
 ghost use Rattle.std.specs.Prelude.{option_copied, ◌≡◌, ◌==◌, ◌<◌, ◌≤◌, ◌+◌, ◌++◌, ℕ, List, [], None, Ok};
-ghost use Rattle.std.specs.Prelude.{false, true, drop, length, take};
+ghost use Rattle.std.specs.Prelude.{false, true, drop, is_ok, length, take};
 ghost use Rattle.minisign_base.specs.Fault.{Fault};
 ghost use Rattle.minisign_hash.specs.Blake2b.{blake2b_digest};
 ghost use Rattle.minisign.specs.KeyTexts.{read_public_key};
@@ -11,25 +11,29 @@ ghost use Rattle.minisign.specs.Records.{SecretKeyRecord};
 ghost use Rattle.minisign.specs.SignatureText.{SignatureTextRecord};
 ghost use Rattle.minisign.specs.Texts.{and_then};
 ghost use Rattle.minisign.specs.Signing.{comments_of};
-ghost use Rattle.minisign_external.specs.Numbers.{IsAnswer, answer_yes, fault_number, refusal_number};
-ghost use Rattle.minisign_external.specs.PublicKeys.{read_utf8, value_of};
+ghost use Rattle.minisign_external.specs.Numbers.{IsAnswer, answer_yes, fault_number, misuse_number};
+ghost use Rattle.minisign_external.specs.Numbers.{refusal_number};
+ghost use Rattle.minisign_external.specs.PublicKeys.{is_public_key, read_utf8, value_of};
 ghost use Rattle.minisign_external.specs.Questions.{read_under, verdict_under};
 ghost use Rattle.minisign_external.specs.SecretKeys.{IsOpeningRefusal, IsTextOpeningRefusal, is_read};
-ghost use Rattle.minisign_external.specs.SecretKeys.{open_record, public_value_of, taken_key};
+ghost use Rattle.minisign_external.specs.SecretKeys.{is_opened, open_record, public_value_of, taken_key};
+ghost use Rattle.minisign_external.specs.declared.state.Misuse.TheVariants.{KeyNotOpened};
 ghost use Rattle.minisign_external.specs.SecretKeys.{unopened_record};
 ghost use Rattle.minisign_external.specs.Signatures.{IsReadFrom};
-ghost use Rattle.minisign_external.specs.Signing.{HoldsOwnText, IsOwnRefusal, IsPairOf, OwnTextVerifies};
+ghost use Rattle.minisign_external.specs.Signing.{HoldsOwnText, IsOwnRefusal, IsPairOf};
 ghost use Rattle.minisign_external.specs.Signing.{joined};
 ghost use Rattle.minisign_external.specs.States.{AreAsked, HasAsked, IsFedState, KeepsAsked, verdict_number};
+ghost use Rattle.minisign_external.specs.StrictCalls.{OwnTextVerifiesStrictly, VerifiesStrictly, number_with};
+ghost use Rattle.minisign_external.specs.StrictCalls.{strict, strict_verdict_number};
 ghost use Rattle.minisign_external.specs.declared.public_keys.PublicKeyValue.{PublicKeyValue};
 ghost use Rattle.minisign_external.specs.declared.state.Refusal.{Refusal};
 ghost use Rattle.minisign_c.specs.KeyTexts.{IsSigningNumber, opened_by};
 
 use crate::{
     minisign_ask, minisign_comment_message, minisign_digest, minisign_init,
-    minisign_open_sealed_key, minisign_open_unsealed_key, minisign_read_public_key,
-    minisign_read_secret_key, minisign_read_signature, minisign_signed_text, minisign_update,
-    minisign_verdict,
+    minisign_open_sealed_key, minisign_open_unsealed_key, minisign_public_key_of,
+    minisign_read_public_key, minisign_read_secret_key, minisign_read_signature,
+    minisign_signed_text, minisign_update, minisign_verdict,
 };
 use minisign::Scheme;
 use minisign_external::numbers::{ANSWER_NO, ANSWER_YES};
@@ -52,15 +56,18 @@ pub fn verify_in_a_row<S: Scheme>(
 ) -> u32
     requires { length sig_text.now ≤ length room.old }
 
-    // **Of every scheme, texts and data, however it is cut: 0 exactly where the key that the one text reads
-    // as and the other text vouch for the joined pieces, otherwise the number of the first case that fails.**
-    ensures { result ≡ verdict_number (and_then (read_utf8 read_public_key pk_text.now) (λ k.
-        verdict_under (S.accepts scheme.now) (value_of k) sig_text.now (joined pieces.now) false)) }
+    // **For every scheme, texts and data, split in any way: the result is the number of the verdict on the
+    // joined pieces, of the key that the one text reads as and of the other text, by the scheme with all
+    // public keys and signatures rejected that strict Ed25519 rejects for their bytes. Such a key or
+    // signature has an error number of its own.**
+    ensures number { result ≡ number_with (read_utf8 read_public_key pk_text.now) (λ k.
+        strict_verdict_number (S.accepts scheme.now) (value_of k) sig_text.now (joined pieces.now) false) }
+
+    // **So the result is 0 exactly if the key and the text vouch for the joined pieces under that scheme.**
+    ensures accepted { (result == 0) ≡ is_ok (and_then (read_utf8 read_public_key pk_text.now) (λ k.
+        verdict_under (strict (S.accepts scheme.now)) (value_of k) sig_text.now (joined pieces.now) false)) }
 {
-    let mut key = PublicKeyValue {
-        key: [0; 32],
-        key_id: [0; 8],
-    };
+    let mut key = no_public_key();
     let number = minisign_read_public_key(pk_text, &mut key);
     if number != 0 {
         return number;
@@ -76,9 +83,10 @@ fn verify_under<S: Scheme>(
     pieces: &[&[u8]],
     room: &mut [u8],
 ) -> u32
-    requires { length sig_text.now ≤ length room.old }
-    ensures { result ≡ verdict_number
-        (verdict_under (S.accepts scheme.now) key.now sig_text.now (joined pieces.now) false) }
+    requires key { is_public_key key.now ≡ true }
+    requires room { length sig_text.now ≤ length room.old }
+    ensures { result ≡ strict_verdict_number (S.accepts scheme.now) key.now sig_text.now (joined pieces.now)
+        false }
 {
     let mut signature = no_signature();
     let number = minisign_read_signature(sig_text, &mut signature);
@@ -114,10 +122,11 @@ fn verify_read<S: Scheme>(
     pieces: &[&[u8]],
     room: &mut [u8],
 ) -> u32
+    requires key { is_public_key key.now ≡ true }
     requires room { length sig_text.now ≤ length room.old }
     requires read { (t : SignatureTextRecord) × IsReadFrom signature.now sig_text.now t }
-    ensures { result ≡ verdict_number
-        (verdict_under (S.accepts scheme.now) key.now sig_text.now (joined pieces.now) false) }
+    ensures { result ≡ strict_verdict_number (S.accepts scheme.now) key.now sig_text.now (joined pieces.now)
+        false }
 {
     let mut state = State::new();
     minisign_init(&mut state);
@@ -202,21 +211,26 @@ pub fn sign_in_a_row<S: Scheme>(
 ) -> u32
     requires { 64 + length trusted.now ≤ length room.old }
 
-    // **Of every scheme, text of a key, data, however it is cut, and comments: where the number is 0 the text
-    // opens to a key, and if that is one of a seed, the text of the signature verifies: the verdict on it and
-    // the joined pieces, under the public half of the key, is the trusted comment.**
+    // **For every scheme, key file, data, split in any way, and comments: if the number is 0, the text opens
+    // to a key. If that is the key of a seed, and strict Ed25519 rejects neither its public key nor the two
+    // signatures for their bytes, the text of the signature verifies: the verdict on it and the joined
+    // pieces, under the public half of the key, is the trusted comment, by the scheme with such keys and
+    // signatures rejected.**
     ensures verifies { result ≡ 0 → (k : SecretKeyRecord) × (opened_by key_text.now ≡ Ok k)
-        × OwnTextVerifies S.Scheme scheme.now k (joined pieces.now) trusted.now (take text_len.new text.new) }
+        × OwnTextVerifiesStrictly S.Scheme scheme.now k (joined pieces.now) trusted.now
+        (take text_len.new text.new) }
 
-    // That text is the one of the two signatures that the scheme makes with the key: of the digest of the
-    // joined pieces, and of that signature followed by the trusted comment. What stands behind it stays.
+    // On success the text is that of the two signatures that the scheme makes with the key: of the digest of
+    // the joined pieces, and of that signature followed by the trusted comment. The rest of the buffer is
+    // unchanged.
     ensures text { result ≡ 0 → (k : SecretKeyRecord) × (opened_by key_text.now ≡ Ok k)
         × HoldsOwnText S.Scheme scheme.now (taken_key k.keynum k.secret)
         (comments_of trusted.now untrusted.now) (joined pieces.now) text.new text_len.new }
     ensures rest { result ≡ 0 → drop text_len.new text.new ≡ drop text_len.new text.old }
 
-    // Any other number says why the text of the key does not open, or else what `minisign_signed_text`
-    // rejects of that key, the comments, those signatures and the buffer. Nothing is then written.
+    // Any other number is the error of opening the key file, or else that of `minisign_signed_text` for the
+    // public key of that key, the comments, those signatures and the buffer. After an error the buffer and
+    // the length are unchanged.
     ensures refused { 0 < result → IsSigningNumber S.Scheme scheme.now key_text.now
         (comments_of trusted.now untrusted.now) (joined pieces.now) text.old result }
     ensures kept { 0 < result → (text.new ≡ text.old) × (text_len.new ≡ text_len.old) }
@@ -229,6 +243,15 @@ pub fn sign_in_a_row<S: Scheme>(
     sign_with(
         alloc, scheme, &key, pieces, trusted, untrusted, room, text, text_len,
     )
+}
+
+// No public key yet.
+fn no_public_key() -> PublicKeyValue {
+    PublicKeyValue {
+        mark: 0,
+        key: [0; 32],
+        key_id: [0; 8],
+    }
 }
 
 // No key yet.
@@ -309,9 +332,8 @@ fn sign_with<S: Scheme>(
     text_len: &mut usize,
 ) -> u32
     requires { 64 + length trusted.now ≤ length room.old }
-    ensures verifies { result ≡ 0 → (seed : List ℕ) (w : PublicKeyValue)
-        → IsPairOf (S.public_of scheme.now) seed key.now → public_value_of key.now ≡ Ok w → verdict_under
-        (S.accepts scheme.now) w (take text_len.new text.new) (joined pieces.now) false ≡ Ok trusted.now }
+    ensures verifies { result ≡ 0 → VerifiesStrictly S.Scheme scheme.now key.now (joined pieces.now)
+        trusted.now (take text_len.new text.new) }
     ensures text { result ≡ 0 → HoldsOwnText S.Scheme scheme.now key.now
         (comments_of trusted.now untrusted.now) (joined pieces.now) text.new text_len.new }
     ensures rest { result ≡ 0 → drop text_len.new text.new ≡ drop text_len.new text.old }
@@ -321,6 +343,11 @@ fn sign_with<S: Scheme>(
     ensures kept { 0 < result → (text.new ≡ text.old) × (text_len.new ≡ text_len.old) }
 {
     answers_decide();
+    let mut public_key = no_public_key();
+    let number = public_half(key, &mut public_key);
+    if number != 0 {
+        return number;
+    }
     let mut digest = [0u8; 64];
     let number = digest_of(pieces, &mut digest);
     if number != 0 {
@@ -333,8 +360,25 @@ fn sign_with<S: Scheme>(
         return number;
     }
     minisign_signed_text(
-        alloc, key, &first, &second, trusted, untrusted, text, text_len,
+        alloc,
+        &public_key,
+        &first,
+        &second,
+        trusted,
+        untrusted,
+        text,
+        text_len,
     )
+}
+
+// Writes the public key of a key.
+#[tactic(auto, using(crate::proofs::PublicHalves::told_half, crate::proofs::PublicHalves::untold_half))]
+fn public_half(key: &SecretKeyValue, public_key: &mut PublicKeyValue) -> u32
+    ensures told { result ≡ 0 → (is_opened key.now ≡ true) × (public_value_of key.now ≡ Ok public_key.new)
+        × (public_key.new.key_id ≡ key.now.key_id) }
+    ensures refused { 0 < result → (result ≡ misuse_number KeyNotOpened) × (is_opened key.now ≡ false) }
+{
+    minisign_public_key_of(key, public_key)
 }
 
 // The digest of the joined pieces.

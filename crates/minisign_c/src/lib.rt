@@ -7,7 +7,7 @@ ghost use Rattle.std.specs.Prelude.{◌≡◌, ◌≢◌, if◌then◌else◌, �
 ghost use Rattle.std.specs.Prelude.{[], Some, None, Ok, Err, true, MatchOption, length, option_copied};
 ghost use Rattle.std.specs.Prelude.{replicate, take, drop};
 ghost use Rattle.std.specs.Str.{IsUtf8};
-ghost use Rattle.minisign_base.specs.Fault.{Named};
+ghost use Rattle.minisign_base.specs.Fault.{Fault, Named};
 ghost use Rattle.minisign_base.specs.declared.faults.NamedFault.TheVariants.{OutOfMemory};
 ghost use Rattle.minisign_hash.specs.Blake2b.{blake2b_digest};
 ghost use Rattle.minisign.specs.KeyTexts.{read_bare_public_key, read_public_key, read_secret_key};
@@ -17,8 +17,10 @@ ghost use Rattle.minisign.specs.Signing.{comments_of};
 ghost use Rattle.minisign_external.specs.Questions.{IsKeyText, comment_verdict_under, read_under};
 ghost use Rattle.minisign_external.specs.Questions.{verdict_under};
 ghost use Rattle.minisign_external.specs.Numbers.{WritesCut, misuse_number, IsAnswer, answer_yes};
-ghost use Rattle.minisign_external.specs.PublicKeys.{read_utf8, told_key_number};
-ghost use Rattle.minisign_external.specs.Making.{HoldsPublicKey, HoldsSecretKey, IsMakingNumber};
+ghost use Rattle.minisign_external.specs.Numbers.{fault_number, refusal_number};
+ghost use Rattle.minisign_external.specs.PublicKeys.{is_public_key, read_utf8, told_key_number};
+ghost use Rattle.minisign_external.specs.Making.{HoldsPublicKey, HoldsSecretKey, IsKeyComment};
+ghost use Rattle.minisign_external.specs.Making.{IsMakingRefusal};
 ghost use Rattle.minisign_external.specs.Making.{IsPublicKeyNumber};
 ghost use Rattle.minisign_external.specs.SecretKeys.{DerivesWithin, OpensAs, is_opened, opened_in_place};
 ghost use Rattle.minisign_external.specs.SecretKeys.{opened_sealed, opened_unsealed, passed_in};
@@ -28,28 +30,33 @@ ghost use Rattle.minisign_external.specs.SecretKeys.{told_public_key, value_memo
 ghost use Rattle.minisign_external.specs.Signatures.{IsReadFrom, read_signature_value, told_signature_value};
 ghost use Rattle.minisign_external.specs.Signing.{AreReadByMinisign, HoldsText, IsWritingNumber};
 ghost use Rattle.minisign_external.specs.declared.public_keys.PublicKeyValue.{PublicKeyValue};
+ghost use Rattle.minisign_external.specs.declared.state.Refusal.{Refusal};
 ghost use Rattle.minisign_external.specs.declared.state.Refusal.TheVariants.{Refused};
-ghost use Rattle.minisign_external.specs.declared.state.Misuse.TheVariants.{BadAnswer, BadFirstFlag};
-ghost use Rattle.minisign_external.specs.declared.state.Misuse.TheVariants.{BadNumbering, BadPasswordFlag};
+ghost use Rattle.minisign_external.specs.declared.state.Misuse.{Misuse};
+ghost use Rattle.minisign_external.specs.declared.state.Misuse.TheVariants.{BadAnswer, BadNumbering};
 ghost use Rattle.minisign_external.specs.declared.state.Misuse.TheVariants.{NoRoom, NotDue};
 ghost use Rattle.minisign_external.specs.States.{AreAsked, GivesNumber, HasAsked, HasToldDigest, IsAnswered};
 ghost use Rattle.minisign_external.specs.States.{IsBlank, IsFedState, IsMarkedFed, IsMarkedTold, KeepsAsked};
-ghost use Rattle.minisign_external.specs.States.{asking_number, asking_under, comment_number, feeding_misuse};
-ghost use Rattle.minisign_external.specs.States.{result_number, told_verdict_number, verdict_number};
+ghost use Rattle.minisign_external.specs.States.{asking_under, comment_number, feeding_misuse};
+ghost use Rattle.minisign_external.specs.States.{told_verdict_number, verdict_number};
+ghost use Rattle.minisign_external.specs.StrictCalls.{asked_number, asked_strictly, strict_asking_number};
+ghost use Rattle.minisign_external.specs.StrictCalls.{is_strict_text};
 ghost use Rattle.minisign_install.specs.Hosted.{AnswerVouches, AnswersJudgeTarget, CallHasFailed};
 ghost use Rattle.minisign_install.specs.Hosted.{InstallationKeepsAsked, TargetIsMissing, WhereAnswered};
 ghost use Rattle.minisign_install.specs.Hosted.{WhereCommentAnswered, record_for, PieceCannotBeFed};
 ghost use Rattle.minisign_install.specs.Hosted.{StageGivesUpdate, InstallationHasAskedAbout, PieceWasRead};
 ghost use Rattle.minisign_install.specs.Hosted.{RecordWasRead, PieceWasTaken, IsDoneRefusal, IsMoreRefusal};
 ghost use Rattle.minisign_install.specs.Hosted.{IsAskRefusal, IsBegun, IsDue, IsHostMeaning, IsNumberOf};
-ghost use Rattle.minisign_install.specs.Hosted.{IsUnused, CallWasDone, choices_of, due_of, failure, going_on};
+ghost use Rattle.minisign_install.specs.Hosted.{IsUnused, CallWasDone, due_of, failure, going_on};
 ghost use Rattle.minisign_install.specs.Hosted.{is_vouched, numbering_number, said_by, told_number};
 ghost use Rattle.minisign_install.specs.Comments.{CommentSays};
 ghost use Rattle.minisign_install.specs.Order.{due_number};
 ghost use Rattle.minisign_install.specs.declared.order.Due.TheVariants.{Answer, Judge, JudgeTarget, Look};
 ghost use Rattle.minisign_install.specs.declared.order.Due.TheVariants.{ReadRecord, WriteRecord};
 ghost use Rattle.minisign_c.specs.InstallCalls.{IsAnswerNumber, IsCommentNumber, IsJudgedNumber};
-ghost use Rattle.minisign_c.specs.InstallCalls.{IsNotDueNumber, IsRejectionNumber};
+ghost use Rattle.minisign_c.specs.InstallCalls.{IsNotDueNumber, IsRejectionNumber, are_flags, choices_of};
+ghost use Rattle.minisign_c.specs.InstallCalls.{starting_misuse};
+ghost use Rattle.minisign_c.specs.KeyTexts.{IsMakingNumber, is_weak, password_misuse, sealing_misuse};
 ghost use Rattle.minisign_c.specs.StateCalls.{CommentIsAnswered};
 ghost use Rattle.minisign_install.specs.declared.order.Due.TheVariants as ended;
 
@@ -57,7 +64,7 @@ pub mod in_a_row;
 
 use minisign::Sealing;
 use minisign_external::making::{write_public_key, write_secret_key};
-use minisign_external::numbers::{ANSWER_YES, Numbered, is_answer};
+use minisign_external::numbers::{ANSWER_YES, Numbered, WEAK_ED25519, is_answer};
 use minisign_external::public_keys::{PublicKeyValue, tell_bare_public_key, tell_public_key};
 use minisign_external::secrets::SecretKeyValue;
 use minisign_external::signatures::SignatureValue;
@@ -71,6 +78,11 @@ use minisign_install::Numbering;
 use minisign_install::hosted::{Choices, Installation, write_error_text};
 use minisign_install::hosted_judging::judge_comment;
 use std::alloc::Global;
+
+// The least limits under which Minisign seals a key.
+const LEAST_OPERATIONS_LIMIT: u64 = 524_288;
+
+const LEAST_MEMORY_LIMIT: u64 = 16_777_216;
 
 // The number of what a call answers: 0 of a success, and that of an error.
 macro_rules! number_of {
@@ -86,9 +98,9 @@ macro_rules! number_of {
 /// Returns the length of the whole text.
 #[unsafe(no_mangle)]
 pub extern "C" fn minisign_error_text(error: u32, text: &mut [u8]) -> usize
-    // The text of a number is that of the usage error, that of the error of installing, or what the error of
-    // the library says without its key IDs; it has less than 128 bytes, is cut to its room and ended by a 0,
-    // behind which the buffer stays.
+    // The text is that of the API misuse, that of the error of installing, or that of the library's error
+    // without its key IDs. For any other number but 0 it is "unknown error". It has less than 128 bytes, is
+    // cut to the buffer and ends with a 0 byte. The rest of the buffer is unchanged.
     ensures written { (meaning : List ℕ) × IsHostMeaning error meaning × (result ≡ length meaning)
         × WritesCut meaning text.old text.new }
     ensures room { result < 128 }
@@ -99,7 +111,7 @@ pub extern "C" fn minisign_error_text(error: u32, text: &mut [u8]) -> usize
 /// Begins: the state was fed nothing.
 #[unsafe(no_mangle)]
 pub extern "C" fn minisign_init(state: &mut State)
-    // A new state was fed nothing, and nothing was asked of it: what was fed or asked before counts no more.
+    // The new state was fed nothing, and nothing was asked. What the state held before is gone.
     ensures fed { IsFedState state.new [] }
     ensures blank { IsBlank state.new }
 {
@@ -109,8 +121,9 @@ pub extern "C" fn minisign_init(state: &mut State)
 /// Feeds the next bytes of the data.
 #[unsafe(no_mangle)]
 pub extern "C" fn minisign_update(state: &mut State, piece: &[u8]) -> u32
-    // Each update appends to what the state was fed, and what was asked stays. A state that is not being fed
-    // takes no data: the usage error has its number, and the state stays as it was.
+    // On success the piece is appended to the data that the state was fed. What was asked is unchanged. If
+    // the state was never begun, or its digest was returned, the result is the number of that error, and the
+    // state is unchanged.
     ensures fed { (m : List ℕ) → IsFedState state.old m → (result ≡ 0)
         × IsFedState state.new (m ++ piece.now) }
     ensures asked { KeepsAsked state.old state.new }
@@ -124,8 +137,9 @@ pub extern "C" fn minisign_update(state: &mut State, piece: &[u8]) -> u32
 /// Tells the digest of the data that was fed. The state then takes no more.
 #[unsafe(no_mangle)]
 pub extern "C" fn minisign_digest(state: &mut State, digest: &mut [u8; 64]) -> u32
-    // The digest of everything the state was fed, which it has then told; what was asked stays. A state that
-    // is not being fed tells none: the usage error has its number, and state and digest stay as they were.
+    // On success the digest is that of all data that the state was fed, and the state takes no more. What was
+    // asked is unchanged. If the state was never begun, or its digest was returned before, the result is the
+    // number of that error, and the state and the digest are unchanged.
     ensures digest { (m : List ℕ) → IsFedState state.old m
         → (result ≡ 0) × (digest.new ≡ blake2b_digest 64 m) × HasToldDigest state.new m }
     ensures asked { KeepsAsked state.old state.new }
@@ -139,9 +153,9 @@ pub extern "C" fn minisign_digest(state: &mut State, digest: &mut [u8; 64]) -> u
 /// Reads the text of a public key, two lines. Does not allocate.
 #[unsafe(no_mangle)]
 pub extern "C" fn minisign_read_public_key(pk_text: &[u8], key: &mut PublicKeyValue) -> u32
-    // The 32 bytes and the key ID are told of the public key that its text of two lines reads as, a function
-    // of the bytes, which have to be UTF-8; otherwise the number is that of the first case that fails, and
-    // nothing is written.
+    // On success the key has the mark, the 32 bytes and the key ID of the public key in the file. The result
+    // is a function of the bytes, which must be UTF-8: any other number is that of the first check that
+    // fails. After an error the key is unchanged.
     ensures { (result, key.new) ≡ told_key_number (read_utf8 read_public_key pk_text.now) key.old }
 {
     number_of!(tell_public_key(pk_text, key))
@@ -150,7 +164,7 @@ pub extern "C" fn minisign_read_public_key(pk_text: &[u8], key: &mut PublicKeyVa
 /// Reads the bare base64 of a public key, as updaters embed it. Does not allocate.
 #[unsafe(no_mangle)]
 pub extern "C" fn minisign_read_bare_public_key(base64: &[u8], key: &mut PublicKeyValue) -> u32
-    // The same is told of the base64 of a public key alone.
+    // The same for the base64 of a public key.
     ensures { (result, key.new) ≡ told_key_number (read_utf8 read_bare_public_key base64.now) key.old }
 {
     number_of!(tell_bare_public_key(base64, key))
@@ -159,9 +173,9 @@ pub extern "C" fn minisign_read_bare_public_key(base64: &[u8], key: &mut PublicK
 /// Reads the signature of a text. Does not allocate.
 #[unsafe(no_mangle)]
 pub extern "C" fn minisign_read_signature(sig_text: &[u8], signature: &mut SignatureValue) -> u32
-    // The signature is told of what the text reads as, a function of the bytes, which have to be UTF-8;
-    // otherwise the number is that of the first case that fails, and nothing is written. The trusted comment
-    // stands in the text where the signature says.
+    // On success the signature is that of the text, and the trusted comment is in the text where the
+    // signature says. The result is a function of the bytes, which must be UTF-8: any other number is that of
+    // the first check that fails. After an error the signature is unchanged.
     ensures number { (result, signature.new)
         ≡ told_signature_value (read_signature_value sig_text.now) signature.old }
     ensures read { result ≡ 0 → (t : SignatureTextRecord) × IsReadFrom signature.new sig_text.now t }
@@ -187,26 +201,30 @@ pub extern "C" fn minisign_ask(
     questions: &mut Questions,
     message: &mut [u8],
 ) -> u32
-    // What is answered is one number, a function of the state, the key, the signature, the text, the flag and
-    // the room: first an `allow_legacy` above 1 is rejected, and then comes what `State::ask` rejects, in its
-    // order.
-    ensures number { result
-        ≡ asking_number state.old key.now signature.now sig_text.now allow_legacy (length message.old) }
+    // The result is a function of the state, the key, the signature, the text, the flag and the buffer size.
+    // The errors are, in this order: `allow_legacy` is above 1; those of `State::ask`; strict Ed25519 rejects
+    // the key or a signature for its bytes.
+    ensures number { result ≡ strict_asking_number state.old key.now signature.now sig_text.now allow_legacy
+        (length message.old) }
 
-    // Of a signature that was read from this text, the number is that of what the text is rejected for under
-    // the key.
+    // If the signature was read from this text, the result is that of asking about the text and the key.
     ensures text { (t : SignatureTextRecord) → IsReadFrom signature.now sig_text.now t → allow_legacy < 2
-        → result ≡ result_number
-        (asking_under state.old key.now sig_text.now (allow_legacy == 1) (length message.old)) }
+        → result ≡ asked_number (asked_strictly (is_strict_text key.now t)
+        (asking_under state.old key.now sig_text.now (allow_legacy == 1) (length message.old))) }
 
-    // The questions are then those of the key and of what the text reads as, with zeros for the digest, and
-    // the message of the second stands at the start of the buffer. They are asked, and what was fed stays.
+    // On success the questions are those of the key and the signature text, with zeros for the digest, and
+    // the message of the second one is at the start of the buffer. The state records that they were asked.
+    // The data that it was fed is unchanged.
     ensures asked { result ≡ 0 → (t : SignatureTextRecord) → IsReadFrom signature.now sig_text.now t
         → (read_under key.now (allow_legacy == 1) sig_text.now ≡ Ok t) × AreAsked questions.new message.new
         key.now t × HasAsked state.new key.now sig_text.now (allow_legacy == 1) }
     ensures fed { (m : List ℕ) → IsFedState state.old m → IsFedState state.new m }
 
-    // What stands behind the message stays. After a rejection everything is as it was.
+    // On success strict Ed25519 rejects neither the key nor a signature of the text for its bytes.
+    ensures strict { result ≡ 0 → (t : SignatureTextRecord) → IsReadFrom signature.now sig_text.now t
+        → is_strict_text key.now t ≡ true }
+
+    // On success the buffer behind the message is unchanged. After an error everything is unchanged.
     ensures rest { result ≡ 0 → drop questions.new.message_len message.new
         ≡ drop questions.new.message_len message.old }
     ensures kept { 0 < result → (state.new ≡ state.old) × (questions.new ≡ questions.old)
@@ -215,27 +233,31 @@ pub extern "C" fn minisign_ask(
     if allow_legacy > 1 {
         return Misuse::BadLegacyFlag.number();
     }
-    number_of!(state.ask(
+    match state.ask_strictly(
         key,
         signature,
         sig_text,
         allow_legacy == 1,
         questions,
         message,
-    ))
+    ) {
+        Ok(true) => 0,
+        Ok(false) => WEAK_ED25519,
+        Err(refusal) => refusal.number(),
+    }
 }
 
 /// What the answer to the second question, `ANSWER_YES` or `ANSWER_NO`, is worth by itself.
 #[unsafe(no_mangle)]
 pub extern "C" fn minisign_comment_verdict(state: &State, second: u32) -> u32
-    // For every relation that answers the second question so: 0 exactly when the trusted comment was signed
-    // by the key, together with the first signature. Nothing is said of any data.
+    // For every scheme that gives this result for the second question: 0 exactly if the key signed the
+    // trusted comment, together with the first signature. Nothing is said about any data.
     ensures verdict { (v : PublicKeyValue) (sig_text : List ℕ) (legacy : Bool) (accepts : Verifier)
         → CommentIsAnswered state.now accepts v sig_text legacy second
         → result ≡ verdict_number (comment_verdict_under accepts v sig_text legacy) }
 
-    // What is answered is one number, a function of the state and the answer. An answer is 7955827 for yes or
-    // 28271 for no, and no other number is taken; a state that has not asked, or was ended, gives none.
+    // The result is a function of the state and the answer. An answer is 7955827 for yes or 28271 for no; any
+    // other number is an error. If nothing was asked, or the state was ended, the result is an error.
     ensures number { result ≡ comment_number state.now second }
 {
     if !is_answer(second) {
@@ -248,22 +270,22 @@ pub extern "C" fn minisign_comment_verdict(state: &State, second: u32) -> u32
 /// state.
 #[unsafe(no_mangle)]
 pub extern "C" fn minisign_verdict(state: &mut State, first: u32, second: u32) -> u32
-    // **For every relation that answers the two questions as the caller says, and every message: the number
-    // of the verdict on the key, the text of the signature and the message, 0 exactly when they vouch for
-    // it.**
+    // **For every scheme that gives these results for the two questions, and every message: the result is the
+    // number of the verdict on the key, the signature file and the message. It is 0 exactly if the signature
+    // is valid.**
     ensures verdict { (v : PublicKeyValue) (sig_text message : List ℕ) (legacy : Bool) (accepts : Verifier)
         → IsAnswered state.old accepts v sig_text message legacy first second
         → result ≡ verdict_number (verdict_under accepts v sig_text message legacy) }
 
-    // **So of every text that reads as the key: 0 exactly when the two texts vouch for the message, otherwise
-    // the number of the first case that fails.**
+    // **So for every public key file with this key: 0 exactly if the signature file is a valid signature of
+    // the message under it, otherwise the number of the first check that fails.**
     ensures texts { (v : PublicKeyValue) (pk_text sig_text message : List ℕ) (legacy : Bool)
         (accepts : Verifier) → IsAnswered state.old accepts v sig_text message legacy first second
         → IsKeyText pk_text v → GivesNumber accepts pk_text sig_text message legacy result }
 
-    // What is answered, and the state after it, are a function of the state and the answers. An answer is
-    // 7955827 for yes or 28271 for no, and no other number is taken; a verdict ends the state, and a usage
-    // error has its number and changes nothing.
+    // The result and the new state are a function of the state and the answers. An answer is 7955827 for yes
+    // or 28271 for no; any other number is an error. A verdict ends the state. After API misuse the state is
+    // unchanged.
     ensures number { (result, state.new) ≡ told_verdict_number state.old first second }
 {
     if !is_answer(first) || !is_answer(second) {
@@ -275,14 +297,14 @@ pub extern "C" fn minisign_verdict(state: &mut State, first: u32, second: u32) -
 /// Reads the text of a secret key, which is not opened yet. Does not allocate.
 #[unsafe(no_mangle)]
 pub extern "C" fn minisign_read_secret_key(sk_text: &[u8], unopened: &mut UnopenedKeyValue) -> u32
-    // Whether the text is read is a function of the bytes, which have to be UTF-8: otherwise the number is
-    // that of the first case that fails, and nothing is written.
+    // The result is a function of the bytes, which must be UTF-8: any number but 0 is that of the first check
+    // that fails. After an error the value is unchanged.
     ensures number { result ≡ reading_number (read_utf8 read_secret_key sk_text.now) }
     ensures kept { 0 < result → unopened.new ≡ unopened.old }
 
-    // What was read holds the record of the key that the text reads as, and tells what opening it takes:
-    // whether a password, how many rows of scrypt and how often. Opening it gives what the text gives, under
-    // each password and within each bound on the work.
+    // On success the value holds the key record of the text, and says what opening it takes: whether a
+    // password, how many rows of scrypt and how often. Opening the value gives what opening the text gives,
+    // under every password and for every bound on the work.
     ensures read { result ≡ 0 → read_utf8 read_secret_key sk_text.now ≡ Ok (unopened_record unopened.new) }
     ensures told { result ≡ 0 → unopened.new ≡ read_value unopened.new.bytes }
     ensures opens { result ≡ 0 → OpensAs unopened.new sk_text.now }
@@ -296,9 +318,9 @@ pub extern "C" fn minisign_open_unsealed_key(
     unopened: &UnopenedKeyValue,
     key: &mut SecretKeyValue,
 ) -> u32
-    // The number, and the key: 0 exactly where the key was read, was never sealed, and has a checksum that
-    // matches, or zeros; it is then the key that was opened, with the mark of one that was. Otherwise the
-    // number is that of the first reason, and the key is as it was.
+    // The result is 0 exactly if the key was read, was never sealed, and has a checksum that matches, or
+    // zeros. On success the key is the opened one, with the mark of an opened key. Any other number is that
+    // of the first check that fails. After an error the key is unchanged.
     ensures { (result, key.new) ≡ told_opened (opened_unsealed unopened.now) key.old }
 {
     number_of!(open_unsealed_key(unopened, key))
@@ -314,10 +336,10 @@ pub extern "C" fn minisign_open_sealed_key(
     most_rows: u64,
     key: &mut SecretKeyValue,
 ) -> u32
-    // The number, and the key, whatever number of rows is kept: 0 exactly where the key was read, and the
-    // password opens it within the number of rows that may be made; it is then the key that was opened, with
-    // the mark of one that was. Otherwise the number is that of the first reason, and the key is as it was.
-    // Only where opening derives is it possibly out of memory instead.
+    // The result is 0 exactly if the key was read and the password opens it within `most_rows`. On success
+    // the key is the opened one, with the mark of an opened key. Any other number is that of the first check
+    // that fails or, if a key is derived from the password, possibly out of memory. After an error the key is
+    // unchanged. None of this depends on `keep_every`.
     ensures { ((result, key.new) ≡ told_opened (opened_sealed unopened.now password.now most_rows) key.old)
         ⊎ (((result, key.new) ≡ told_opened (Err (Refused (Named OutOfMemory))) key.old)
         × DerivesWithin unopened.now password.now most_rows) }
@@ -325,18 +347,21 @@ pub extern "C" fn minisign_open_sealed_key(
     number_of!(open_sealed_key(alloc, unopened, password, keep_every, most_rows, key))
 }
 
-/// Tells how much memory of the caller's opening a secret key in place takes.
+/// Returns how much memory of the caller's opening a secret key in place takes.
 #[unsafe(no_mangle)]
 pub extern "C" fn minisign_opening_memory(
     unopened: &UnopenedKeyValue,
     keep_every: u64,
+    most_rows: u64,
     words_wanted: &mut u64,
     bytes_wanted: &mut u64,
 )
-    // So many words of 32 bits and so many bytes are wanted, with every so many-th row kept.
-    ensures { (words_wanted.new, bytes_wanted.new) ≡ value_memory unopened.now keep_every }
+    // The numbers are the words of 32 bits and the bytes that opening the key takes, if every `keep_every`-th
+    // row is kept. They are zeros for a key that would make more than `most_rows` rows: it is rejected
+    // before.
+    ensures { (words_wanted.new, bytes_wanted.new) ≡ value_memory unopened.now keep_every most_rows }
 {
-    let (words, bytes) = memory_to_open(unopened, keep_every);
+    let (words, bytes) = memory_to_open(unopened, keep_every, most_rows);
     *words_wanted = words;
     *bytes_wanted = bytes;
 }
@@ -352,13 +377,14 @@ pub extern "C" fn minisign_open_sealed_key_in_place(
     bytes: &mut [u8],
     key: &mut SecretKeyValue,
 ) -> u32
-    // The number, and the key, as `minisign_open_sealed_key` tells them, whatever the memory held, and never
-    // out of memory; where the memory is less than is wanted, the number says so, before anything is derived.
+    // The result and the key are those of `minisign_open_sealed_key`, whatever the memory held, but the
+    // result is never out of memory. If there is less memory than `minisign_opening_memory` returns, the
+    // result says so before anything is derived.
     ensures opened { (result, key.new) ≡ told_opened
         (opened_in_place unopened.now password.now keep_every most_rows (length words.old) (length bytes.old))
         key.old }
 
-    // That memory then holds zeros, all of it, whatever the number.
+    // All of that memory then holds zeros, after an error too.
     ensures words_cleared { words.new ≡ replicate (length words.old) 0 }
     ensures bytes_cleared { bytes.new ≡ replicate (length bytes.old) 0 }
 {
@@ -367,17 +393,32 @@ pub extern "C" fn minisign_open_sealed_key_in_place(
     ))
 }
 
+/// A secret key that was just made, 72 bytes with the layout of C.
+#[repr(C)]
+#[derive(Clone, Copy)]
+pub struct NewKey {
+    /// Its key ID.
+    pub key_id: [u8; 8],
+    /// The 32 bytes of the seed, and the 32 of its public key.
+    pub secret: [u8; 64],
+}
+
 /// Takes in a new secret key. Does not allocate.
 #[unsafe(no_mangle)]
-pub extern "C" fn minisign_take_secret_key(
-    key_id: &[u8; 8],
-    secret: &[u8; 64],
-    key: &mut SecretKeyValue,
-)
+pub extern "C" fn minisign_take_secret_key(new_key: &NewKey, key: &mut SecretKeyValue)
     // The key has this key ID and this secret, and the mark of one that was opened.
-    ensures { key.new ≡ taken_key key_id.now secret.now }
+    ensures { key.new ≡ taken_key new_key.now.key_id new_key.now.secret }
 {
-    *key = SecretKeyValue::take(key_id, secret);
+    *key = SecretKeyValue::take(&new_key.key_id, &new_key.secret);
+}
+
+/// Overwrites a value with zeros. Does not allocate.
+#[unsafe(no_mangle)]
+pub extern "C" fn minisign_clear(value: &mut [u8])
+    // All bytes are then zeros.
+    ensures { value.new ≡ replicate (length value.old) 0 }
+{
+    value.fill(0);
 }
 
 /// Tells the public key of a secret key. Does not allocate.
@@ -386,7 +427,8 @@ pub extern "C" fn minisign_public_key_of(
     key: &SecretKeyValue,
     public_key: &mut PublicKeyValue,
 ) -> u32
-    // The last 32 bytes and the key ID of a key that was opened; another is rejected, and nothing is written.
+    // On success the secret key was opened, and the public key is the last 32 bytes of its secret, with its
+    // key ID. If it was not opened, the result is the number of that error, and the public key is unchanged.
     ensures { (result, public_key.new) ≡ told_public_key (public_value_of key.now) public_key.old }
 {
     match key.public_key() {
@@ -409,7 +451,44 @@ fn given(with_password: u32, password: &[u8]) -> Option<&[u8]>
     }
 }
 
-/// Writes the text of a secret key, which is sealed where there is a password.
+// Returns the usage error of the password: with_password is not 0, 1 or 2, or it is 1 and the password is
+// empty.
+fn password_misuse(with_password: u32, password: &[u8]) -> Option<Misuse>
+    ensures { result ≡ password_misuse with_password password.now }
+{
+    if with_password > 2 {
+        return Some(Misuse::BadPasswordFlag);
+    }
+    if with_password == 1 && password.is_empty() {
+        return Some(Misuse::EmptyPassword);
+    }
+    None
+}
+
+// Returns the usage error of the password, or else of how the key is sealed.
+fn sealing_misuse(with_password: u32, password: &[u8], sealing: &Sealing) -> Option<Misuse>
+    ensures { result ≡ sealing_misuse with_password password.now sealing.now }
+{
+    if let Some(misuse) = password_misuse(with_password, password) {
+        return Some(misuse);
+    }
+    if with_password != 0 && is_weak(sealing) {
+        return Some(Misuse::WeakSealing);
+    }
+    None
+}
+
+// Returns true if the salt is all zeros, or a limit is below the minimum of Minisign.
+fn is_weak(sealing: &Sealing) -> bool
+    ensures { result ≡ is_weak sealing.now }
+{
+    sealing.salt == [0; 32]
+        || sealing.operations_limit < LEAST_OPERATIONS_LIMIT
+        || sealing.memory_limit < LEAST_MEMORY_LIMIT
+}
+
+/// Writes the text of a secret key, which is sealed if there is a password. Limits below the minimum of
+/// Minisign and a salt of zeros are rejected.
 #[unsafe(no_mangle)]
 pub extern "C" fn minisign_secret_key_text(
     alloc: Global,
@@ -422,35 +501,93 @@ pub extern "C" fn minisign_secret_key_text(
     text: &mut [u8],
     text_len: &mut usize,
 ) -> u32
-    // The text of the secret key stands at the start of the buffer, as `write_secret_key` says.
+    // On success the text of the secret key is at the start of the buffer, as `write_secret_key` says. The
+    // key was opened, and nothing is wrong with the password and the sealing.
     ensures text { result ≡ 0 → HoldsSecretKey key.now.key_id key.now.secret
         (passed_in with_password password.now) sealing.now comment.now text.new text_len.new }
-    ensures number { result ≡ 0 → (with_password < 2) × (is_opened key.now ≡ true) }
-    ensures flag { 1 < with_password → result ≡ misuse_number BadPasswordFlag }
+    ensures number { result ≡ 0 → (sealing_misuse with_password password.now sealing.now ≡ None)
+        × (is_opened key.now ≡ true) }
 
-    // What stands behind the text stays: no byte of a secret is left there.
+    // On success Minisign reads the comment whole in the first line of the text.
+    ensures readable { result ≡ 0 → IsKeyComment comment.now }
+
+    // The rest of the buffer is unchanged: no byte of a secret is left there.
     ensures rest { result ≡ 0 → drop text_len.new text.new ≡ drop text_len.new text.old }
 
-    // What is rejected comes in this order: a number that is neither 0 nor 1; a key that was not opened; a
-    // comment or a password that is not UTF-8; a comment of two lines; one that Minisign does not read whole;
-    // too short a buffer; limits that sealing does not allow; out of memory. Buffer and length are then as
-    // they were.
-    ensures refused { 0 < result → IsMakingNumber key.now (passed_in with_password password.now)
-        with_password sealing.now comment.now text.old result }
+    // The errors are, in this order: `with_password` is not 0, 1 or 2; it is 1 and the password is empty; the
+    // key is to be sealed with a salt of zeros or a limit below the minimum of Minisign; the key was not
+    // opened; the comment or the password is not UTF-8; the comment has two lines; Minisign does not read it
+    // whole; the buffer is too short; sealing does not allow the limits; out of memory. After an error the
+    // buffer and the length are unchanged.
+    ensures refused { 0 < result
+        → IsMakingNumber (sealing_misuse with_password password.now sealing.now) key.now
+        (passed_in with_password password.now) sealing.now comment.now text.old result }
     ensures kept { 0 < result → (text.new ≡ text.old) × (text_len.new ≡ text_len.old) }
 {
-    if with_password >= 2 {
-        return Misuse::BadPasswordFlag.number();
+    if let Some(misuse) = sealing_misuse(with_password, password, sealing) {
+        return misuse.number();
     }
-    match write_secret_key(
-        alloc,
-        key,
-        given(with_password, password),
-        sealing,
-        keep_every,
-        comment,
-        text,
-    ) {
+    let password = given(with_password, password);
+    secret_key_text(
+        alloc, key, password, sealing, keep_every, comment, text, text_len,
+    )
+}
+
+/// Writes the text of a secret key as `minisign_secret_key_text` does, with any salt and any limits that
+/// sealing allows.
+#[unsafe(no_mangle)]
+pub extern "C" fn minisign_secret_key_text_with_any_limits(
+    alloc: Global,
+    key: &SecretKeyValue,
+    with_password: u32,
+    password: &[u8],
+    sealing: &Sealing,
+    keep_every: u64,
+    comment: &[u8],
+    text: &mut [u8],
+    text_len: &mut usize,
+) -> u32
+    // The same, without a minimum for the sealing.
+    ensures text { result ≡ 0 → HoldsSecretKey key.now.key_id key.now.secret
+        (passed_in with_password password.now) sealing.now comment.now text.new text_len.new }
+    ensures number { result ≡ 0 → (password_misuse with_password password.now ≡ None)
+        × (is_opened key.now ≡ true) }
+    ensures readable { result ≡ 0 → IsKeyComment comment.now }
+    ensures rest { result ≡ 0 → drop text_len.new text.new ≡ drop text_len.new text.old }
+    ensures refused { 0 < result → IsMakingNumber (password_misuse with_password password.now) key.now
+        (passed_in with_password password.now) sealing.now comment.now text.old result }
+    ensures kept { 0 < result → (text.new ≡ text.old) × (text_len.new ≡ text_len.old) }
+{
+    if let Some(misuse) = password_misuse(with_password, password) {
+        return misuse.number();
+    }
+    let password = given(with_password, password);
+    secret_key_text(
+        alloc, key, password, sealing, keep_every, comment, text, text_len,
+    )
+}
+
+// Writes the text of a secret key, sealed in any way.
+fn secret_key_text(
+    alloc: Global,
+    key: &SecretKeyValue,
+    password: Option<&[u8]>,
+    sealing: &Sealing,
+    keep_every: u64,
+    comment: &[u8],
+    text: &mut [u8],
+    text_len: &mut usize,
+) -> u32
+    ensures text { result ≡ 0 → HoldsSecretKey key.now.key_id key.now.secret
+        (option_copied password.entry) sealing.now comment.now text.new text_len.new }
+    ensures opened { result ≡ 0 → is_opened key.now ≡ true }
+    ensures readable { result ≡ 0 → IsKeyComment comment.now }
+    ensures rest { result ≡ 0 → drop text_len.new text.new ≡ drop text_len.new text.old }
+    ensures refused { 0 < result → (r : Refusal Fault) × (result ≡ refusal_number fault_number r)
+        × IsMakingRefusal key.now (option_copied password.entry) sealing.now comment.now text.old r }
+    ensures kept { 0 < result → (text.new ≡ text.old) × (text_len.new ≡ text_len.old) }
+{
+    match write_secret_key(alloc, key, password, sealing, keep_every, comment, text) {
         Ok(secret_key_len) => {
             *text_len = secret_key_len;
             0
@@ -468,15 +605,16 @@ pub extern "C" fn minisign_public_key_text(
     text: &mut [u8],
     text_len: &mut usize,
 ) -> u32
-    // The text of the public key stands at the start of the buffer, as `write_public_key` says; what stands
-    // behind it stays.
+    // On success the text of the public key is at the start of the buffer, as `write_public_key` says, and
+    // Minisign reads the comment whole. The rest of the buffer is unchanged.
     ensures opened { result ≡ 0 → is_opened key.now ≡ true }
     ensures rest { result ≡ 0 → drop text_len.new text.new ≡ drop text_len.new text.old }
     ensures text { result ≡ 0
         → HoldsPublicKey key.now.key_id key.now.secret comment.now text.new text_len.new }
+    ensures readable { result ≡ 0 → IsKeyComment comment.now }
 
-    // What is rejected comes in the same order, less what concerns a password. Buffer and length are then as
-    // they were.
+    // The errors are those of `minisign_secret_key_text` that do not concern a password, in the same order.
+    // After an error the buffer and the length are unchanged.
     ensures refused { 0 < result → IsPublicKeyNumber key.now comment.now text.old result }
     ensures kept { 0 < result → (text.new ≡ text.old) × (text_len.new ≡ text_len.old) }
 {
@@ -496,8 +634,8 @@ pub extern "C" fn minisign_comment_message(
     trusted: &[u8],
     message: &mut [u8],
 ) -> u32
-    // The message of the second question is the first signature followed by the trusted comment, behind which
-    // the buffer stays; where there is no room for it, it stays as it was.
+    // On success the first signature, followed by the trusted comment, is at the start of the buffer. The
+    // rest of the buffer is unchanged. If the buffer is too short, it is unchanged.
     ensures message { result ≡ 0 → (64 + length trusted.now ≤ length message.new)
         × (take (64 + length trusted.now) message.new ≡ first.now ++ trusted.now) }
     ensures rest { result ≡ 0
@@ -511,11 +649,11 @@ pub extern "C" fn minisign_comment_message(
     }
 }
 
-/// Writes the text of the signature that the two signatures make, under the key ID of a key that was opened.
+/// Writes the text of the signature that the two signatures make, under the key ID of a public key.
 #[unsafe(no_mangle)]
 pub extern "C" fn minisign_signed_text(
     alloc: Global,
-    key: &SecretKeyValue,
+    key: &PublicKeyValue,
     first: &[u8; 64],
     second: &[u8; 64],
     trusted: &[u8],
@@ -523,21 +661,21 @@ pub extern "C" fn minisign_signed_text(
     text: &mut [u8],
     text_len: &mut usize,
 ) -> u32
-    // **The text of two signatures reads as the box with exactly the key ID of the key, which was opened,
-    // these comments and these signatures; for every scheme that answers the two questions so, that is the
-    // box that signing makes; under every public key under which the signatures are accepted it vouches for
-    // the message, and for a genuine key the headline's third part holds of it.**
-    ensures text { result ≡ 0 → (is_opened key.now ≡ true)
+    // **On success the public key was read, and the text reads as the box with exactly its key ID, these
+    // comments and these signatures. For every scheme that made these two signatures, that is the box that
+    // signing makes. The text is a valid signature of the message under every public key under which both
+    // signatures are valid, and for a genuine key the headline's third part holds for it.**
+    ensures text { result ≡ 0 → (is_public_key key.now ≡ true)
         × HoldsText key.now.key_id (comments_of trusted.now untrusted.now) first.now second.now text.new
         text_len.new }
     ensures readable { result ≡ 0 → AreReadByMinisign (comments_of trusted.now untrusted.now) }
 
-    // What stands behind the text stays.
+    // The rest of the buffer is unchanged.
     ensures rest { result ≡ 0 → drop text_len.new text.new ≡ drop text_len.new text.old }
 
-    // No text is written, in this order, for a key that was not opened, for comments that are not UTF-8, that
-    // would not be read back, or that Minisign 0.11 would not read back, or where there is no room; for all
-    // others it is, unless an allocation fails. Buffer and length are then as they were.
+    // The errors are, in this order: the public key was not read; a comment is not UTF-8; a comment would not
+    // be read back; Minisign 0.11 would not read a comment back; the buffer is too short. Otherwise only a
+    // failed allocation is an error. After an error the buffer and the length are unchanged.
     ensures refused { 0 < result → IsWritingNumber key.now (comments_of trusted.now untrusted.now)
         first.now second.now text.old result }
     ensures kept { 0 < result → (text.new ≡ text.old) × (text_len.new ≡ text_len.old) }
@@ -551,65 +689,78 @@ pub extern "C" fn minisign_signed_text(
     }
 }
 
+/// The options of an installation, 24 bytes with the layout of C. Each but the first is 0 or 1.
+#[repr(C)]
+#[derive(Clone, Copy)]
+pub struct InstallOptions {
+    /// The number of the field that has the number of an update.
+    pub numbering: u32,
+    /// 1 to install an update even if no number is recorded.
+    pub is_first: u32,
+    /// 1 to replace other data of the recorded number.
+    pub again: u32,
+    /// 1 to learn only what a run would do.
+    pub is_check: u32,
+    /// 1 if the data may stand still, and is received first.
+    pub is_waiting: u32,
+    /// 1 if the comment has to say when the update expires.
+    pub must_expire: u32,
+}
+
 /// Begins an installation: the lock is due, or of a check the record.
 #[unsafe(no_mangle)]
 pub extern "C" fn minisign_install_init(
     installation: &mut Installation,
     key: &PublicKeyValue,
     other: &PublicKeyValue,
-    is_first: u32,
-    again: u32,
-    is_check: u32,
-    is_waiting: u32,
-    must_expire: u32,
-    numbering: u32,
+    options: &InstallOptions,
 ) -> u32
-    // The lock is due, or of a check the record; nothing was read, and the keys and the choices are kept. A
-    // flag for the first installation and a numbering that are neither 0 nor 1 are rejected, the former
-    // first, and nothing is written; of the others any number but 0 is yes.
-    ensures begun { result ≡ 0 → (is_first < 2) × (field : Numbering) × (numbering ≡ numbering_number field)
-        × IsBegun key.now other.now (choices_of is_first again is_check is_waiting must_expire field)
-        installation.new }
+    // On success both keys were read, and the lock is due, or of a check the record. Nothing was read yet.
+    // The keys and the options are kept: of each option 1 is yes.
+    ensures begun { result ≡ 0 → (field : Numbering) × (options.now.numbering ≡ numbering_number field)
+        × IsBegun key.now other.now (choices_of options.now field) installation.new }
     ensures unused { result ≡ 0 → IsUnused installation.new }
-    ensures refused { 0 < result → ((result ≡ misuse_number BadFirstFlag) × (1 < is_first))
-        ⊎ ((result ≡ misuse_number BadNumbering) × (is_first < 2) × (1 < numbering)) }
+
+    // The errors are, in this order: an option is neither 0 nor 1; the numbering is none; a public key was
+    // not read. After an error the installation is unchanged.
+    ensures number { MatchOption (starting_misuse key.now other.now options.now) (result ≡ 0)
+        (λ m. result ≡ misuse_number m) }
     ensures kept { 0 < result → installation.new ≡ installation.old }
 {
-    if is_first > 1 {
-        return Misuse::BadFirstFlag.number();
+    if !are_flags(options) {
+        return Misuse::BadOption.number();
     }
-    let Some(numbering) = Numbering::of_number(numbering) else {
+    let Some(numbering) = Numbering::of_number(options.numbering) else {
         return Misuse::BadNumbering.number();
     };
-    let choices = choices_by(
-        is_first,
-        again,
-        is_check,
-        is_waiting,
-        must_expire,
-        numbering,
-    );
-    *installation = Installation::new(key, other, choices);
+    if !(key.is_public_key() && other.is_public_key()) {
+        return Misuse::PublicKeyNotRead.number();
+    }
+    *installation = Installation::new(key, other, choices_by(options, numbering));
     0
 }
 
-// The choices that these numbers tell: of the first only 1 is yes, and of the others all but 0.
-fn choices_by(
-    is_first: u32,
-    again: u32,
-    is_check: u32,
-    is_waiting: u32,
-    must_expire: u32,
-    numbering: Numbering,
-) -> Choices
-    ensures { result ≡ choices_of is_first again is_check is_waiting must_expire numbering }
+// Returns true if each option but the numbering is 0 or 1.
+fn are_flags(options: &InstallOptions) -> bool
+    ensures { result ≡ are_flags options.now }
+{
+    options.is_first < 2
+        && options.again < 2
+        && options.is_check < 2
+        && options.is_waiting < 2
+        && options.must_expire < 2
+}
+
+// Returns the choices of these options: of each 1 is yes.
+fn choices_by(options: &InstallOptions, numbering: Numbering) -> Choices
+    ensures { result ≡ choices_of options.now numbering }
 {
     Choices {
-        is_first: is_first == 1,
-        again: again != 0,
-        is_check: is_check != 0,
-        is_waiting: is_waiting != 0,
-        must_expire: must_expire != 0,
+        is_first: options.is_first == 1,
+        again: options.again == 1,
+        is_check: options.is_check == 1,
+        is_waiting: options.is_waiting == 1,
+        must_expire: options.must_expire == 1,
         numbering,
     }
 }
@@ -617,7 +768,7 @@ fn choices_by(
 /// The number of the call that is due.
 #[unsafe(no_mangle)]
 pub extern "C" fn minisign_install_due(installation: &Installation) -> u32
-    // The number is that of the call that is due, and 0 where none is.
+    // The result is the number of the call that is due, or 0 if none is.
     ensures { MatchOption (due_of installation.now) (result ≡ 0) (λ due. result ≡ due_number due) }
 {
     installation.due_number()
@@ -626,9 +777,9 @@ pub extern "C" fn minisign_install_due(installation: &Installation) -> u32
 /// The call that was due was done.
 #[unsafe(no_mangle)]
 pub extern "C" fn minisign_install_done(installation: &mut Installation) -> u32
-    // What is due next is what the table says, where the call that was due can be done and is not reading
-    // back, and bytes are counted anew. Otherwise it is not due, and nothing changes; or the data has fewer
-    // bytes than the signed comment says, and the run is rejected.
+    // On success the next call is due, as the table says, and bytes are counted anew. If no call is due that
+    // is reported so, the result is an error, and nothing changes. If the data has fewer bytes than the
+    // signed comment says, the run is rejected.
     ensures gone { result ≡ 0 → CallWasDone installation.old installation.new }
     ensures refused { 0 < result
         → IsRejectionNumber (IsDoneRefusal installation.old installation.new) result }
@@ -639,8 +790,9 @@ pub extern "C" fn minisign_install_done(installation: &mut Installation) -> u32
 /// A piece of so many bytes was copied or received, and there may be more.
 #[unsafe(no_mangle)]
 pub extern "C" fn minisign_install_more(installation: &mut Installation, piece_len: usize) -> u32
-    // The same where a piece was copied or received, whose bytes are counted. Otherwise it is not due, and
-    // nothing changes; or the data has more bytes than the signed comment says, and the run is rejected.
+    // On success the bytes of the piece are counted, and copying or receiving is due again. If neither is
+    // due, the result is an error, and nothing changes. If the data has more bytes than the signed comment
+    // says, the run is rejected.
     ensures gone { result ≡ 0 → PieceWasTaken piece_len installation.old installation.new }
     ensures refused { 0 < result
         → IsRejectionNumber (IsMoreRefusal piece_len installation.old installation.new) result }
@@ -651,8 +803,8 @@ pub extern "C" fn minisign_install_more(installation: &mut Installation, piece_l
 /// The call that was due failed for the error of this number.
 #[unsafe(no_mangle)]
 pub extern "C" fn minisign_install_failed(installation: &mut Installation, why: u32) -> u32
-    // What is due next is what the table says, where the call that was due can fail so; or data that may
-    // stand still is received first, where the lock was due. Otherwise it is not due, and nothing changes.
+    // On success the next call is due, as the table says; if the lock was due, data that may stand still is
+    // received first. If the call that is due cannot fail so, the result is an error, and nothing changes.
     ensures failed { result ≡ 0 → CallHasFailed why installation.old installation.new }
     ensures refused { 0 < result
         → IsNotDueNumber (λ due. failure due why ≡ None) installation.old installation.new result }
@@ -667,9 +819,9 @@ pub extern "C" fn minisign_install_record(
     bytes: &[u8],
     written: u64,
 ) -> u32
-    // The number that the record holds for the field is kept, and when it was last written, or the run is
-    // rejected where it holds none and this is not the first installation. Where the record is not to be
-    // read, nothing changes.
+    // On success the recorded number of the field and the time of the record are kept; if there is none and
+    // this is not the first installation, the run is rejected. If reading the record is not due, the result
+    // is an error, and nothing changes.
     ensures read { result ≡ 0 → RecordWasRead (Some bytes.now) written installation.old installation.new }
     ensures refused { 0 < result
         → IsNotDueNumber (λ due. due ≢ ReadRecord) installation.old installation.new result }
@@ -680,7 +832,7 @@ pub extern "C" fn minisign_install_record(
 /// There is no record.
 #[unsafe(no_mangle)]
 pub extern "C" fn minisign_install_no_record(installation: &mut Installation) -> u32
-    // The same where there is no record.
+    // The same if there is no record.
     ensures read { result ≡ 0 → RecordWasRead None 0 installation.old installation.new }
     ensures refused { 0 < result
         → IsNotDueNumber (λ due. due ≢ ReadRecord) installation.old installation.new result }
@@ -691,8 +843,8 @@ pub extern "C" fn minisign_install_no_record(installation: &mut Installation) ->
 /// The next bytes of what the stage holds were read back; none at its end.
 #[unsafe(no_mangle)]
 pub extern "C" fn minisign_install_piece(installation: &mut Installation, piece: &[u8]) -> u32
-    // Each piece appends to what was read back, and at the end the answers are due. Where no stage is read
-    // back, the usage error has its number, and nothing changes.
+    // On success the piece is appended to what was read back, and after the last one the answers are due. If
+    // nothing is read back, the result is the number of that error, and nothing changes.
     ensures read { result ≡ 0 → PieceWasRead piece.now installation.old installation.new }
     ensures refused { 0 < result → (installation.new ≡ installation.old)
         × (m : Misuse) × (result ≡ misuse_number m) × PieceCannotBeFed installation.old m }
@@ -703,8 +855,8 @@ pub extern "C" fn minisign_install_piece(installation: &mut Installation, piece:
 /// No file stands at the target.
 #[unsafe(no_mangle)]
 pub extern "C" fn minisign_install_no_target(installation: &mut Installation) -> u32
-    // The run goes on, and what is read next is fed to a state that was fed nothing. Where the file at the
-    // target is not to be read, nothing changes.
+    // On success the run goes on, and what is read next is fed to a new state. If reading the target is not
+    // due, the result is an error, and nothing changes.
     ensures gone { result ≡ 0 → TargetIsMissing installation.old installation.new }
     ensures refused { 0 < result → (result ≡ misuse_number NotDue) × (installation.new ≡ installation.old)
         × ((kept : ℕ) → ¬ (IsDue installation.old (Look kept))) }
@@ -723,18 +875,18 @@ pub extern "C" fn minisign_install_ask(
     questions: &mut Questions,
     message: &mut [u8],
 ) -> u32
-    // The questions are those of the key that has to have signed and of what the text reads as, as
-    // `Installation::ask` says; they are then asked, and the comment that was asked about is judged, against
-    // the number that was kept.
+    // On success the questions are those of the key that must have signed and of the signature text, as
+    // `Installation::ask` says. The state records that they were asked, and the trusted comment is judged
+    // against the recorded number.
     ensures asked { result ≡ 0 → InstallationHasAskedAbout sig_text.now file.now now questions.new
         message.new installation.old installation.new }
 
-    // What the host has chosen stays.
+    // The options are unchanged.
     ensures chosen { installation.new.chosen ≡ installation.old.chosen }
 
-    // The number is that of the first reason of `Installation::ask`: a usage error changes nothing, and for
-    // any other reason the run is rejected. Questions and message buffer are as they were; what stands behind
-    // a message that is written stays.
+    // The errors are those of `Installation::ask`. After API misuse nothing changes; after any other error
+    // the run is rejected. After an error the questions and the buffer are unchanged. On success the buffer
+    // behind the message is unchanged.
     ensures refused { 0 < result → IsRejectionNumber (IsAskRefusal installation.old installation.new
         sig_text.now file.now (length message.old)) result }
     ensures kept { 0 < result → (questions.new ≡ questions.old) × (message.new ≡ message.old) }
@@ -751,9 +903,9 @@ pub extern "C" fn minisign_install_answer(
     first: u32,
     second: u32,
 ) -> u32
-    // **For every scheme that answers so: what `Installation::answer` says of the comment, of what the file
-    // at the target holds, and of what was read back of the stage, for every message. 0 is success, and any
-    // other number that of the first reason.**
+    // **For every scheme that gives these results, and every message: the result is what
+    // `Installation::answer` says about the comment, the file at the target, and the staged file that was
+    // read back. 0 is success, and any other number is that of the first check that fails.**
     ensures comment { IsAnswer first × IsAnswer second
         → WhereCommentAnswered (second == answer_yes) installation.old (λ accepts key terms k.
         IsCommentNumber accepts key terms k first installation.old installation.new result) }
@@ -764,22 +916,21 @@ pub extern "C" fn minisign_install_answer(
         (second == answer_yes) installation.old (λ accepts terms k m. IsNumberOf
         (StageGivesUpdate accepts terms k m installation.new) result) }
 
-    // What is read next is fed to a state that was fed nothing, where the run goes on or the target is looked
-    // at.
+    // If the run goes on, or the target is to be read, what is read next is fed to a new state.
     ensures fed { (kept : ℕ) → IsDue installation.old (Judge kept) → result ≡ 0
         → IsFedState installation.new.state [] }
     ensures again { (kept : ℕ) → IsDue installation.old (JudgeTarget kept) → result ≡ 0
         → IsDue installation.new (going_on installation.old kept) → IsFedState installation.new.state [] }
 
-    // An answer is 7955827 for yes or 28271 for no, and no other number is taken. A usage error has its
-    // number and changes nothing.
+    // An answer is 7955827 for yes or 28271 for no; any other number is an error. After API misuse nothing
+    // changes.
     ensures refused { 0 < result → IsAnswerNumber first second installation.old installation.new result }
 
-    // The comment that was asked about is vouched for exactly where the key has signed it.
+    // The trusted comment counts as signed exactly if the key signed it.
     ensures vouched { IsAnswer first × IsAnswer second
         → AnswerVouches (second == answer_yes) installation.old installation.new }
 
-    // What the host has chosen stays, what was asked about, and what came of the comment where it was judged.
+    // The options, what was asked about, and the result of judging the comment are unchanged.
     ensures chosen { InstallationKeepsAsked installation.old installation.new }
 {
     if !(is_answer(first) && is_answer(second)) {
@@ -791,7 +942,7 @@ pub extern "C" fn minisign_install_answer(
 /// Whether a key was found to have signed the comment that was asked about last: 1 or 0.
 #[unsafe(no_mangle)]
 pub extern "C" fn minisign_install_is_vouched(installation: &Installation) -> u32
-    // It is 1 exactly where that was found, as `minisign_install_answer` says.
+    // The result is 1 exactly if `minisign_install_answer` found that a key signed the comment.
     ensures { result ≡ (if is_vouched installation.now then 1 else 0) }
 {
     u32::from(installation.is_vouched())
@@ -800,7 +951,7 @@ pub extern "C" fn minisign_install_is_vouched(installation: &Installation) -> u3
 /// The number of the comment, where that is vouched for and has one; otherwise 0.
 #[unsafe(no_mangle)]
 pub extern "C" fn minisign_install_number(installation: &Installation) -> u64
-    // Of a comment that is vouched for it is the number that was found where it was judged, and otherwise 0.
+    // If a key signed the comment, the result is its number; otherwise it is 0.
     ensures { result ≡ told_number installation.now }
 {
     installation.number()
@@ -812,8 +963,8 @@ pub extern "C" fn minisign_install_record_text(
     installation: &Installation,
     text: &mut [u8],
 ) -> usize
-    // The record of the update stands at the start of the buffer where it is to be written and has room, and
-    // otherwise nothing is written; the rest of the buffer stays.
+    // If writing the record is due and the buffer is long enough, the record is at its start. Otherwise
+    // nothing is written. The rest of the buffer is unchanged.
     ensures written { 0 < result → (n : ℕ) × IsDue installation.now (WriteRecord n)
         × (result ≤ length text.new) × (take result text.new ≡ record_for installation.now n) }
     ensures rest { drop result text.new ≡ drop result text.old }
@@ -827,7 +978,7 @@ pub extern "C" fn minisign_install_record_text(
 /// The number of the error that the run was rejected for.
 #[unsafe(no_mangle)]
 pub extern "C" fn minisign_install_error(installation: &Installation) -> u32
-    // The number is that of the error that the run was rejected for, and otherwise 0.
+    // The result is the number of the error for which the run was rejected, or 0.
     ensures refused { (e : ℕ) → IsDue installation.now (ended.Refused e) → result ≡ e }
     ensures none { ((e : ℕ) → ¬ (IsDue installation.now (ended.Refused e))) → result ≡ 0 }
 {
@@ -844,9 +995,9 @@ pub extern "C" fn minisign_judge_comment(
     kept: u64,
     number: &mut u64,
 ) -> u32
-    // The number of the comment is told exactly where the comment and the name are UTF-8, the comment names
-    // the file, has this number and has not expired, and it is not below the kept one; otherwise the number
-    // is that of the first reason, and nothing is written.
+    // On success the comment and the name are UTF-8, and the comment names the file, has this number, which
+    // is not below the recorded one, and has not expired. Any other result is the number of the first check
+    // that fails. After an error the number is unchanged.
     ensures says { result ≡ 0 → (k : Numbering) × (numbering ≡ numbering_number k)
         × IsUtf8 comment.now × IsUtf8 file.now
         × CommentSays comment.now (said_by file.now k moment) number.new × (kept ≤ number.new) }
