@@ -22,26 +22,27 @@ pub use Rattle.minisign_install.specs.declared.faults.InstallFault.TheVariants.{
 
 abbrev pub install_row : InstallFault → FaultRow
 install_row (Library fault) = row (fault_number fault) (kind_of fault) (text_of fault)
-install_row TargetInUse = row 46 Io (codes "another installation is at work at this target")
-install_row NoRecord = row 47 Io (codes "no number is kept beside the target")
-install_row DamagedRecord = row 48 Io (codes "what is kept beside the target is no number")
-install_row OtherFile = row 49 Verify (codes "the signed comment does not name this file")
-install_row NoNumber = row 50 Verify (codes "the signed comment has no such number")
-install_row OlderUpdate = row 51 Verify (codes "the update is older than what was installed")
-install_row DirectoryNotSynced = row 52 Io (codes "installed, but the directory could not be synced")
+install_row TargetInUse = row 46 Io (codes "another installation of this file is running")
+install_row NoRecord = row 47 Io (codes "no version is recorded yet")
+install_row DamagedRecord = row 48 Io (codes "the version record is damaged")
+install_row OtherFile = row 49 Verify (codes "the trusted comment does not name the file to install")
+install_row NoNumber = row 50 Verify (codes "the trusted comment has no valid version number")
+install_row OlderUpdate = row 51 Verify (codes "the update is older than the recorded version")
+install_row DirectoryNotSynced =
+    row 52 Io (codes "the update is installed, but the directory could not be synced to disk")
 install_row KeptByTimestamp =
-    row 53 Io (codes "the number that is kept beside the target is a timestamp, and no version")
+    row 53 Io (codes "the version record holds a timestamp, not a version")
 install_row KeptByVersion =
-    row 54 Io (codes "the number that is kept beside the target is a version, and no timestamp")
+    row 54 Io (codes "the version record holds a version, not a timestamp")
 install_row Expired = row 55 Verify (codes "the update has expired")
 install_row BadExpiry =
-    row 56 Verify (codes "the signed comment does not say once, in a number, when it expires")
+    row 56 Verify (codes "the trusted comment has an invalid or repeated field expires:")
 install_row SameNumber =
-    row 57 Verify (codes "an update of this number was installed, and other data stands at the target")
-install_row NoExpiry = row 58 Verify (codes "the signed comment does not say when it expires")
+    row 57 Verify (codes "this version is already recorded, but the installed file is different")
+install_row NoExpiry = row 58 Verify (codes "the trusted comment does not say when the update expires")
 install_row BadSize =
-    row 59 Verify (codes "the signed comment does not say once, in a number, how long the data is")
-install_row OtherSize = row 60 Verify (codes "the data has another size than the signed comment says")
+    row 59 Verify (codes "the trusted comment has an invalid or repeated field size:")
+install_row OtherSize = row 60 Verify (codes "the data does not have the signed size")
 
 -- the number of an error: of one of the library its own
 abbrev pub install_number : InstallFault → ℕ

@@ -12,7 +12,7 @@ use Rattle.minisign_base.specs.Faults.{fault_row}
 use Rattle.minisign_base.specs.Fault.{Fault}
 use Rattle.minisign.specs.SignatureText.{SignatureTextRecord, read_signature}
 use Rattle.minisign_external.specs.Questions.{AnswersComment, AnswersTexts, read_under, IsKeyText}
-use Rattle.minisign_external.specs.Numbers.{IsMeaning, refusal_number}
+use Rattle.minisign_external.specs.Numbers.{IsListedMeaning, IsUnlisted, refusal_number, unknown_text}
 use Rattle.minisign_external.specs.States.{AreQuestions, HasAsked, IsAskFedRefusal, IsTextRefusal, IsBlank}
 use Rattle.minisign_external.specs.States.{IsFedState, IsMarkedTold, IsNotFed, comment_result, told_verdict}
 use Rattle.minisign_external.specs.States.{verdict_misuse}
@@ -48,10 +48,12 @@ use Rattle.minisign_install.specs.Refusals.{IsCommentRefused, IsDataRefused, IsR
 use Rattle.minisign_install.specs.declared.order.Due.TheVariants as ended
 
 -- the text is what the number means: that of the error of installing that has it; an error of the library is
--- reported without its identifiers
+-- reported without its identifiers; any other number is that of an unknown error
 pub record IsHostMeaning (n : ℕ) (text : List ℕ) : Type 0 where
-  pub library : IsMeaning n text
+  pub library : IsListedMeaning n text
   pub own : (e : InstallFault) → is_own e ≡ true → n ≡ install_number e → text ≡ (install_row e).summary
+  pub unknown : IsUnlisted n → ((e : InstallFault) → is_own e ≡ true → n ≢ install_number e)
+      → text ≡ unknown_text
 
 -- the numbers of the two places where a comment may have its number
 abbrev pub numbering_number : Numbering → ℕ
@@ -732,16 +734,3 @@ abbrev pub IsNumberOf : (Result Unit (Refusal InstallFault) → Type 0) → ℕ 
 IsNumberOf P n =
     ((n ≡ 0) × P (Ok tt))
     ⊎ ((0 < n) × (r : Refusal InstallFault) × (n ≡ refusal_number install_number r) × P (Err r))
-
--- the choices of a host by numbers: that this is the first installation is said by 1, and the others by any
--- but 0
-abbrev pub choices_of : ℕ → ℕ → ℕ → ℕ → ℕ → Numbering → Choices
-choices_of first again check waiting must_expire numbering =
-    record {
-      is_first = first == 1;
-      again = not (again == 0);
-      is_check = not (check == 0);
-      is_waiting = not (waiting == 0);
-      must_expire = not (must_expire == 0);
-      numbering = numbering;
-    }

@@ -1,4 +1,4 @@
-//! What the signed comment says of an update.
+//! What the trusted comment says about an update.
 
 ghost use Rattle.std.specs.Prelude.{◌≡◌, ◌==◌, ◌<◌, ◌∷◌, [], ℕ, Bool, true, if◌then◌else◌, List, Option};
 ghost use Rattle.std.specs.Prelude.{Some, None, is_some, option_map, MatchOption, MatchResult, filter_map};
@@ -14,11 +14,11 @@ ghost use Rattle.minisign_install.specs.Faults.{OtherFile};
 
 use crate::faults::InstallFault;
 
-/// Which field of the trusted comment has the number of an update. Fields end at tabs, and the
-/// first one with the label counts.
+/// The field of the trusted comment that holds the version number of an update. Fields end at tabs. If a
+/// label occurs more than once, the first field with it counts.
 #[derive(Clone, Copy, PartialEq, Eq)]
 pub enum Numbering {
-    /// `timestamp:`, as signing writes it if no comment is given.
+    /// `timestamp:`, which signing writes if no comment is given.
     Timestamp,
     /// `version:`, which the signer writes.
     Version,

@@ -103,49 +103,57 @@ impl InstallFault {
         use InstallFault::*;
         Ok(match self {
             Library(fault) => return Err(fault),
-            TargetInUse => &(46, Io, "another installation is at work at this target"),
-            NoRecord => &(47, Io, "no number is kept beside the target"),
-            DamagedRecord => &(48, Io, "what is kept beside the target is no number"),
-            OtherFile => &(49, Verify, "the signed comment does not name this file"),
-            NoNumber => &(50, Verify, "the signed comment has no such number"),
-            OlderUpdate => &(51, Verify, "the update is older than what was installed"),
-            DirectoryNotSynced => &(52, Io, "installed, but the directory could not be synced"),
+            TargetInUse => &(46, Io, "another installation of this file is running"),
+            NoRecord => &(47, Io, "no version is recorded yet"),
+            DamagedRecord => &(48, Io, "the version record is damaged"),
+            OtherFile => &(
+                49,
+                Verify,
+                "the trusted comment does not name the file to install",
+            ),
+            NoNumber => &(
+                50,
+                Verify,
+                "the trusted comment has no valid version number",
+            ),
+            OlderUpdate => &(51, Verify, "the update is older than the recorded version"),
+            DirectoryNotSynced => &(
+                52,
+                Io,
+                "the update is installed, but the directory could not be synced to disk",
+            ),
             KeptByTimestamp => &(
                 53,
                 Io,
-                "the number that is kept beside the target is a timestamp, and no version",
+                "the version record holds a timestamp, not a version",
             ),
             KeptByVersion => &(
                 54,
                 Io,
-                "the number that is kept beside the target is a version, and no timestamp",
+                "the version record holds a version, not a timestamp",
             ),
             Expired => &(55, Verify, "the update has expired"),
             BadExpiry => &(
                 56,
                 Verify,
-                "the signed comment does not say once, in a number, when it expires",
+                "the trusted comment has an invalid or repeated field expires:",
             ),
             SameNumber => &(
                 57,
                 Verify,
-                "an update of this number was installed, and other data stands at the target",
+                "this version is already recorded, but the installed file is different",
             ),
             NoExpiry => &(
                 58,
                 Verify,
-                "the signed comment does not say when it expires",
+                "the trusted comment does not say when the update expires",
             ),
             BadSize => &(
                 59,
                 Verify,
-                "the signed comment does not say once, in a number, how long the data is",
+                "the trusted comment has an invalid or repeated field size:",
             ),
-            OtherSize => &(
-                60,
-                Verify,
-                "the data has another size than the signed comment says",
-            ),
+            OtherSize => &(60, Verify, "the data does not have the signed size"),
         })
     }
 }

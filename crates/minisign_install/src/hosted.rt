@@ -1,6 +1,7 @@
-//! An installation of fixed size that a host in another language holds: it is told which call is due, says
-//! how the call went, and hands over what it reads; the numbers by which the host knows errors and choices;
-//! and the law that such a host makes a run of the law on runs. None of it allocates.
+//! An installation as a value of fixed size, for applications in other languages. The application asks
+//! which call is due, reports how the call went, and passes in what it reads. This module also has the
+//! numbers of errors and choices, and the law that such an application installs only updates. Nothing here
+//! allocates.
 
 ghost use Rattle.std.specs.Prelude.{◌≡◌, ◌≢◌, false, None, ◌<◌, ◌≤◌, ℕ, [], List, Some, option_map};
 ghost use Rattle.std.specs.Prelude.{if◌then◌else◌, OnOk, IfErr, MatchOption, length, take, drop, ◌==◌, true};
@@ -37,7 +38,7 @@ use minisign_external::state::{Misuse, Refusal, State};
 // An installation that was begun begins with the letters `minstall`.
 const BEGUN: u64 = 7812726606361684333;
 
-/// An installation, 1024 bytes with the layout of C.
+/// The state of an installation: 1024 bytes with C layout.
 #[repr(C)]
 #[derive(Clone, Copy)]
 pub struct Installation {
@@ -59,7 +60,7 @@ pub struct Installation {
     pub(crate) is_vouched: u32,
     // How many bytes of the data were received or copied, where the signed comment says how many there are.
     copied: u64,
-    reserved: [u64; 20],
+    reserved: [u64; 18],
 }
 
 // What the host has chosen.
@@ -115,30 +116,33 @@ pub(crate) struct Judged {
     pub(crate) size: u64,
 }
 
-/// What a host chooses at the beginning.
+/// The choices that the application makes at the beginning.
 #[derive(Clone, Copy)]
 pub struct Choices {
-    /// Whether an update is taken also where no number of the field is kept.
+    /// Install even if no version is recorded for the field.
     pub is_first: bool,
-    /// Whether other data of the kept number is replaced.
+    /// Replace different data that has the recorded version.
     pub again: bool,
-    /// Whether it is only asked what a run would do: then nothing is locked, synced or written.
+    /// Only find out what an installation would do. Then nothing is locked, synced or written.
     pub is_check: bool,
-    /// Whether the data may stand still, as that of a pipe: then it is received while nothing is locked.
+    /// The data may arrive slowly, for example through a pipe. Then it is received while no lock is held.
     pub is_waiting: bool,
-    /// Whether an update is rejected whose comment does not say when it expires.
+    /// Reject an update whose comment does not say when it expires.
     pub must_expire: bool,
-    /// The field that has the number of an update.
+    /// The field that holds the version number of an update.
     pub numbering: Numbering,
 }
 
 impl Installation {
-    /// Begins: the lock is due, or of a check the record, and nothing was read. One of the two keys has to
-    /// have signed: the one that has the key ID of the signature, and otherwise the other one.
+    /// Begins an installation: locking is due, or for a check reading the record, and nothing has been
+    /// read. One of the two keys must have signed: the one that has the key ID of the signature, and
+    /// otherwise `other`.
     pub fn new(key: &PublicKeyValue, other: &PublicKeyValue, choices: Choices) -> Installation
-        // That is due, the state was fed nothing, and the keys and the choices are kept.
+        // The first call is due: reading the record for a check, and locking otherwise. Nothing was added
+        // to the hash state, and the keys and the choices are stored as given.
         ensures begun { IsBegun key.now other.now choices result }
-        // No number, no error and no signed comment is kept yet, and none was vouched for.
+        // The new installation holds no version number, no error and no judged comment, and no signature of
+        // a comment was found.
         ensures unused { IsUnused result }
     {
         Installation {
@@ -157,13 +161,13 @@ impl Installation {
             received: 0,
             is_vouched: 0,
             copied: 0,
-            reserved: [0; 20],
+            reserved: [0; 18],
         }
     }
 
-    /// What is due; nothing of an installation that was never begun.
+    /// Returns the call that is due, or `None` for an installation that was never begun.
     pub fn due(&self) -> Option<Due<u32>>
-        // What is due is what the stored form says.
+        // The result is what the stored state says is due.
         ensures { result ≡ due_of self.now }
     {
         if self.mark != BEGUN {
@@ -176,18 +180,19 @@ impl Installation {
         }
     }
 
-    /// The number of the call that is due, in the order of `Due` from 1 on; 0 of an installation
-    /// that was never begun.
+    /// Returns the number of the call that is due, in the order of `Due` from 1 on, or 0 for an
+    /// installation that was never begun.
     pub fn due_number(&self) -> u32
-        // The number is that of the call that is due, and 0 where nothing is.
+        // The result is the number of the call that is due, or 0 if nothing is.
         ensures { MatchOption (due_of self.now) (result ≡ 0) (λ due. result ≡ due_number due) }
     {
         self.due().map_or(0, |due| stored(&due).0)
     }
 
-    /// Why the run was rejected: the number of the error; 0 before its end, and where it has ended well.
+    /// Returns the number of the error for which the run was rejected, or 0 if the run has not ended or was
+    /// not rejected.
     pub fn refused_for(&self) -> u32
-        // The number is that of the error that the run was rejected for, and otherwise 0.
+        // If the run was rejected, the result is the number of its error. Otherwise it is 0.
         ensures refused { (e : ℕ) → IsDue self.now (ended.Refused e) → result ≡ e }
         ensures none { ((e : ℕ) → ¬ (IsDue self.now (ended.Refused e))) → result ≡ 0 }
     {
@@ -197,13 +202,14 @@ impl Installation {
         }
     }
 
-    /// The call that is due was done. Not of one that reads, that has the scheme answer, or that ends the
-    /// run. Data that was received or copied is rejected where it has fewer bytes than the signed comment
-    /// says.
+    /// Reports that the call that is due was done. Not for calls that read, that need the scheme's answers
+    /// or that end the run. If data was received or copied and has fewer bytes than the signed comment
+    /// says, the data is rejected.
     pub fn done(&mut self) -> Result<(), Refusal<InstallFault>>
-        // What is due next is what the table says, and bytes are counted anew. Otherwise nothing changes, and
-        // no call was due that can go so and has no call of its own; or the data has fewer bytes, and the run
-        // is rejected for that.
+        // On success, the call that is due next is the one in the table, and the count of bytes starts
+        // again at 0. An error is API misuse, because no call was due that this call can report, and then
+        // nothing changes; or the data has fewer bytes than the signed comment says, and the run is
+        // rejected for that.
         ensures gone { OnOk result (CallWasDone self.old self.new) }
         ensures refused { IfErr result (IsDoneRefusal self.old self.new) }
     {
@@ -218,11 +224,12 @@ impl Installation {
         Ok(())
     }
 
-    /// A piece of so many bytes was received or copied, and there may be more. The data is rejected where it
-    /// has more bytes than the signed comment says.
+    /// Reports that a piece of `len` bytes was received or copied, and there may be more. If the data has
+    /// more bytes than the signed comment says, the data is rejected.
     pub fn more(&mut self, len: usize) -> Result<(), Refusal<InstallFault>>
-        // The same call is due, and the bytes were counted. Otherwise nothing changes, and nothing was to be
-        // received or copied; or the data has more bytes, and the run is rejected for that.
+        // On success, the same call is still due, and the bytes were counted. An error is API misuse,
+        // because no data was to be received or copied, and then nothing changes; or the data has more
+        // bytes than the signed comment says, and the run is rejected for that.
         ensures gone { OnOk result (PieceWasTaken len self.old self.new) }
         ensures refused { IfErr result (IsMoreRefusal len self.old self.new) }
     {
@@ -290,12 +297,14 @@ impl Installation {
         }
     }
 
-    /// The call that is due failed for this error: out of memory, reading, writing or the random
-    /// source, and of locking that another holds the lock. Where the target or its name could not be
-    /// synced, that is the error. Data that may stand still is received first where another holds the lock.
+    /// Reports that the call that is due failed with this error: out of memory, reading, writing or the
+    /// random source; for locking also that another process holds the lock. If the target or its name could
+    /// not be synced, the run's error says so. If another process holds the lock, data that may arrive
+    /// slowly is received first.
     pub fn failed(&mut self, error: u32) -> Result<(), Misuse>
-        // What is due next is what the table says; or the lock was due and held by another, and the data is
-        // received first. Otherwise nothing changes, and no call was due that can fail so.
+        // On success, the call that is due next is the one in the table; or another process held the lock,
+        // and receiving the data is due first. An error is API misuse, because no call was due that can
+        // fail this way, and then nothing changes.
         ensures failed { OnOk result (CallHasFailed error self.old self.new) }
         ensures refused { IfErr result (CallIsNotDue (λ due. failure due error ≡ None) self.old self.new) }
     {
@@ -312,18 +321,20 @@ impl Installation {
         Ok(())
     }
 
-    /// The record was found to hold these bytes, or there is none: the number behind the label of its field,
-    /// as `timestamp:5`, or alone, which counts for either field. A line feed at their end is left out, and
-    /// more than 64 bytes are no number, but where two lines of their lengths follow on the first one. At the
-    /// first installation a record that names another key than the two counts as none.
+    /// Reports that the record holds these bytes, or that there is none. The recorded version is a number
+    /// after the label of its field, such as `timestamp:5`, or a number without a label, which counts for
+    /// either field. A line feed at the end is ignored. More than 64 bytes are not a number, unless the
+    /// first line is followed by two lines of the lengths that a record has. For the first installation, a
+    /// record that names neither of the two keys is ignored.
     ///
-    /// It was last written at this moment, in seconds since the beginning of 1970, or that is not known, and
-    /// 0. A clock that shows less counts as one that shows the greatest moment, but at the first
-    /// installation.
+    /// `written` is the time of the last change of the record in seconds since 1970, or 0 if it is not
+    /// known. If the clock shows an earlier time than that, it counts as the greatest time, except for the
+    /// first installation.
     pub fn record(&mut self, found: Option<&[u8]>, written: u64) -> Result<(), Misuse>
-        // The number that the record holds for the field is kept, and for which data it was written, and
-        // when; or the run is rejected where it holds none, or there is none, and this is not the first
-        // installation. Otherwise nothing changes, and the record was not to be read.
+        // On success, the recorded version for the field is stored with the digest of the data that the
+        // record was written for and the time of the record. If the record holds no version for the field,
+        // or there is no record, the run is rejected unless this is the first installation. An error is API
+        // misuse, because the record was not to be read, and then nothing changes.
         ensures read { OnOk result
             (RecordWasRead (option_map (λ b. b.now) found.entry) written self.old self.new) }
         ensures refused { IfErr result (CallIsNotDue (λ due. due ≢ ReadRecord) self.old self.new) }
@@ -342,10 +353,11 @@ impl Installation {
         Ok(())
     }
 
-    /// The next bytes of what the stage, or the file at the target, holds were read; none at its end.
+    /// Passes in the next bytes of the temporary file, or of the installed file. An empty piece reports the
+    /// end of the file.
     pub fn piece(&mut self, piece: &[u8]) -> Result<(), Misuse>
-        // Each piece appends to what was read back, and is not told apart from what was fed. At the end the
-        // answers of the scheme are due. Otherwise nothing changes, and nothing was to be read back.
+        // On success, the piece is added to the hash state, and after the last one the scheme's answers are
+        // due. An error is API misuse, because nothing was to be read back, and then nothing changes.
         ensures read { OnOk result (PieceWasRead piece.now self.old self.new) }
         ensures refused { IfErr result (λ m. (self.new ≡ self.old) × PieceCannotBeFed self.old m) }
     {
@@ -361,9 +373,10 @@ impl Installation {
         self.state.update(piece)
     }
 
-    /// No file stands at the target: the update is installed.
+    /// Reports that there is no file at the target, so the update is installed.
     pub fn no_target(&mut self) -> Result<(), Misuse>
-        // The run goes on. Otherwise nothing changes, and the file at the target was not to be read.
+        // On success, the run goes on. An error is API misuse, because the installed file was not to be
+        // read, and then nothing changes.
         ensures gone { OnOk result (TargetIsMissing self.old self.new) }
         ensures refused { IfErr result (λ m. (self.new ≡ self.old) × (m ≡ NotDue)
             × ((kept : ℕ) → ¬ (IsDue self.old (Look kept)))) }
@@ -375,13 +388,13 @@ impl Installation {
         Ok(())
     }
 
-    /// Writes the record as it is to be written to the front of `to`, at most 224 bytes, with no 0 behind
-    /// them: the label of its field and decimal digits; the key that has vouched, and the digest of the data,
-    /// each in a line of its own in hexadecimal digits. Returns how many bytes, and 0 where no record is to
-    /// be written or there is no room.
+    /// Writes the record that is due to the front of `to`, at most 224 bytes and without a terminating 0:
+    /// the label of its field and the version number in decimal; then the key that signed and the digest of
+    /// the data, each on its own line in hexadecimal. Returns the number of bytes, or 0 if no record is to
+    /// be written or `to` is too short.
     pub fn write_record(&self, to: &mut [u8]) -> usize
-        // The record of the update stands at the front of the buffer where it is to be written and has room,
-        // and otherwise nothing is written; the rest of the buffer stays.
+        // If a record is due and fits, it is at the front of the buffer, and the result is its length.
+        // Otherwise the result is 0 and nothing is written. The rest of the buffer is unchanged.
         ensures written { 0 < result → (n : ℕ) × IsDue self.now (WriteRecord n) × (result ≤ length to.new)
             × (take result to.new ≡ record_for self.now n) }
         ensures rest { drop result to.new ≡ drop result to.old }
@@ -666,10 +679,10 @@ fn is_device_error(error: u32) -> bool
     .any(|fault| fault.number() == error)
 }
 
-/// What a number means, in English: of an error of the library what it says without its identifiers.
+/// Returns the text of an error number in English. For an error of the library it omits the key IDs.
 pub fn error_text(number: u32) -> &'static str
-    // The text of a number is that of the wrong use, of the error of installing, or what the error of the
-    // library says without its identifiers; it has less than 128 bytes.
+    // The result is the text of the API misuse, of the installation error or of the library's error that
+    // has this number, without key IDs. It has fewer than 128 bytes.
     ensures meaning { IsHostMeaning number result.now }
     ensures room { length result.now < 128 }
 {
@@ -681,11 +694,12 @@ pub fn error_text(number: u32) -> &'static str
     numbers::error_text(number)
 }
 
-/// Writes what a number means, in English, to the front of `to`, ended by a 0 and cut where there
-/// is no room for more: returns the length of the whole text, which is at most 127 bytes. What stands
-/// behind the 0 stays; where `to` has no byte nothing is written.
+/// Writes the text of an error number, in English, to the front of `to`, terminated by a 0 and truncated if
+/// `to` is too short. Returns the length of the whole text, at most 127 bytes. The bytes after the 0 are
+/// unchanged. If `to` is empty nothing is written.
 pub fn write_error_text(number: u32, to: &mut [u8]) -> usize
-    // The text is that of `error_text`, cut to its room and ended by a 0, behind which the buffer stays.
+    // The buffer holds the text of `error_text`, truncated if necessary and terminated by a 0, and the
+    // bytes after the 0 are unchanged. The result is the length of the whole text.
     ensures written { (text : List ℕ) × IsHostMeaning number text × (result ≡ length text)
         × WritesCut text to.old to.new }
     ensures room { result < 128 }
@@ -694,17 +708,17 @@ pub fn write_error_text(number: u32, to: &mut [u8]) -> usize
 }
 
 impl Numbering {
-    /// The number of the numbering: 0 for the timestamp, 1 for the version.
+    /// Returns the number of the field: 0 for the timestamp, 1 for the version.
     pub fn number(self) -> u32
-        // The timestamp has the number 0, and the version 1.
+        // The result is 0 for the timestamp and 1 for the version.
         ensures { result ≡ numbering_number self }
     {
         self as u32
     }
 
-    /// The numbering of this number: 0 for the timestamp, 1 for the version.
+    /// Returns the field with this number: 0 is the timestamp, 1 the version.
     pub fn of_number(number: u32) -> Option<Numbering>
-        // 0 is the timestamp and 1 the version, and no other number is one.
+        // 0 gives the timestamp, 1 the version, and every other number gives nothing.
         ensures { MatchOption result (1 < number) (λ numbering. number ≡ numbering_number numbering) }
     {
         match number {
@@ -715,25 +729,25 @@ impl Numbering {
     }
 }
 
-/// A law, for which nothing is done: a host of another language that makes each call as it is due,
-/// and tells how it went by the calls of the header, installs only updates, whatever comes of its
-/// calls.
+/// States that an application which makes each call that is due, and reports the results by the calls of
+/// the header, installs only updates, whatever its calls return. This function is a law: it does nothing,
+/// and its contract is what it is for.
 pub fn any_host_installs_only_updates()
-    // Such a host makes a run of `any_run_installs_only_updates`, in which the same call is due at the end:
-    // so `safe` of that law holds of it wherever it is cut off, `installed` where the installation says that
-    // the update is installed, `already` where it says that it stands there, `would` where it says that it
-    // would be installed, and `lets_go` however it has ended.
+    // An application that makes each call as it is due makes a run of the law
+    // `any_run_installs_only_updates`, with the same call due at the end. So the promises of that law hold:
+    // `safe` wherever the run is cut off, `installed`, `already` and `would` if the installation says so,
+    // and `lets_go` however the run ends.
     ensures run { (s : Setting) (i i' : Installation) (h h' : Host) (told : List (Installation × Host))
         → HostHasBegun s i h → HostHasObeyed (HostObeys AnyFailure AnyCall s) i h told i' h'
         → SomeRunLeadsTo i' (λ events due. HostRuns s h events due h') }
 
-    // What the installation rejects it rejects for what was found. So where the devices of the host count
-    // their errors, `refused` of that law holds of it too.
+    // If the application's devices also count their errors, the promise `refused` of that law holds too:
+    // the run is rejected for the first reason that was found.
     ensures counted { (s : Setting) (i i' : Installation) (h h' : Host) (told : List (Installation × Host))
         → HostHasBegun s i h → HostHasObeyed (HostObeys (CallFailsFor s) CountsStay s) i h told i' h'
         → SomeRunLeadsTo i' (λ events due. HostRunsCounted s h events due h') }
 
-    // And where no call of the host failed, `found` does.
+    // If no call of the application failed, the promise `found` of that law holds too.
     ensures through { (s : Setting) (i i' : Installation) (h h' : Host) (told : List (Installation × Host))
         → HostHasBegun s i h → HostHasObeyed (HostObeys NoFailure AnyCall s) i h told i' h'
         → SomeRunLeadsTo i' (λ events due. HostRunsThrough s h events due h') }

@@ -1,5 +1,5 @@
-//! Asking a signature scheme about the signed comment, the record and what a host has read, and what follows
-//! from its answers. None of it allocates.
+//! The questions to the signature scheme about the signed comment, the record and the files that were read,
+//! and what follows from its answers. Nothing here allocates.
 
 ghost use Rattle.std.specs.Prelude.{◌≡◌, ◌⊎◌, ◌==◌, ◌&&◌, ◌<◌, false, ℕ, List, OnOk, OnErr, IfErr, [], Ok};
 ghost use Rattle.std.specs.Prelude.{Err, length, drop, is_ok};
@@ -34,16 +34,16 @@ use minisign_external::signatures::SignatureValue;
 use minisign_external::state::{Misuse, Questions, Refusal, State};
 
 impl Installation {
-    /// Reads the text of the signature, and asks what the scheme has to answer before it is known whether one
-    /// of the keys and the signature vouch: at first for the comment and for the data that the record was
-    /// written for; then for what the file at the target holds, or for what was read back of the stage. The
-    /// signed comment is judged, which is told only behind the answers. Signatures over the data itself are
-    /// never taken.
+    /// Parses the signature text and writes the questions that the signature scheme must answer: at first
+    /// about the signed comment and the data that the record was written for; then about the installed
+    /// file, or about the temporary file that was read back. The signed comment is judged, and the result
+    /// is used only with the answers. Legacy signatures are always rejected.
     ///
-    /// What the clock shows is no time where that is below when the record was last written, but at the first
-    /// installation: then it counts as the greatest moment, at which each update that expires has expired.
+    /// If the clock shows an earlier time than that of the record's last change, it counts as the greatest
+    /// time, at which every update that expires has expired. For the first installation the time is used as
+    /// it is.
     ///
-    /// As much room for the message as the text of the signature has bytes will do.
+    /// A message buffer as long as the signature text is always long enough.
     pub fn ask(
         &mut self,
         sig_text: &[u8],
@@ -52,18 +52,19 @@ impl Installation {
         questions: &mut Questions,
         message: &mut [u8],
     ) -> Result<(), Refusal<InstallFault>>
-        // The questions are those of the key that has to have signed, by its key ID, and of what the text
-        // reads as. The digest is that of everything that was read; but at first it is that of the data that
-        // the record was written for. They are then asked, and the comment that was asked about is judged,
-        // against the number that was kept; the answers are due before and behind.
+        // On success, the questions are those about the signature text under the key that must have signed,
+        // chosen by its key ID. The digest is that of everything that was read, or in the first questions
+        // that of the data that the record was written for. The comment is judged against the recorded
+        // version. The same answers are due as before.
         ensures asked { OnOk result (InstallationHasAskedAbout sig_text.now file.now now questions.new
             message.new self.old self.new) }
 
-        // The reasons of a rejection come in one order: answers that are not due; a name that is not UTF-8; a
-        // text of the signature that does not read; what `State::ask_fed` rejects, in its order. A wrong use
-        // leaves the installation as it was, as a buffer without room is. For any other reason the run is
-        // rejected, and a stage is to be removed before. Questions and message buffer are as they were; what
-        // stands behind a message that is written stays; and what the host has chosen stays in any case.
+        // Errors are checked in this order: answers are not due; the file name is not UTF-8; the signature
+        // text does not parse; the errors of `State::ask_fed`, in their order. After API misuse, such as a
+        // buffer that is too short, the installation is unchanged. After any other error the run is
+        // rejected, and a temporary file must be removed first. After every error the questions and the
+        // message buffer are unchanged. On success, the bytes after the message are unchanged. The
+        // application's choices are always unchanged.
         ensures refused { IfErr result
             (IsAskRefusal self.old self.new sig_text.now file.now (length message.old)) }
         ensures kept { OnErr result ((questions.new ≡ questions.old) × (message.new ≡ message.old)) }
@@ -201,43 +202,45 @@ impl Installation {
         }
     }
 
-    /// The scheme answered so.
+    /// Passes in the scheme's answers to the two questions.
     pub fn answer(&mut self, first: bool, second: bool) -> Result<(), Refusal<InstallFault>>
-        // **For every relation that answers the second question so: the target is to be looked at, or the run
-        // goes on, exactly where the key has signed the comment, and it names the file, has not expired at
-        // the moment of asking, and has a number that is not below the kept one; the former where it is the
-        // kept one. Otherwise the run is rejected for the first reason. Whether the record was written for
-        // this update is kept, as the first answer says.**
+        // **When the comment is judged: for every signature scheme that answers the second question this
+        // way, the run continues exactly if the key signed the comment and the comment names the file, has
+        // not expired at the time of asking, and has a version number that is not below the recorded one.
+        // If the version equals the recorded one, reading the installed file is due next. Otherwise the run
+        // is rejected for the first reason. The first answer decides if the record counts as written for
+        // this update.**
         ensures comment { WhereCommentAnswered second self.old
             (λ accepts key terms k. AnswersJudgeComment accepts key terms k first self.old self.new result) }
 
-        // **For every relation that answers the two questions so, and every message: the update stands at the
-        // target exactly where the texts vouch for the message and the comment is still what is wanted; then
-        // it is synced, or of a check that is the end. Where the texts are rejected, the run goes on if the
-        // record was written for this update, or other data is to be replaced; otherwise it is rejected, as
-        // the number is the same.**
+        // **When the installed file is judged: for every signature scheme that answers the two questions
+        // this way, and every file content, the update counts as installed exactly if the texts are valid
+        // for the content and the comment still qualifies; then syncing is due, or a check ends. If the
+        // texts are rejected for it, the run continues if the record was written for this update or
+        // replacing was requested. Otherwise the run is rejected, because the version is the same.**
         ensures target { WhereAnswered JudgeTarget first second self.old
             (λ accepts terms kept m. AnswersJudgeTarget accepts terms kept m self.old self.new result) }
 
-        // **For every relation that answers the two questions so, and every message: the permissions are due,
-        // for the number n, exactly where the texts vouch for the message, not by a signature over the data
-        // itself, and the comment that was signed with it names the file, has not expired at the moment of
-        // asking, and has the number n, which is not below the kept one. Otherwise the stage is to be
-        // removed, and the run is rejected for the first reason.**
+        // **When the temporary file is judged: for every signature scheme that answers the two questions
+        // this way, and every file content, setting permissions is due, for the version n, exactly if the
+        // texts are valid for the content, with a prehashed signature, and the trusted comment names the
+        // file, has not expired at the time of asking, and has the version number n, which is not below the
+        // recorded one. Otherwise the temporary file must be removed, and the run is rejected for the first
+        // reason.**
         ensures stage { WhereAnswered Answer first second self.old
             (λ accepts terms kept m. StageGivesUpdate accepts terms kept m self.new result) }
 
-        // **The comment that was asked about is vouched for exactly where the key has signed it, whatever
-        // comes of it and of what was read. What came of the comment stays as it was judged.**
+        // **The comment counts as signed exactly if the key signed it, whatever else is found about it and
+        // about what was read. The judgment of the comment is unchanged.**
         ensures vouched { AnswerVouches second self.old self.new }
 
-        // Where the run goes on or the target is looked at, what is read next is fed to a state that was fed
-        // nothing. What the host has chosen stays, and what was asked about; a wrong use changes nothing.
+        // If the run continues or the installed file is to be read, the hash state starts empty. The
+        // application's choices and what was asked about are unchanged. API misuse changes nothing.
         ensures fed { (kept : ℕ) → IsDue self.old (Judge kept) → OnOk result (IsFedState self.new.state []) }
         ensures again { (kept : ℕ) → IsDue self.old (JudgeTarget kept)
             → OnOk result (IsDue self.new (going_on self.old kept) → IsFedState self.new.state []) }
         ensures chosen { InstallationKeepsAsked self.old self.new }
-        // The error is the first one that the answers, or what was judged, say.
+        // The error is the first one that the answers or the judged comment give.
         ensures refused { IfErr result (IsAnswerRefusal first second self.old self.new) }
     {
         match self.due() {
@@ -460,20 +463,21 @@ impl Installation {
         }
     }
 
-    /// Whether a key was found to have signed the comment that was asked about last, also where the run was
-    /// then rejected for what the comment says; not from asking until its answers.
+    /// Returns true if a key was found to have signed the comment that was last asked about, even if the
+    /// run was then rejected for what the comment says. Returns false between the questions and their
+    /// answers.
     pub fn is_vouched(&self) -> bool
-        // That is what `answer` says, and not before.
+        // The result is true exactly if `answer` found the comment to be signed.
         ensures { result ≡ is_vouched self.now }
     {
         self.is_vouched == 1
     }
 
-    /// The number of the comment, once a key was found to have signed it; before that it is 0, as where it
-    /// has none.
+    /// Returns the version number in the comment once a key was found to have signed it. Before that, or if
+    /// the comment has none, returns 0.
     pub fn number(&self) -> u64
-        // Of a comment that is vouched for it is the number that was found where it was judged, and otherwise
-        // 0.
+        // If the comment was found to be signed, the result is the version number that was found when it
+        // was judged. Otherwise it is 0.
         ensures { result ≡ told_number self.now }
     {
         if self.is_vouched() {
@@ -607,9 +611,9 @@ fn verdict_of(
     }
 }
 
-/// Judges a signed comment by itself, for hosts that install in other ways: its number, where it names the
-/// file, has not expired at this moment, in seconds since the beginning of 1970, and has one that is not
-/// below the kept one.
+/// Judges a signed comment by itself, for applications that install in other ways. Returns its version
+/// number if the comment names the file, has not expired at `moment`, in seconds since 1970, and has a
+/// version number that is not below `kept`.
 pub fn judge_comment(
     comment: &[u8],
     file: &[u8],
@@ -617,9 +621,9 @@ pub fn judge_comment(
     moment: u64,
     kept: u64,
 ) -> Result<u64, InstallFault>
-    // The number of the comment is told exactly where the comment and the name are UTF-8, the comment names
-    // the file, has this number and has not expired, and it is not below the kept one; otherwise the first
-    // reason is.
+    // The result is a version number exactly if the comment and the file name are UTF-8 and the comment
+    // names the file, has this number, has not expired, and the number is not below `kept`. Otherwise the
+    // error is the first reason.
     ensures { TextsAreRead comment.now file.now (IsWorth (said_by file.now numbering moment) kept comment.now)
         result }
 {

@@ -1,4 +1,5 @@
-//! Installs an update that two texts vouch for, and nothing else. A host makes each call.
+//! Installs an update if a public key and a signature are valid for it. The application makes each system
+//! call.
 
 #![tactic(auto)]
 

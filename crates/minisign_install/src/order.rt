@@ -1,5 +1,6 @@
-//! The order of the calls that install an update. A host in any language makes the call that is due, says
-//! how it went, and is told the next one. The host chooses the type of its errors.
+//! The order of the calls that install an update. An application in any language makes the call that is
+//! due, reports how it went, and learns which call is due next. The application chooses the type of its
+//! errors.
 
 ghost use Rattle.std.specs.Prelude.{◌≡◌, ◌⊎◌, List, true};
 ghost use Rattle.minisign_install.specs.Order.{Done, Failed, Leads, Number, fits, has_ended, next};
@@ -11,63 +12,64 @@ ghost use Rattle.minisign_install.specs.Refusals.{IsFoundRefusal, IsRefusal};
 ghost use Rattle.minisign_install.specs.Runs.{RunLocksAt, RunOwnsNoMore, RunRests};
 ghost use Rattle.minisign_install.specs.Directories.{Run};
 
-/// What is due: the call that the host makes next, or how the run has ended. The numbers are those
-/// of the record up to the answers of the signature scheme on what was staged, and then those of the update.
+/// The call that the application must make next, or how the run has ended. A number is the recorded version
+/// in all calls up to the scheme's answers about the temporary file, and after that the version of the
+/// update.
 #[derive(Drop)]
 pub enum Due<E> {
     /// Lock the target, without waiting for another run.
     Lock,
-    /// Read what the record holds.
+    /// Read the record.
     ReadRecord,
-    /// Have the signature scheme answer the two questions about the signed comment and the record.
+    /// Get the scheme's answers to the two questions about the signed comment and the record.
     Judge(u64),
-    /// Read the next piece of the file at the target.
+    /// Read the next piece of the installed file.
     Look(u64),
-    /// Have the signature scheme answer the two questions about what the file at the target holds.
+    /// Get the scheme's answers to the two questions about the installed file.
     JudgeTarget(u64),
-    /// Sync the file at the target, which is the update.
+    /// Sync the installed file, which is the update.
     SyncTarget,
-    /// Sync the directory; so the file at the target keeps its name.
+    /// Sync the directory, so that the installed file keeps its name.
     SyncTargetName,
-    /// Let go of the lock.
+    /// Release the lock.
     Unlock,
     /// Receive the next piece of the data into a file without a name.
     Receive,
-    /// Remove the stages that killed runs have left, as far as they can be removed.
+    /// Remove the temporary files that killed runs have left, as far as possible.
     Clear(u64),
-    /// Draw a name, and make the stage under it.
+    /// Generate a random name, and create the temporary file under it.
     Create(u64),
-    /// Copy the next piece of the data into the stage.
+    /// Copy the next piece of the data to the temporary file.
     Copy(u64),
-    /// Read back the next piece of what the stage holds.
+    /// Read back the next piece of the temporary file.
     ReadBack(u64),
-    /// Have the signature scheme answer the two questions about what the stage holds.
+    /// Get the scheme's answers to the two questions about the temporary file.
     Answer(u64),
-    /// Give the stage the permissions of the file at the target.
+    /// Give the temporary file the permissions of the installed file.
     TakePermissions(u64),
-    /// Sync what the stage holds.
+    /// Sync the temporary file.
     Sync(u64),
-    /// Draw a name, and make the stage of the record under it.
+    /// Generate a random name, and create the temporary file of the record under it.
     CreateRecord(u64),
-    /// Write the record into its stage.
+    /// Write the record to its temporary file.
     WriteRecord(u64),
-    /// Sync what the stage of the record holds.
+    /// Sync the record's temporary file.
     SyncRecord(u64),
-    /// Give the stage of the record the record's name.
+    /// Rename the record's temporary file to the record.
     RenameRecord(u64),
-    /// Sync the directory; so the record keeps its name.
+    /// Sync the directory, so that the record keeps its name.
     SyncRecordName(u64),
-    /// Give the stage the target's name.
+    /// Rename the temporary file to the target.
     Rename(u64),
-    /// Sync the directory; so the target keeps its name.
+    /// Sync the directory, so that the target keeps its name.
     SyncName(u64),
-    /// Remove the stage of the record: the run is rejected for this error.
+    /// Remove the record's temporary file: the run is rejected for this error.
     RemoveRecord(E),
-    /// Remove the stage: the run is rejected for this error.
+    /// Remove the temporary file: the run is rejected for this error.
     Remove(E),
     /// Nothing: the update is installed.
     Installed,
-    /// Nothing: the update stands at the target already.
+    /// Nothing: the update was already installed.
     Already,
     /// Nothing: the update would be installed.
     WouldInstall,
@@ -78,21 +80,21 @@ pub enum Due<E> {
 /// How a call went.
 #[derive(Drop)]
 pub enum Outcome<E> {
-    /// It was done; of a stage that is copied or read back, there is no more.
+    /// It was done. For a file that is copied or read back, the end was reached.
     Done,
-    /// A piece was copied, received or read; there may be more.
+    /// A piece was copied, received or read, and there may be more.
     More,
-    /// The number: the one that the record holds, or that of the update that was vouched for.
+    /// The version: the one in the record, or that of the update whose signature is valid.
     Number(u64),
-    /// It was done, and by what was found this is due next.
+    /// It was done, and because of what was found this call is due next.
     Leads(Due<E>),
-    /// It failed, or what it found is rejected, and this is why.
+    /// It failed, or what was found is rejected, for this error.
     Failed(E),
 }
 
 impl<E: Drop> Due<E> {
-    /// Whether the call that is due can be told to have gone so, with nothing found. Nothing can once the run
-    /// has ended.
+    /// Returns true if the call that is due can have this outcome, when nothing was found. No outcome fits
+    /// after the run has ended.
     pub fn fits(&self, outcome: &Outcome<E>) -> bool
         ensures { result ≡ fits self.now outcome.now }
     {
@@ -117,9 +119,9 @@ impl<E: Drop> Due<E> {
         }
     }
 
-    /// What is due next. An outcome that does not fit changes nothing.
+    /// Returns the call that is due next. An outcome that does not fit changes nothing.
     pub fn next(self, outcome: Outcome<E>) -> Due<E>
-        // One table says which call comes after which outcome.
+        // A single table gives the call that is due after each outcome.
         ensures { result ≡ next self outcome }
     {
         match outcome {
@@ -211,52 +213,55 @@ impl<E: Drop> Due<E> {
     }
 }
 
-/// A law, for which nothing is done: whatever comes of the calls of a host that makes each one as
-/// it is due, only updates are installed.
+/// States that only updates are installed if an application makes each call that is due, whatever its calls
+/// return. This function is a law: it does nothing, and its contract is what it is for.
 pub fn any_run_installs_only_updates<E: Drop>()
-    // Wherever the run is cut off: nothing was changed by then, or since the lock was got only what is to be
-    // installed was brought: only updates get to the target, the record goes first, and its number never
-    // falls, unless it named another key at the first installation.
+    // Wherever a run is cut off, it has either changed nothing, or it got the lock first and then put only
+    // valid updates at the target, each recorded before it was installed, and never decreased the recorded
+    // version, unless at a first installation the record named another key. An update is valid if its
+    // signature is, and the comment signed with it names the file, has not expired and has a version number
+    // that is not below the recorded one.
     ensures safe { (s : Setting) (h h' : Host) (events : List (Outcome E × Host)) (due : Due E)
         → HostRuns s h events due h' → RunInstallsOnlyUpdates s.accepts s.terms s.first h.run h'.run }
 
-    // Where it has installed, that is the data that was ahead, on the disk and for good.
+    // If the run ends with the update installed, the target holds the data that was to be installed, and
+    // this survives any crash. The new file was given the permissions of the file before it.
     ensures installed { (s : Setting) (h h' : Host) (events : List (Outcome E × Host))
         → HostRuns s h events Due.Installed h' → (locked : Run) × RunLocksAt h.run locked
         × RunHasInstalled s.accepts s.terms s.first h.ahead locked h'.run }
 
-    // Where it has said that the update stands at the target already, that was found there since the lock was
-    // got, and was synced, with its name. A check has changed nothing.
+    // If the run ends with the update already installed, then since the lock was taken the update was found
+    // at the target and synced, and so was its name. A check changed nothing.
     ensures already { (s : Setting) (h h' : Host) (events : List (Outcome E × Host))
         → HostRuns s h events Due.Already h' → ((s.check ≡ true) × RunRests h.run h'.run)
         ⊎ ((locked : Run) × RunLocksAt h.run locked × UpdateStands s.accepts s.terms s.first locked h'.run) }
 
-    // Only a check says that the update would be installed, and nothing was changed.
+    // Only a check ends with the result that the update would be installed, and it changed nothing.
     ensures would { (s : Setting) (h h' : Host) (events : List (Outcome E × Host))
         → HostRuns s h events Due.WouldInstall h' → (s.check ≡ true) × RunRests h.run h'.run }
 
-    // Where it was rejected, and each failing call says why it failed, the error is the first reason, and
-    // what the run has published by then is as that says.
+    // If the run is rejected, and each failing call reported why it failed, the error is the first reason,
+    // and the run has published no more than that error allows.
     ensures refused { (s : Setting) (h h' : Host) (events : List (Outcome InstallFault × Host))
         (e : InstallFault) → HostRunsCounted s h events (Due.Refused e) h'
         → IsRefusal s h.ahead h.faults h'.faults h.run h'.run e }
 
-    // Where no call failed, but for what was found, that is the reason. The update is never rejected as other
-    // data of its number where the record was written for it, or where it was asked for that other data is
-    // replaced.
+    // If the run is rejected and no call failed, the error is a reason that was found in the record, the
+    // texts, the target or the data. An update is never rejected as different data of the recorded version
+    // if the record was written for that update, or if replacing was requested.
     ensures found { (s : Setting) (h h' : Host) (events : List (Outcome InstallFault × Host))
         (e : InstallFault) → HostRunsThrough s h events (Due.Refused e) h'
         → IsFoundRefusal s h.ahead h.run h'.run e }
 
-    // However it has ended, no stage is the run's own that was not so before.
+    // However the run ends, it owns no temporary file that it did not own before.
     ensures lets_go { (s : Setting) (h h' : Host) (events : List (Outcome E × Host)) (due : Due E)
         → HostRuns s h events due h' → has_ended due ≡ true → RunOwnsNoMore h.run h'.run }
 
-    // There are such runs: where the texts vouch for what is ahead, and the directory is at rest, one in
-    // which no call fails installs it.
+    // Such runs exist: if the texts are valid for the data ahead and the directory is at rest, there is a
+    // run in which no call fails and that installs the update.
     ensures met { (s : Setting) (h : Host) → IsAtRest s h → (events : List (Outcome InstallFault × Host))
         × (h' : Host) × HostRunsThrough s h events Due.Installed h' }
 
-    // And there are such texts and such a directory, for a scheme that accepts each signature.
+    // Such texts and such a directory exist, for a scheme that accepts every signature.
     ensures there { (s : Setting) × (h : Host) × IsAtRest s h }
 {}

@@ -1,5 +1,5 @@
-//! The record beside the target: the number of the newest update, behind the label of its field, the key that
-//! has vouched for it, and the digest of the data that it was written for.
+//! The record beside the target: the version number of the newest update after the label of its field, the
+//! key that signed the update, and the digest of its data.
 
 ghost use Rattle.std.specs.Prelude.{option_map, Some, ◌≡◌, ◌⊎◌, ℕ, ◌==◌, ◌<◌, ◌≤◌, ◌+◌, ◌*◌, ◌++◌, ◌∷◌, []};
 ghost use Rattle.std.specs.Prelude.{MatchOption, MatchResult, length, take, drop};
