@@ -2,6 +2,7 @@ pub mod Commands
 pub mod Copying
 pub mod Endings
 pub mod Keygen
+pub mod Permissions
 pub mod Replacing
 pub mod Report
 pub mod Sign

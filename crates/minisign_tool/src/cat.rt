@@ -1,4 +1,4 @@
-//! The command `cat`: it verifies as `verify` does, and copies out what was verified.
+//! The command `cat`: verifies as `verify` does, and copies the verified data.
 
 ghost use Rattle.std.specs.Prelude.{◌≡◌, ◌≤◌, false, true, OnOk, IfErr};
 ghost use Rattle.minisign.specs.DeviceCalls.{Takes, sink_call};
@@ -14,10 +14,9 @@ use minisign::base::scheme::Scheme;
 use minisign::{Result, verify_texts};
 use std::alloc::Global;
 
-/// Verifies as `run_verify` does, and then copies the data to `out`, for which it is read a second
-/// time; `out` is flushed where both readings have one digest. So the data's source has to go back
-/// to its place, which is marked before any data is read. What `out` holds may be relied on where 0 is
-/// returned, and never otherwise.
+/// Verifies as `run_verify` does, and then copies the data to `out`, for which it is read a second time.
+/// `out` is flushed if both readings have the same digest. The data's source must be able to go back; its
+/// place is marked before any data is read. Use what `out` holds only if 0 is returned.
 pub fn run_cat<S: Scheme, P: Source, Q: Source, R: Rereader, O: Sink, W: Sink>(
     alloc: Global,
     scheme: &S,
@@ -28,18 +27,18 @@ pub fn run_cat<S: Scheme, P: Source, Q: Source, R: Rereader, O: Sink, W: Sink>(
     // The exit status is 0 or 1.
     ensures status { result ≤ 1 }
 
-    // **The exit status is 0 only if the two texts that were read whole vouch for all of the data,
-    // with the warning and the status lines written, and with the data copied, as a copy that the
-    // two texts vouch for.**
+    // **The exit status is 0 only if both text files were read whole, the texts are valid for all of the
+    // data and for the copy that was written, and the status lines were written after the warning was
+    // sent.**
     ensures accepted { result ≡ 0 → FilesVouchForCopy (S.accepts scheme.now)
         (verifying_call P.Source Q.Source R.Source R.steady devices.old devices.new)
         (sink_call O.Sink out.old out.new) (SaysAfterWarning W.Sink errors.old errors.new) }
 
-    // The output did not fail then.
+    // With exit status 0, `out` did not fail.
     ensures out_no_new_fault { result ≡ 0 → O.sink_faults out.new ≡ O.sink_faults out.old }
 
-    // The exit status is 1 only because a file gave no text, with no data read, or verifying fails,
-    // as `verify_texts` says, between the warning and the line of the error.
+    // With exit status 1, either a file gave no text, and no data was read, or verification failed, as
+    // `verify_texts` promises. The warning was sent first and the error line last.
     ensures refused { result ≡ 1 → EndsWithFault W.Sink errors.old errors.new
         (FilesFailToCopy (S.accepts scheme.now) (verifying_call P.Source Q.Source R.Source R.steady
         devices.old devices.new) (sink_call O.Sink out.old out.new)) }

@@ -1,4 +1,4 @@
-//! Which command the arguments ask for.
+//! The command that the arguments ask for.
 
 ghost use Rattle.std.specs.Prelude.{◌≡◌, length, map};
 ghost use Rattle.minisign_tool.specs.Commands.{AsksFor};
@@ -6,12 +6,12 @@ ghost use Rattle.minisign_tool.specs.Commands.{AsksFor};
 /// A command and the paths of its files.
 #[derive(Clone, Copy)]
 pub enum Command<'a> {
-    /// Make a pair of keys, and write the text of each into a file.
+    /// Generate a key pair, and write the text of each key to a file.
     Keygen {
         pk: &'a str,
         sk: &'a str,
     },
-    /// Sign a file with the text of a secret key, and write the text of the signature.
+    /// Sign a file with the secret key in a file, and write the signature text.
     Sign {
         sk: &'a str,
         file: &'a str,
@@ -23,27 +23,26 @@ pub enum Command<'a> {
         file: &'a str,
         sig: &'a str,
     },
-    /// Verify standard input, with the files of a raw public key and a raw signature.
+    /// Verify standard input with the files of a raw public key and a raw signature.
     VerifyRaw {
         pk: &'a str,
         sig: &'a str,
     },
-    /// Verify a file with the texts of a public key and a signature, and write it to standard
-    /// output.
+    /// Verify a file with the texts of a public key and a signature, and write it to standard output.
     Cat {
         pk: &'a str,
         file: &'a str,
         sig: &'a str,
     },
-    /// Show the arguments that there are.
+    /// Show the usage.
     Usage,
 }
 
-/// The command that the words after the program's path ask for. Words that are none of the five
-/// forms, as those with a word too few or too many, ask for the usage. Does not allocate.
+/// Returns the command that the words after the program's path ask for. Words that match none of the five
+/// forms, for example too few or too many of them, ask for the usage. Does not allocate.
 pub fn command_of<'a>(words: &[&'a str]) -> Command<'a>
-    // Words ask for a command as the table of the program in docs/FORMATS.md says: each of its five
-    // forms for that command with its paths, in their order, and all other words for the usage.
+    // The result is the command that docs/FORMATS.md gives for these words: each of the five forms asks for
+    // its command with its paths, in order, and all other words ask for the usage.
     ensures { AsksFor (map (λ w. w.now) words.now) result }
 {
     match words.len() {

@@ -1,6 +1,5 @@
-//! Opens the files that a command names, runs its body over them and the standard streams, and
-//! returns the exit status. What fails before the body has begun is returned as an error, and not
-//! reported.
+//! Opens the files that a command names, runs its body over them and the standard streams, and returns the
+//! exit status. An error before the body begins is returned and not reported.
 
 ghost use Rattle.std.specs.Prelude.{◌≡◌, ◌≤◌, ◌⊎◌, ℕ, List, Some, Err, IsOk, IfOk, IfErr};
 ghost use Rattle.minisign.specs.Fault.{Fault, Named};
@@ -31,8 +30,8 @@ use minisign::base::{ErrorKind, NamedFault, PError};
 use std::fs;
 use std::fs::File;
 
-/// Opens the device of random bytes, and runs `keygen` over it, a prompt on standard input and
-/// output, and memory. The two files are replaced last.
+/// Opens the device of random bytes, and runs `keygen` with it, with a prompt on standard input and output,
+/// and with memory as output. Writes the two files last.
 pub fn keygen_files<S: Scheme, W: Sink>(
     rt: &HostRuntime,
     scheme: &S,
@@ -43,10 +42,11 @@ pub fn keygen_files<S: Scheme, W: Sink>(
     // The exit status is 0 or 1.
     ensures status { IfOk result (λ s. s ≤ 1) }
 
-    // With status 0 the warning is said, with 1 the line of an error after it, and nothing else.
+    // With exit status 0, the warning was sent, and with 1 the error line after it. Nothing else was
+    // written.
     ensures said { IfOk result (SaysOnlyFaults W.Sink errors.old errors.new) }
 
-    // The only error that comes before the body is `reading failed`, and nothing is said then.
+    // The only error before the body begins is `reading failed`, and then nothing was written.
     ensures refused { IfErr result (λ e. (e ≡ Named ReadingFailed) × (errors.new ≡ errors.old)) }
 {
     let random_file = open(rt, "/dev/urandom")?;
@@ -76,8 +76,8 @@ fn contents_of_pair<'a>(
     sk: &'a str,
     sk_text: &'a [u8],
 ) -> (Contents<'a>, Contents<'a>)
-    // The file of a public key is new for all, that of a secret key for its owner alone, each with
-    // its own text.
+    // A new file of a public key is readable for all, a new file of a secret key only for its owner, and
+    // each gets its own text.
     ensures public { HoldsContents result.0 pk.now for_all pk_text.now }
     ensures secret { HoldsContents result.1 sk.now for_the_owner sk_text.now }
 {
@@ -94,9 +94,9 @@ fn contents_of_pair<'a>(
     (public, secret)
 }
 
-/// Opens the secret key, the data and the device of random bytes, asks the clock, and runs `sign`
-/// over them, a prompt on standard input and output, and memory. The file of the signature is
-/// replaced last.
+/// Opens the secret key, the data and the device of random bytes, reads the clock, and runs `sign` with
+/// them, with a prompt on standard input and output, and with memory as output. Writes the signature file
+/// last.
 pub fn sign_files<S: Scheme, W: Sink>(
     rt: &HostRuntime,
     scheme: &S,
@@ -108,11 +108,12 @@ pub fn sign_files<S: Scheme, W: Sink>(
     // The exit status is 0 or 1.
     ensures status { IfOk result (λ s. s ≤ 1) }
 
-    // With status 0 the warning is said, with 1 the line of an error after it, and nothing else.
+    // With exit status 0, the warning was sent, and with 1 the error line after it. Nothing else was
+    // written.
     ensures said { IfOk result (SaysOnlyFaults W.Sink errors.old errors.new) }
 
-    // The only errors that come before the body are `reading failed` and that of the clock, and
-    // nothing is said then.
+    // The only errors before the body begins are `reading failed` and that of the clock, and then nothing
+    // was written.
     ensures refused { IfErr result (λ e. ((e ≡ Named ReadingFailed) ⊎ (e ≡ Named ClockIncorrect))
         × (errors.new ≡ errors.old)) }
 {
@@ -142,7 +143,7 @@ pub fn sign_files<S: Scheme, W: Sink>(
 
 // What the file of a signature is to hold: all that was written as its text. A new one is for all.
 fn contents_of_signature<'a>(sig: &'a str, text: &'a VecSink) -> Contents<'a>
-    // The file of a signature is new for all, and gets the text that was made.
+    // A new signature file is readable for all, and gets the text that was made.
     ensures { (bytes : List ℕ) → ⟦<VecSink as Sink>⟧.taken text.now ≡ Some bytes
         → HoldsContents result sig.now for_all bytes }
 {
@@ -153,7 +154,7 @@ fn contents_of_signature<'a>(sig: &'a str, text: &'a VecSink) -> Contents<'a>
     }
 }
 
-/// Opens the public key, the data and the signature, and runs `verify` over them.
+/// Opens the public key, the data and the signature, and runs `verify` with them.
 pub fn verify_files<S: Scheme, W: Sink>(
     rt: &HostRuntime,
     scheme: &S,
@@ -165,15 +166,15 @@ pub fn verify_files<S: Scheme, W: Sink>(
     // The exit status is 0 or 1.
     ensures status { IfOk result (λ s. s ≤ 1) }
 
-    // The exit status is 0 only where two texts and data are there for which they vouch, whatever
-    // the scheme accepts.
+    // The exit status is 0 only if there are two texts and data for which the texts are valid, whatever the
+    // scheme accepts.
     ensures accepted { IfOk result (λ s. s ≡ 0 → SomeTextsVouch (S.accepts scheme.now)) }
 
-    // With status 0 the status lines of a box are said after the warning, with 1 the line of an
-    // error comes last.
+    // With exit status 0, the status lines were written after the warning was sent. With exit status 1, the
+    // error line was sent last.
     ensures said { IfOk result (SaysVerdict W.Sink errors.old errors.new) }
 
-    // The only error that comes before the body is `reading failed`, and nothing is said then.
+    // The only error before the body begins is `reading failed`, and then nothing was written.
     ensures refused { IfErr result (λ e. (e ≡ Named ReadingFailed) × (errors.new ≡ errors.old)) }
 {
     let (pk_file, data_file, sig_file) = open_three(rt, pk, file, sig)?;
@@ -185,7 +186,7 @@ pub fn verify_files<S: Scheme, W: Sink>(
     Ok(run_verify(rt.alloc(), scheme, &mut devices, errors))
 }
 
-/// Opens the key and the signature, and runs `verify-raw` over them and standard input.
+/// Opens the public key and the signature, and runs `verify-raw` with them and standard input.
 pub fn verify_raw_files<S: Scheme, W: Sink>(
     rt: &HostRuntime,
     scheme: &S,
@@ -196,15 +197,15 @@ pub fn verify_raw_files<S: Scheme, W: Sink>(
     // The exit status is 0 or 1.
     ensures status { IfOk result (λ s. s ≤ 1) }
 
-    // The exit status is 0 only where the bytes of a key, of a bare signature and data are there
-    // for which these vouch, whatever the scheme accepts.
+    // The exit status is 0 only if there are the bytes of a public key and of a bare signature and data for
+    // which they are valid, whatever the scheme accepts.
     ensures accepted { IfOk result (λ s. s ≡ 0 → SomeBytesVouch (S.accepts scheme.now)) }
 
-    // With status 0 the status line of a bare signature is said after the warning, with 1 the line
-    // of an error comes last.
+    // With exit status 0, the status line was written after the warning was sent. With exit status 1, the
+    // error line was sent last.
     ensures said { IfOk result (SaysRawVerdict W.Sink errors.old errors.new) }
 
-    // The only error that comes before the body is `reading failed`, and nothing is said then.
+    // The only error before the body begins is `reading failed`, and then nothing was written.
     ensures refused { IfErr result (λ e. (e ≡ Named ReadingFailed) × (errors.new ≡ errors.old)) }
 {
     let pk_file = open(rt, pk)?;
@@ -219,9 +220,9 @@ pub fn verify_raw_files<S: Scheme, W: Sink>(
     ))
 }
 
-/// Opens the public key, the data, which goes back by seeking, and the signature, and runs `cat`
-/// over them and standard output. Data from the file that standard output leads into is rejected,
-/// with nothing read: the copy would be read as data again.
+/// Opens the public key, the data, which goes back by seeking, and the signature, and runs `cat` with them
+/// and standard output. Rejects data from the file that standard output is redirected to, without reading
+/// it, because the copy would be read as data again.
 pub fn cat_files<S: Scheme, W: Sink>(
     rt: &HostRuntime,
     scheme: &S,
@@ -233,16 +234,16 @@ pub fn cat_files<S: Scheme, W: Sink>(
     // The exit status is 0 or 1.
     ensures status { IfOk result (λ s. s ≤ 1) }
 
-    // The exit status is 0 only where two texts and data are there for which they vouch, whatever
-    // the scheme accepts.
+    // The exit status is 0 only if there are two texts and data for which the texts are valid, whatever the
+    // scheme accepts.
     ensures accepted { IfOk result (λ s. s ≡ 0 → SomeTextsVouch (S.accepts scheme.now)) }
 
-    // With status 0 the status lines of a box are said after the warning, with 1 the line of an
-    // error comes last.
+    // With exit status 0, the status lines were written after the warning was sent. With exit status 1, the
+    // error line was sent last.
     ensures said { IfOk result (SaysVerdict W.Sink errors.old errors.new) }
 
-    // The only errors that come before the body are `reading failed` and data from the file that
-    // standard output leads into, and nothing is said then.
+    // The only errors before the body begins are `reading failed` and data from the file that standard
+    // output is redirected to, and then nothing was written.
     ensures refused { IfErr result (λ e. ((e ≡ Named ReadingFailed) ⊎ (e ≡ input_is_output))
         × (errors.new ≡ errors.old)) }
 {
@@ -304,7 +305,7 @@ fn is_output(rt: &HostRuntime, file: &File) -> bool {
     }
 }
 
-/// The data comes from the file that standard output leads into.
+/// Returns the error for data from the file that standard output is redirected to.
 #[tactic(auto, unfolding(crate::specs::Copying::input_is_output))]
 pub fn input_is_output() -> PError
     ensures { result ≡ input_is_output }

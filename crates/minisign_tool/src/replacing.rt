@@ -1,21 +1,21 @@
-//! Replaces files in one step: after a kill or on a full disk, too, the older file or the new one
-//! is there, whole.
+//! Replaces files in one step: even after a kill or on a full disk, either the old file or the new one is
+//! there, complete.
 
 ghost use Rattle.std.specs.Prelude.{IfErr};
 ghost use Rattle.minisign_tool.specs.Replacing.{IsWriteFault};
 
+use crate::permissions::give_permissions;
 use minisign::base::devices::sinks::{WriterSink, put_and_flush};
 use minisign::base::{NamedFault, PError, Result};
-use minisign_programs::permissions::give_permissions;
 use std::fs::{File, Metadata, OpenOptions};
 use std::os::unix::fs::{MetadataExt, OpenOptionsExt};
 use std::random::RandomSource;
 use std::{fs, io};
 
-/// All may read and write a file that is made, as far as the system's mask allows.
+/// Mode of a new file that everybody may read and write, as far as the umask allows.
 pub const FOR_ALL: u32 = 0o666;
 
-/// Its owner alone may read and write a file that is made.
+/// Mode of a new file that only its owner may read and write.
 pub const FOR_THE_OWNER: u32 = 0o600;
 
 // How many links are followed one after another, as the system does.
@@ -24,14 +24,14 @@ const MAX_LINKS: u32 = 40;
 // How many names are tried for a stage.
 const MAX_NAMES: u64 = 100;
 
-/// What a file is to hold.
+/// The new contents of a file.
 #[derive(Clone, Copy)]
 pub struct Contents<'a> {
-    /// The path, as it was given.
+    /// The path as it was given.
     pub path: &'a str,
-    /// The permission bits where no file is there, of which the system's mask takes some away.
+    /// The permission bits if no file exists yet, before the umask.
     pub mode: u32,
-    /// All its bytes.
+    /// All the bytes of the file.
     pub bytes: &'a [u8],
 }
 
@@ -84,7 +84,7 @@ impl Stage {
         ensures { IfErr result IsWriteFault }
     {
         if self.place.keeps_permissions {
-            written(give_permissions(&file, &self.place.older, None))?;
+            written(give_permissions(&file, &self.place.older))?;
         }
         let Ok(()) = put_and_flush(&mut WriterSink::new(&file), bytes) else {
             return Err(NamedFault::WritingFailed.into());
@@ -117,16 +117,15 @@ impl Stage {
     }
 }
 
-/// Replaces the file that the path leads to, links followed, in one step: a new one is made beside
-/// it under a name of its own, written, synced, and renamed. It gets the permissions, and
-/// where that is allowed the owner and the group, of the file that was there, or else `mode`; but
-/// its group gets no permission that not all others have. What is no regular file is written as it is.
+/// Replaces the file at the path, after following links, in one step: creates a new file beside it under a
+/// name of its own, writes and syncs it, and renames it. The new file gets the permissions and, if that is
+/// allowed, the owner and the group of the existing file, or else `mode`. Its group gets no permission that
+/// others do not have. Anything that is not a regular file is written directly.
 ///
-/// Where that fails, which is out of memory or `WritingFailed`, the older one is as it was
-/// and nothing is left beside it. Only where the directory cannot be synced the new one
-/// stands there already.
+/// If it fails, with out of memory or `WritingFailed`, the existing file is unchanged and nothing is left
+/// beside it. Only if the directory could not be synced is the new file already there.
 pub fn replace_file(rt: &HostRuntime, contents: Contents<'_>) -> Result<()>
-    // Replacing files fails as `out of memory` or `writing failed`.
+    // The only errors are `out of memory` and `writing failed`.
     ensures { IfErr result IsWriteFault }
 {
     let place = find_place(rt, contents.path)?;
@@ -139,15 +138,15 @@ pub fn replace_file(rt: &HostRuntime, contents: Contents<'_>) -> Result<()>
     }
 }
 
-/// Replaces the file of a public key and that of its secret key, each as `replace_file` does. Both
-/// new files are made and synced, and what is no regular file is written, before any
-/// file is replaced; the secret one is replaced last.
+/// Replaces the file of a public key and the file of its secret key, each as `replace_file` does. Both new
+/// files are created and synced, and anything that is not a regular file is written, before any file is
+/// replaced. The secret key's file is replaced last.
 ///
-/// Where both paths lead to one file it is the secret key's in the end, and its mode the one for
-/// new files, since the permissions of the older file were also chosen for a public key. Two names of
-/// one file get a file each.
+/// If both paths lead to the same file, it ends up with the secret key and the mode for new files, because
+/// the existing file's permissions were also chosen for a public key. If two names lead to the same file,
+/// each gets a file of its own.
 pub fn replace_both(rt: &HostRuntime, public: Contents<'_>, secret: Contents<'_>) -> Result<()>
-    // Replacing files fails as `out of memory` or `writing failed`.
+    // The only errors are `out of memory` and `writing failed`.
     ensures { IfErr result IsWriteFault }
 {
     let public_place = find_place(rt, public.path)?;
@@ -229,7 +228,7 @@ impl Place {
     }
 }
 
-/// Whether both are one file.
+/// Returns true if both are the same file.
 pub fn is_same_file(one: &Metadata, other: &Metadata) -> bool {
     one.dev() == other.dev() && one.ino() == other.ino()
 }

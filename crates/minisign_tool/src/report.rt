@@ -1,5 +1,6 @@
-//! What the program writes to the error stream, each line in one write. A line that cannot be
-//! written there changes no exit status.
+//! What the program writes to the error stream, each line in one write. A line that cannot be written
+//! changes no exit status. In the contracts of this program a line "was sent" if it was written completely,
+//! or if the error stream failed and received a prefix of it.
 
 ghost use Rattle.std.specs.Prelude.{◌≡◌, ◌++◌, codes, MatchResult, OnOk, OnErr};
 ghost use Rattle.std.specs.Io.KnownBytes.{Appends};
@@ -13,21 +14,20 @@ use minisign::base::faults::TEXT_ROOM;
 use minisign::base::helpers::joined;
 use minisign::base::{PError, Result};
 
-/// Warns of the toy scheme. This line is always the first. Does not allocate.
+/// Warns that the scheme is a toy. This line is always the first. Does not allocate.
 #[tactic(auto, unfolding(crate::specs::Report::warning_line))]
 pub fn warn<W: Sink>(errors: &mut W)
-    // The warning is written whole, or the error stream failed and took a prefix.
+    // The warning was written completely, or the error stream failed and received a prefix of it.
     ensures { TakesOrFails W.Sink errors.old errors.new warning_line }
 {
     let _ = write_all(errors, b"warning: insecure toy scheme, for tests only\n");
 }
 
-/// Shows the arguments that there are, and returns the exit status of arguments that are none of
-/// them. Does not allocate.
+/// Shows the usage, and returns the exit status for wrong arguments. Does not allocate.
 #[tactic(auto, unfolding(crate::specs::Report::usage_line))]
 pub fn usage<W: Sink>(errors: &mut W) -> u8
-    // The usage is written whole, or the error stream failed and took a prefix; its exit status
-    // is 2.
+    // The exit status is 2. The usage was written completely, or the error stream failed and received a
+    // prefix of it.
     ensures status { result ≡ 2 }
     ensures said { TakesOrFails W.Sink errors.old errors.new usage_line }
 {
@@ -38,11 +38,10 @@ pub fn usage<W: Sink>(errors: &mut W) -> u8
     2
 }
 
-/// Shows an error, and returns the exit status of one. Does not allocate.
+/// Shows an error, and returns the exit status for errors. Does not allocate.
 pub fn report<W: Sink>(errors: &mut W, fault: &PError) -> u8
-    // The line of an error is `error: ` and the text of the very error that ended the run, for each
-    // error that there is; it is written whole, or the error stream failed and took a prefix.
-    // Its exit status is 1.
+    // The exit status is 1. `error: ` and the text of this error were written as a line, or the error
+    // stream failed and received a prefix of it.
     ensures status { result ≡ 1 }
     ensures said { TakesOrFails W.Sink errors.old errors.new (fault_line fault.now) }
 {
@@ -51,11 +50,11 @@ pub fn report<W: Sink>(errors: &mut W, fault: &PError) -> u8
     1
 }
 
-/// The exit status of a command: its own, or that of an error that came before its body, which is
-/// shown after the warning.
+/// Returns the exit status of a command. If an error occurred before the command's body began, shows the
+/// warning and the error.
 pub fn end<W: Sink>(errors: &mut W, answer: Result<u8>) -> u8
-    // The exit status of a command is its own; of an error that came before its body the warning and
-    // the error are shown, and it is 1.
+    // The exit status is that of the command. For an error before its body began, the exit status is 1, and
+    // the warning and the error line were sent.
     ensures { MatchResult answer (λ s. (result ≡ s) × (errors.new ≡ errors.old))
         (λ e. (result ≡ 1) × ((warned : W) × TakesOrFails W.Sink errors.old warned warning_line
         × TakesOrFails W.Sink warned errors.new (fault_line e))) }

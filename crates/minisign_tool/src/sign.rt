@@ -1,5 +1,5 @@
-//! The command `sign`: the text of a secret key from a file, the data from another, the signature's
-//! text to a third.
+//! The command `sign`: signs the data in a file with the secret key in a file, and writes the signature
+//! text.
 
 ghost use Rattle.std.specs.Prelude.{◌≡◌, ◌≤◌, string_bytes, IfOk, IfErr, OnOk};
 ghost use Rattle.minisign.specs.Devices.{HasGiven};
@@ -19,25 +19,24 @@ use minisign::reading::read_text;
 use minisign::{Result, default_comments_are_read_back, sign_texts};
 use std::alloc::Global;
 
-/// What the command `sign` takes its input from.
+/// The input of the command `sign`.
 #[derive(Drop)]
 pub struct SigningDevices<K, R, Z, A, B> {
     /// Holds the text of the secret key.
     pub sk_file: K,
-    /// Has the data ahead that is signed.
+    /// Has the data to sign ahead.
     pub data_reader: R,
-    /// Gives the 128 random bytes of the two signatures.
+    /// Provides the 128 random bytes for the two signatures.
     pub random: Z,
-    /// Asks for the password of a sealed key.
+    /// Asks for the password of an encrypted key.
     pub prompt: Prompt<A, B>,
 }
 
-/// Signs the data of `devices` with the text of their secret key, and hands the text of the
-/// signature to `signature`, which is flushed. The key's file is read whole first and has to be
-/// UTF-8; where its key is sealed, the prompt asks for the password. The comments are the default
-/// ones, with the moment in seconds since 1970. The warning and the line of an error go to
-/// `errors`. Returns the exit status: 0 where `signature` took the whole text, otherwise 1.
-/// `signature` is not touched before the text is made.
+/// Signs the data of `devices` with the text of their secret key, writes the signature text to `signature`,
+/// and flushes it. The key's file is read whole first and must be UTF-8. If the key is encrypted, the
+/// prompt asks for the password. The comments are the default ones, with `moment` in seconds since 1970.
+/// The warning and the line of an error go to `errors`. Returns the exit status: 0 if `signature` received
+/// the whole text, otherwise 1. `signature` is unchanged until the text is made.
 pub fn run_sign<
     S: Scheme,
     K: Source,
@@ -58,27 +57,28 @@ pub fn run_sign<
     // The exit status is 0 or 1.
     ensures status { result ≤ 1 }
 
-    // **The exit status is 0 only if a text was written whole that, of a genuine key, is read back as
-    // a box that its public key vouches with.**
+    // **The exit status is 0 only if a whole signature text was written, and if the key is genuine, the
+    // text is read back as a signature box that is valid under its public key.**
     ensures headline { result ≡ 0 → HasWrittenVouched (S.accepts scheme.now) (S.public_of scheme.now)
         (signing_call K.Source R.Source Z.RandomSource A.Source B.Sink devices.old devices.new)
         (sink_call G.Sink signature.old signature.new) }
 
-    // That is the text that `sign_texts` says, with the default comments, of what was read, after
-    // the warning: of the key that the file's text gives, under the password that was typed where it
-    // is sealed; and where this very key is genuine, the text is read back as above.
+    // With exit status 0, the text is the one that `sign_texts` promises, with the default comments, for
+    // the data that was read: it is made with the key in the key's file, decrypted with the typed password
+    // if it is encrypted. If this key is genuine, the text is read back as above. The warning was sent.
     ensures signed { result ≡ 0 → HasWrittenSigned S.Scheme scheme.now
         (signing_call K.Source R.Source Z.RandomSource A.Source B.Sink devices.old devices.new)
         (sink_call G.Sink signature.old signature.new) moment }
     ensures said { result ≡ 0 → TakesOrFails W.Sink errors.old errors.new warning_line }
 
-    // The exit status is 1 only because the key's file gave no text, with nothing else touched, or
-    // signing failed, with nothing written, or the text was not written whole.
+    // With exit status 1, either the key's file gave no text, and nothing else was used; or signing failed,
+    // and nothing was written; or the text was not written completely.
     ensures refused { result ≡ 1 → ShowsOnlyFault W.Sink errors.old errors.new
         (FileSigningFails S.Scheme scheme.now (signing_call K.Source R.Source Z.RandomSource A.Source B.Sink
         devices.old devices.new) (sink_call G.Sink signature.old signature.new) moment) }
 
-    // Whatever the result, the source and the random source lost at most a prefix.
+    // The bytes still ahead of the source and of the random source are suffixes of those that were ahead
+    // before the call, whatever the result.
     ensures given { HasGiven (R.ahead devices.old.data_reader) (R.ahead devices.new.data_reader) }
     ensures drawn { HasGiven (Z.random_ahead devices.old.random) (Z.random_ahead devices.new.random) }
 {

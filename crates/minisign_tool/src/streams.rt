@@ -1,10 +1,10 @@
-//! Holds the numbers of the standard streams, so that no other file gets one.
+//! Keeps the file descriptors of closed standard streams occupied, so that no other file gets one of them.
 
 use std::fs::File;
 use std::os::fd::AsFd;
 use std::{fs, io};
 
-/// What stands in place of the standard streams that were closed, as long as it is kept.
+/// The directories that are open in place of closed standard streams, for as long as this value exists.
 #[derive(Drop)]
 pub struct HeldStreams {
     _input: Option<File>,
@@ -12,10 +12,10 @@ pub struct HeldStreams {
     _errors: Option<File>,
 }
 
-/// Opens a directory in place of each standard stream that is closed. The system gives the first files
-/// that are opened the numbers of closed streams, so that a password would be read from a key's
-/// file, or a line written into a signature's. A directory can be neither read nor written, so a
-/// closed stream stays as good as closed.
+/// Opens a directory in place of each standard stream that is closed. Otherwise the first files that are
+/// opened would get the descriptors of closed streams, and a password would be read from a key's file, or a
+/// message written into a signature. A directory can be neither read nor written this way, so a closed
+/// stream still behaves like a closed one.
 pub fn hold_closed_streams(rt: &HostRuntime) -> io::Result<HeldStreams> {
     Ok(HeldStreams {
         _input: hold(rt, rt.stdin())?,

@@ -1,4 +1,4 @@
-//! Texts of keys and signatures, read from files.
+//! The texts of keys and signatures, read from files.
 
 ghost use Rattle.std.specs.Prelude.{string_bytes, IfOk, IfErr};
 ghost use Rattle.minisign.specs.DeviceCalls.{source_call};
@@ -9,19 +9,19 @@ use minisign::base::devices::sources::Source;
 use minisign::reading::read_text;
 use std::alloc::Global;
 
-/// The texts of two files, of which the first is read whole, and has to be UTF-8, before the second
-/// is read. Rejected is the first of them that does not give a text, as `read_text` says.
+/// Reads the texts of two files. The first is read whole, and must be UTF-8, before the second is read. The
+/// error is that of the first file that gives no text, as for `read_text`.
 pub fn read_both_texts<P: Source, Q: Source>(
     alloc: Global,
     first: &mut P,
     second: &mut Q,
 ) -> Result<(String, String)>
-    // Both texts are all the bytes that were ahead of the two sources.
+    // On success, each text is all the bytes that were ahead of its source.
     ensures texts { IfOk result (λ both. ReadsBoth (source_call P.Source first.old first.new)
         (source_call Q.Source second.old second.new) (string_bytes both.0) (string_bytes both.1)) }
 
-    // Rejected is the first file that does not give a text, as `read_text` says; the second is then
-    // left alone if the first gives none.
+    // The error is that of the first file that gives no text, as `read_text` promises. If the first file
+    // gives none, the second is unchanged.
     ensures refused { IfErr result (EitherFails (source_call P.Source first.old first.new)
         (source_call Q.Source second.old second.new)) }
 {

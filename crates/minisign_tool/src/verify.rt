@@ -1,5 +1,4 @@
-//! The command `verify`: the texts of a public key and a signature from files, the data from a
-//! third.
+//! The command `verify`: verifies the data in a file with the texts of a public key and a signature.
 
 ghost use Rattle.std.specs.Prelude.{◌≡◌, ◌≤◌, false, OnOk, IfErr};
 ghost use Rattle.minisign.specs.Devices.{HasGiven};
@@ -15,21 +14,21 @@ use minisign::base::scheme::Scheme;
 use minisign::{Result, verify_texts};
 use std::alloc::Global;
 
-/// What the commands `verify` and `cat` take their input from.
+/// The input of the commands `verify` and `cat`.
 #[derive(Drop)]
 pub struct VerifyingDevices<P, Q, R> {
     /// Holds the text of the public key.
     pub pk_file: P,
     /// Holds the text of the signature.
     pub sig_file: Q,
-    /// Has the data ahead that is verified.
+    /// Has the data to verify ahead.
     pub data_reader: R,
 }
 
-/// Verifies the data of `devices` with the texts of their public key and their signature; legacy
-/// signatures are rejected. Both files are read whole, the key first, and have to be UTF-8, before
-/// the data is read. The warning, and then the status lines or the line of an error, go to `errors`.
-/// Returns the exit status: 0 where the texts vouch for the data, otherwise 1.
+/// Verifies the data of `devices` with the texts of their public key and their signature. Legacy signatures
+/// are rejected. Both files are read whole, the key first, and must be UTF-8, before the data is read. The
+/// warning, and after it the status lines or the line of an error, go to `errors`. Returns the exit status:
+/// 0 if the signature is valid, otherwise 1.
 pub fn run_verify<S: Scheme, P: Source, Q: Source, R: Rereader, W: Sink>(
     alloc: Global,
     scheme: &S,
@@ -39,14 +38,14 @@ pub fn run_verify<S: Scheme, P: Source, Q: Source, R: Rereader, W: Sink>(
     // The exit status is 0 or 1.
     ensures status { result ≤ 1 }
 
-    // **The exit status is 0 only if the two texts that were read whole vouch for all of the data,
-    // with the warning and the status lines written.**
+    // **The exit status is 0 only if both text files were read whole, the texts are valid for all of the
+    // data, and the status lines were written after the warning was sent.**
     ensures accepted { result ≡ 0 → FilesVouch (S.accepts scheme.now)
         (verifying_call P.Source Q.Source R.Source R.steady devices.old devices.new)
         (SaysAfterWarning W.Sink errors.old errors.new) }
 
-    // The exit status is 1 only because a file gave no text, with no data read, or verifying fails,
-    // as `verify_texts` says, between the warning and the line of the error.
+    // With exit status 1, either a file gave no text, and no data was read, or verification failed, as
+    // `verify_texts` promises. The warning was sent first and the error line last.
     ensures refused { result ≡ 1 → EndsWithFault W.Sink errors.old errors.new
         (FilesFail (S.accepts scheme.now)
         (verifying_call P.Source Q.Source R.Source R.steady devices.old devices.new)) }

@@ -1,5 +1,4 @@
-//! The command `verify-raw`: a raw public key and a raw signature from files, the data from a
-//! reader.
+//! The command `verify-raw`: verifies the data from a reader with a raw public key and a raw signature.
 
 ghost use Rattle.std.specs.Prelude.{◌≡◌, ℕ, ◌≤◌, List, OnOk, OnErr, IfErr};
 ghost use Rattle.std.specs.Io.KnownBytes.{Appends};
@@ -20,11 +19,10 @@ use minisign::reading::read_to_end;
 use minisign::{PublicKey, Result, SignatureBones, SignatureBox, verify};
 use std::alloc::Global;
 
-/// Verifies the data ahead of `data_reader` with the public key of 42 bytes and the signature of 74
-/// that `pk_file` and `sig_file` hold; later bytes of the two are ignored. Both files are read
-/// whole, the key first, before the data is read. The warning, and then the status line or the line
-/// of an error, go to `errors`. Returns the exit status: 0 where the signature vouches for the data,
-/// otherwise 1.
+/// Verifies the data ahead of `data_reader` with the public key of 42 bytes in `pk_file` and the signature
+/// of 74 bytes in `sig_file`; later bytes of both are ignored. Both files are read whole, the key first,
+/// before the data is read. The warning, and after it the status line or the line of an error, go to
+/// `errors`. Returns the exit status: 0 if the signature is valid, otherwise 1.
 pub fn run_verify_raw<S: Scheme, P: Source, Q: Source, R: Rereader, W: Sink>(
     alloc: Global,
     scheme: &S,
@@ -36,18 +34,17 @@ pub fn run_verify_raw<S: Scheme, P: Source, Q: Source, R: Rereader, W: Sink>(
     // The exit status is 0 or 1.
     ensures status { result ≤ 1 }
 
-    // **The exit status is 0 only if the two files and the data were read whole, without an error, and
-    // what the files held vouches for the data, with the warning written, or the prefix that the
-    // error stream took, and then the status line, and nothing else.**
+    // **The exit status is 0 only if both files and the data were read whole, without an error, and the
+    // signature in the one file is valid for the data under the public key in the other.** Then `errors`
+    // received the warning, or a prefix of it if the stream failed, and the status line, and nothing else.
     ensures accepted { result ≡ 0 → RawFilesVouch (S.accepts scheme.now) (source_call P.Source pk_file.old
         pk_file.new) (source_call Q.Source sig_file.old sig_file.new) (rereader_call R.Source R.steady
         data_reader.old data_reader.new) (SaysAfterWarning W.Sink errors.old errors.new) }
 
-    // The exit status is 1 only if the key file was not read whole (an allocation failed, or it failed),
-    // with the signature file left alone, or the signature file was not, after the key file was,
-    // both with no data read; or because verifying with the bytes of both fails, as `verify_raw`
-    // says. Between the warning and the line of that error at most a prefix of the status line
-    // was written.
+    // With exit status 1, either the key's file was not read whole, because an allocation or the file
+    // failed, and the signature's file is unchanged; or the signature's file was not read whole; in both
+    // cases no data was read. Otherwise verification failed, as `verify_raw` promises. Between the warning
+    // and the error line at most a prefix of the status line was written.
     ensures refused { result ≡ 1 → EndsWithFault W.Sink errors.old errors.new (RawFilesFail
         (S.accepts scheme.now) (source_call P.Source pk_file.old pk_file.new) (source_call Q.Source
         sig_file.old sig_file.new) (rereader_call R.Source R.steady data_reader.old data_reader.new)) }
@@ -83,11 +80,11 @@ fn verify_with_files<S: Scheme, P: Source, Q: Source, R: Rereader, W: Sink>(
     verify_raw(alloc, scheme, &key, &signature, data_reader, errors)
 }
 
-/// Verifies the data ahead of `data_reader` with the public key that `key` begins with, 42 bytes,
-/// and the bare signature that `signature` begins with, 74 bytes; later bytes of the two are
-/// ignored. A key and then a signature that are too short or of an unknown algorithm are rejected
-/// before any data is read. On success `errors` gets the status line; after a failing `errors` it
-/// may have a prefix of that line, and after any other rejection it is as it was.
+/// Verifies the data ahead of `data_reader` with the public key in the first 42 bytes of `key` and the bare
+/// signature in the first 74 bytes of `signature`; later bytes of both are ignored. A key or a signature
+/// that is too short, or a signature of an unknown algorithm, is rejected before any data is read, the key
+/// first. On success `errors` receives the status line. After a failing `errors` it may have received a
+/// prefix of that line. After any other error it is unchanged.
 pub fn verify_raw<S: Scheme, R: Rereader, W: Sink>(
     alloc: Global,
     scheme: &S,
@@ -96,20 +93,19 @@ pub fn verify_raw<S: Scheme, R: Rereader, W: Sink>(
     data_reader: &mut R,
     errors: &mut W,
 ) -> Result<()>
-    // The bytes of two files that were read vouch for the data: they begin with a public key and a
-    // bare signature of a known algorithm, which vouches for the message by its digest; legacy ones
-    // are rejected.
+    // On success, the bytes begin with a public key and a bare signature of a known algorithm, and the
+    // signature is valid for the digest of all the data that was ahead. Legacy signatures are rejected.
     ensures accepted { OnOk result ((message : List ℕ)
         × ReadsWhole R.Source data_reader.old data_reader.new message
         × VouchesRaw (S.accepts scheme.now) key.now signature.now message) }
 
-    // The status line is then written.
+    // On success, the status line was written.
     ensures said { OnOk result (Appends (W.taken errors.old) (W.taken errors.new) (line verified_text)) }
     ensures no_new_fault { OnOk result (W.sink_faults errors.new ≡ W.sink_faults errors.old) }
 
-    // Otherwise the key file is too short, or the signature file holds no bare signature, and no
-    // data was read; or verifying fails for the key and the signature that they hold, as above,
-    // with at most a prefix of that line written.
+    // After an error, either the key was too short, or the bytes hold no bare signature, and no data was
+    // read; or verification failed for the key and the signature. At most a prefix of the status line was
+    // written.
     ensures refused { IfErr result (VerifyRawFails (S.accepts scheme.now) key.now signature.now
         (rereader_call R.Source R.steady data_reader.old data_reader.new)
         (sink_call W.Sink errors.old errors.new)) }

@@ -1,16 +1,16 @@
-//! The arguments of a program, as words.
+//! Reads the program's arguments as words.
 
 ghost use Rattle.std.specs.Prelude.{◌≡◌, drop, map, string_bytes, IfErr, IfOk};
-ghost use Rattle.minisign_base.specs.Fault.{Named};
-ghost use Rattle.minisign_base.specs.declared.faults.NamedFault.TheVariants.{OutOfMemory};
+ghost use Rattle.minisign.specs.Fault.{Named};
+ghost use Rattle.minisign.specs.NamedFaults.{OutOfMemory};
 
-use minisign_base::{NamedFault, Result};
+use minisign::base::{NamedFault, Result};
 use std::alloc::{AllocError, Global};
 use std::env::FillError;
 use std::rt::Env;
 use std::{env, io};
 
-// The arguments, with no text in the place of the program, whose path need not be UTF-8.
+// The environment with an empty text in place of the program's path, which need not be UTF-8.
 #[derive(Drop)]
 struct UnnamedProgram<'a, R>(&'a R);
 
@@ -31,10 +31,10 @@ impl<R: Env> Env for UnnamedProgram<'_, R> {
     }
 }
 
-/// The arguments, the first of which stands for the program, or none where another one is not
-/// UTF-8. It fails only where an allocation fails.
+/// Returns the arguments, with an empty text in place of the program's path, or `None` if another argument
+/// is not UTF-8.
 pub fn read_arguments<R: Env + AllocGlobal>(rt: &R) -> Result<Option<Vec<String>>>
-    // Reading the arguments fails only where an allocation fails.
+    // Reading the arguments fails only if an allocation fails.
     ensures { IfErr result (λ e. e ≡ Named OutOfMemory) }
 {
     match env::args(&(UnnamedProgram(rt), rt.alloc())) {
@@ -52,9 +52,10 @@ pub fn read_arguments<R: Env + AllocGlobal>(rt: &R) -> Result<Option<Vec<String>
     }
 }
 
-/// The words of the arguments behind the first one, which is the program. It fails only where an allocation
+/// Returns the arguments without the first one, which is the program's path. Fails only if an allocation
 /// fails.
 pub fn words_of(alloc: Global, arguments: &[String]) -> std::result::Result<Vec<&str>, AllocError>
+    // On success, the result holds the texts of all arguments after the first one, in order.
     ensures { IfOk result (λ v. map (λ w. w.now) v.items ≡ map (λ s. string_bytes s) (drop 1 arguments.now)) }
 {
     let mut words = Vec::with_capacity(alloc, arguments.len())?;

@@ -11,20 +11,20 @@ group_bits mode = mode / 8 % 8
 abbrev pub other_bits : ℕ → ℕ
 other_bits mode = mode % 8
 
--- the mode has these bits of the owner, of the group and of all others, and no other bit
+-- the mode has these bits for the owner, for the group and for all others, and no other bit
 pub record HasBits (mode of_owner of_group of_others : ℕ) : Type 0 where
   pub owner : owner_bits mode ≡ of_owner
   pub group : group_bits mode ≡ of_group
   pub others : other_bits mode ≡ of_others
   pub nothing_else : mode < 2 ^ 9
 
--- the owner and all others have the bits that they had in the older mode, and the group has just those of its
--- older bits that all others have too
+-- the owner and all others have the bits of the older mode, and the group has those of its older bits that
+-- all others have too
 abbrev pub KeepsPermissions : ℕ → ℕ → Type 0
 KeepsPermissions older new =
     HasBits new (owner_bits older) (bit_and (group_bits older) (other_bits older)) (other_bits older)
 
--- of a file whose group could not be given: the owner has the bits that it had, the group has none, and all
--- others have just those of their bits that the group had too
+-- for a file whose group could not be given: the owner has its older bits, the group has none, and all others
+-- have those that the group had too
 abbrev pub LosesGroup : ℕ → ℕ → Type 0
 LosesGroup older new = HasBits new (owner_bits older) 0 (bit_and (group_bits older) (other_bits older))
