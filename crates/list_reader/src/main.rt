@@ -1,0 +1,116 @@
+//! Looks files up in lists, for tests that compare with other programs. It reads requests from standard input, one
+//! on each line, and prints an answer on a line of its own:
+//!
+//!     LONG LIST NAME DATA
+//!
+//! LONG is `-`, `sha512` or `blake2b`: what 128 digits mean on a line that names no function. The others are bytes,
+//! as hexadecimal digits between brackets, so that no word is empty. The answer is `ok N`, with the number of the
+//! line; `mismatch N`; `bad_name`; `malformed N`; `not_listed`; `twice N`; or `not_utf8`.
+
+#![tactic(auto)]
+
+use hex::FromHexError;
+use minisign_lists::{ListFault, LongDigest, find_listed};
+use std::alloc::Global;
+use std::io::{self, BufRead, BufReader, BufWriter, Write};
+use std::process::ExitCode;
+
+// What a request comes to.
+#[derive(Drop)]
+enum Answer {
+    Listed(u64),
+    Mismatch(u64),
+    Rejected(ListFault),
+    NotUtf8,
+    BadRequest,
+    OutOfMemory,
+}
+
+fn main(rt: HostRuntime) -> io::Result<ExitCode> {
+    let mut answers = BufWriter::new(rt.alloc(), io::writer(&rt))?;
+    for line in BufReader::new(rt.alloc(), rt.reader())?.lines(rt.alloc()) {
+        let line = line?;
+        if !write_answer(&answer_to(rt.alloc(), line.as_str()), &mut answers)? {
+            answers.flush()?;
+            return Ok(ExitCode::from(3));
+        }
+    }
+    answers.flush()?;
+    Ok(ExitCode::SUCCESS)
+}
+
+// Writes an answer; false if there is none.
+fn write_answer<W: Write>(answer: &Answer, answers: &mut W) -> io::Result<bool> {
+    match answer {
+        Answer::Listed(line) => writeln!(answers, "ok {line}")?,
+        Answer::Mismatch(line) => writeln!(answers, "mismatch {line}")?,
+        Answer::Rejected(fault) => match fault {
+            ListFault::BadName => writeln!(answers, "bad_name")?,
+            ListFault::MalformedLine { line } => writeln!(answers, "malformed {line}")?,
+            ListFault::NotListed => writeln!(answers, "not_listed")?,
+            ListFault::ListedTwice { line } => writeln!(answers, "twice {line}")?,
+            _ => return Ok(false),
+        },
+        Answer::NotUtf8 => writeln!(answers, "not_utf8")?,
+        _ => return Ok(false),
+    }
+    Ok(true)
+}
+
+// Returns the word with this number.
+fn word(line: &str, number: usize) -> &str {
+    match line.split(' ').nth(number) {
+        Some(word) => word,
+        None => "",
+    }
+}
+
+// Returns the bytes of a word.
+fn bytes_of(alloc: Global, word: &str) -> Result<Vec<u8>, Answer> {
+    let Some(rest) = word.strip_prefix("[") else {
+        return Err(Answer::BadRequest);
+    };
+    let Some(digits) = rest.strip_suffix("]") else {
+        return Err(Answer::BadRequest);
+    };
+    match hex::decode(alloc, digits) {
+        Ok(bytes) => Ok(bytes),
+        Err(FromHexError::OutOfMemory) => Err(Answer::OutOfMemory),
+        Err(_) => Err(Answer::BadRequest),
+    }
+}
+
+// Answers a request.
+fn answer_to(alloc: Global, line: &str) -> Answer {
+    let long = match word(line, 0) {
+        "-" => LongDigest::Rejected,
+        "sha512" => LongDigest::Sha512,
+        "blake2b" => LongDigest::Blake2b,
+        _ => return Answer::BadRequest,
+    };
+    match looked_up(alloc, long, line) {
+        Ok(answer) => answer,
+        Err(answer) => answer,
+    }
+}
+
+// Looks the name of a request up, and compares the data.
+fn looked_up(alloc: Global, long: LongDigest, line: &str) -> Result<Answer, Answer> {
+    let list = bytes_of(alloc, word(line, 1))?;
+    let name = bytes_of(alloc, word(line, 2))?;
+    let message = bytes_of(alloc, word(line, 3))?;
+    let (Ok(list), Ok(name)) = (str::from_utf8(&list), str::from_utf8(&name)) else {
+        return Ok(Answer::NotUtf8);
+    };
+    Ok(match find_listed(long, list, name) {
+        Ok(entry) => {
+            let line = entry.line;
+            if entry.digest.matches(&message) {
+                Answer::Listed(line)
+            } else {
+                Answer::Mismatch(line)
+            }
+        }
+        Err(fault) => Answer::Rejected(fault),
+    })
+}

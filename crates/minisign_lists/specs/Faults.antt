@@ -1,0 +1,27 @@
+-- Why a file is rejected under a signed list, and results with these errors.
+use Rattle.std.specs.Prelude.{Result, Ok, Err}
+use Rattle.minisign_base.specs.Fault.{Fault}
+pub use Rattle.minisign_lists.specs.declared.faults.ListFault.{ListFault}
+pub use Rattle.minisign_lists.specs.declared.faults.ListFault.TheVariants.{Library, OtherList, BadName}
+pub use Rattle.minisign_lists.specs.declared.faults.ListFault.TheVariants.{MalformedLine, NotListed}
+pub use Rattle.minisign_lists.specs.declared.faults.ListFault.TheVariants.{ListedTwice}
+pub use Rattle.minisign_lists.specs.declared.faults.ListFault.TheVariants.{DigestMismatch}
+
+-- goes on with a value, and ends with the first error
+abbrev pub and_then : {V W : Type 0} → Result V ListFault → (V → Result W ListFault) → Result W ListFault
+and_then (Ok v) more = more v
+and_then (Err e) more = Err e
+
+-- the result of the library, whose error is one of ours too
+abbrev pub of_library : {V : Type 0} → Result V Fault → Result V ListFault
+of_library (Ok v) = Ok v
+of_library (Err e) = Err (Library e)
+
+abbrev pub map_ok : {V W : Type 0} → (V → W) → Result V ListFault → Result W ListFault
+map_ok f (Ok v) = Ok (f v)
+map_ok f (Err e) = Err e
+
+-- only whether there is an error
+abbrev pub checked : {V : Type 0} → Result V ListFault → Result Unit ListFault
+checked (Ok v) = Ok tt
+checked (Err e) = Err e

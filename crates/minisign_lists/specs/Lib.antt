@@ -1,0 +1,8 @@
+pub mod Faults
+pub mod Names
+pub mod Digests
+pub mod Lines
+pub mod Lists
+pub mod Comments
+pub mod Verdicts
+pub mod Pieces

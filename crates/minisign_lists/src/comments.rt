@@ -1,0 +1,56 @@
+//! Decides if a trusted comment names a list. Does not allocate.
+
+ghost use Rattle.std.specs.Prelude.{◌≡◌, ◌∷◌, ◌<◌, ◌++◌, [], find, bytes_eq, option_copied, take, length};
+ghost use Rattle.std.specs.Prelude.{IfSome, IfNone};
+ghost use Rattle.std.specs.List.{slice_split};
+ghost use Rattle.minisign_lists.specs.Comments.{file_label, has_label, is_field_of, is_tab, names_list};
+
+// Returns true if a field begins with `file:`.
+fn has_label(field: &str) -> bool
+    ensures { result ≡ has_label field.now }
+{
+    field.as_bytes().starts_with(b"file:")
+}
+
+// Returns the first field of a text, which a tab follows, and what follows the tab.
+fn split_field(text: &str) -> Option<(&str, &str)>
+    ensures some { IfSome result
+        (λ p. slice_split is_tab text.now ≡ p.0.now ∷ slice_split is_tab p.1.now) }
+    ensures shorter { IfSome result (λ p. length p.1.now < length text.now) }
+    ensures none { IfNone result (slice_split is_tab text.now ≡ text.now ∷ []) }
+{
+    match text.split_once('\t') {
+        Some((field, more)) => Some((field, more)),
+        None => None,
+    }
+}
+
+// Returns the first field of a comment that begins with `file:`.
+fn file_field(comment: &str) -> Option<&str>
+    ensures { option_copied result ≡ find has_label (slice_split is_tab comment.now) }
+{
+    let mut rest = comment;
+    'fields: while let Some((field, more)) = split_field(rest) {
+        if has_label(field) {
+            return Some(field);
+        }
+        rest = more;
+    }
+    if has_label(rest) { Some(rest) } else { None }
+}
+
+/// Returns true if the first field `file:` of the trusted comment, between its tabs, has this name. Signing
+/// writes the last part of the path that was signed into this field. A signed text that only looks like a
+/// list of files has another name there, or none.
+pub fn names_list(comment: &str, list_name: &str) -> bool
+    // The result says whether the first field `file:` of the comment has exactly this name.
+    ensures { result ≡ names_list list_name.now comment.now }
+{
+    match file_field(comment) {
+        Some(field) => match field.as_bytes().strip_prefix(b"file:") {
+            Some(name) => name == list_name.as_bytes(),
+            None => false,
+        },
+        None => false,
+    }
+}

@@ -1,0 +1,96 @@
+//! The entries of a list, one after the other. Nothing here allocates.
+
+ghost use Rattle.std.specs.Prelude.{◌≡◌, ◌<◌, ◌+◌, ◌∷◌, [], Ok, Err, IfErr, IfOk, IfSome, IfNone};
+ghost use Rattle.std.specs.Prelude.{MatchOption, OnSome};
+ghost use Rattle.std.specs.Prelude.{length};
+ghost use Rattle.std.specs.List.{slice_split};
+ghost use Rattle.std.specs.Str.Lines.{lines, strip_carriage_return};
+ghost use Rattle.minisign_lists.specs.Faults.{map_ok};
+ghost use Rattle.minisign_lists.specs.Lists.{read_list};
+ghost use Rattle.minisign_lists.specs.Pieces.{IsNumbered, ahead, is_feed, left};
+
+use crate::faults::Result;
+use crate::lines::{EntryView, LongDigest, read_line};
+
+/// The entries of a list that are still ahead.
+#[derive(Drop)]
+pub struct Entries<'a> {
+    long: LongDigest,
+    // How many lines were read.
+    line: u64,
+    rest: &'a [u8],
+}
+
+impl<'a> Entries<'a> {
+    /// Returns all entries of a list. `long` says what 128 digits mean on a line that names no function.
+    pub fn new(long: LongDigest, list: &'a str) -> Entries<'a>
+        // All entries of the list are ahead.
+        ensures ahead { ahead result ≡ read_list long list.now }
+        ensures numbered { IsNumbered result }
+    {
+        Entries {
+            long,
+            line: 0,
+            rest: list.as_bytes(),
+        }
+    }
+
+    /// Returns the next entry, or nothing at the end. A malformed line is the error `MalformedLine`.
+    pub fn next_entry(&mut self) -> Result<Option<EntryView<'a>>>
+        requires { IsNumbered self.old }
+        // The entries come in the order of their lines. At the end none is ahead, and a malformed line is an
+        // error.
+        ensures entry { IfOk result (λ next. MatchOption next (ahead self.old ≡ Ok [])
+            (λ e. ahead self.old ≡ map_ok (λ es. e ∷ es) (ahead self.new))) }
+        ensures refused { IfErr result (λ e. ahead self.old ≡ Err e) }
+        ensures shorter { IfOk result (λ next. OnSome next (left self.new < left self.old)) }
+        ensures numbered { IsNumbered self.new }
+    {
+        'lines: while let Some((line, more)) = next_line(self.rest) {
+            self.rest = more;
+            self.line += 1;
+            if let Some(entry) = read_line(self.long, self.line, line)? {
+                return Ok(Some(entry));
+            }
+        }
+        Ok(None)
+    }
+}
+
+// Returns the first line of a text, without its line end, and what follows it.
+fn next_line(text: &[u8]) -> Option<(&[u8], &[u8])>
+    ensures some { IfSome result (λ p. lines text.now ≡ p.0.now ∷ lines p.1.now) }
+    ensures shorter { IfSome result (λ p. length p.1.now < length text.now) }
+    ensures none { IfNone result (lines text.now ≡ []) }
+{
+    if text.is_empty() {
+        return None;
+    }
+    match split_line(text) {
+        Some((line, more)) => Some((without_return(line), more)),
+        None => Some((text, &[])),
+    }
+}
+
+// Returns what comes before the first line feed, and what follows it.
+fn split_line(text: &[u8]) -> Option<(&[u8], &[u8])>
+    ensures some { IfSome result
+        (λ p. slice_split is_feed text.now ≡ p.0.now ∷ slice_split is_feed p.1.now) }
+    ensures shorter { IfSome result (λ p. length p.1.now < length text.now) }
+    ensures none { IfNone result (slice_split is_feed text.now ≡ text.now ∷ []) }
+{
+    match text.iter().position(|&letter| letter == b'\n') {
+        Some(at) => Some((&text[..at], &text[at + 1..])),
+        None => None,
+    }
+}
+
+// Returns a line without one carriage return at its end.
+fn without_return(line: &[u8]) -> &[u8]
+    ensures { result.now ≡ strip_carriage_return line.now }
+{
+    match line.split_last() {
+        Some((b'\r', front)) => front,
+        _ => line,
+    }
+}

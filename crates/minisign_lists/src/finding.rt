@@ -1,0 +1,88 @@
+//! Looks a name up in a list. Nothing here allocates.
+
+ghost use Rattle.std.specs.Prelude.{◌≡◌, ℕ, List, [], ◌∷◌, Ok, Err, IfErr, IfOk, IsOk, MatchOption};
+ghost use Rattle.std.specs.Prelude.{OnSome, ◌<◌};
+ghost use Rattle.minisign.specs.Texts.{IsReading};
+ghost use Rattle.minisign_lists.specs.Faults.{and_then, checked, map_ok};
+ghost use Rattle.minisign_lists.specs.Lines.{LongDigest};
+ghost use Rattle.minisign_lists.specs.Lists.{IsListed, listed_entry, the_only};
+ghost use Rattle.minisign_lists.specs.Pieces.{IsNumbered, ahead_of, left};
+
+use crate::entries::Entries;
+use crate::faults::{ListFault, Result};
+use crate::lines::{EntryView, LongDigest};
+use crate::names::{is_name, same, without_dot};
+
+/// A law, for which nothing is done: the function that looks a name up agrees with the relation.
+#[tactic(auto, using(crate::proofs::Deciding::decided))]
+pub fn lists_are_decided()
+    // A lookup succeeds with an entry exactly if the name can be looked up, every line of the list is well
+    // formed, this entry has the name, and all other entries have other names.
+    ensures { (long : LongDigest) (list name : List ℕ)
+        → IsReading (IsListed long list name) (listed_entry long list name) }
+{}
+
+// Returns the next entry of a name.
+fn next_of<'a>(entries: &mut Entries<'a>, name: &[u8]) -> Result<Option<EntryView<'a>>>
+    requires { IsNumbered entries.old }
+    ensures entry { IfOk result (λ next. MatchOption next (ahead_of name.now entries.old ≡ Ok [])
+        (λ e. ahead_of name.now entries.old ≡ map_ok (λ es. e ∷ es) (ahead_of name.now entries.new))) }
+    ensures refused { IfErr result (λ e. ahead_of name.now entries.old ≡ Err e) }
+    ensures shorter { IfOk result (λ next. OnSome next (left entries.new < left entries.old)) }
+    ensures numbered { IsNumbered entries.new }
+{
+    'entries: while let Some(entry) = entries.next_entry()? {
+        if same(entry.name, name) {
+            return Ok(Some(entry));
+        }
+    }
+    Ok(None)
+}
+
+// Reads the list to its end.
+fn read_to_end(entries: &mut Entries<'_>, name: &[u8]) -> Result<()>
+    requires { IsNumbered entries.old }
+    ensures { result ≡ checked (ahead_of name.now entries.old) }
+{
+    'entries: while let Some(_) = next_of(entries, name)? {}
+    Ok(())
+}
+
+/// Returns the entry of a name, which has to be on exactly one line.
+///
+/// A list is UTF-8, and its lines end with LF or CR LF. A line is empty; a comment, which begins with `#`; or
+/// an entry, as sha256sum, sha512sum and b2sum write it (`HEX  NAME` or `HEX *NAME`) or as the tools of
+/// BSD do (`SHA256 (NAME) = HEX`, with SHA512 or BLAKE2b). Digits may be of either case. `long` says what 128
+/// digits mean on a line that names no function. A backslash at the beginning of an entry says that its name
+/// is written with escapes; no name that can be looked up matches it. The name of an entry is a relative path
+/// without empty, `.` or `..` parts, but one `./` may stand before it, which is ignored in the list and here.
+///
+/// The errors, in this order: `BadName`, if the name is no such path or has a control character or a
+/// backslash; `MalformedLine`, if a line is none of these or has a control character; `NotListed`;
+/// `ListedTwice`.
+#[tactic(auto, unfolding(crate::specs::Lists::listed_entry))]
+pub fn find_listed<'a>(long: LongDigest, list: &'a str, name: &str) -> Result<EntryView<'a>>
+    // The result is the only entry of the name in the list, or the first error, a function of the two texts.
+    ensures { result ≡ listed_entry long list.now name.now }
+{
+    if !is_name(name.as_bytes()) {
+        return Err(ListFault::BadName);
+    }
+    let mut entries = Entries::new(long, list);
+    find_only(&mut entries, without_dot(name.as_bytes()))
+}
+
+// Returns the only entry of a name, and reads the list to its end.
+fn find_only<'a>(entries: &mut Entries<'a>, name: &[u8]) -> Result<EntryView<'a>>
+    requires { IsNumbered entries.old }
+    ensures { result ≡ and_then (ahead_of name.now entries.old) the_only }
+{
+    let Some(entry) = next_of(entries, name)? else {
+        return Err(ListFault::NotListed);
+    };
+    let Some(second) = next_of(entries, name)? else {
+        return Ok(entry);
+    };
+    read_to_end(entries, name)?;
+    Err(ListFault::ListedTwice { line: second.line })
+}

@@ -1,0 +1,338 @@
+#!/usr/bin/env python3
+"""Checks which files a list accepts, beside the programs that write and read such lists.
+
+  * Lists that sha256sum, sha512sum, b2sum, cksum -a, openssl dgst -r and shasum write, of files whose names have spaces,
+    parentheses, `#`, stars, UTF-8 and directories. Each file has to be found with its digest, and no other data.
+  * Names with a line feed or a backslash, which the tools write with escapes: no name matches such a line.
+  * Thousands of random lists, beside the rules as regular expressions, and beside `sha256sum -c --strict
+    --ignore-missing` and `signify -C`. A difference without a known reason is a failure.
+
+    tests/lists/signed_lists.py [--seed N] [--lists N]
+
+It needs the program `list_reader`, as `rt ci` or `rt run` built it, and GNU coreutils, openssl, shasum and
+signify-openbsd. The last line is `N passed, M failed`.
+"""
+
+import argparse
+import hashlib
+import os
+import random
+import re
+import subprocess
+import sys
+import tempfile
+from collections import Counter
+
+HERE = os.path.dirname(os.path.realpath(__file__))
+sys.path.append(os.path.join(HERE, "..", "shared"))
+
+from checks import Checks
+from needs import Missing, program
+
+PROGRAM = os.path.realpath(f"{HERE}/../../crates/list_reader/out/list_reader")
+SECONDS = 300
+
+DATA = b"abc"
+NAMES = ["a", "a b", " a", "*a", "a) = b", "SHA256 (a", "#a", "-", "a ", "é", "d/a", "d/e/f g", "..a", "a(1).tar.gz"]
+# Names that the tools write with escapes.
+ESCAPED = ["x\ny", "x\\y", "x\\ny\n"]
+
+# Each tool, how its plain lines are to be read, and if it writes `./` before names as they are given.
+TOOLS = [
+    (["sha256sum"], "-"), (["sha256sum", "-b"], "-"), (["sha256sum", "--tag"], "-"),
+    (["sha512sum"], "sha512"), (["sha512sum", "-b"], "sha512"), (["sha512sum", "--tag"], "-"),
+    (["b2sum"], "blake2b"), (["b2sum", "-b"], "blake2b"), (["b2sum", "--tag"], "-"),
+    (["cksum", "-a", "sha256"], "-"), (["cksum", "-a", "sha512"], "-"), (["cksum", "-a", "blake2b"], "-"),
+    (["cksum", "-a", "sha256", "--untagged"], "-"),
+    (["openssl", "dgst", "-r", "-sha256"], "-"), (["openssl", "dgst", "-r", "-sha512"], "sha512"),
+    (["openssl", "dgst", "-r", "-blake2b512"], "blake2b"),
+    (["shasum", "-a", "256"], "-"), (["shasum", "-b", "-a", "512"], "sha512"),
+    (["shasum", "--tag", "-a", "256"], "-"),
+]
+# These write lines of other functions, which reject the whole list.
+OTHER_TOOLS = [["md5sum", "--tag"], ["sha1sum"], ["sha384sum"], ["b2sum", "--tag", "-l", "256"], ["openssl", "dgst", "-sha256"]]
+
+
+def word(octets):
+    return f"[{octets.hex()}]"
+
+
+def answers(requests):
+    """What the program answers to requests: how to read 128 digits, a list, a name and data."""
+    lines = "".join(f"{long} {word(text)} {word(name)} {word(data)}\n" for long, text, name, data in requests)
+    ran = subprocess.run([PROGRAM], input=lines, stdout=subprocess.PIPE, text=True, timeout=SECONDS)
+    found = ran.stdout.splitlines()
+    if ran.returncode or len(found) != len(requests):
+        raise SystemExit(f"{PROGRAM} ended with {ran.returncode} after {len(found)} of {len(requests)} answers")
+    return found
+
+
+def written(tool, names, directory):
+    """The list that a tool writes of these files."""
+    ran = subprocess.run([*tool, "--", *names] if tool[0] != "openssl" else [*tool, *names], cwd=directory,
+                         stdout=subprocess.PIPE, check=True, env={**os.environ, "LC_ALL": "C.UTF-8"})
+    return ran.stdout
+
+
+def make(directory, name, data=DATA):
+    path = os.path.join(os.fsencode(directory), name if isinstance(name, bytes) else name.encode())
+    os.makedirs(os.path.dirname(path), exist_ok=True)
+    with open(path, "wb") as file:
+        file.write(data)
+
+
+def check_tools(checks):
+    """The lists of each tool."""
+    with tempfile.TemporaryDirectory(prefix="minisign-lists-") as directory:
+        # (each file has its own bytes, so that no line passes for another)
+        files = {name: name.encode() * 3 for name in NAMES}
+        for name, data in files.items():
+            make(directory, name, data)
+        for name in ESCAPED:
+            make(directory, name)
+        for tool, long in TOOLS:
+            given = [f"./{name}" for name in NAMES]
+            text = written(tool, given, directory)
+            found = answers([(long, text, name.encode(), data) for name, data in files.items()])
+            for at, (name, answer) in enumerate(zip(files, found), 1):
+                checks.same(answer, f"ok {at}", f"{' '.join(tool)}: {name!r}")
+            found = answers([(long, text, name.encode(), data + b"!") for name, data in files.items()])
+            for at, (name, answer) in enumerate(zip(files, found), 1):
+                checks.same(answer, f"mismatch {at}", f"{' '.join(tool)}: other data of {name!r}")
+        for tool, long in TOOLS:
+            if tool[0] in ("openssl", "shasum"):
+                continue
+            text = written(tool, [*ESCAPED, "a"], directory)
+            for name in ESCAPED:
+                checks.same(*answers([(long, text, name.encode(), DATA)]), "bad_name", f"{' '.join(tool)}: {name!r}")
+            for line in text.split(b"\n"):
+                name = line.partition(b"  ")[2]
+                if line.startswith(b"\\") and name:
+                    checks.same(*answers([(long, text, name, DATA)]), "bad_name", f"{' '.join(tool)}: {name!r}")
+            checks.same(*answers([(long, text, b"a", files["a"])]), f"ok {len(ESCAPED) + 1}", f"{' '.join(tool)}: after escapes")
+        for tool in OTHER_TOOLS:
+            text = written(tool, ["a"], directory)
+            checks.same(*answers([("sha512", text, b"a", files["a"])]), "malformed 1", " ".join(tool))
+
+
+# == Random lists ==
+
+H = hashlib.sha256(DATA).hexdigest().encode()
+OTHER = hashlib.sha256(b"other").hexdigest().encode()
+RANDOM_NAMES = [b"a", b"./a", b"d/a", b"a b", b" a", b"*a", b"a) = b", b"SHA256 (a", b"#a", b"\\a", b"a\\\\", b"a\\n", b"././a",
+                b"a ", b"a\ta", b"\xc3\xa9", b"..", b"-", b"d//a", b".//a", b"d/../a", b"/a", b"a\r"]
+
+
+def random_line(rng):
+    digits = rng.choice([H, H, H, OTHER, H.upper(), H[:-1], H + b"0", H[:30] + b"g" + H[31:]])
+    name = rng.choice(RANDOM_NAMES) if rng.random() < 0.6 else b"a"
+    kind = rng.random()
+    if kind < 0.45:
+        between = rng.choice([b"  ", b" *", b" ", b"\t", b"   "] if rng.random() < 0.2 else [b"  ", b" *"])
+        line = digits + between + name
+    elif kind < 0.8:
+        if rng.random() < 0.8:
+            line = b"SHA256 (" + name + b") = " + digits
+        else:
+            line = (rng.choice([b"SHA256(", b"sha256 (", b" SHA256 ("]) + name
+                    + rng.choice([b") = ", b")= ", b") =", b"]"]) + digits)
+    elif kind < 0.87:
+        line = b"# " + name
+    elif kind < 0.93:
+        line = b""
+    else:
+        line = bytes(rng.choice(b"ab \\#*()=0") for _ in range(rng.randrange(1, 80)))
+    if rng.random() < 0.06:
+        line = b"\\" + line
+    if rng.random() < 0.04:
+        line = b" " + line
+    if rng.random() < 0.04 and line:
+        at = rng.randrange(len(line))
+        line = line[:at] + bytes([rng.randrange(256)]) + line[at + 1:]
+    return line
+
+
+def random_list(rng):
+    end = rng.choice([b"\n", b"\n", b"\n", b"\r\n"])
+    return end.join(random_line(rng) for _ in range(rng.choice([1, 1, 1, 2, 2, 3]))) + (end if rng.random() < 0.9 else b"")
+
+
+def can_be_made(name):
+    """Whether a test can have a file of this name."""
+    return name and b"\0" not in name and not name.startswith(b"/") and b".." not in name.split(b"/") and name != b"L"
+
+
+def looked_up(rng, text):
+    """A name to look up, and the data of its file."""
+    return rng.choice([name for name in RANDOM_NAMES if can_be_made(name)]) if rng.random() < 0.3 else b"a"
+
+
+# == The same rules again, as regular expressions ==
+
+PATH = re.compile(rb"(?!\.{0,2}(?:/|$))[^/]+(?:/(?!\.{0,2}(?:/|$))[^/]+)*", re.S)
+FORMS = [(hashlib.sha256, re.compile(rb"SHA256 \((?P<name>.*)\) = (?P<hex>[0-9a-fA-F]{64})", re.S)),
+         (hashlib.sha512, re.compile(rb"SHA512 \((?P<name>.*)\) = (?P<hex>[0-9a-fA-F]{128})", re.S)),
+         (hashlib.blake2b, re.compile(rb"BLAKE2b \((?P<name>.*)\) = (?P<hex>[0-9a-fA-F]{128})", re.S)),
+         (hashlib.sha256, re.compile(rb"(?P<hex>[0-9a-fA-F]{64}) [ *](?P<name>.*)", re.S))]
+LONG = {"-": [], "sha512": [hashlib.sha512], "blake2b": [hashlib.blake2b]}
+LONG_FORM = re.compile(rb"(?P<hex>[0-9a-fA-F]{128}) [ *](?P<name>.*)", re.S)
+
+
+def without_dot(name):
+    return name[2:] if name.startswith(b"./") else name
+
+
+def fault_of(line, long):
+    """Why a line is malformed, or the function, the name and the digest that it has, or nothing."""
+    if re.search(rb"[\x00-\x1f\x7f]", line):
+        return "a control character"
+    if not line or line.startswith(b"#"):
+        return None
+    body = line[1:] if line.startswith(b"\\") else line
+    for function, form in [*FORMS, *((function, LONG_FORM) for function in LONG[long])]:
+        found = form.fullmatch(body)
+        if found:
+            name = without_dot(found["name"])
+            if not PATH.fullmatch(name):
+                return "a name that is no relative path"
+            if body is not line and b"\\" not in name:
+                return "a backslash before a name without escapes"
+            return function, name, bytes.fromhex(found["hex"].decode())
+    if re.fullmatch(rb" +.*", body, re.S):
+        return "a space before the entry"
+    if re.fullmatch(rb"[0-9a-fA-F]{64}[ \t].*", body, re.S):
+        return "one space between digits and name"
+    if re.match(rb"SHA256 ?\(", body):
+        return "other spaces in a tagged line"
+    return "no entry"
+
+
+def expected(long, text, name, data):
+    """What we have to answer, and the reason in words where a line is malformed."""
+    try:
+        text.decode(), name.decode()
+    except UnicodeDecodeError:
+        return "not_utf8", ""
+    if re.search(rb"[\x00-\x1f\x7f\\]", name) or not PATH.fullmatch(without_dot(name)):
+        return "bad_name", ""
+    *lines, last = re.split(rb"\r?\n", text)
+    found = []
+    for number, line in enumerate([*lines, *([last] if last else [])], 1):
+        fault = fault_of(line, long)
+        if isinstance(fault, str):
+            return f"malformed {number}", fault
+        if fault and fault[1] == without_dot(name):
+            found.append((number, fault))
+    if len(found) != 1:
+        return (f"twice {found[1][0]}" if found else "not_listed"), ""
+    (number, (function, _, digest)), = found
+    return (f"ok {number}" if function(data).digest() == digest else f"mismatch {number}"), ""
+
+
+# Why sha256sum accepts lists that we reject. Other answers of ours, and other faults, would be failures.
+TAKEN_BY_COREUTILS = {
+    "malformed": ("a control character", "a name that is no relative path", "a space before the entry",
+                  "one space between digits and name", "other spaces in a tagged line",
+                  "a backslash before a name without escapes"),
+    "twice": ("",),  # it compares each of the lines
+    "not_utf8": ("",),  # it takes names of any bytes
+    "bad_name": ("",),  # it opens names with . parts, backslashes and control characters
+}
+
+
+def has_unknown_escape(line):
+    """Returns True for a line with escapes of which one is not that of a backslash, a line feed or a carriage return."""
+    return line.startswith(b"\\") and b"\\" in re.sub(rb"\\[\\nr]", b"", line[1:])
+
+
+def beside_coreutils(checks, rng, count):
+    """Random lists, beside sha256sum."""
+    kinds, differences, requests, theirs = Counter(), Counter(), [], []
+    with tempfile.TemporaryDirectory(prefix="minisign-lists-") as directory:
+        for _ in range(count):
+            text = random_list(rng)
+            name = looked_up(rng, text)
+            with tempfile.TemporaryDirectory(dir=directory) as room:
+                os.mkdir(os.path.join(room, "d"))
+                make(room, name)
+                make(room, "L", text)
+                ran = subprocess.run(["sha256sum", "--strict", "--ignore-missing", "-c", "L"], cwd=room,
+                                     stdin=subprocess.DEVNULL, stdout=subprocess.PIPE, stderr=subprocess.PIPE)
+            requests.append(("-", text, name, DATA))
+            theirs.append((ran.returncode == 0, ran.stdout + ran.stderr))
+        for (_, text, name, _), answer, (accepts, said) in zip(requests, answers(requests), theirs):
+            ours = answer.split()[0]
+            kinds[ours, accepts] += 1
+            if ours == "ok" and not accepts:
+                # The line that we found has the digest, so another line is the reason.
+                lines = [line for line in text.replace(b"\r\n", b"\n").split(b"\n") if line]
+                reason = b"-: FAILED" in said or b"'standard input'" in said or b"-: " in said
+                reason = reason or len(lines) > 1 and b"FAILED" in said
+                # A line with escapes matches nothing here, whatever they are. sha256sum knows three of them.
+                reason = reason or any(has_unknown_escape(line) for line in lines) and b"improperly formatted" in said
+                checks.check(reason, f"we alone accept {name!r} in {text!r}: {said!r}")
+            elif accepts and ours != "ok":
+                why = expected("-", text, name, DATA)[1]
+                checks.check(why in TAKEN_BY_COREUTILS.get(ours, ()), f"sha256sum accepts {text!r}, we answer {answer}: {why}")
+                differences[ours, why] += 1
+            wanted = expected("-", text, name, DATA)[0]
+            checks.check(answer == wanted, f"{name!r} in {text!r}: {answer}, and not {wanted}")
+    checks.check(kinds["ok", True] > count // 50, f"few lists are accepted by both: {kinds}")
+    print("accepted by sha256sum alone:", {" ".join(filter(None, kind)): found for kind, found in differences.items()})
+    return kinds
+
+
+def beside_signify(checks, rng, count):
+    """Random lists of BSD lines, beside `signify -C`."""
+    kinds = Counter()
+    with tempfile.TemporaryDirectory(prefix="minisign-lists-") as directory:
+        signify = program("signify-openbsd", "signify-openbsd")
+        subprocess.run([signify, "-G", "-n", "-p", "k.pub", "-s", "k.sec"], cwd=directory, check=True, stdout=subprocess.DEVNULL)
+        for _ in range(count):
+            lines = []
+            for _ in range(rng.choice([1, 1, 2, 2, 3])):
+                digits = rng.choice([H, H, H, OTHER, H.upper(), H[:-1]])
+                name = rng.choice([b"a", b"a", b"a", b"b", b"a b"])
+                line = b"SHA256 (" + name + b") = " + digits
+                lines.append(line if rng.random() < 0.93 else rng.choice([b"# a", b"x", digits + b"  " + name]))
+            text = b"\n".join(lines) + b"\n"
+            make(directory, "L", text)
+            make(directory, "a")
+            subprocess.run([signify, "-S", "-e", "-s", "k.sec", "-m", "L", "-x", "L.sig"], cwd=directory, check=True)
+            accepts = subprocess.run([signify, "-C", "-q", "-p", "k.pub", "-x", "L.sig", "a"], cwd=directory,
+                                     stdout=subprocess.DEVNULL, stderr=subprocess.DEVNULL).returncode == 0
+            ours = answers([("-", text, b"a", DATA)])[0].split()[0]
+            kinds[ours, accepts] += 1
+            # signify knows neither plain lines and comments nor upper case. It takes one of two lines, and the
+            # lines before one that it does not know.
+            if ours == "ok" and not accepts:
+                reason = H.upper() in text or any(not line.startswith(b"SHA256 (") for line in lines)
+                reason = reason or any(len(line) < len(b"SHA256 (a) = ") + 64 for line in lines)
+            elif accepts and ours != "ok":
+                reason = ours in ("twice", "malformed")
+            else:
+                reason = True
+            checks.check(reason, f"signify {'accepts' if accepts else 'rejects'} {text!r}, and we answer {ours}")
+    checks.check(kinds["ok", True] > count // 20, f"few lists are accepted by both: {kinds}")
+    return kinds
+
+
+def main():
+    parser = argparse.ArgumentParser()
+    parser.add_argument("--seed", type=int, default=1)
+    parser.add_argument("--lists", type=int, default=3000)
+    given = parser.parse_args()
+    checks = Checks()
+    try:
+        for name, package in (("openssl", "openssl"), ("shasum", "perl"), ("signify-openbsd", "signify-openbsd")):
+            program(name, package)
+        check_tools(checks)
+        print("beside sha256sum:", dict(beside_coreutils(checks, random.Random(given.seed), given.lists)))
+        print("beside signify:", dict(beside_signify(checks, random.Random(given.seed), given.lists // 10)))
+    except Missing as missing:
+        checks.check(False, missing)
+    return checks.end()
+
+
+if __name__ == "__main__":
+    sys.exit(main())
