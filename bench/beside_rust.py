@@ -5,7 +5,7 @@
 
 UPSTREAM is the directory of the crate's own files. compare/oracle/build.sh builds it with plain stand-ins for
 scrypt and base64 (so `open` compares with plain Rust and not with the crate `scrypt`). The jobs are those of
-crates/library_bench (`rt run` there leaves the program) and of beside_rust.rs, which is built here with full
+bench/library_bench (build_library_bench.py builds the program) and of beside_rust.rs, which is built here with full
 optimization for the processor that `rt run` builds for. The time is processor time, of the program and of the
 system for it, the least of ROUNDS runs (5 where it is left out) that take turns. It stops where the two
 programs print other results.
@@ -21,7 +21,7 @@ import tempfile
 
 from timing import HERE, installed, needs, run, toy
 
-OURS = os.path.join(HERE, "..", "crates", "library_bench", "out", "library_bench")
+OURS = os.path.join(HERE, "out", "library_bench")
 TARGET = "-C opt-level=3 -C target-cpu=x86-64-v2"
 MEGABYTE = 1 << 20
 

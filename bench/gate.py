@@ -3,7 +3,7 @@
 
     bench/gate.py LOG
 
-What `.ci/run` says goes to the file LOG, and in it what each script of tests/scripts.txt took, of which there is a
+What `.ci/run` says goes to the file LOG, and in it what each script of tests/Makefile took, of which there is a
 table of its own. It looks at the prover's processes twice a second, and tells them apart by their words and their
 directory, so no other prover may be at work; the row of all else has what was too short to be seen, and the scripts.
 Processor time grows with the work that others do on the host, also where `vmstat` shows none in its column `st`.

@@ -3,7 +3,7 @@
 
 Needs: Python 3.9 or later with matplotlib (else it goes on with the system's python3 and Debian's package
 python3-matplotlib, which it installs as root), 1.1 GB of memory, and the program `library_bench`, which
-`rt run` in crates/library_bench proves, builds and leaves in that crate's directory out. All derive 64 bytes with r 8 and p 1, each in a process of its own and in turn; the keys are
+build_library_bench.py builds. All derive 64 bytes with r 8 and p 1, each in a process of its own and in turn; the keys are
 compared with those of hashlib. `kept_rows.py 15 3` takes 15 rounds at N 2^15 and 3 at N 2^20, as it does
 without arguments. The time is the least processor time of the whole process, its own and the system's for
 it, beside the least time of the call by the clock; the memory is the greatest resident memory.

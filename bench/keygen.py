@@ -1,8 +1,8 @@
 #!/usr/bin/env python3
 """Times `minisign_tool keygen` beside the one derivation that it does, by Python's hashlib and by `library_bench`.
 
-Needs Python 3.9 or later whose hashlib has scrypt (OpenSSL's), and the programs `minisign_tool` and
-`library_bench`, each built by `rt run` in its crate. All derive with N 2^15, r 8 and p 1, each in a process of its own and in turn. The least
+Needs Python 3.9 or later whose hashlib has scrypt (OpenSSL's), and the programs `minisign_tool`, which `rt run` builds
+in its crate, and `library_bench`, which build_library_bench.py builds. All derive with N 2^15, r 8 and p 1, each in a process of its own and in turn. The least
 processor time counts, of `hashlib.scrypt` that of the call alone.
 """
 

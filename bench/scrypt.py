@@ -2,7 +2,7 @@
 """Times `minisign_kdf`'s scrypt beside OpenSSL's, libsodium's and libscrypt-kdf's.
 
 Needs: Python 3.9 or later whose hashlib has scrypt (OpenSSL's), 1.1 GB of memory, and the program
-`library_bench`, which `rt run` in crates/library_bench proves, builds and leaves in that crate's directory out;
+`library_bench`, which build_library_bench.py builds;
 for the other two the packages libsodium23 and libscrypt-kdf1, which it
 installs as root on Debian. All derive 64 bytes with r 8 and p 1, each in a process of its own and in turn; the
 keys are compared. Of each the call alone is timed, and the least time counts. On a machine that does other work at the same time take

@@ -21,7 +21,7 @@ def program(name):
 
 TOOL = program("minisign_tool")
 # The job of a derivation, before its arguments.
-SCRYPT = (program("library_bench"), "scrypt")
+SCRYPT = (os.path.join(HERE, "out", "library_bench"), "scrypt")
 
 
 def installed(find, *arguments):

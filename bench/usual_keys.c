@@ -12,8 +12,8 @@
 
 #include "minisign.h"
 
-static const uint8_t PASSWORD[] = "a password", COMMENT[] = "c", KEY_ID[8] = { 1, 2, 3, 4, 5, 6, 7, 8 };
-static const uint8_t SECRET[64];
+static const uint8_t PASSWORD[] = "a password", COMMENT[] = "c";
+static const minisign_new_key NEW_KEY = { .key_id = { 1, 2, 3, 4, 5, 6, 7, 8 } };
 static uint8_t text[4096];
 static size_t text_len;
 
@@ -29,20 +29,21 @@ static double now(clockid_t clock)
 static int make(uint64_t operations_limit, uint64_t memory_limit)
 {
     minisign_sealing sealing;
-    minisign_secret_key key;
+    minisign_secret_key key = { 0 };
 
-    minisign_take_secret_key(KEY_ID, SECRET, &key);
+    minisign_take_secret_key(&NEW_KEY, &key);
     memset(&sealing, 0, sizeof sealing);
     sealing.operations_limit = operations_limit;
     sealing.memory_limit = memory_limit;
-    return minisign_secret_key_text(&key, 1, PASSWORD, sizeof PASSWORD - 1, &sealing, MINISIGN_KEEP_EVERY_ROW, COMMENT, 1, text,
-                                    sizeof text, &text_len) == MINISIGN_OK;
+    return minisign_secret_key_text_with_any_limits(&key, MINISIGN_PASSWORD, PASSWORD, sizeof PASSWORD - 1, &sealing,
+                                                    MINISIGN_KEEP_EVERY_ROW, COMMENT, 1, text, sizeof text, &text_len)
+           == MINISIGN_OK;
 }
 
 static int open_key(void)
 {
-    minisign_unopened_key unopened;
-    minisign_secret_key key;
+    minisign_unopened_key unopened = { 0 };
+    minisign_secret_key key = { 0 };
 
     return minisign_read_secret_key(text, text_len, &unopened) == MINISIGN_OK
            && minisign_open_sealed_key(&unopened, PASSWORD, sizeof PASSWORD - 1, MINISIGN_KEEP_EVERY_ROW,

@@ -31,15 +31,6 @@ import known  # noqa: E402
 import needs  # noqa: E402
 import requests  # noqa: E402
 
-# How many requests the stored run has, and at most of each name: few of those that derive keys.
-LISTED = 3000
-LISTED_OF_A_NAME = 220
-LISTED_BY_NAME = {'verify': 420, 'verify_texts': 330, 'sig_from_string': 330, 'sk_open': 110,
-                  'gen_sealed': 14, 'gen_write_sealed': 12, 'scrypt': 60}
-# Longer requests do not stand in the stored run, but for two over much data, and for long typed lines.
-LONGEST = 1800
-LONGEST_TYPED = 7000
-TYPED = ('get_password', 'sk_open', 'gen_sealed', 'gen_write_sealed')
 
 
 def built_oracle(arguments, directory):
@@ -115,28 +106,19 @@ def run(arguments):
     return different == 0
 
 
-def chosen(lines, theirs):
-    """The requests of the stored run: of each kind of answer the shortest, then others in turn."""
-    groups = collections.defaultdict(list)
-    for at, (request, line) in enumerate(zip(lines, theirs)):
-        longest = LONGEST_TYPED if request.startswith(TYPED) else LONGEST
-        if len(request) <= longest and len(line) <= 2 * longest:
-            groups[summary(request, known.Answer(line))].append(at)
-    rng = random.Random(1)
-    picked, by_name = set(), collections.Counter()
-    for group in groups.values():
-        group.sort(key=lambda at: (len(lines[at]), at), reverse=True)
-        shortest = group.pop()
-        rng.shuffle(group)
-        group.append(shortest)
-    while len(picked) < LISTED and any(groups.values()):
-        for summed, group in sorted(groups.items(), key=lambda item: repr(item[0])):
-            name = summed[0]
-            if group and len(picked) < LISTED and by_name[name] < LISTED_BY_NAME.get(name, LISTED_OF_A_NAME):
-                picked.add(group.pop())
-                by_name[name] += 1
-            else:
-                group.clear()
+def chosen(lines, expected):
+    """Returns the places of the requests of the stored run: short ones with all kinds of answers, and with each outcome
+    for all forms of data (read in pieces, from a place, with an error, or changed when they are read again)."""
+    kinds = []
+    for request, answer in zip(lines, expected):
+        name, outcome, flags, parts, marks, done = summary(request, answer)
+        kinds.append({(name, outcome, flags, marks, done), (name, outcome, parts)})
+    picked, seen = set(), set()
+    for least in (2, 1):
+        for at in sorted(range(len(lines)), key=lambda at: (len(lines[at]), at)):
+            if len(kinds[at] - seen) >= least:
+                picked.add(at)
+                seen |= kinds[at]
     return sorted(picked)
 
 
@@ -144,11 +126,11 @@ def store(arguments):
     """Writes the stored run: requests, the crate's answers with the known differences, and the files."""
     plain = list(dict.fromkeys(requests.all_requests(arguments.seed, arguments.count)))
     last = list(requests.tables(random.Random(arguments.seed)))
-    large = [line for line in requests.large_data() if len(line) < 140000 and ' 0 1 1' not in line][-2:]
     with tempfile.TemporaryDirectory() as directory, tempfile.TemporaryDirectory() as files:
         oracle = built_oracle(arguments, directory)
         theirs = answers(oracle, plain, files)
-        lines = [plain[at] for at in chosen(plain, theirs)] + large + last
+        answered = [known.expected(request, line)[0] for request, line in zip(plain, theirs)]
+        lines = [plain[at] for at in chosen(plain, answered)] + last
         theirs = answers(oracle, lines, files)
     expected = [known.expected(request, line)[0].line() for request, line in zip(lines, theirs)]
     os.makedirs(os.path.join(CRATE, 'data'), exist_ok=True)

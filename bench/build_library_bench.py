@@ -1,0 +1,55 @@
+#!/usr/bin/env python3
+"""Proves and builds `library_bench`, the program that the benchmarks time, as bench/out/library_bench.
+
+    bench/build_library_bench.py
+
+Its sources are in bench/library_bench, with the ending .txt: as a crate of crates.txt, CI would prove it too. It is
+proved over the libraries of this repository, which `rt lib` proves first if they have changed.
+
+Needs Python 3.9 or later and the Rattle kit.
+"""
+
+import os
+import shutil
+import sys
+import tempfile
+
+HERE = os.path.dirname(os.path.realpath(__file__))
+sys.path.append(os.path.join(HERE, "..", "tests", "shared"))
+
+import proved
+
+NAME = "library_bench"
+LINE = f"{NAME}: minisign_hash minisign_kdf minisign_base minisign"
+OUT = os.path.join(HERE, "out")
+
+
+def build(directory):
+    """Builds the program in a directory, as `rt run` builds a program."""
+    os.mkdir(os.path.join(directory, "src"))
+    for name in os.listdir(os.path.join(HERE, NAME)):
+        shutil.copy(os.path.join(HERE, NAME, name), os.path.join(directory, "src", name.removesuffix(".txt")))
+    crate, kit = proved.Crate(LINE, proved.crates()), proved.kit()
+    why = proved.supply(crate.below)
+    if why:
+        raise proved.NotBuilt(why)
+    made = proved.rattle("build", NAME, directory, "--toolchain", proved.toolchain(), "--backend", "llvm", "-o", f"{NAME}.o", crate=crate)
+    proved.hold(made, NAME)
+    libraries = [f"{kit}/c/libos_c.a", f"{kit}/c/liblibc_c.a"]
+    linked = [f"{kit}/bin/rattle-link", "--target", "x86_64-unknown-linux-gnu", "--toolchain", proved.toolchain(), "-o", NAME, f"{NAME}.o"]
+    proved.hold(proved.run([*linked, *libraries], directory), NAME)
+
+
+def main():
+    with tempfile.TemporaryDirectory(prefix="library-bench-") as directory:
+        try:
+            build(directory)
+        except proved.NotBuilt as why:
+            return str(why)
+        os.makedirs(OUT, exist_ok=True)
+        shutil.copy(os.path.join(directory, NAME), OUT)
+    return 0
+
+
+if __name__ == "__main__":
+    sys.exit(main())
