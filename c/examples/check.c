@@ -1,39 +1,45 @@
 // SPDX-License-Identifier: MIT
-// check DATA SIGNATURE: exits with status 0 if the built-in key vouches for the data, as an updater checks what it has
-// fetched; with 1 if it does not; with 2 if a file cannot be read, or is longer than its room.
+// check DATA SIGNATURE: checks a download under a built-in public key, as an updater does. Prints the trusted comment and
+// exits with status 0 if the signature is valid, with 1 if it is not, and with 2 if a file cannot be read.
 #include <stdio.h>
+#include <string.h>
 
 #include <sodium.h>
 
-#include <minisign_simple.h>
+#include <minisign_stream.h>
 
 static const char KEY[] = "RWQf6LRCGA9i53mlYecO4IzT51TGPpvWucNSCh1CBM0QTaLn73Y7GFO3";
-static uint8_t data[1 << 24], signature[1 << 16], message[sizeof signature];
 
-// Reads a file that is shorter than its room. A file that cannot be read is never taken for an empty one.
-static int read_file(const char *name, uint8_t *to, size_t room, size_t *len)
+// Returns the length of a file of fewer than size bytes, or size if it cannot be read whole.
+static size_t read_file(FILE *file, char *to, size_t size)
 {
-    FILE *file = fopen(name, "rb");
+    size_t len = file == NULL ? size : fread(to, 1, size, file);
 
-    *len = file == NULL ? 0 : fread(to, 1, room, file);
-    return file != NULL && !ferror(file) && *len < room;
+    return file == NULL || ferror(file) ? size : len;
 }
 
 int main(int argc, char **argv)
 {
-    minisign_public_key key;
-    minisign_questions questions;
-    size_t len, signature_len;
+    static minisign_verifier verifier;
+    static char signature[1 << 16], piece[1 << 16];
+    const char *comment;
+    size_t len;
+    FILE *file;
 
     if (argc != 3 || sodium_init() < 0
-        || minisign_read_bare_public_key((const uint8_t *) KEY, sizeof KEY - 1, &key) != MINISIGN_OK
-        || !read_file(argv[1], data, sizeof data, &len)
-        || !read_file(argv[2], signature, sizeof signature, &signature_len)) {
+        || (len = read_file(fopen(argv[2], "rb"), signature, sizeof signature)) == sizeof signature
+        || (file = fopen(argv[1], "rb")) == NULL) {
         return 2;
     }
-    return minisign_verify_in_memory(&key, signature, signature_len, data, len, crypto_sign_verify_detached, &questions,
-                                     message, sizeof message)
-                   == MINISIGN_OK
-               ? 0
-               : 1;
+    minisign_verify_start(&verifier, KEY, strlen(KEY), signature, len, crypto_sign_verify_detached);
+    while ((len = fread(piece, 1, sizeof piece, file)) > 0) {
+        minisign_verify_feed(&verifier, piece, len);
+    }
+    if (ferror(file)) {
+        return 2;
+    }
+    if (minisign_verify_finish(&verifier, &comment, NULL) != MINISIGN_OK) {
+        return 1;
+    }
+    return puts(comment) < 0 || fflush(stdout) != 0 ? 2 : 0;
 }

@@ -14,7 +14,7 @@
 
 enum { TEXT_BYTES = 65536 };
 
-static const char UNTRUSTED[] = "signature from the example of minisign.h";
+static const char UNTRUSTED[] = MINISIGN_SIGNATURE_COMMENT;
 
 static uint8_t text[TEXT_BYTES], password[TEXT_BYTES], message[TEXT_BYTES];
 static minisign_unopened_key unopened;
@@ -78,6 +78,7 @@ static void sign(uint8_t *signature, const uint8_t *bytes, size_t len)
 int main(int argc, char **argv)
 {
     uint8_t digest[64], *line_end = password;
+    minisign_public_key public_key = { 0 };
     minisign_signed_parts parts;
     size_t password_len, len;
     minisign_state state;
@@ -116,8 +117,9 @@ int main(int argc, char **argv)
     expect(minisign_comment_message(parts.signature, parts.trusted_comment, parts.trusted_comment_len, message,
                                     sizeof message));
     sign(parts.comment_signature, message, 64 + parts.trusted_comment_len);
-    // Only a key that was opened makes a text, and under its own key ID.
-    expect(minisign_signed_text(&key, &parts, text, sizeof text, &len));
+    // The text has the key ID of the key.
+    expect(minisign_public_key_of(&key, &public_key));
+    expect(minisign_signed_text(&public_key, &parts, text, sizeof text, &len));
     file = open_file(argv[3], "wb");
     if (fwrite(text, 1, len, file) != len || fclose(file) != 0) {
         end(1, "the signature cannot be written");

@@ -58,8 +58,8 @@ static enum minisign_answer answer(const uint8_t *signature, const uint8_t *byte
 
 int main(int argc, char **argv)
 {
-    minisign_public_key key;
-    minisign_signature signature;
+    minisign_public_key key = { 0 };
+    minisign_signature signature = { 0 };
     minisign_questions q;
     minisign_state state;
     FILE *data;

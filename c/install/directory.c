@@ -73,20 +73,26 @@ void close_directory(struct directory *directory)
 
 /* ---- Troubles ---- */
 
-/* Remembers what could not be used first, and the cause, or errno if that is NULL. Returns `why`. */
-static enum minisign_error fails(struct directory *directory, const struct part *part, const char *cause,
-                                 enum minisign_error why)
+/* Remembers what could not be used first, and the cause with a hint, or errno if the cause is NULL. Returns `why`. */
+static enum minisign_error fails_for(struct directory *directory, const struct part *part, const char *cause,
+                                     const char *hint, enum minisign_error why)
 {
     if (directory->trouble.shown == NULL) {
-        directory->trouble = (struct trouble) { part->shown, cause, errno };
+        directory->trouble = (struct trouble) { part->shown, cause, errno, hint };
     }
     return why;
+}
+
+/* The same by errno. */
+static enum minisign_error fails(struct directory *directory, const struct part *part, enum minisign_error why)
+{
+    return fails_for(directory, part, NULL, NULL, why);
 }
 
 /* Remembers what could not be written. */
 static enum minisign_error wrote(struct directory *directory, const struct part *part, bool is_written)
 {
-    return is_written ? MINISIGN_OK : fails(directory, part, NULL, MINISIGN_WRITING_FAILED);
+    return is_written ? MINISIGN_OK : fails(directory, part, MINISIGN_WRITING_FAILED);
 }
 
 /* ---- What stands there ---- */
@@ -97,27 +103,31 @@ enum found { THERE, NOT_THERE, UNUSABLE };
 /* Looks for a regular file of this name. */
 static enum found find(struct directory *directory, const struct part *part, struct stat *found)
 {
-    const char *cause = NULL;
+    const char *cause = NULL, *hint = NULL;
 
     if (AGAIN(fstatat(directory->fd, part->name, found, AT_SYMLINK_NOFOLLOW)) == 0) {
         if (S_ISREG(found->st_mode)) {
             return THERE;
         }
         errno = EINVAL;
-        cause = S_ISLNK(found->st_mode)   ? "a link stands there, which is not followed"
-                : S_ISDIR(found->st_mode) ? "a directory stands there"
-                                          : "what stands there is no regular file";
+        cause = S_ISLNK(found->st_mode)   ? "this is a symbolic link, which is not followed"
+                : S_ISDIR(found->st_mode) ? "this is a directory"
+                                          : "this is not a regular file";
+        hint = part != &directory->target || !(S_ISLNK(found->st_mode) || S_ISDIR(found->st_mode))
+                   ? "remove it or move it away"
+               : S_ISLNK(found->st_mode) ? "give the path that it leads to"
+                                         : "give the path of a file in it";
     } else if (errno == ENOENT) {
         return NOT_THERE;
     }
-    fails(directory, part, cause, MINISIGN_OK);
+    fails_for(directory, part, cause, hint, MINISIGN_OK);
     return UNUSABLE;
 }
 
 /* What an open file is. False if the system does not tell, which is remembered. */
 static bool look_at(struct directory *directory, const struct part *part, int fd, struct stat *found)
 {
-    return AGAIN(fstat(fd, found)) == 0 || fails(directory, part, NULL, MINISIGN_READING_FAILED) == MINISIGN_OK;
+    return AGAIN(fstat(fd, found)) == 0 || fails(directory, part, MINISIGN_READING_FAILED) == MINISIGN_OK;
 }
 
 /* Whether the name of a part leads to this open file, without a link. */
@@ -155,7 +165,7 @@ static bool give_to_keeper(struct directory *directory, const struct part *part,
     }
     return (own.st_uid == keeper.st_uid && own.st_gid == keeper.st_gid)
            || give_owner(fd, keeper.st_uid, keeper.st_gid, &is_given)
-           || fails(directory, part, NULL, MINISIGN_WRITING_FAILED) == MINISIGN_OK;
+           || fails(directory, part, MINISIGN_WRITING_FAILED) == MINISIGN_OK;
 }
 
 /* ---- What is opened ---- */
@@ -164,7 +174,8 @@ static bool give_to_keeper(struct directory *directory, const struct part *part,
 static enum minisign_error keeps_changing(struct directory *directory, const struct part *part)
 {
     errno = EBUSY;
-    return fails(directory, part, "others replace it again and again", MINISIGN_READING_FAILED);
+    return fails_for(directory, part, "other processes keep replacing this file", "run the command again",
+                     MINISIGN_READING_FAILED);
 }
 
 /* Opens a file, and again if others replaced it meanwhile, until its name leads to the open file. -1: there is none. */
@@ -173,8 +184,6 @@ static enum minisign_error open_part(struct directory *directory, const struct p
     for (int i = 0; i < MAX_OPENINGS; i++) {
         struct stat named;
         enum found found = find(directory, part, &named);
-        bool is_others;
-
         *fd = -1;
         if (found != THERE) {
             return found == NOT_THERE ? MINISIGN_OK : MINISIGN_READING_FAILED;
@@ -182,10 +191,10 @@ static enum minisign_error open_part(struct directory *directory, const struct p
         *fd = AGAIN(openat(directory->fd, part->name, how | SAFELY));
         /* (others may have removed it, or put a link there) */
         if (*fd < 0 && errno != ENOENT && errno != ELOOP) {
-            is_others = errno == EACCES && part != &directory->target;
-            return fails(directory, part,
-                         is_others ? "it is for its owner alone: give it the owner of the target" : NULL,
-                         MINISIGN_READING_FAILED);
+            return errno == EACCES && part != &directory->target
+                       ? fails_for(directory, part, "only the owner of this file can open it",
+                                   "give it the same owner as the installed file", MINISIGN_READING_FAILED)
+                       : fails(directory, part, MINISIGN_READING_FAILED);
         }
         found = *fd < 0 ? NOT_THERE : leads_to(directory, part, *fd);
         if (found == THERE) {
@@ -206,10 +215,10 @@ enum minisign_error open_directory(struct directory *directory)
     if (directory->fd < 0) {
         directory->fd = AGAIN(open(directory->itself.shown, O_RDONLY | O_DIRECTORY | O_CLOEXEC));
     }
-    return directory->fd >= 0
-               ? MINISIGN_OK
-               : fails(directory, &directory->itself, errno == ENOENT ? "there is no such directory" : NULL,
-                       MINISIGN_READING_FAILED);
+    return directory->fd >= 0  ? MINISIGN_OK
+           : errno == ENOENT ? fails_for(directory, &directory->itself, "this directory does not exist",
+                                         "create it first", MINISIGN_READING_FAILED)
+                             : fails(directory, &directory->itself, MINISIGN_READING_FAILED);
 }
 
 /* Opens the lock file, or makes it. -1: others made one meanwhile. */
@@ -221,7 +230,7 @@ static enum minisign_error open_lock(struct directory *directory, int *fd, bool 
     if (*is_made) {
         *fd = AGAIN(openat(directory->fd, directory->lock.name, O_RDWR | O_CREAT | O_EXCL | SAFELY, FOR_THE_OWNER));
         if (*fd < 0 && errno != EEXIST) {
-            error = fails(directory, &directory->lock, NULL, MINISIGN_READING_FAILED);
+            error = fails(directory, &directory->lock, MINISIGN_READING_FAILED);
         }
     }
     return error;
@@ -238,7 +247,7 @@ static enum minisign_error lock_file(struct directory *directory, int fd, bool i
     } else if (errno == EWOULDBLOCK) {
         error = MINISIGN_TARGET_IN_USE;
     } else {
-        error = fails(directory, &directory->lock, NULL, MINISIGN_READING_FAILED);
+        error = fails(directory, &directory->lock, MINISIGN_READING_FAILED);
     }
     if (found == UNUSABLE || (found == THERE && is_made && !give_to_keeper(directory, &directory->lock, fd))) {
         error = MINISIGN_READING_FAILED;
@@ -275,7 +284,8 @@ static bool is_locked(struct directory *directory)
 
     if (found == NOT_THERE) {
         errno = ENOENT;
-        fails(directory, &directory->lock, "it was removed or replaced while it was locked", MINISIGN_OK);
+        fails_for(directory, &directory->lock, "another process removed or replaced this lock file",
+                  "run the command again", MINISIGN_OK);
     }
     return found == THERE;
 }
@@ -368,8 +378,9 @@ enum minisign_error read_record(struct directory *directory, struct record *reco
     close_open(&fd);
     if (n < 0 || n == sizeof bytes) {
         errno = n < 0 ? errno : EFBIG;
-        return fails(directory, &directory->record, n < 0 ? NULL : "it is too long for a record",
-                     MINISIGN_READING_FAILED);
+        return n < 0 ? fails(directory, &directory->record, MINISIGN_READING_FAILED)
+                     : fails_for(directory, &directory->record, "this file is too long for a version record",
+                                 "remove it and use --first to install anyway", MINISIGN_READING_FAILED);
     }
     *record = (struct record) { .is_there = true, .len = (size_t) n };
     record->written = found.st_mtime < 0 ? 0 : (uint64_t) found.st_mtime;
@@ -453,7 +464,7 @@ enum minisign_error read_stage(struct directory *directory, struct stage *stage,
     ssize_t n = AGAIN(pread(stage->fd, bytes, room, (off_t) stage->read));
 
     if (n < 0) {
-        return fails(directory, stage->shown, NULL, MINISIGN_READING_FAILED);
+        return fails(directory, stage->shown, MINISIGN_READING_FAILED);
     }
     stage->read += (uint64_t) n;
     if (stage->read - stage->begun >= BEGUN_BYTES) {
@@ -478,7 +489,8 @@ static enum minisign_error give(struct directory *directory, struct permissions 
     }
     is_denied = errno == EPERM || errno == EACCES;
     snprintf(directory->words, sizeof directory->words, "the mode %03o is not allowed here", (unsigned) mode);
-    return fails(directory, &directory->stages, is_denied ? directory->words : NULL, MINISIGN_WRITING_FAILED);
+    return fails_for(directory, &directory->stages, is_denied ? directory->words : NULL,
+                     is_denied ? "use --mode to choose another mode" : NULL, MINISIGN_WRITING_FAILED);
 }
 
 enum minisign_error take_permissions(struct directory *directory)
@@ -496,7 +508,7 @@ enum minisign_error take_permissions(struct directory *directory)
             return give(directory, &older);
         }
         if (errno != ENOENT && errno != ELOOP) {
-            return fails(directory, &directory->target, NULL, MINISIGN_WRITING_FAILED);
+            return fails(directory, &directory->target, MINISIGN_WRITING_FAILED);
         }
     }
     return keeps_changing(directory, &directory->target);

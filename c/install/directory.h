@@ -35,11 +35,12 @@ struct record {
     uint64_t written;
 };
 
-/* What could not be used, and why: in words, or, where the cause is NULL, by the number of errno. */
+/* The file that could not be used, with the cause in words, or NULL and errno. The hint may be NULL. */
 struct trouble {
     const char *shown;
     const char *cause;
     int number;
+    const char *hint;
 };
 
 struct directory {

@@ -86,8 +86,9 @@ static void blame_clock(struct installing *run)
 
     if (gmtime_r(&written, &parts) != NULL
         && strftime(directory->words, sizeof directory->words,
-                    "it was written at %Y-%m-%d %H:%M:%S UTC, and the clock shows less: set it", &parts) > 0) {
-        directory->trouble = (struct trouble) { directory->record.shown, directory->words, EINVAL };
+                    "it was written at %Y-%m-%d %H:%M:%S UTC, but the system clock is behind", &parts) > 0) {
+        directory->trouble = (struct trouble) { directory->record.shown, directory->words, EINVAL,
+                                                "set the system clock" };
     }
 }
 
@@ -121,7 +122,7 @@ static void answer_questions(struct installing *run)
 /* Remembers why the data could not be read to its end: the cause, or errno if that is NULL. */
 static enum minisign_error data_fails(struct installing *run, const char *cause)
 {
-    run->directory.trouble = (struct trouble) { run->wanted->shown, cause, errno };
+    run->directory.trouble = (struct trouble) { run->wanted->shown, cause, errno, NULL };
     return MINISIGN_READING_FAILED;
 }
 
@@ -129,10 +130,13 @@ static enum minisign_error data_fails(struct installing *run, const char *cause)
 static void begin_with(struct installing *run, const minisign_public_key *key, const minisign_public_key *other)
 {
     const struct wanted *wanted = run->wanted;
-    bool is_waiting = !run->is_file && run->held.fd < 0;
+    minisign_install_options options = {
+        .numbering = wanted->numbering, .is_first = wanted->is_first, .again = wanted->again,
+        .is_check = wanted->is_check, .is_waiting = !run->is_file && run->held.fd < 0,
+        .must_expire = wanted->must_expire
+    };
 
-    must(minisign_install_init(&run->machine, key, other, wanted->is_first, wanted->again, wanted->is_check, is_waiting,
-                               wanted->must_expire, wanted->numbering));
+    must(minisign_install_init(&run->machine, key, other, &options));
 }
 
 /* Whether the second key is tried, from the beginning: if it has the key ID of the first, which has not signed the
@@ -177,7 +181,7 @@ static enum minisign_error move_piece(struct installing *run, struct stage *to, 
     }
     if ((uint64_t) n > run->wanted->most - run->done) {
         run->is_too_long = true;
-        return data_fails(run, TOO_LONG);
+        return data_fails(run, "the data is larger than the limit");
     }
     run->done += *len;
     return write_stage(&run->directory, to, run->piece, *len);

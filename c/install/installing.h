@@ -21,8 +21,6 @@
 
 #define PIECE_BYTES (256 << 10)
 
-#define TOO_LONG "it is longer than it may be"
-
 /* What Ed25519 answers: whether it accepts a signature of these bytes under a public key. If it could not be asked,
  * what is neither yes nor no. */
 typedef enum minisign_answer ed25519_answer(const uint8_t signed_by[64], const uint8_t *bytes, size_t len,

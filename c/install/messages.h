@@ -16,24 +16,18 @@ enum status {
     REJECTED = 3,
     OLDER = 4,
     IN_USE = 5,
-    /* The update stands at the target, and a crash may bring back what stood there before. */
+    /* The update is installed, but a crash may bring back the file that was installed before. */
     NOT_SYNCED = 6,
-    /* No number of the field is kept beside the target. */
+    /* No version number of the chosen field is recorded for the target. */
     UNRECORDED = 7,
-    /* The update has the number that is kept. Without --check, other data stands at the target. */
+    /* The update has the recorded version number. Without --check, the installed file is different. */
     SAME = 8,
     EXPIRED = 9,
-    /* The update stands at the target already. */
+    /* The update is already installed. */
     THERE_ALREADY = 10
 };
 
-/* Prints what is wrong with a file. */
-void say(const char *file, const char *what);
-
-/* Prints the remedy in a second line: a name, which may be empty, and what follows it. */
-void advise(const char *name, const char *rest);
-
-/* Prints what the system answered about a file, by the number of errno. */
+/* Prints the system's error about a file, by the number of errno. */
 void say_answer(const char *file, int number);
 
 #endif

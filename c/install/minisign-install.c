@@ -14,6 +14,7 @@
 #include "options.h"
 #include "shared/diagnosis.h"
 #include "shared/progress.h"
+#include "shared/reports.h"
 #include "shared/streams.h"
 #include "shared/text.h"
 
@@ -22,6 +23,9 @@ struct long_text {
     uint8_t bytes[TEXT_BYTES + 1];
     size_t len;
 };
+
+#define ORDER_HINT "give PK DATA SIG TARGET in this order"
+#define DOWNLOAD_HINT "download the file and its signature again"
 
 static minisign_public_key keys[MAX_KEYS];
 static struct long_text signature_text;
@@ -51,29 +55,30 @@ static void read_long_text(struct long_text *text, const char *file)
     }
     text->len = (size_t) n;
     close(fd);
-    why = text->len == sizeof text->bytes    ? TOO_LONG
-          : !is_utf8(text->bytes, text->len) ? "it is not UTF-8"
+    why = text->len == sizeof text->bytes    ? "this file is larger than 1 MiB"
+          : !is_utf8(text->bytes, text->len) ? "this file is not UTF-8"
                                              : NULL;
     if (why != NULL) {
-        say(file, why);
+        say_error(file, why);
+        say_hint(ORDER_HINT);
         exit(REJECTED);
     }
 }
 
-/* Prints what an error of the library means for a file. */
-static void say_error(const char *file, enum minisign_error error)
+/* Prints an error of the library about a file. */
+static void say_library_error(const char *file, enum minisign_error error)
 {
     char text[MINISIGN_ERROR_TEXT_BYTES];
 
     minisign_error_text(error, text, sizeof text);
-    say(file, text);
+    say_error(file, text);
 }
 
-/* Prints the order of the files if a text is another one than was wanted. */
-static void advise_on_text(const char *file, const struct long_text *text, enum text_kind wanted)
+/* Prints what a text is and what to do, if it is another one than was wanted. */
+static void explain_text(const char *file, const struct long_text *text, enum text_kind wanted)
 {
-    if (text->len > 0 && say_if_other(file, text->bytes, text->len, wanted, NULL)) {
-        advise("", "the order is PK DATA SIG TARGET");
+    if (text->len > 0) {
+        say_if_other(file, text->bytes, text->len, wanted, ORDER_HINT);
     }
 }
 
@@ -81,8 +86,8 @@ static void advise_on_text(const char *file, const struct long_text *text, enum 
 static void must_be_key(const char *shown, const struct long_text *text, enum minisign_error error)
 {
     if (error != MINISIGN_OK) {
-        say_error(shown, error);
-        advise_on_text(shown, text, PUBLIC_KEY_TEXT);
+        say_library_error(shown, error);
+        explain_text(shown, text, PUBLIC_KEY_TEXT);
         exit(REJECTED);
     }
 }
@@ -158,34 +163,34 @@ static void make_run(struct request *request, struct installing *run)
 
 /* ---- What came of it ---- */
 
-/* How a run ends with an error: the status, the file that the error is about, and the remedy, which may begin with the
- * name of the record or with the name that the update has to have. */
+/* How a run ends with an error: the status, the file that the error is about, and the hint. */
 struct ending {
     enum minisign_error error;
     enum status status;
-    enum { THE_SIGNATURE, THE_DATA, THE_TARGET } blamed;
-    enum { NOTHING, THE_RECORD, THE_NAME } named;
-    const char *advice;
+    enum { THE_SIGNATURE, THE_DATA, THE_TARGET, THE_RECORD } blamed;
+    const char *hint;
 };
 
 static const struct ending endings[] = {
-    { MINISIGN_OUT_OF_MEMORY, FAILED, THE_TARGET, NOTHING, NULL },
-    { MINISIGN_READING_FAILED, FAILED, THE_TARGET, NOTHING, NULL },
-    { MINISIGN_WRITING_FAILED, FAILED, THE_TARGET, NOTHING, NULL },
-    { MINISIGN_RANDOM_SOURCE_FAILED, FAILED, THE_TARGET, NOTHING, NULL },
-    { MINISIGN_TARGET_IN_USE, IN_USE, THE_TARGET, NOTHING, NULL },
-    { MINISIGN_DIRECTORY_NOT_SYNCED, NOT_SYNCED, THE_TARGET, NOTHING, NULL },
-    { MINISIGN_NO_RECORD, UNRECORDED, THE_TARGET, THE_RECORD, " is missing: --first installs all the same" },
-    { MINISIGN_DAMAGED_RECORD, UNRECORDED, THE_TARGET, THE_RECORD, " is damaged: --first installs all the same" },
-    { MINISIGN_KEPT_BY_VERSION, UNRECORDED, THE_TARGET, NOTHING, "it was installed by version: add --numbering version" },
-    { MINISIGN_KEPT_BY_TIMESTAMP, UNRECORDED, THE_TARGET, NOTHING, "it was installed by timestamp: add --numbering timestamp" },
-    { MINISIGN_SAME_NUMBER, SAME, THE_TARGET, NOTHING, "--again installs all the same" },
-    { MINISIGN_OLDER_UPDATE, OLDER, THE_DATA, NOTHING, NULL },
-    { MINISIGN_SIGNATURE_REFUSED, REJECTED, THE_DATA, NOTHING, NULL },
-    { MINISIGN_OTHER_SIZE, REJECTED, THE_DATA, NOTHING, NULL },
-    { MINISIGN_EXPIRED, EXPIRED, THE_SIGNATURE, NOTHING, NULL },
-    { MINISIGN_NO_NUMBER, REJECTED, THE_SIGNATURE, NOTHING, "--numbering version takes the number from its version" },
-    { MINISIGN_OTHER_FILE, REJECTED, THE_SIGNATURE, THE_NAME, " is wanted: --name gives another name" },
+    { MINISIGN_OUT_OF_MEMORY, FAILED, THE_TARGET, NULL },
+    { MINISIGN_READING_FAILED, FAILED, THE_TARGET, NULL },
+    { MINISIGN_WRITING_FAILED, FAILED, THE_TARGET, NULL },
+    { MINISIGN_RANDOM_SOURCE_FAILED, FAILED, THE_TARGET, NULL },
+    { MINISIGN_TARGET_IN_USE, IN_USE, THE_TARGET, "use --wait SECONDS to wait for it" },
+    { MINISIGN_DIRECTORY_NOT_SYNCED, NOT_SYNCED, THE_TARGET, "run the command again" },
+    { MINISIGN_NO_RECORD, UNRECORDED, THE_RECORD, "use --first for the first installation" },
+    { MINISIGN_DAMAGED_RECORD, UNRECORDED, THE_RECORD, "use --first to install anyway" },
+    { MINISIGN_KEPT_BY_VERSION, UNRECORDED, THE_RECORD, "use --numbering version" },
+    { MINISIGN_KEPT_BY_TIMESTAMP, UNRECORDED, THE_RECORD, "use --numbering timestamp" },
+    { MINISIGN_SAME_NUMBER, SAME, THE_TARGET, "use --again to install anyway" },
+    { MINISIGN_OLDER_UPDATE, OLDER, THE_DATA, "download the latest update" },
+    { MINISIGN_SIGNATURE_REFUSED, REJECTED, THE_DATA, DOWNLOAD_HINT },
+    { MINISIGN_COMMENT_SIGNATURE_REFUSED, REJECTED, THE_SIGNATURE, DOWNLOAD_HINT },
+    { MINISIGN_DIFFERENT_KEY_IDS, REJECTED, THE_SIGNATURE, "use the public key of the signer" },
+    { MINISIGN_OTHER_SIZE, REJECTED, THE_DATA, DOWNLOAD_HINT },
+    { MINISIGN_EXPIRED, EXPIRED, THE_SIGNATURE, "download the latest update" },
+    { MINISIGN_NO_NUMBER, REJECTED, THE_SIGNATURE, "use --numbering version if the comment has a field version:" },
+    { MINISIGN_OTHER_FILE, REJECTED, THE_SIGNATURE, NULL },
     /* Any other error is about the text of the signature. */
     { .status = REJECTED, .blamed = THE_SIGNATURE },
 };
@@ -200,31 +205,28 @@ static const struct ending *ending_for(enum minisign_error error)
     return ending;
 }
 
-/* Prints what could not be used first, if anything. */
-static bool say_trouble(const struct trouble *trouble)
+/* Prints what could not be used first. */
+static void say_trouble(const struct trouble *trouble)
 {
-    if (trouble->shown == NULL) {
-        return false;
-    }
     if (trouble->cause != NULL) {
-        say(trouble->shown, trouble->cause);
+        say_error(trouble->shown, trouble->cause);
     } else {
         say_answer(trouble->shown, trouble->number);
     }
-    return true;
 }
 
-/* Prints what to type after an error. */
-static void advise_on(const struct request *request, const struct installing *run, const struct ending *ending)
+/* Prints what to do about an error of the library. */
+static void hint_at(const struct request *request, const struct installing *run, const struct ending *ending)
 {
-    const char *const named[] = { "", run->directory.record.shown, wanted_name(run) };
-
-    if (ending->error == MINISIGN_NO_NUMBER && request->wanted.numbering == MINISIGN_NUMBERING_VERSION) {
-        advise("", "without --numbering version the number is its timestamp");
-    } else if (ending->advice != NULL) {
-        advise(named[ending->named], ending->advice);
+    if (run->error == MINISIGN_NO_NUMBER && request->wanted.numbering == MINISIGN_NUMBERING_VERSION) {
+        say_hint("omit --numbering version if the comment has a field timestamp:");
+    } else if (run->error == MINISIGN_OTHER_FILE) {
+        fprintf(stderr, "hint: use --name NAME if the update is signed under another name than %s\n",
+                visible(wanted_name(run)));
     } else if (ending->error == MINISIGN_OK) {
-        advise_on_text(request->signature, &signature_text, SIGNATURE_TEXT);
+        explain_text(request->signature, &signature_text, SIGNATURE_TEXT);
+    } else {
+        say_hint(ending->hint);
     }
 }
 
@@ -232,23 +234,33 @@ static void advise_on(const struct request *request, const struct installing *ru
 static enum status report(const struct request *request, const struct installing *run)
 {
     const struct ending *ending = ending_for(run->error);
-    const char *const blamed[] = { request->signature, request->wanted.shown, request->wanted.target };
+    const struct directory *directory = &run->directory;
+    const char *const blamed[] = { request->signature, request->wanted.shown, request->wanted.target,
+                                   directory->record.shown };
     enum status status = ending->status;
+    bool has_trouble = directory->trouble.shown != NULL
+                       && (status == FAILED || status == NOT_SYNCED || status == EXPIRED);
 
     if (status == OLDER && request->wanted.is_check) {
         return status;
     }
-    if (status != FAILED || !say_trouble(&run->directory.trouble)) {
-        say_error(blamed[ending->blamed], run->error);
-        advise_on(request, run, ending);
+    if (status != FAILED || !has_trouble) {
+        say_library_error(blamed[ending->blamed], run->error);
     }
-    if (status == NOT_SYNCED || status == EXPIRED) {
-        say_trouble(&run->directory.trouble);
+    if (has_trouble) {
+        say_trouble(&directory->trouble);
+    }
+    if (run->is_too_long) {
+        say_hint("use --most BYTES to accept larger data");
+    } else if (has_trouble && (status == FAILED || directory->trouble.hint != NULL)) {
+        say_hint(directory->trouble.hint);
+    } else {
+        hint_at(request, run, ending);
     }
     return status == FAILED && run->is_too_long ? REJECTED : status;
 }
 
-/* Prints, for programs to read, the number and the signed comment of an update, if a key has vouched for them. */
+/* Prints the version number and the trusted comment of an update, for programs to read, if a key has signed them. */
 static bool show_update(const struct installing *run)
 {
     size_t len;
@@ -262,13 +274,14 @@ static bool show_update(const struct installing *run)
     return fflush(stdout) == 0 && ferror(stdout) == 0;
 }
 
-/* Prints that a file keeps its permissions, if others were asked for. */
+/* Warns that an installed file keeps its permissions, if --mode asks for others. */
 static void compare_mode(const struct wanted *wanted)
 {
     struct stat found;
 
     if (wanted->has_mode && lstat(wanted->target, &found) == 0 && (found.st_mode & 0777) != wanted->mode) {
-        advise(wanted->target, " stands there already and keeps its permissions: chmod changes them");
+        fprintf(stderr, "warning: %s: already installed, so its permissions are unchanged\n", visible(wanted->target));
+        say_hint("use chmod to change them");
     }
 }
 
@@ -293,11 +306,12 @@ static struct installing *begin_run(const struct wanted *wanted)
     struct installing *run = begin_installing(wanted);
 
     if (run == NULL && errno == EINVAL) {
-        say(wanted->target, "it does not end with the name of a file");
+        say_error(wanted->target, "this path does not end with a file name");
+        say_hint("give the path of the file to install, not of its directory");
         exit(USAGE_ERROR);
     }
     if (run == NULL) {
-        fputs("error: out of memory\n", stderr);
+        say_error(NULL, "out of memory");
         exit(FAILED);
     }
     return run;
@@ -319,7 +333,7 @@ int main(int argc, char *argv[])
     request.wanted.answer = answer_of;
     run = begin_run(&request.wanted);
     if (sodium_init() < 0) {
-        say(request.wanted.target, "libsodium could not be started");
+        say_error(NULL, "libsodium could not be initialized");
         return FAILED;
     }
     read_texts(&request);

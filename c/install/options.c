@@ -3,6 +3,7 @@
 #include "options.h"
 
 #include "messages.h"
+#include "shared/reports.h"
 #include "shared/text.h"
 #include "usage.h"
 
@@ -36,15 +37,18 @@ static _Noreturn void show(const char *first, const char *second)
     exit(fputs(first, stdout) >= 0 && fputs(second, stdout) >= 0 && fflush(stdout) == 0 ? INSTALLED : FAILED);
 }
 
+static _Noreturn void end_misuse(void)
+{
+    fputs(USAGE "\n", stderr);
+    say_hint("use --help to list the options");
+    exit(USAGE_ERROR);
+}
+
+/* Ends the program because of an argument, or of NULL, of all of them. */
 static _Noreturn void misuse(const char *word, const char *what)
 {
-    if (word != NULL) {
-        say(word, what);
-    } else {
-        fprintf(stderr, "error: %s\n", what);
-    }
-    fputs(USAGE " (--help shows the options)\n", stderr);
-    exit(USAGE_ERROR);
+    say_error(word, what);
+    end_misuse();
 }
 
 /* Keeps an option. It comes at most once, and that of a key twice. */
@@ -52,11 +56,11 @@ static void add_option(struct command_line *line, enum option option, const char
 {
     if (option == KEY) {
         if (line->key_count == MAX_KEYS) {
-            misuse(word, "this option was given twice before");
+            misuse(word, "this option can be given only twice");
         }
         line->keys[line->key_count++] = value;
     } else if (line->words[option] != NULL) {
-        misuse(word, "this option was given before");
+        misuse(word, "this option can be given only once");
     }
     line->words[option] = word;
     line->values[option] = value;
@@ -66,23 +70,24 @@ static void add_option(struct command_line *line, enum option option, const char
  * data, and with --key there is no file of a key. */
 static void judge_line(const struct command_line *line)
 {
-    static const char *const fewer[] = { "there are fewer than two paths", "there are fewer than three paths",
-                                         "there are fewer than four paths" };
-    static const char *const more[] = { "there are two paths, and this is a third",
-                                        "there are three paths, and this is a fourth",
-                                        "there are four paths, and this is a fifth" };
-    int wanted = PATHS - (line->words[IS_CHECK] != NULL ? 1 : 0) - (line->words[KEY] != NULL ? 1 : 0);
+    static const char *const paths[2][2] = { { "PK DATA SIG TARGET", "DATA SIG TARGET" },
+                                             { "PK SIG TARGET", "SIG TARGET" } };
+    int is_check = line->words[IS_CHECK] != NULL, has_key = line->words[KEY] != NULL;
+    int wanted = PATHS - is_check - has_key;
 
     if (line->count > wanted) {
-        misuse(line->paths[wanted], more[wanted - 2]);
+        fprintf(stderr, "error: %s: unexpected argument, expected %s\n", visible(line->paths[wanted]),
+                paths[is_check][has_key]);
+        end_misuse();
     }
     for (int option = IS_AGAIN; line->words[IS_CHECK] != NULL && option <= WAIT; option++) {
         if (line->words[option] != NULL) {
-            misuse(line->words[option], "it does not go with `--check`");
+            misuse(line->words[option], "this option cannot be combined with --check");
         }
     }
     if (line->count < wanted) {
-        misuse(NULL, fewer[wanted - 2]);
+        fprintf(stderr, "error: missing arguments, expected %s\n", paths[is_check][has_key]);
+        end_misuse();
     }
 }
 
@@ -112,9 +117,9 @@ static struct command_line read_command_line(int argc, char *argv[])
         } else if (strcmp(word, "--") == 0) {
             is_ended = true;
         } else if (option == OPTIONS) {
-            misuse(word, "there is no such option");
+            misuse(word, "unknown option");
         } else if (option >= MODE && ++i == argc) {
-            misuse(NULL, "the last option has no value");
+            misuse(word, "this option needs a value");
         } else {
             add_option(&line, option, word, argv[i]);
         }
@@ -123,11 +128,11 @@ static struct command_line read_command_line(int argc, char *argv[])
     return line;
 }
 
-/* Ends the program because an option has no such value. */
-static _Noreturn void reject_value(const char *option, const char *kind, const char *value)
+/* Ends the program because an option cannot have this value. */
+static _Noreturn void reject_value(const char *option, const char *expected, const char *value)
 {
-    fprintf(stderr, "error: %s: bad %s %s\n" USAGE " (--help shows the options)\n", option, kind, visible(value));
-    exit(USAGE_ERROR);
+    fprintf(stderr, "error: %s: invalid value \"%s\", expected %s\n", option, visible(value), expected);
+    end_misuse();
 }
 
 static enum minisign_numbering numbering_of(const char *text)
@@ -136,7 +141,7 @@ static enum minisign_numbering numbering_of(const char *text)
         return MINISIGN_NUMBERING_TIMESTAMP;
     }
     if (strcmp(text, "version") != 0) {
-        reject_value("--numbering", "field", text);
+        reject_value("--numbering", "timestamp or version", text);
     }
     return MINISIGN_NUMBERING_VERSION;
 }
@@ -147,7 +152,7 @@ static mode_t mode_of(const char *text)
     size_t len = strlen(text);
 
     if (strspn(text, "01234567") != len || !(len == 3 || (len == 4 && text[0] == '0'))) {
-        reject_value("--mode", "mode", text);
+        reject_value("--mode", "three octal digits such as 644", text);
     }
     return (mode_t) strtoul(text, NULL, 8);
 }
@@ -174,7 +179,7 @@ static uint64_t bytes_of(const char *option, const char *text)
     errno = 0;
     number = strtoull(text, NULL, 10);
     if (len == 0 || strlen(text) != len + (unit > 1 ? 1 : 0) || errno != 0 || number > UINT64_MAX / unit) {
-        reject_value(option, "size", text);
+        reject_value(option, "a number of bytes such as 5000, 100K or 20M", text);
     }
     return number * unit;
 }
@@ -186,7 +191,7 @@ static uint32_t seconds_of(const char *text)
     unsigned long seconds = strtoul(text, NULL, 10);
 
     if (len == 0 || len > 5 || strspn(text, "0123456789") != len || seconds > 24 * 60 * 60) {
-        reject_value("--wait", "number of seconds", text);
+        reject_value("--wait", "a number of seconds from 0 to 86400", text);
     }
     return (uint32_t) seconds;
 }

@@ -6,78 +6,91 @@
 #define USAGE "usage: minisign-install [OPTION ..] PK DATA SIG TARGET"
 
 #define OPTIONS_HELP \
+    "       minisign-install --key KEY [OPTION ..] DATA SIG TARGET\n" \
     "       minisign-install --check [OPTION ..] PK SIG TARGET\n" \
     "       minisign-install --help | -h | --version\n" \
     "\n" \
-    "Installs an update that a Minisign signature vouches for. It replaces the file\n" \
-    "TARGET by DATA in one step, if the public key PK and the signature SIG vouch\n" \
-    "for DATA. The signed comment has to name the file, and to have a number that is\n" \
-    "not below the one kept beside TARGET.\n" \
+    "Install an update that has a valid Minisign signature. The file TARGET is\n" \
+    "replaced by DATA in one step if SIG is a valid signature of DATA under the\n" \
+    "public key PK. The signed trusted comment must contain the file name of TARGET\n" \
+    "and a version number that is not below that of the installed update, which the\n" \
+    "program records beside TARGET.\n" \
     "\n" \
-    "  --first            Take the update also where no number of FIELD is kept\n" \
-    "                     beside TARGET, or another key has vouched for that number.\n" \
-    "  --again            Install an update of the kept number even where another\n" \
-    "                     update of that number was installed.\n" \
-    "  --check            Install nothing: the exit status says what a run would do.\n" \
-    "                     Show the number of the update and its signed comment. Name\n" \
-    "                     no DATA.\n" \
-    "  --key KEY          The public key itself, in base64 as in the second line of\n" \
-    "                     its file; name no PK. Give it twice during a change of\n" \
-    "                     keys: then either key will do.\n" \
-    "  --numbering FIELD  The number of the update is the field `timestamp` of the\n" \
-    "                     signed comment, as without this option, or `version`.\n" \
-    "  --name NAME        The signed comment has to name this file, and not the last\n" \
-    "                     part of TARGET: `--name app-1.2` installs what was signed\n" \
-    "                     as `app-1.2` at `app`.\n" \
-    "  --mode MODE        The permissions of the file, in three octal digits, before\n" \
-    "                     which a 0 may stand. An update that stands there already\n" \
-    "                     keeps its own; the program says so where they differ.\n" \
-    "  --must-expire      Reject an update whose signed comment does not say when it\n" \
-    "                     expires.\n" \
+    "  --first            Accept any version number if none of the kind that\n" \
+    "                     `--numbering` selects is recorded for TARGET, or if the\n" \
+    "                     version record was made under another key.\n" \
+    "  --again            Install an update of the recorded version even if another\n" \
+    "                     update of that version is installed.\n" \
+    "  --check            Install nothing. The exit status says what an installation\n" \
+    "                     would do. Print the version number and the trusted comment\n" \
+    "                     of the update. Give no DATA.\n" \
+    "  --key KEY          Use this public key, the second line of its file, and omit\n" \
+    "                     PK. Give this option twice during a change of keys: a\n" \
+    "                     signature by either key is then valid.\n" \
+    "  --numbering FIELD  Take the version number from this field of the trusted\n" \
+    "                     comment: `timestamp` (the default) or `version`.\n" \
+    "  --name NAME        Install an update whose trusted comment names NAME. The\n" \
+    "                     default is the last part of TARGET. For example, `--name\n" \
+    "                     app-1.2` installs at `app` an update that was signed as\n" \
+    "                     `app-1.2`.\n" \
+    "  --mode MODE        Set the permissions of the installed file to MODE, three\n" \
+    "                     octal digits such as 755. A leading 0 is allowed. If the\n" \
+    "                     update is already installed, its permissions are\n" \
+    "                     unchanged, and a warning says so.\n" \
+    "  --must-expire      Reject an update whose trusted comment does not say when\n" \
+    "                     it expires.\n" \
     "  --most BYTES, --max-size BYTES\n" \
-    "                     Reject longer data. `10K` is 10 times 1024 bytes, and M, G\n" \
-    "                     and T stand for 1024 times as much each.\n" \
-    "  --wait SECONDS     Wait so long, at most a day, for another installation at\n" \
-    "                     this target; without this option not at all. Data from a\n" \
-    "                     pipe is received before that.\n" \
-    "  --                 What follows are paths.\n" \
-    "  --help, -h         Show the options and the exit statuses. No other argument\n" \
-    "                     may stand beside it.\n" \
-    "  --version          Show the version of the program. No other argument may\n" \
-    "                     stand beside it.\n" \
+    "                     Reject data of more than BYTES bytes. The suffixes K, M, G\n" \
+    "                     and T stand for KiB, MiB, GiB and TiB, as in `100M`. Both\n" \
+    "                     names of the option mean the same.\n" \
+    "  --wait SECONDS     Wait up to SECONDS (at most 86400) for another\n" \
+    "                     installation of TARGET to finish, and then exit with\n" \
+    "                     status 5. The default is not to wait. If DATA is a pipe,\n" \
+    "                     the program reads it before it waits.\n" \
+    "  --                 End the options. All further arguments are paths.\n" \
+    "  --help, -h         Print the options and the exit statuses. Give no other\n" \
+    "                     argument.\n" \
+    "  --version          Print the version of the program. Give no other argument.\n" \
     "\n" \
-    "Options stand anywhere before `--`, each at most once, but for `--key`.\n"
+    "Options may stand anywhere before `--`. Each may be given once, except `--key`,\n" \
+    "which may be given twice.\n"
 
 #define STATUS_HELP \
     "\n" \
     "Exit status:\n" \
-    "  0   The update was installed, or what was asked for was shown; with\n" \
-    "      `--check`, it would be installed.\n" \
-    "  1   A file could not be used, an allocation failed, or no random bytes came.\n" \
-    "  2   Usage error.\n" \
-    "  3   The update is rejected: the texts do not vouch for the data; the signed\n" \
-    "      comment names another file, has no number, or does not say once when it\n" \
-    "      expires or how long the data is; the data has another size than was\n" \
-    "      signed; or the data or a text is too long.\n" \
-    "  4   The update is older than what was installed.\n" \
-    "  5   Another installation is at work at this target.\n" \
-    "  6   The update stands at the target, but a crash may bring back what stood\n" \
-    "      there before: run it again.\n" \
-    "  7   No number of FIELD is kept beside TARGET, and `--first` was not given:\n" \
-    "      there is none, none that reads as one, or one of the other field.\n" \
-    "  8   The update has the kept number, but the target holds other data, and the\n" \
-    "      record is not of this update: the key has signed two updates of one\n" \
-    "      number, or an earlier version wrote the record. `--again` was not given.\n" \
+    "  0   The update was installed. With `--check`, it would be installed. With\n" \
+    "      `--help` or `--version`, the text was printed.\n" \
+    "  1   A file could not be read or written, memory ran out, or the system\n" \
+    "      supplied no random bytes.\n" \
+    "  2   The command line is wrong.\n" \
+    "  3   The signature is not valid, a key or signature file is malformed, a file\n" \
+    "      is too large, or the data does not have the signed size. Or the trusted\n" \
+    "      comment names another file, has no version number, has an `expires:` or\n" \
+    "      `size:` that is repeated or not a number, or lacks the `expires:` that\n" \
+    "      `--must-expire` demands.\n" \
+    "  4   The update is older than the recorded version.\n" \
+    "  5   Another installation of TARGET is running.\n" \
+    "  6   The update is installed but could not be synced, so a crash may bring\n" \
+    "      back the previous file. Run the command again.\n" \
+    "  7   No version number of the kind that `--numbering` selects is recorded for\n" \
+    "      TARGET, and `--first` is not given. The version record is missing or\n" \
+    "      damaged, or holds the other kind.\n" \
+    "  8   The update has the recorded version number, but a different file is\n" \
+    "      installed, the record does not show that it was written for this update,\n" \
+    "      and `--again` is not given. Either the key has signed two updates with\n" \
+    "      this number, or the record contains no digest.\n" \
     "  9   The update has expired.\n" \
-    "  10  The update stands at the target already; it was synced, and nothing was\n" \
-    "      written.\n" \
+    "  10  The update is already installed. TARGET and its record are unchanged.\n" \
+    "      Without `--check`, the installed file was synced to the disk.\n" \
     "\n" \
     "Files:\n" \
-    "  .TARGET.number     The record of what was installed: its number, as\n" \
-    "                     `version:12`, the key that vouched, and the digest of the\n" \
-    "                     data.\n" \
-    "  .TARGET.lock       What is locked while an update is installed. It stays.\n" \
-    "  .TARGET.stage-*    The new file before it gets its name. The next run removes\n" \
-    "                     what a killed run has left.\n"
+    "  .TARGET.number     The version record of the installed update: its version\n" \
+    "                     number, such as `version:12`, the public key that verified\n" \
+    "                     it, and the digest of the data.\n" \
+    "  .TARGET.lock       The lock file. It is locked during an installation, and\n" \
+    "                     never removed.\n" \
+    "  .TARGET.stage-*    A temporary file, which becomes the record or the\n" \
+    "                     installed file. The next installation removes the\n" \
+    "                     temporary files of runs that were killed.\n"
 
 #endif

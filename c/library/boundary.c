@@ -107,6 +107,13 @@ enum minisign_error minisign_digest(minisign_state *state, uint8_t digest[64])
     return (enum minisign_error) CALL(minisign_digest)(state, digest);
 }
 
+PROVED(void, minisign_clear, (uint8_t *, size_t));
+
+void minisign_clear(void *value, size_t size)
+{
+    CALL(minisign_clear)(WRITTEN(value, size), size);
+}
+
 PROVED(uint32_t, minisign_read_public_key, (const uint8_t *, size_t, minisign_public_key *));
 
 enum minisign_error minisign_read_public_key(const uint8_t *pk_text, size_t pk_text_len, minisign_public_key *key)
@@ -198,12 +205,12 @@ enum minisign_error minisign_open_sealed_key(const minisign_unopened_key *unopen
     return result;
 }
 
-PROVED(void, minisign_opening_memory, (const minisign_unopened_key *, uint64_t, uint64_t *, uint64_t *));
+PROVED(void, minisign_opening_memory, (const minisign_unopened_key *, uint64_t, uint64_t, uint64_t *, uint64_t *));
 
-void minisign_opening_memory(const minisign_unopened_key *unopened, uint64_t keep_every, uint64_t *words_wanted,
-                             uint64_t *bytes_wanted)
+void minisign_opening_memory(const minisign_unopened_key *unopened, uint64_t keep_every, uint64_t most_rows,
+                             uint64_t *words_wanted, uint64_t *bytes_wanted)
 {
-    CALL(minisign_opening_memory)(unopened, keep_every, words_wanted, bytes_wanted);
+    CALL(minisign_opening_memory)(unopened, keep_every, most_rows, words_wanted, bytes_wanted);
     minisign_clear_used();
 }
 
@@ -228,11 +235,11 @@ enum minisign_error minisign_open_sealed_key_in_place(const minisign_unopened_ke
     return result;
 }
 
-PROVED(void, minisign_take_secret_key, (const uint8_t *, const uint8_t *, minisign_secret_key *));
+PROVED(void, minisign_take_secret_key, (const minisign_new_key *, minisign_secret_key *));
 
-void minisign_take_secret_key(const uint8_t key_id[8], const uint8_t secret[64], minisign_secret_key *key)
+void minisign_take_secret_key(const minisign_new_key *new_key, minisign_secret_key *key)
 {
-    CALL(minisign_take_secret_key)(key_id, secret, key);
+    CALL(minisign_take_secret_key)(new_key, key);
     minisign_clear_used();
 }
 
@@ -256,21 +263,17 @@ enum minisign_error minisign_comment_message(const uint8_t first[64], const uint
                                                                 WRITTEN(message, room), room);
 }
 
-PROVED(uint32_t, minisign_signed_text, (const minisign_secret_key *, const uint8_t *, const uint8_t *,
+PROVED(uint32_t, minisign_signed_text, (const minisign_public_key *, const uint8_t *, const uint8_t *,
                                         const uint8_t *, size_t, const uint8_t *, size_t, uint8_t *, size_t,
                                         size_t *));
 
-enum minisign_error minisign_signed_text(const minisign_secret_key *key, const minisign_signed_parts *parts,
+enum minisign_error minisign_signed_text(const minisign_public_key *key, const minisign_signed_parts *parts,
                                          uint8_t *text, size_t room, size_t *text_len)
 {
-    enum minisign_error result;
-
-    result = (enum minisign_error) CALL(minisign_signed_text)(key, parts->signature, parts->comment_signature,
+    return (enum minisign_error) CALL(minisign_signed_text)(key, parts->signature, parts->comment_signature,
             READ(parts->trusted_comment, parts->trusted_comment_len), parts->trusted_comment_len,
             READ(parts->untrusted_comment, parts->untrusted_comment_len), parts->untrusted_comment_len,
             WRITTEN(text, room), room, text_len);
-    minisign_clear_used();
-    return result;
 }
 
 PROVED(uint32_t, minisign_secret_key_text, (const minisign_secret_key *, uint32_t, const uint8_t *, size_t,
@@ -293,6 +296,30 @@ enum minisign_error minisign_secret_key_text(const minisign_secret_key *key, uin
     return result;
 }
 
+PROVED(uint32_t, minisign_secret_key_text_with_any_limits, (const minisign_secret_key *, uint32_t, const uint8_t *,
+                                                            size_t, const minisign_sealing *, uint64_t,
+                                                            const uint8_t *, size_t, uint8_t *, size_t, size_t *));
+
+enum minisign_error minisign_secret_key_text_with_any_limits(const minisign_secret_key *key,
+                                                             uint32_t with_password, const uint8_t *password,
+                                                             size_t password_len, const minisign_sealing *sealing,
+                                                             uint64_t keep_every, const uint8_t *comment,
+                                                             size_t comment_len, uint8_t *text, size_t room,
+                                                             size_t *text_len)
+{
+    enum minisign_error result;
+
+    result = (enum minisign_error) CALL(minisign_secret_key_text_with_any_limits)(key, with_password,
+                                                                                  READ(password, password_len),
+                                                                                  password_len, sealing,
+                                                                                  keep_every,
+                                                                                  READ(comment, comment_len),
+                                                                                  comment_len, WRITTEN(text, room),
+                                                                                  room, text_len);
+    minisign_clear_used();
+    return result;
+}
+
 PROVED(uint32_t, minisign_public_key_text, (const minisign_secret_key *, const uint8_t *, size_t, uint8_t *,
                                             size_t, size_t *));
 
@@ -308,16 +335,13 @@ enum minisign_error minisign_public_key_text(const minisign_secret_key *key, con
 }
 
 PROVED(uint32_t, minisign_install_init, (minisign_installation *, const minisign_public_key *,
-                                         const minisign_public_key *, uint32_t, uint32_t, uint32_t, uint32_t,
-                                         uint32_t, uint32_t));
+                                         const minisign_public_key *, const minisign_install_options *));
 
 enum minisign_error minisign_install_init(minisign_installation *installation, const minisign_public_key *key,
-                                          const minisign_public_key *other, uint32_t is_first, uint32_t again,
-                                          uint32_t is_check, uint32_t is_waiting, uint32_t must_expire,
-                                          uint32_t numbering)
+                                          const minisign_public_key *other,
+                                          const minisign_install_options *options)
 {
-    return (enum minisign_error) CALL(minisign_install_init)(installation, key, other, is_first, again, is_check,
-                                                             is_waiting, must_expire, numbering);
+    return (enum minisign_error) CALL(minisign_install_init)(installation, key, other, options);
 }
 
 PROVED(uint32_t, minisign_install_due, (const minisign_installation *));

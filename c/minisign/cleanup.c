@@ -59,7 +59,7 @@ void clean_at_end(void (*cleaner)(void))
     static int count;
 
     if (count == MAX_CLEANERS || (count == 0 && atexit(clean) != 0)) {
-        fail("atexit()");
+        blame(NULL, "atexit() failed", NULL);
     }
     cleaners[count++] = cleaner;
     if (count == 1) {

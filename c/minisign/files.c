@@ -2,17 +2,16 @@
 /* Reading and writing files. */
 #include "files.h"
 
+#include "shared/reports.h"
 #include "shared/streams.h"
 
-int open_file(const char *file, const char *remedy)
+int open_file(const char *file, const char *hint)
 {
     int fd = open(file, O_RDONLY | O_CLOEXEC), number = errno;
 
     if (fd < 0) {
         say_at(file);
-        if (number == ENOENT && remedy != NULL) {
-            fprintf(stderr, "%s\n", remedy);
-        }
+        say_hint(number == ENOENT ? hint : NULL);
         exit(TROUBLE);
     }
     return fd;
@@ -28,7 +27,7 @@ size_t read_full(int fd, const char *file, uint8_t *at, size_t room)
 
 uid_t read_text(uint8_t *bytes, size_t room, size_t *len, const char *file, enum text_kind wanted)
 {
-    int fd = open_file(file, remedy_of(wanted));
+    int fd = open_file(file, hint_for(wanted));
     struct stat found;
 
     need(fstat(fd, &found) == 0, file);

@@ -18,13 +18,13 @@ struct text {
     size_t len;
 };
 
-/* Opens a file for reading. If there is none, the remedy is printed too, unless it is NULL. */
-int open_file(const char *file, const char *remedy);
+/* Opens a file for reading. If there is none, the hint is printed too, unless it is NULL. */
+int open_file(const char *file, const char *hint);
 
 /* Reads so many bytes, and fewer only at the end of the file. */
 size_t read_full(int fd, const char *file, uint8_t *at, size_t room);
 
-/* Reads a text that is shorter than its room: who owns the file. If there is none, the remedy is printed too. */
+/* Reads a text that is shorter than its room: who owns the file. If there is none, a hint is printed too. */
 uid_t read_text(uint8_t *bytes, size_t room, size_t *len, const char *file, enum text_kind wanted);
 
 /* Writes all that was printed so far. */

@@ -15,6 +15,7 @@
 #include "replacing.h"
 #include "shared/handles.h"
 #include "shared/progress.h"
+#include "shared/reports.h"
 #include "shared/text.h"
 
 #define COMMENT_LABEL "untrusted comment: "
@@ -59,15 +60,15 @@ static bool keep_fewer(enum minisign_error error, uint32_t *rows)
 
 /* ---- Opening ---- */
 
-/* Says how to open a key that takes more work than is allowed. */
-static void say_work(const struct options *options)
+/* Says which value of -K opens a key that takes more work than is allowed. */
+static void hint_at_work(void)
 {
     const minisign_unopened_key *key = &secrets->unopened;
     uint64_t times = (((uint64_t) key->work << key->log2_rows) + MINISIGN_USUAL_ROWS - 1) / MINISIGN_USUAL_ROWS;
 
     fprintf(stderr,
-            "%s: opening this key takes %" PRIu64 " times the work of a usual one: -K %" PRIu64 " allows that\n",
-            visible(options->secret_file), times, times);
+            "hint: use -K %" PRIu64 " to decrypt this key, which takes %" PRIu64 " times the work of a default key\n",
+            times, times);
 }
 
 /* Shows that a key is derived from a password, which may take long. */
@@ -103,7 +104,7 @@ static enum minisign_error open_sealed(const struct options *options)
     } while (keep_fewer(error, &rows));
     end_derivation();
     if (error == MINISIGN_NOT_UTF8) {
-        fail("The password is not UTF-8");
+        blame(NULL, "the password is not UTF-8", UTF8_HINT);
     }
     return error;
 }
@@ -122,19 +123,20 @@ void open_key(const struct options *options)
     if (error == MINISIGN_OK) {
         return;
     }
-    fprintf(stderr, "%s\n", message_of(error == MINISIGN_RECORD_TOO_SHORT ? MINISIGN_SECRET_KEY_NOT_BASE64 : error));
+    say_message(options->secret_file,
+                error == MINISIGN_RECORD_TOO_SHORT ? MINISIGN_SECRET_KEY_NOT_BASE64 : error);
     if (error == MINISIGN_WORK_TOO_HIGH) {
-        say_work(options);
+        hint_at_work();
     } else if (error != MINISIGN_WRONG_PASSWORD && error != MINISIGN_OUT_OF_MEMORY) {
         say_kind(options->secret_file, secrets->text, secrets->text_len, SECRET_KEY_TEXT, error,
-                 remedy_of(SECRET_KEY_TEXT));
+                 hint_for(SECRET_KEY_TEXT));
     }
     exit(TROUBLE);
 }
 
 bool has_own_halves(void)
 {
-    uint8_t *again = secrets->pair, public_key[crypto_sign_PUBLICKEYBYTES];
+    uint8_t *again = secrets->drawn.secret, public_key[crypto_sign_PUBLICKEYBYTES];
 
     crypto_sign_seed_keypair(public_key, again, secrets->open.secret);
     minisign_clear_used();
@@ -158,24 +160,28 @@ static void ask_new_password(void)
 /* Makes the text of the open key with this comment, sealed under the password or not, in `secrets->text`. */
 static void make_text(const struct options *options, const uint8_t *comment, size_t comment_len)
 {
-    minisign_sealing sealing = { .operations_limit = MINISIGN_OPERATIONS_LIMIT, .memory_limit = MINISIGN_MEMORY_LIMIT };
+    /* Minisign takes an empty password too, and ask_new_password says that it is one. */
+    uint32_t with_password = options->unsealed ? MINISIGN_NO_PASSWORD : MINISIGN_ANY_PASSWORD;
+    uint8_t salt[sizeof ((minisign_sealing *) 0)->salt] = { 0 };
+    minisign_sealing sealing;
     uint32_t rows = options->rows;
     enum minisign_error error;
 
     if (!options->unsealed) {
-        randombytes_buf(sealing.salt, sizeof sealing.salt);
+        randombytes_buf(salt, sizeof salt);
         begin_derivation("in order to encrypt the secret key");
     }
+    sealing = minisign_usual_sealing(salt);
     do {
-        error = minisign_secret_key_text(&secrets->open, options->unsealed ? 0 : 1, secrets->password.bytes,
-                                         secrets->password.len, &sealing, rows, comment, comment_len, secrets->text,
-                                         sizeof secrets->text, &secrets->text_len);
+        error = minisign_secret_key_text(&secrets->open, with_password, secrets->password.bytes, secrets->password.len,
+                                         &sealing, rows, comment, comment_len, secrets->text, sizeof secrets->text,
+                                         &secrets->text_len);
     } while (keep_fewer(error, &rows));
     if (!options->unsealed) {
         end_derivation();
     }
     if (error == MINISIGN_NOT_UTF8 && !options->unsealed) {
-        fail("The password or the comment is not UTF-8");
+        blame(NULL, "the password or the comment is not UTF-8", UTF8_HINT);
     }
     expect_done(error);
 }
@@ -228,17 +234,18 @@ static struct replacement *stage_key(const struct options *options, const char *
 
 static _Noreturn void reject_one_file(const char *file, const char *other)
 {
-    fprintf(stderr, "%s and %s are one file\n", visible(file), visible(other));
+    fprintf(stderr, "error: %s: this is the same file as %s\n", visible(file), visible(other));
+    say_hint("use -s FILE and -p FILE to name two different files");
     exit(TROUBLE);
 }
 
-void reject_over_key(const struct options *options, const char *file)
+void reject_over_key(const struct options *options, const char *file, const char *hint)
 {
     struct stat key, found;
 
     if (stat(options->secret_file, &key) == 0 && stat(file, &found) == 0 && S_ISREG(key.st_mode)
         && is_same_file(&key, &found)) {
-        blame(file, "this is the secret key itself, which would be lost");
+        blame(file, "this is the secret key, which would be overwritten", hint);
     }
 }
 
@@ -279,12 +286,12 @@ static void put_pair(const struct options *options, const struct text *public)
 /* Draws a new key, and opens it. */
 static void draw_key(void)
 {
-    uint8_t public_key[crypto_sign_PUBLICKEYBYTES], key_id[sizeof secrets->open.key_id];
+    uint8_t public_key[crypto_sign_PUBLICKEYBYTES];
 
-    randombytes_buf(key_id, sizeof key_id);
-    crypto_sign_keypair(public_key, secrets->pair);
+    randombytes_buf(secrets->drawn.key_id, sizeof secrets->drawn.key_id);
+    crypto_sign_keypair(public_key, secrets->drawn.secret);
     minisign_clear_used();
-    minisign_take_secret_key(key_id, secrets->pair, &secrets->open);
+    minisign_take_secret_key(&secrets->drawn, &secrets->open);
 }
 
 int generate_keys(const struct options *options)
@@ -320,7 +327,7 @@ int recreate_public_key(const struct options *options)
     static struct text public;
 
     look_for_existing(options, options->public_file, PUBLIC_KEY);
-    reject_over_key(options, options->public_file);
+    reject_over_key(options, options->public_file, "use -p FILE to name another file for the public key");
     open_key(options);
     make_public_text(&public);
     if (!put_in_place(stage_key(options, options->public_file, PUBLIC_KEY, public.bytes, public.len))) {

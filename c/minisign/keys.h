@@ -23,8 +23,8 @@ struct secrets {
     minisign_unopened_key unopened;
     minisign_secret_key open;
     struct password password, again;
-    /* A pair that Ed25519 has made. */
-    uint8_t pair[64];
+    /* A key that was just made. */
+    minisign_new_key drawn;
 };
 
 extern struct secrets *secrets;
@@ -40,7 +40,7 @@ void open_key(const struct options *options);
 bool has_own_halves(void);
 
 /* Ends the program if this file, which is to be written, is that of the secret key: the key would be lost. */
-void reject_over_key(const struct options *options, const char *file);
+void reject_over_key(const struct options *options, const char *file, const char *hint);
 
 /* The commands, which return the exit status. */
 int generate_keys(const struct options *options);

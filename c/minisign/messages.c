@@ -2,6 +2,7 @@
 /* What minisign says. */
 #include "messages.h"
 
+#include "shared/reports.h"
 #include "shared/text.h"
 
 void fail(const char *line)
@@ -30,16 +31,17 @@ void need(bool is_done, const char *file)
     }
 }
 
-void blame(const char *file, const char *why)
+void blame(const char *file, const char *what, const char *hint)
 {
-    fprintf(stderr, "%s: %s\n", visible(file), why);
+    say_error(file, what);
+    say_hint(hint);
     exit(TROUBLE);
 }
 
 void expect_one_line(const char *comment)
 {
     if (comment != NULL && strpbrk(comment, "\r\n") != NULL) {
-        fail("A comment is one line");
+        blame(NULL, "a comment contains a line break", "write each comment on one line");
     }
 }
 
@@ -73,31 +75,36 @@ static const struct {
     { MINISIGN_WRONG_PASSWORD, "Wrong password for that key" },
 };
 
-const char *message_of(enum minisign_error error)
+void say_message(const char *file, enum minisign_error error)
 {
-    static char text[MINISIGN_ERROR_TEXT_BYTES];
+    char text[MINISIGN_ERROR_TEXT_BYTES];
 
     for (size_t i = 0; i < sizeof messages / sizeof messages[0]; i++) {
         if (messages[i].error == error) {
-            return messages[i].text;
+            fprintf(stderr, "%s\n", messages[i].text);
+            return;
         }
     }
     minisign_error_text(error, text, sizeof text);
-    return text;
+    say_error(file, text);
 }
 
 void expect_done(enum minisign_error error)
 {
+    if (error == MINISIGN_NOT_UTF8) {
+        blame(NULL, "the comment is not UTF-8", UTF8_HINT);
+    }
     if (error != MINISIGN_OK) {
-        fail(error == MINISIGN_NOT_UTF8 ? "The comment is not UTF-8" : message_of(error));
+        say_message(NULL, error);
+        exit(TROUBLE);
     }
 }
 
-const char *remedy_of(enum text_kind wanted)
+const char *hint_for(enum text_kind wanted)
 {
-    return wanted == PUBLIC_KEY_TEXT   ? "-p names the file of the public key, and -P gives the key itself"
-           : wanted == SECRET_KEY_TEXT ? "-G makes a pair of keys, and -s names another secret key"
-                                       : "-x names the file of the signature";
+    return wanted == PUBLIC_KEY_TEXT   ? "use -p FILE to name a public key file, or -P KEY to give the key itself"
+           : wanted == SECRET_KEY_TEXT ? "use -s FILE to name a secret key file, or -G to generate a key pair"
+                                       : "use -x FILE to name the signature file";
 }
 
 uint64_t number_of_id(const uint8_t id[8])

@@ -10,7 +10,10 @@
 /* The exit statuses, which are Minisign's. */
 enum { GOOD = 0, BAD = 1, TROUBLE = 2 };
 
-/* Prints a line, and ends the program. */
+/* The hint for a password or a comment that is not UTF-8. */
+#define UTF8_HINT "use a UTF-8 terminal, or only ASCII characters"
+
+/* Prints one of Minisign's own lines, and ends the program. */
 _Noreturn void fail(const char *line);
 
 /* Prints why a file could not be used, as errno says. The second one then ends the program, and the third one does both
@@ -19,20 +22,20 @@ void say_at(const char *file);
 _Noreturn void fail_at(const char *file);
 void need(bool is_done, const char *file);
 
-/* Prints what is wrong with a file, and ends the program. */
-_Noreturn void blame(const char *file, const char *why);
+/* Prints an error and a hint of this program, and ends the program. Without a file or a hint these are NULL. */
+_Noreturn void blame(const char *file, const char *what, const char *hint);
 
 /* Ends the program if a comment has a line end in it. NULL is no comment. */
 void expect_one_line(const char *comment);
 
-/* The text for an error: Minisign's if it has one, else the library's. It is there until the next call. */
-const char *message_of(enum minisign_error error);
+/* Prints an error: in Minisign's words if it has any for it, else the library's text, after the name of the file. */
+void say_message(const char *file, enum minisign_error error);
 
-/* Ends the program with that text if there is an error. */
+/* Prints the error, if there is one, and ends the program. */
 void expect_done(enum minisign_error error);
 
-/* What to type if such a text is wanted, and there is none or another one: the flag that names it. */
-const char *remedy_of(enum text_kind wanted);
+/* The hint for a key or signature file that is missing or of another kind: the flag that names it. */
+const char *hint_for(enum text_kind wanted);
 
 /* A key ID as the number that Minisign shows. */
 uint64_t number_of_id(const uint8_t id[8]);

@@ -43,7 +43,7 @@ int main(int argc, char *argv[])
         be_quiet();
     }
     if (sodium_init() < 0) {
-        fail("libsodium could not be started");
+        fail("Unable to initialize the Sodium library");
     }
     return run(&options);
 }

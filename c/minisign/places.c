@@ -11,6 +11,8 @@
 /* How often a place is looked for while others change it. */
 #define MAX_LOOKS 100
 
+#define OTHER_DIRECTORY "use a directory that only you can write to"
+
 bool is_written_in_place(const struct place *place)
 {
     return place->name == NULL;
@@ -73,7 +75,7 @@ static void expect_no_strangers(const struct place *place)
 
     need(fstat(place->directory, &around) == 0, place->file);
     if (is_put_by_stranger(place, &place->older.found, &around, S_IWOTH | S_IWGRP)) {
-        blame(place->file, "this is another user's, in a directory where others may write");
+        blame(place->file, "this belongs to another user, in a directory that others can write to", OTHER_DIRECTORY);
     }
 }
 
@@ -93,7 +95,8 @@ static bool may_follow(const struct place *place, const struct stat *link)
         return false;
     }
     if (is_put_by_stranger(place, link, &around, S_IWOTH)) {
-        blame(place->file, "another user's link leads there, in a directory where others may write");
+        blame(place->file, "this path has another user's symbolic link, in a directory that others can write to",
+              OTHER_DIRECTORY);
     }
     return true;
 }
@@ -229,7 +232,7 @@ static bool is_descriptor(struct place *place)
         return false;
     }
     if (is_held(fd)) {
-        blame(place->file, "this is closed");
+        blame(place->file, "this stream is closed", "redirect it to a file, or give the name of a file");
     }
     flags = fcntl(fd, F_GETFL);
     if (flags < 0 || (flags & O_ACCMODE) == O_RDONLY || fstat(fd, &place->older.found) != 0
@@ -237,7 +240,8 @@ static bool is_descriptor(struct place *place)
         return false;
     }
     if (place->is_secret && !may_keep_secret(&place->older.found)) {
-        blame(place->file, "others may read this file: no secret key is written there");
+        blame(place->file, "other users can access this file, so no secret key was written to it",
+              "use a file that only you can access (chmod 600)");
     }
     place->opened = fcntl(fd, F_DUPFD_CLOEXEC, 0);
     need(place->opened >= 0, place->file);
@@ -272,7 +276,8 @@ static struct place in_place(struct place place)
 
     forget_name(&place);
     if (place.is_secret && is_strangers(found) && !S_ISDIR(found->st_mode) && !is_stream(found)) {
-        blame(place.file, "this is another user's: no secret key is written there");
+        blame(place.file, "this belongs to another user, so no secret key was written to it",
+              "use a file of your own");
     }
     return place;
 }

@@ -20,7 +20,7 @@ struct data open_data(const char *file)
 static void feed(minisign_state *state, const uint8_t *bytes, size_t len)
 {
     if (minisign_update(state, bytes, len) != MINISIGN_OK) {
-        fail("The data could not be fed");
+        blame(NULL, "the data could not be hashed", NULL);
     }
 }
 

@@ -111,7 +111,7 @@ static void watch_stages(void)
         clean_at_end(drop_stages);
         signal(SIGXFSZ, SIG_IGN);
         if (atexit(finish_stages) != 0) {
-            fail("atexit()");
+            blame(NULL, "atexit() failed", NULL);
         }
     }
 }
@@ -124,7 +124,7 @@ static struct replacement *free_stage(void)
             return stage;
         }
     }
-    fail("too many files at once");
+    blame(NULL, "too many files at once", NULL);
 }
 
 /* Closes what a stage has open, and removes the name beside its place if it still has it, or leaves that to the end of
@@ -386,7 +386,8 @@ void replace_key(const char *file, enum kind kind, uid_t owner, const uint8_t *b
     struct replacement *stage = begin_stage(file, kind, true);
 
     if (stage->place.has_older && stage->place.older.found.st_uid != owner) {
-        blame(file, "another user's file stands there now, in place of the key that was read");
+        blame(file, "another user replaced this file after the key was read",
+              "check who can write to its directory, then try again");
     }
     write_replacement(stage, kind, bytes, len);
     put_in_place(stage);

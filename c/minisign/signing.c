@@ -12,9 +12,9 @@
 #include "keys.h"
 #include "replacing.h"
 #include "verifying.h"
+#include "shared/reports.h"
 #include "shared/text.h"
 
-#define DEFAULT_COMMENT "signature from minisign secret key"
 #define COMMENT_BYTES 8192
 
 static const char *last_part(const char *path)
@@ -29,8 +29,8 @@ static const char *default_comment(const char *data_file, bool legacy)
 {
     static char comment[COMMENT_BYTES];
 
-    snprintf(comment, sizeof comment, "timestamp:%lld\tfile:%s%s", (long long) time(NULL), last_part(data_file),
-             legacy ? "" : "\thashed");
+    snprintf(comment, sizeof comment, legacy ? "timestamp:%llu\tfile:%s" : MINISIGN_TRUSTED_COMMENT_FORMAT,
+             (unsigned long long) time(NULL), last_part(data_file));
     return comment;
 }
 
@@ -40,21 +40,23 @@ static void expect_comment(const char *data_file, bool legacy)
     const char *name = last_part(data_file);
     const uint8_t *text = (const uint8_t *) name;
     size_t len = strlen(name);
-    const char *why = !is_utf8(text, len)                     ? "is not UTF-8"
-                      : strpbrk(name, "\r\n") != NULL         ? "has a line end in it"
-                      : legacy && ends_with_space(text, len) ? "ends with white space"
-                                                             : NULL;
+    const char *what = NULL;
 
-    if (why != NULL) {
-        fprintf(stderr, "%s: a name that %s cannot stand in the trusted comment: choose one by -t\n",
-                visible(data_file), why);
-        exit(TROUBLE);
+    if (!is_utf8(text, len)) {
+        what = "the trusted comment cannot hold a name that is not UTF-8";
+    } else if (strpbrk(name, "\r\n") != NULL) {
+        what = "the trusted comment cannot hold a name with a line break";
+    } else if (legacy && ends_with_space(text, len)) {
+        what = "the trusted comment cannot end with white space";
+    }
+    if (what != NULL) {
+        blame(data_file, what, "use -t COMMENT to give another trusted comment");
     }
 }
 
 static minisign_signed_parts comments_of(const struct options *options, const char *data_file)
 {
-    const char *untrusted = options->comment != NULL ? options->comment : DEFAULT_COMMENT;
+    const char *untrusted = options->comment != NULL ? options->comment : MINISIGN_SIGNATURE_COMMENT;
     const char *trusted = options->trusted_comment != NULL ? options->trusted_comment
                                                            : default_comment(data_file, options->legacy);
 
@@ -85,8 +87,10 @@ static void make_signature(struct text *made, minisign_state *state, const struc
                            const struct options *options, minisign_signed_parts *parts)
 {
     static uint8_t message[64 + TEXT_ROOM];
+    minisign_public_key public = { 0 };
     uint8_t digest[64];
 
+    expect_done(minisign_public_key_of(&secrets->open, &public));
     expect_done(minisign_digest(state, digest));
     if (options->legacy) {
         sign(parts->signature, data->held.bytes, data->held.len);
@@ -96,7 +100,7 @@ static void make_signature(struct text *made, minisign_state *state, const struc
     expect_done(minisign_comment_message(parts->signature, parts->trusted_comment, parts->trusted_comment_len, message,
                                          sizeof message));
     sign(parts->comment_signature, message, 64 + parts->trusted_comment_len);
-    expect_done(minisign_signed_text(&secrets->open, parts, made->bytes, sizeof made->bytes, &made->len));
+    expect_done(minisign_signed_text(&public, parts, made->bytes, sizeof made->bytes, &made->len));
     if (options->legacy) {
         turn_legacy(made);
     }
@@ -116,11 +120,12 @@ static void verify_signature(const struct options *options, const minisign_state
     }
     fputs("Verification would fail with the given public key\n", stderr);
     if (!has_own_halves()) {
-        blame(options->secret_file, "this secret key is damaged: its two halves do not belong together");
+        blame(options->secret_file, "this secret key is damaged: its two halves do not match", SECRET_KEY_HINT);
     }
     if (name_of_public_key(options) != NULL) {
-        fprintf(stderr, "%s: this is not the public key of %s\n", visible(name_of_public_key(options)),
+        fprintf(stderr, "error: %s: this is not the public key of %s\n", visible(name_of_public_key(options)),
                 visible(options->secret_file));
+        say_hint("use -R to write the public key file again");
     }
     exit(TROUBLE);
 }
@@ -134,7 +139,7 @@ static void sign_file(const struct options *options, const char *data_file, cons
     struct data data;
     minisign_state state, fed;
 
-    reject_over_key(options, signature_file);
+    reject_over_key(options, signature_file, hint_for(SIGNATURE_TEXT));
     replace_before_reading(data_file);
     data = open_data(data_file);
     if (options->trusted_comment == NULL) {
@@ -158,11 +163,13 @@ int sign_files(const struct options *options)
 
     expect_one_line(options->trusted_comment);
     expect_one_line(options->comment);
-    open_key(options);
-    /* The first signature is verified with the public key of the options, or else the secret key's own. */
+    /* The first signature is verified with the public key of the options, or else the secret key's own. A missing or
+     * damaged public key is reported before the password prompt, as Minisign does. */
     if (name_of_public_key(options) != NULL) {
         public = load_public_key(options);
-    } else {
+    }
+    open_key(options);
+    if (name_of_public_key(options) == NULL) {
         expect_done(minisign_public_key_of(&secrets->open, &public));
     }
     sign_file(options, options->data_file, first != NULL ? first : joined(options->data_file, ".minisig", ""), &public);

@@ -151,7 +151,7 @@ void ask_password(struct password *password, const char *question)
     }
     fputs(line == WHOLE && password->len == 0 ? "(empty)\n" : "\n", stderr);
     if (line == LINE_TOO_LONG) {
-        fail("The password is too long");
+        blame(NULL, "the password is too long", "use at most 1023 bytes");
     }
 }
 

@@ -1,5 +1,5 @@
 /* SPDX-License-Identifier: MIT */
-/* Says what a text is that is neither key nor signature. */
+/* Explains why a file is not the key or signature that was expected. */
 #ifndef DIAGNOSIS_H
 #define DIAGNOSIS_H
 
@@ -11,15 +11,19 @@ enum text_kind {
     PUBLIC_KEY_TEXT, SECRET_KEY_TEXT, SIGNATURE_TEXT, BARE_KEY_TEXT, SIGNIFY_SIGNATURE, SIGNIFY_SECRET_KEY, OTHER_TEXT
 };
 
+/* What to do about a file that is truncated or damaged. */
+#define COPY_HINT "download or copy the file again"
+#define SECRET_KEY_HINT "restore the file from a backup"
+
 /*
- * Prints a line on the error stream about a text that the library rejected for this error: the name of its file, or the
- * flag that gave it, and what it is, or else what is wrong with it. If a key or a signature was given in place of
- * another one, the remedy follows, unless it is NULL.
+ * Prints an error and a hint about a text that the library rejected for this error. The name is that of its file, or
+ * of the option that gave it. The error says what the text is, if that is known, and else what is wrong with it. The
+ * given hint is printed for a text of another kind, unless there is a better one, such as how to convert the file.
  */
 void say_kind(const char *name, const uint8_t *text, size_t len, enum text_kind wanted, enum minisign_error error,
-              const char *remedy);
+              const char *hint);
 
-/* Prints that line only if the text is known to be something else than was wanted: whether it did. */
-bool say_if_other(const char *name, const uint8_t *text, size_t len, enum text_kind wanted, const char *remedy);
+/* Prints them and returns true only if the text is known to be something else than was wanted. */
+bool say_if_other(const char *name, const uint8_t *text, size_t len, enum text_kind wanted, const char *hint);
 
 #endif

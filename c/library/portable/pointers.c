@@ -14,6 +14,16 @@
 
 /* ---- Made by tools/header.py ---- */
 
+static inline void given_minisign_public_key(minisign_public_key *lent)
+{
+    store64(address(&lent->mark), lent->mark);
+}
+
+static inline void got_minisign_public_key(minisign_public_key *lent)
+{
+    lent->mark = load64(address(&lent->mark));
+}
+
 static inline void given_minisign_signature(minisign_signature *lent)
 {
     store64(address(&lent->mark), lent->mark);
@@ -78,6 +88,16 @@ static inline void given_minisign_sealing(minisign_sealing *lent)
     store64(address(&lent->memory_limit), lent->memory_limit);
 }
 
+static inline void given_minisign_install_options(minisign_install_options *lent)
+{
+    store32(address(&lent->numbering), lent->numbering);
+    store32(address(&lent->is_first), lent->is_first);
+    store32(address(&lent->again), lent->again);
+    store32(address(&lent->is_check), lent->is_check);
+    store32(address(&lent->is_waiting), lent->is_waiting);
+    store32(address(&lent->must_expire), lent->must_expire);
+}
+
 uint64_t machine_minisign_error_text(uint32_t, uint64_t, uint64_t);
 
 size_t portable_minisign_error_text(uint32_t error, uint8_t *text, size_t room)
@@ -106,18 +126,31 @@ uint32_t portable_minisign_digest(minisign_state *state, uint8_t *digest)
     return machine_minisign_digest(address(state), address(digest));
 }
 
+void machine_minisign_clear(uint64_t, uint64_t);
+
+void portable_minisign_clear(uint8_t *value, size_t size)
+{
+    machine_minisign_clear(address(value), size);
+}
+
 uint32_t machine_minisign_read_public_key(uint64_t, uint64_t, uint64_t);
 
 uint32_t portable_minisign_read_public_key(const uint8_t *pk_text, size_t pk_text_len, minisign_public_key *key)
 {
-    return machine_minisign_read_public_key(address(pk_text), pk_text_len, address(key));
+    given_minisign_public_key(key);
+    const uint32_t result = machine_minisign_read_public_key(address(pk_text), pk_text_len, address(key));
+    got_minisign_public_key(key);
+    return result;
 }
 
 uint32_t machine_minisign_read_bare_public_key(uint64_t, uint64_t, uint64_t);
 
 uint32_t portable_minisign_read_bare_public_key(const uint8_t *base64, size_t base64_len, minisign_public_key *key)
 {
-    return machine_minisign_read_bare_public_key(address(base64), base64_len, address(key));
+    given_minisign_public_key(key);
+    const uint32_t result = machine_minisign_read_bare_public_key(address(base64), base64_len, address(key));
+    got_minisign_public_key(key);
+    return result;
 }
 
 uint32_t machine_minisign_read_signature(uint64_t, uint64_t, uint64_t);
@@ -138,10 +171,12 @@ uint32_t portable_minisign_ask(minisign_state *state, const minisign_public_key 
                                const minisign_signature *signature, const uint8_t *sig_text, size_t sig_text_len,
                                uint32_t allow_legacy, minisign_questions *questions, uint8_t *message, size_t room)
 {
+    minisign_public_key key_kept;
+    const minisign_public_key *key_lent = LENT(minisign_public_key, key, &key_kept);
     minisign_signature signature_kept;
     const minisign_signature *signature_lent = LENT(minisign_signature, signature, &signature_kept);
     given_minisign_questions(questions);
-    const uint32_t result = machine_minisign_ask(address(state), address(key), address(signature_lent),
+    const uint32_t result = machine_minisign_ask(address(state), address(key_lent), address(signature_lent),
                                                  address(sig_text), sig_text_len, allow_legacy, address(questions),
                                                  address(message), room);
     got_minisign_questions(questions);
@@ -200,10 +235,10 @@ uint32_t portable_minisign_open_sealed_key(const minisign_unopened_key *unopened
     return result;
 }
 
-void machine_minisign_opening_memory(uint64_t, uint64_t, uint64_t, uint64_t);
+void machine_minisign_opening_memory(uint64_t, uint64_t, uint64_t, uint64_t, uint64_t);
 
 void portable_minisign_opening_memory(const minisign_unopened_key *unopened, uint64_t keep_every,
-                                      uint64_t *words_wanted, uint64_t *bytes_wanted)
+                                      uint64_t most_rows, uint64_t *words_wanted, uint64_t *bytes_wanted)
 {
     minisign_unopened_key unopened_kept;
     const minisign_unopened_key *unopened_lent = LENT(minisign_unopened_key, unopened, &unopened_kept);
@@ -211,7 +246,7 @@ void portable_minisign_opening_memory(const minisign_unopened_key *unopened, uin
     uint64_t bytes_wanted_kept = 0;
     store64(address(&words_wanted_kept), *words_wanted);
     store64(address(&bytes_wanted_kept), *bytes_wanted);
-    machine_minisign_opening_memory(address(unopened_lent), keep_every, address(&words_wanted_kept),
+    machine_minisign_opening_memory(address(unopened_lent), keep_every, most_rows, address(&words_wanted_kept),
                                     address(&bytes_wanted_kept));
     *words_wanted = (uint64_t) load64(address(&words_wanted_kept));
     *bytes_wanted = (uint64_t) load64(address(&bytes_wanted_kept));
@@ -236,12 +271,12 @@ uint32_t portable_minisign_open_sealed_key_in_place(const minisign_unopened_key 
     return result;
 }
 
-void machine_minisign_take_secret_key(uint64_t, uint64_t, uint64_t);
+void machine_minisign_take_secret_key(uint64_t, uint64_t);
 
-void portable_minisign_take_secret_key(const uint8_t *key_id, const uint8_t *secret, minisign_secret_key *key)
+void portable_minisign_take_secret_key(const minisign_new_key *new_key, minisign_secret_key *key)
 {
     given_minisign_secret_key(key);
-    machine_minisign_take_secret_key(address(key_id), address(secret), address(key));
+    machine_minisign_take_secret_key(address(new_key), address(key));
     got_minisign_secret_key(key);
 }
 
@@ -251,7 +286,10 @@ uint32_t portable_minisign_public_key_of(const minisign_secret_key *key, minisig
 {
     minisign_secret_key key_kept;
     const minisign_secret_key *key_lent = LENT(minisign_secret_key, key, &key_kept);
-    return machine_minisign_public_key_of(address(key_lent), address(public_key));
+    given_minisign_public_key(public_key);
+    const uint32_t result = machine_minisign_public_key_of(address(key_lent), address(public_key));
+    got_minisign_public_key(public_key);
+    return result;
 }
 
 uint32_t machine_minisign_comment_message(uint64_t, uint64_t, uint64_t, uint64_t, uint64_t);
@@ -265,13 +303,13 @@ uint32_t portable_minisign_comment_message(const uint8_t *first, const uint8_t *
 uint32_t machine_minisign_signed_text(uint64_t, uint64_t, uint64_t, uint64_t, uint64_t, uint64_t, uint64_t,
                                       uint64_t, uint64_t, uint64_t);
 
-uint32_t portable_minisign_signed_text(const minisign_secret_key *key, const uint8_t *signature,
+uint32_t portable_minisign_signed_text(const minisign_public_key *key, const uint8_t *signature,
                                        const uint8_t *comment_signature, const uint8_t *trusted_comment,
                                        size_t trusted_comment_len, const uint8_t *untrusted_comment,
                                        size_t untrusted_comment_len, uint8_t *text, size_t room, size_t *text_len)
 {
-    minisign_secret_key key_kept;
-    const minisign_secret_key *key_lent = LENT(minisign_secret_key, key, &key_kept);
+    minisign_public_key key_kept;
+    const minisign_public_key *key_lent = LENT(minisign_public_key, key, &key_kept);
     uint64_t text_len_kept = 0;
     store64(address(&text_len_kept), *text_len);
     const uint32_t result = machine_minisign_signed_text(address(key_lent), address(signature),
@@ -306,6 +344,32 @@ uint32_t portable_minisign_secret_key_text(const minisign_secret_key *key, uint3
     return result;
 }
 
+uint32_t machine_minisign_secret_key_text_with_any_limits(uint64_t, uint32_t, uint64_t, uint64_t, uint64_t,
+                                                          uint64_t, uint64_t, uint64_t, uint64_t, uint64_t,
+                                                          uint64_t);
+
+uint32_t portable_minisign_secret_key_text_with_any_limits(const minisign_secret_key *key, uint32_t with_password,
+                                                           const uint8_t *password, size_t password_len,
+                                                           const minisign_sealing *sealing, uint64_t keep_every,
+                                                           const uint8_t *comment, size_t comment_len,
+                                                           uint8_t *text, size_t room, size_t *text_len)
+{
+    minisign_secret_key key_kept;
+    const minisign_secret_key *key_lent = LENT(minisign_secret_key, key, &key_kept);
+    minisign_sealing sealing_kept;
+    const minisign_sealing *sealing_lent = LENT(minisign_sealing, sealing, &sealing_kept);
+    uint64_t text_len_kept = 0;
+    store64(address(&text_len_kept), *text_len);
+    const uint32_t result = machine_minisign_secret_key_text_with_any_limits(address(key_lent), with_password,
+                                                                             address(password), password_len,
+                                                                             address(sealing_lent), keep_every,
+                                                                             address(comment), comment_len,
+                                                                             address(text), room,
+                                                                             address(&text_len_kept));
+    *text_len = (size_t) load64(address(&text_len_kept));
+    return result;
+}
+
 uint32_t machine_minisign_public_key_text(uint64_t, uint64_t, uint64_t, uint64_t, uint64_t, uint64_t);
 
 uint32_t portable_minisign_public_key_text(const minisign_secret_key *key, const uint8_t *comment,
@@ -321,16 +385,19 @@ uint32_t portable_minisign_public_key_text(const minisign_secret_key *key, const
     return result;
 }
 
-uint32_t machine_minisign_install_init(uint64_t, uint64_t, uint64_t, uint32_t, uint32_t, uint32_t, uint32_t,
-                                       uint32_t, uint32_t);
+uint32_t machine_minisign_install_init(uint64_t, uint64_t, uint64_t, uint64_t);
 
 uint32_t portable_minisign_install_init(minisign_installation *installation, const minisign_public_key *key,
-                                        const minisign_public_key *other, uint32_t is_first, uint32_t again,
-                                        uint32_t is_check, uint32_t is_waiting, uint32_t must_expire,
-                                        uint32_t numbering)
+                                        const minisign_public_key *other, const minisign_install_options *options)
 {
-    return machine_minisign_install_init(address(installation), address(key), address(other), is_first, again,
-                                         is_check, is_waiting, must_expire, numbering);
+    minisign_public_key key_kept;
+    const minisign_public_key *key_lent = LENT(minisign_public_key, key, &key_kept);
+    minisign_public_key other_kept;
+    const minisign_public_key *other_lent = LENT(minisign_public_key, other, &other_kept);
+    minisign_install_options options_kept;
+    const minisign_install_options *options_lent = LENT(minisign_install_options, options, &options_kept);
+    return machine_minisign_install_init(address(installation), address(key_lent), address(other_lent),
+                                         address(options_lent));
 }
 
 uint32_t machine_minisign_install_due(uint64_t);
