@@ -5,4 +5,4 @@
 package minisign
 
 // Without cgo the compiler shows this sentence first.
-const _ int = "minisign calls C: set CGO_ENABLED=1, and CC to a C compiler for this system"
+const _ int = "minisign needs cgo: set CGO_ENABLED=1, and CC to a C compiler for this system"

@@ -22,7 +22,7 @@ const (
 	ErrBadPasswordFlag          = Error(C.MINISIGN_BAD_PASSWORD_FLAG)
 	ErrUnreadableComment        = Error(C.MINISIGN_UNREADABLE_COMMENT)
 	ErrNotDue                   = Error(C.MINISIGN_NOT_DUE)
-	ErrBadFirstFlag             = Error(C.MINISIGN_BAD_FIRST_FLAG)
+	ErrBadOption                = Error(C.MINISIGN_BAD_OPTION)
 	ErrBadNumbering             = Error(C.MINISIGN_BAD_NUMBERING)
 	ErrKeyNotOpened             = Error(C.MINISIGN_KEY_NOT_OPENED)
 	ErrMissingPublicKeyComment  = Error(C.MINISIGN_MISSING_PUBLIC_KEY_COMMENT)
@@ -76,6 +76,10 @@ const (
 	ErrReadingFailed            = Error(C.MINISIGN_READING_FAILED)
 	ErrWritingFailed            = Error(C.MINISIGN_WRITING_FAILED)
 	ErrRandomSourceFailed       = Error(C.MINISIGN_RANDOM_SOURCE_FAILED)
+	ErrWeakEd25519              = Error(C.MINISIGN_WEAK_ED25519)
+	ErrPublicKeyNotRead         = Error(C.MINISIGN_PUBLIC_KEY_NOT_READ)
+	ErrEmptyPassword            = Error(C.MINISIGN_EMPTY_PASSWORD)
+	ErrWeakSealing              = Error(C.MINISIGN_WEAK_SEALING)
 )
 
 // Names are those of minisign.h, without MINISIGN_.
@@ -92,7 +96,7 @@ var names = map[Error]string{
 	ErrBadPasswordFlag:          "BAD_PASSWORD_FLAG",
 	ErrUnreadableComment:        "UNREADABLE_COMMENT",
 	ErrNotDue:                   "NOT_DUE",
-	ErrBadFirstFlag:             "BAD_FIRST_FLAG",
+	ErrBadOption:                "BAD_OPTION",
 	ErrBadNumbering:             "BAD_NUMBERING",
 	ErrKeyNotOpened:             "KEY_NOT_OPENED",
 	ErrMissingPublicKeyComment:  "MISSING_PUBLIC_KEY_COMMENT",
@@ -146,4 +150,8 @@ var names = map[Error]string{
 	ErrReadingFailed:            "READING_FAILED",
 	ErrWritingFailed:            "WRITING_FAILED",
 	ErrRandomSourceFailed:       "RANDOM_SOURCE_FAILED",
+	ErrWeakEd25519:              "WEAK_ED25519",
+	ErrPublicKeyNotRead:         "PUBLIC_KEY_NOT_READ",
+	ErrEmptyPassword:            "EMPTY_PASSWORD",
+	ErrWeakSealing:              "WEAK_SEALING",
 }

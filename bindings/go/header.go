@@ -9,7 +9,7 @@ package minisign
 #include "archive.h"
 #include <minisign.h>
 
-static enum minisign_error flat_minisign_signed_text(const minisign_secret_key *key, const uint8_t *signature,
+static enum minisign_error flat_minisign_signed_text(const minisign_public_key *key, const uint8_t *signature,
         const uint8_t *comment_signature, const uint8_t *trusted_comment, size_t trusted_comment_len,
         const uint8_t *untrusted_comment, size_t untrusted_comment_len, uint8_t *text, size_t room,
         size_t *text_len)
@@ -127,9 +127,9 @@ func callOpenSealedKey(unopened *C.minisign_unopened_key, password []byte, keepE
 	return key, done(err)
 }
 
-func callTakeSecretKey(keyId *[8]byte, secret *[64]byte) *C.minisign_secret_key {
+func callTakeSecretKey(newKey *C.minisign_new_key) *C.minisign_secret_key {
 	key := new(C.minisign_secret_key)
-	C.minisign_take_secret_key((*C.uint8_t)(&keyId[0]), (*C.uint8_t)(&secret[0]), key)
+	C.minisign_take_secret_key(newKey, key)
 	return key
 }
 
@@ -140,12 +140,12 @@ func callPublicKeyOf(key *C.minisign_secret_key) (*C.minisign_public_key, error)
 }
 
 func callCommentMessage(first *[64]byte, trusted []byte) ([]byte, error) {
-	message := make([]byte, len(first)+len(trusted))
+	message := make([]byte, 64+len(trusted))
 	err := C.minisign_comment_message((*C.uint8_t)(&first[0]), pointer(trusted), C.size_t(len(trusted)), pointer(message), C.size_t(len(message)))
 	return message, done(err)
 }
 
-func callSignedText(key *C.minisign_secret_key, signature *[64]byte, commentSignature *[64]byte, trustedComment []byte, untrustedComment []byte) ([]byte, error) {
+func callSignedText(key *C.minisign_public_key, signature *[64]byte, commentSignature *[64]byte, trustedComment []byte, untrustedComment []byte) ([]byte, error) {
 	text, length := make([]byte, 240+len(trustedComment)+len(untrustedComment)), C.size_t(0)
 	err := C.flat_minisign_signed_text(key, (*C.uint8_t)(&signature[0]), (*C.uint8_t)(&commentSignature[0]), pointer(trustedComment), C.size_t(len(trustedComment)), pointer(untrustedComment), C.size_t(len(untrustedComment)), pointer(text), C.size_t(len(text)), &length)
 	return text[:length], done(err)

@@ -2,13 +2,16 @@
 
 //go:build cgo
 
-// Package minisign verifies and makes Minisign signatures over proved calls, with the names that go-minisign has.
+// Package minisign verifies and makes Minisign signatures with proved code. Its interface is that of go-minisign.
 package minisign
 
 import (
 	"bytes"
+	"crypto/ed25519"
 	"encoding/base64"
+	"encoding/binary"
 	"errors"
+	"fmt"
 	"io"
 	"os"
 	"strings"
@@ -22,6 +25,13 @@ type PublicKey struct {
 	PublicKey          [32]byte
 }
 
+// KeyIdText is the key ID as minisign prints it: in upper-case hexadecimal digits, without leading zeros.
+func (publicKey *PublicKey) KeyIdText() string { return keyIdText(publicKey.KeyId) }
+
+func keyIdText(keyId [8]byte) string {
+	return fmt.Sprintf("%X", binary.LittleEndian.Uint64(keyId[:]))
+}
+
 // A Signature is what stands in a file such as data.minisig, and it vouches for nothing before it was verified. What is
 // verified is what its fields say, whatever it was read from: a field that was changed is not what was signed.
 type Signature struct {
@@ -32,9 +42,14 @@ type Signature struct {
 	KeyId              [8]byte
 	Signature          [64]byte
 	// The third line: what was signed with the data, after the words "trusted comment: ".
-	TrustedComment  string
+	TrustedComment string
+	// The comment signature. It is zeros if the file has fewer than 64 bytes of it; Verify rejects zeros with
+	// ErrWeakEd25519.
 	GlobalSignature [64]byte
 }
+
+// KeyIdText is the key ID as minisign prints it: in upper-case hexadecimal digits, without leading zeros.
+func (signature *Signature) KeyIdText() string { return keyIdText(signature.KeyId) }
 
 // Encode makes the four lines of a file such as data.minisig.
 func (signature *Signature) Encode() string {
@@ -194,6 +209,12 @@ func (verifier *Verifier) VerifyTrustedComment() (bool, error) {
 
 func (verifier *Verifier) acceptsComment() bool {
 	return accepts(verifier.publicKey, verifier.questions.message, verifier.questions.second())
+}
+
+// accepts reports whether the Ed25519 of the standard library accepts a signature. It accepts some signatures that
+// libsodium rejects, but the library rejects those before it gives the questions (ErrWeakEd25519).
+func accepts(publicKey [32]byte, message []byte, signature [64]byte) bool {
+	return ed25519.Verify(publicKey[:], message, signature[:])
 }
 
 // Verify says whether the signature vouches for all that was written. After it nothing more is taken, and there is no

@@ -17,6 +17,7 @@ package minisign
 */
 import "C"
 import (
+	"encoding/base64"
 	"runtime"
 	"strings"
 	"unsafe"
@@ -68,15 +69,22 @@ type questions struct {
 	message []byte
 }
 
+// The key as the library has it, which takes only keys that it has read.
+func (publicKey *PublicKey) raw() (*C.minisign_public_key, error) {
+	record := append(append([]byte("Ed"), publicKey.KeyId[:]...), publicKey.PublicKey[:]...)
+	return callReadBarePublicKey([]byte(base64.StdEncoding.EncodeToString(record)))
+}
+
 func ask(of *state, publicKey *PublicKey, signature *reading, allowLegacy bool) (*questions, error) {
-	var key C.minisign_public_key
-	*(*[32]byte)(unsafe.Pointer(&key.key)) = publicKey.PublicKey
-	*(*[8]byte)(unsafe.Pointer(&key.key_id)) = publicKey.KeyId
+	key, err := publicKey.raw()
+	if err != nil {
+		return nil, err
+	}
 	var legacy C.uint32_t
 	if allowLegacy {
 		legacy = 1
 	}
-	asked, message, err := callAsk(of, &key, signature.of, []byte(signature.text), legacy)
+	asked, message, err := callAsk(of, key, signature.of, []byte(signature.text), legacy)
 	return &questions{asked, message}, err
 }
 
@@ -108,6 +116,15 @@ type openedKey C.minisign_secret_key
 func opened(key *C.minisign_secret_key) *openedKey {
 	runtime.SetFinalizer((*openedKey)(key), (*openedKey).clear)
 	return (*openedKey)(key)
+}
+
+// A new key, of its key ID and the 64 bytes of a pair.
+func taken(keyId [8]byte, secret []byte) *openedKey {
+	var key C.minisign_new_key
+	*(*[8]byte)(unsafe.Pointer(&key.key_id)) = keyId
+	*(*[64]byte)(unsafe.Pointer(&key.secret)) = *(*[64]byte)(secret)
+	defer func() { key = C.minisign_new_key{} }()
+	return opened(callTakeSecretKey(&key))
 }
 
 // (of a SecretKey that nobody made a key that was not opened)
@@ -179,5 +196,9 @@ func (key *openedKey) publicKey() (PublicKey, error) {
 }
 
 func (key *openedKey) signedText(first, second *[64]byte, trusted, untrusted []byte) ([]byte, error) {
-	return callSignedText(key.raw(), first, second, trusted, untrusted)
+	public, err := callPublicKeyOf(key.raw())
+	if err != nil {
+		return nil, err
+	}
+	return callSignedText(public, first, second, trusted, untrusted)
 }

@@ -8,7 +8,6 @@ import (
 	"bytes"
 	"crypto/ed25519"
 	"crypto/rand"
-	"encoding/binary"
 	"errors"
 	"fmt"
 	"io"
@@ -16,7 +15,7 @@ import (
 )
 
 // ErrWeakLimits is that a key was to be sealed under limits below the weakest that Minisign's own program seals under.
-var ErrWeakLimits = errors.New("minisign: a key is not sealed under limits below 524288 operations and 16 MiB")
+var ErrWeakLimits = errors.New("minisign: the key limits are below 524288 operations or 16 MiB")
 
 // Work is how much memory and time a sealed key may take, and takes. Where a number is 0, it is that of minisign -G.
 type Work struct {
@@ -46,7 +45,7 @@ func GenerateKey() (*SecretKey, error) {
 		return nil, err
 	}
 	defer Wipe(secret)
-	return &SecretKey{opened: opened(callTakeSecretKey(&keyId, (*[64]byte)(secret)))}, nil
+	return &SecretKey{opened: taken(keyId, secret)}, nil
 }
 
 // DecodeSecretKey opens both lines of a file such as minisign.key. A password opens a sealed key, and nil one that is not.
@@ -75,10 +74,11 @@ func Wipe(secret []byte) {
 	}
 }
 
-// Encode makes both lines of a file such as minisign.key, sealed under a password and a new salt: ErrWeakLimits.
+// Encode makes both lines of a file such as minisign.key, sealed under a password and a new salt: ErrWeakLimits. WriteNew
+// writes them to a file.
 func (key *SecretKey) Encode(password []byte, work Work) ([]byte, error) {
 	if len(password) == 0 {
-		return nil, errors.New("minisign: password is empty: EncodeUnsealed makes a key that takes none")
+		return nil, errors.New("minisign: password is empty; use EncodeUnsealed for a key without a password")
 	}
 	var salt [32]byte
 	if _, err := rand.Read(salt[:]); err != nil {
@@ -87,7 +87,8 @@ func (key *SecretKey) Encode(password []byte, work Work) ([]byte, error) {
 	return key.opened.text(password, salt, work)
 }
 
-// EncodeUnsealed makes both lines of a file that whoever reads it can sign with.
+// EncodeUnsealed makes both lines of a file that whoever reads it can sign with. WriteNew writes it so that only its
+// owner can.
 func (key *SecretKey) EncodeUnsealed() ([]byte, error) {
 	return key.opened.text(nil, [32]byte{}, Work{})
 }
@@ -99,24 +100,22 @@ func (key *SecretKey) IsWeak() bool { return key.isWeak }
 // KeyId is the one that it shares with its public key.
 func (key *SecretKey) KeyId() [8]byte { return key.opened.keyId() }
 
+// KeyIdText is the key ID as minisign prints it: in upper-case hexadecimal digits, without leading zeros.
+func (key *SecretKey) KeyIdText() string { return keyIdText(key.KeyId()) }
+
 // PublicKey is the one under which its signatures are verified.
 func (key *SecretKey) PublicKey() (PublicKey, error) { return key.opened.publicKey() }
 
 // EncodePublicKey makes both lines of a file such as minisign.pub.
 func (key *SecretKey) EncodePublicKey() ([]byte, error) {
-	return key.opened.publicKeyText(key.shownId())
+	return key.opened.publicKeyText(key.KeyIdText())
 }
 
 // Clear writes zeros over the secret: it signs nothing from then on.
 func (key *SecretKey) Clear() { key.opened.clear() }
 
-func (key SecretKey) shownId() string {
-	keyId := key.opened.keyId()
-	return fmt.Sprintf("%X", binary.LittleEndian.Uint64(keyId[:]))
-}
-
 // Format prints the key ID alone, whatever the verb.
-func (key SecretKey) Format(to fmt.State, _ rune) { fmt.Fprintf(to, "SecretKey(%s)", key.shownId()) }
+func (key SecretKey) Format(to fmt.State, _ rune) { fmt.Fprintf(to, "SecretKey(%s)", key.KeyIdText()) }
 
 // SignBytes signs data. The comments are one line each, and whoever verifies can trust the first one.
 func (key *SecretKey) SignBytes(bin []byte, trusted, untrusted string) (Signature, error) {

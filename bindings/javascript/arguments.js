@@ -1,13 +1,13 @@
 // SPDX-License-Identifier: MIT
-// Tests what a caller passes, before anything is done with it.
+// Checks the arguments of the calls, before anything is done with them.
 
 import { TEXT_BYTES } from "./calls.js";
 
-// Rejects an argument that is of another type.
+// Throws a TypeError that names the argument and its type, unless `isOne`.
 export function mustBe(isOne, name, wanted, value) {
   if (!isOne) {
     const kind = value === null ? "null" : typeof value;
-    throw new TypeError(`${name} has to be ${wanted}, and not ${kind}`);
+    throw new TypeError(`${name} must be ${wanted}, not ${kind}`);
   }
 }
 
@@ -35,17 +35,26 @@ export function textOf(it, name) {
   const bytes = isText ? new TextEncoder().encode(it) : bytesOf(it);
   mustBe(bytes !== null, name, "a text, as a string or bytes", it);
   if (bytes.length >= TEXT_BYTES) {
-    throw new TypeError(`${name} has ${TEXT_BYTES} bytes or more`);
+    throw new TypeError(`${name} must have fewer than ${TEXT_BYTES} bytes`);
   }
   return bytes;
 }
 
-// The options that there are: what each has to be. All others are texts, which
-// are looked at where their bytes are taken.
+// Clears the bytes that `textOf` made of a string. Bytes are the caller's.
+export function clearCopy(bytes, given) {
+  if (typeof given === "string") {
+    bytes.fill(0);
+  }
+}
+
+// The options by their names, each with its type. An option that is not here is
+// a text, which `textOf` checks when its bytes are taken. (Without a prototype,
+// so that a property of Object.prototype is no entry.)
 const TEXT = ["a text, as a string or bytes", (it) => it !== null];
 const BOOLEAN = ["true or false", (it) => typeof it === "boolean"];
 const isFunction = (it) => typeof it === "function";
 const OPTIONS = {
+  __proto__: null,
   allowLegacy: BOOLEAN,
   lowMemory: BOOLEAN,
   mostRows: ["a number of rows", (it) => Number.isSafeInteger(it) && it > 0],
@@ -53,16 +62,40 @@ const OPTIONS = {
   signal: ["an AbortSignal", (it) => isFunction(it?.addEventListener)],
 };
 
-// Checks options, of which these are known.
+const NOT_PLAIN =
+  "options must be a plain object, not an instance of a class or an object " +
+  "that inherits from another one";
+
+// Returns true if an object inherits from nothing, or from the Object.prototype
+// of any realm, which alone has its own `isPrototypeOf` and no prototype.
+function isPlain(object) {
+  const prototype = Object.getPrototypeOf(object);
+  return (
+    prototype === null ||
+    (Object.getPrototypeOf(prototype) === null &&
+      Object.hasOwn(prototype, "isPrototypeOf"))
+  );
+}
+
+// Copies the options out of a plain object. Throws a TypeError for an object of
+// any other kind, for a property that is not one of the known options, and for
+// a value of the wrong type. The copy has no prototype: an option that was not
+// passed stays undefined, even if Object.prototype has a property of its name.
 export function optionsOf(options, ...known) {
   const isObject = typeof options === "object" && options !== null;
-  mustBe(isObject, "options", "an object", options);
-  for (const [name, value] of Object.entries(options)) {
+  mustBe(isObject, "options", "a plain object", options);
+  if (!isPlain(options)) {
+    throw new TypeError(NOT_PLAIN);
+  }
+  const copy = { __proto__: null };
+  for (const name of Reflect.ownKeys(options)) {
     if (!known.includes(name)) {
-      throw new TypeError(`options has no ${name}`);
+      throw new TypeError(`unknown option ${String(name)}`);
     }
+    const value = options[name];
     const [wanted, fits] = OPTIONS[name] ?? TEXT;
     mustBe(value === undefined || fits(value), name, wanted, value);
+    copy[name] = value;
   }
-  return options;
+  return copy;
 }

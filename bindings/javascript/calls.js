@@ -21,7 +21,8 @@ const ANSWER_NO = 0x6e6f;
 
 // The structs: how long each is, and where each part begins that is read here.
 const STATE_BYTES = 512;
-const KEY_BYTES = 40;
+const KEY_BYTES = 48;
+const PUBLIC_KEY = { key: 8, key_id: 40 };
 const SIGNATURE_BYTES = 200;
 const SIGNATURE = { key_id: 8, legacy: 194 };
 const QUESTIONS_BYTES = 256;
@@ -38,10 +39,12 @@ const QUESTIONS = {
 
 // ---- What is made ends here ----
 
-// Eight bytes as minisign shows an identifier: one little endian number.
+// Formats the eight bytes of a key ID as minisign prints it: one little-endian
+// number in hexadecimal digits, without leading zeros.
 export function identifierOf(bytes) {
   const digits = (byte) => byte.toString(16).padStart(2, "0");
-  return Array.from(bytes, digits).reverse().join("").toUpperCase();
+  const all = Array.from(bytes, digits).reverse().join("").toUpperCase();
+  return all.replace(/^0+(?=.)/, "");
 }
 
 export class Library {
@@ -61,7 +64,7 @@ export class Library {
     const texts = Math.floor((this.memory.length - at) / TEXT_BYTES);
     this.pieceBytes = Math.min(MAX_PIECE_BYTES, texts * TEXT_BYTES);
     if (this.pieceBytes < TEXT_BYTES) {
-      throw new Error("the module has too little memory");
+      throw new Error("the WebAssembly module is out of memory");
     }
   }
 
@@ -74,7 +77,7 @@ export class Library {
   // that a call is passed.
   put(place, room, bytes) {
     if (bytes.length > room) {
-      throw new Error("too many bytes for the place that they are put in");
+      throw new Error("the buffer of the WebAssembly module is too small");
     }
     this.memory.set(bytes, place);
     return [BigInt(place), BigInt(bytes.length)];
@@ -98,15 +101,15 @@ export class Library {
     return new TextDecoder().decode(this.bytesAt(this.words, length));
   }
 
-  // Reads a public key, of two lines or of its base64 alone: its identifier,
-  // and the 32 bytes of the key with the 8 of its identifier after them; or the
-  // number of why there is none.
+  // Reads a public key file, or only the base64 of a key. Returns its key ID
+  // and the struct of the key, or the error number.
   readKey(text, isBare) {
     const read = `page_read_${isBare ? "bare_" : ""}public_key`;
     const given = this.put(this.text, TEXT_BYTES, text);
     const number = this.calls[read](...given, BigInt(this.key)) >>> 0;
     const key = this.bytesAt(this.key, number === 0 ? KEY_BYTES : 0);
-    return { number, keyId: identifierOf(key.subarray(32)), key };
+    const keyId = identifierOf(key.subarray(PUBLIC_KEY.key_id));
+    return { number, keyId, key };
   }
 
   // Begins: a state that was fed nothing.
@@ -116,9 +119,8 @@ export class Library {
     return state;
   }
 
-  // Reads the text of a signature: what `ask` takes, the identifier of the key
-  // that it names, and whether it is over the data itself; or the number of why
-  // there is none.
+  // Reads the text of a signature. Returns what `ask` takes, the key ID that it
+  // names, and whether it is a legacy one; or the number of the error.
   readSignature(text) {
     this.memory.fill(0, this.signature, this.signature + SIGNATURE_BYTES);
     const given = this.put(this.text, TEXT_BYTES, text);

@@ -1,8 +1,8 @@
 // SPDX-License-Identifier: MIT
-// The Ed25519 of WebCrypto, which answers the two questions. Browsers and
-// others differ in what they accept besides the signatures that a signer makes.
-// This rejects first what makes them differ, so that the answers are those of
-// libsodium.
+// Ed25519 by WebCrypto, for the two checks of a verification. Platforms differ
+// in which signatures of small order or with non-canonical encodings they
+// accept. The library rejects those before it asks (WEAK_ED25519), so the
+// verdicts are the same everywhere.
 
 export const ED25519 = "Ed25519";
 
@@ -13,35 +13,11 @@ const KNOWN_SIGNATURE =
   "e5564300c360ac729086e2cc806e828a84877f1eb8e5d974d873e06522490155" +
   "5fb8821590a33bacc61e39701cf9b46bd25bf5f0595bbe24655141438e7a100b";
 
-// The prime of the field (RFC 8032, section 5.1), and the second coordinates of
-// its eight points of small order. A key or a first half that is one of them
-// could belong to a signature of every message.
-const PRIME = 2n ** 255n - 19n;
-const SMALL_ORDER = [
-  0n,
-  1n,
-  PRIME - 1n,
-  0x7a03ac9277fdc74ec6cc392cfa53202a0f67100d760b3cba4fd84d3d706a17c7n,
-  0x5fc536d880238b13933c6d305acdfd5f098eff289f4c345b027b2c28f95e826n,
-];
-
 // Where Node 18 has WebCrypto, and others have nothing.
 const ELSEWHERE = "node:crypto";
 
 function bytesOf(digits) {
   return Uint8Array.from(digits.match(/../g), (pair) => parseInt(pair, 16));
-}
-
-// Whether 32 bytes are rejected as a point: its second coordinate, a little
-// endian number before the bit of the sign, is not below the prime, or the
-// point has a small order.
-function isRejectedPoint(bytes) {
-  const number = bytes.reduceRight(
-    (value, byte) => (value << 8n) | BigInt(byte),
-    0n,
-  );
-  const second = BigInt.asUintN(255, number);
-  return second >= PRIME || SMALL_ORDER.includes(second);
 }
 
 // The platform's WebCrypto.
@@ -50,13 +26,9 @@ export async function platformCrypto() {
   return own ?? (await import(/* webpackIgnore: true */ ELSEWHERE)).webcrypto;
 }
 
-// Whether the signature of a message is accepted: as libsodium 1.0.18 does, by
-// the platform's Ed25519. A key that this does not take accepts nothing.
+// Returns whether the platform's Ed25519 accepts the signature of a message.
+// If it rejects the key, no signature is accepted.
 export async function accepts(publicKey, signature, message) {
-  const halves = [publicKey, signature.subarray(0, 32)];
-  if (halves.some(isRejectedPoint)) {
-    return false;
-  }
   try {
     const { subtle } = await platformCrypto();
     const uses = ["verify"];

@@ -2,7 +2,7 @@
 // What signing has of include/minisign.h: numbers, where fields stand in
 // structs, and calls, made by tools/bindings.py.
 
-import { held, loaded } from "./loaded.js";
+import { decoded, held, loaded } from "./loaded.js";
 
 export const VERSION_MAJOR = 0;
 export const VERSION_MINOR = 3;
@@ -17,15 +17,21 @@ export const MEMORY_LIMIT = 1073741824;
 export const LEAST_OPERATIONS_LIMIT = 524288;
 export const LEAST_MEMORY_LIMIT = 16777216;
 export const LEAST_LOG2_ROWS = 14;
+export const NO_PASSWORD = 0;
+export const PASSWORD = 1;
+export const ANY_PASSWORD = 2;
 export const VERSION_TEXT = "0.3.0";
+export const SIGNATURE_COMMENT = "signature from minisign secret key";
+export const TRUSTED_COMMENT_FORMAT = "timestamp:%llu\tfile:%s\thashed";
 export const SECRET_KEY_COMMENT = "minisign encrypted secret key";
 export const PUBLIC_KEY_COMMENT = "minisign public key ";
 
 export const STRUCTS = {
   public_key: {
-    key: [0, 32],
-    key_id: [32, 8],
-    size: 40,
+    mark: [0, 8],
+    key: [8, 32],
+    key_id: [40, 8],
+    size: 48,
   },
   unopened_key: {
     mark: [0, 8],
@@ -42,6 +48,11 @@ export const STRUCTS = {
     secret: [16, 64],
     size: 80,
   },
+  new_key: {
+    key_id: [0, 8],
+    secret: [8, 64],
+    size: 72,
+  },
   sealing: {
     salt: [0, 32],
     operations_limit: [32, 8],
@@ -52,11 +63,6 @@ export const STRUCTS = {
 
 // No bytes, where there is no password.
 const NOTHING = new Uint8Array(0);
-
-// The bytes that stand in base64.
-export function decoded(letters) {
-  return Uint8Array.from(atob(letters), (it) => it.charCodeAt(0));
-}
 
 // The bytes of a field of a struct, where they lie.
 export function fieldOf(struct, field, bytes) {
@@ -79,10 +85,13 @@ export function structOf(struct, fields) {
   return bytes;
 }
 
-// The text whose length a call has written.
+// Returns the text that a call has written, of the length that it has written,
+// and clears its bytes: they may be those of a secret key.
 function cut(text, length) {
   const count = new DataView(length.buffer).getUint32(0, true);
-  return new TextDecoder().decode(text.subarray(0, count));
+  const words = new TextDecoder().decode(text.subarray(0, count));
+  text.fill(0);
+  return words;
 }
 
 // The calls of the module that tools/signing_module.py makes, which no other
@@ -161,9 +170,9 @@ export class SigningCalls {
     return key;
   }
 
-  async takeSecretKey(keyId, secret) {
+  async takeSecretKey(newKey) {
     const key = new Uint8Array(STRUCTS.secret_key.size);
-    await this.make("minisign_take_secret_key", keyId, secret, key);
+    await this.make("minisign_take_secret_key", newKey, key);
     return key;
   }
 
@@ -174,7 +183,7 @@ export class SigningCalls {
   }
 
   async commentMessage(first, trusted) {
-    const message = new Uint8Array(first.length + trusted.length);
+    const message = new Uint8Array(64 + trusted.length);
     await this.make(
       "minisign_comment_message",
       first,

@@ -47,6 +47,10 @@ export interface Signal {
   removeEventListener(type: "abort", listener: () => void): void;
 }
 
+/**
+ * Options are a plain object's own properties. An unknown property, and an
+ * object that inherits from another one or is of a class, is a TypeError.
+ */
 export interface VerifierOptions {
   /**
    * Whether signatures of the older kind are accepted, whose data is kept in
@@ -57,17 +61,20 @@ export interface VerifierOptions {
 
 export interface Options extends VerifierOptions {
   /**
-   * Is told after each piece how many bytes of the data were read, and of bytes
-   * and a Blob how many there are in all.
+   * Is called after each piece, which has at most 1 MiB, with the number of
+   * bytes that were read, and for bytes and a Blob with their length.
    */
   progress?: (bytes: number, total?: number) => void;
-  /** Has the promise reject with its reason, and what gives the data closed. */
+  /**
+   * Rejects the promise with the signal's reason, and closes what gives the
+   * data. Other tasks run after each MiB, so that a timer can abort.
+   */
   signal?: Signal;
 }
 
-/** What the text of a signature says, for which nobody vouches. */
+/** The fields of a signature file, before it is verified. */
 export interface Signature {
-  /** The identifier of the key that has to have made it. */
+  /** The key ID of the key that it names, as that of `PublicKey`. */
   readonly keyId: string;
   /** Whether it is of the older kind. */
   readonly isLegacy: boolean;
@@ -76,8 +83,9 @@ export interface Signature {
 /** A public key that was read. */
 export interface PublicKey {
   /**
-   * Its identifier, 16 digits as Minisign shows it. Anybody can make a key with
-   * the same one.
+   * Its key ID as `minisign` prints it: a number of 64 bits in upper-case
+   * hexadecimal digits, without leading zeros. Anybody can make a key with the
+   * same one.
    */
   readonly keyId: string;
 }
@@ -85,14 +93,14 @@ export interface PublicKey {
 export interface Verified {
   /** The trusted comment, which was signed with the data. It may be empty. */
   trustedComment: string;
-  /** The identifier of the key. */
+  /** The key ID of the key. */
   keyId: string;
   isLegacy: boolean;
 }
 
 /** Verifies data that comes in pieces. */
 export interface Verifier {
-  /** The identifier of the key. */
+  /** The key ID of the key. */
   readonly keyId: string;
   /** Whether the signature is of the older kind. */
   readonly isLegacy: boolean;
@@ -157,11 +165,11 @@ export function readSignature(signature: Text): Promise<Signature>;
 export function readPublicKey(key: Text): Promise<PublicKey>;
 
 /**
- * A secret key, which shows none of its bytes. They stay in memory until
- * `clearSecretKey`, or until nothing refers to it.
+ * A secret key, which shows none of its bytes. They are in memory until
+ * `clearSecretKey`, or until nothing refers to the key.
  */
 export interface SecretKey {
-  /** Its identifier, which its public key has too. */
+  /** Its key ID, which its public key has too. */
   readonly keyId: string;
   /**
    * Whether the text that it was read from is sealed so weakly that passwords
@@ -191,11 +199,14 @@ export interface OpeningOptions extends MemoryOptions {
 
 export interface SignerOptions {
   /**
-   * One line, which is signed with the data: `timestamp:` with the time, and
-   * `hashed`, unless another one is given.
+   * One line, which is signed with the data. By default it is that of Minisign,
+   * `timestamp:`, `file:` and `hashed` with tabs between. `file:` has the last
+   * part of the name of a File, or of the path that a stream of Node reads;
+   * data without a name has no `file:`. A name with a line end in it, or one
+   * that is not UTF-8, is a TypeError.
    */
   trustedComment?: Text;
-  /** The first line, after `untrusted comment: `, for which nobody vouches. */
+  /** The first line, after `untrusted comment: `, which is not signed. */
   untrustedComment?: Text;
 }
 
@@ -224,10 +235,14 @@ export interface Signer {
 export function generateSecretKey(): Promise<SecretKey>;
 
 /**
- * Opens both lines of a file such as minisign.key. It rejects with KEY_SEALED
- * or KEY_NOT_SEALED where a password is missing or is not wanted,
- * WRONG_PASSWORD, WORK_TOO_HIGH, OUT_OF_MEMORY, and for what is wrong with the
- * text. The thread waits while a key is derived: seconds, as a worker should.
+ * Opens both lines of a file such as minisign.key. It rejects with NOT_UTF8,
+ * MISSING_SECRET_KEY_COMMENT, MISSING_SECRET_KEY, SECRET_KEY_NOT_BASE64 or
+ * RECORD_TOO_SHORT for a damaged text, and with KEY_SEALED or KEY_NOT_SEALED if
+ * a password is missing or not needed. A key without a password may be
+ * KEY_CORRUPTED. For a sealed key the error may be UNSUPPORTED_KEY_DERIVATION,
+ * PARAMETERS_TOO_HIGH, INVALID_PARAMETERS, WORK_TOO_HIGH, WRONG_PASSWORD or
+ * OUT_OF_MEMORY. The thread waits while a key is derived, for seconds: do it in
+ * a worker.
  */
 export function readSecretKey(
   text: Text,

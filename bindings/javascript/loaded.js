@@ -4,14 +4,19 @@
 import { Library } from "./calls.js";
 import { hasEd25519 } from "./ed25519.js";
 import { MinisignError } from "./errors.js";
-import { decoded } from "./header.js";
 import { MODULE } from "./module.js";
 
 let loading;
 
+// Decodes base64. This is here, and not beside the calls for signing, so that a
+// program that only verifies imports nothing of those.
+export function decoded(letters) {
+  return Uint8Array.from(atob(letters), (it) => it.charCodeAt(0));
+}
+
 async function load() {
   if (!(await hasEd25519())) {
-    throw new Error("there is no Ed25519 in WebCrypto here");
+    throw new Error("WebCrypto does not support Ed25519 here");
   }
   return Library.load(decoded(MODULE));
 }

@@ -2,7 +2,13 @@
 // Makes secret keys and signatures, as index.d.ts says. The calls of a secret
 // key are in a module of their own, which the first of them loads.
 
-import { mustBe, optionsOf, textOf } from "./arguments.js";
+import {
+  bytesOf,
+  clearCopy,
+  mustBe,
+  optionsOf,
+  textOf,
+} from "./arguments.js";
 import { identifierOf } from "./calls.js";
 import { ED25519, accepts, platformCrypto } from "./ed25519.js";
 import { ERRORS } from "./errors.js";
@@ -13,8 +19,10 @@ import { held } from "./loaded.js";
 const OPENING = ["password", "lowMemory", "mostRows"];
 const COMMENTS = ["trustedComment", "untrustedComment"];
 const UNTRUSTED = "signature from minisign secret key";
-// What stands in front of a seed where WebCrypto has it ("pkcs8", RFC 8410).
+// The first 16 bytes of an Ed25519 key in PKCS#8 (RFC 8410), before its seed.
 const BEFORE_SEED = [48, 46, 2, 1, 0, 48, 5, 6, 3, 43, 101, 112, 4, 34, 4, 32];
+const NOT_IN_COMMENT =
+  "cannot be in the default trusted comment; pass a trustedComment";
 
 // The bytes of a secret key, by what a caller has of it, which shows none.
 const secretKeys = new WeakMap();
@@ -23,6 +31,17 @@ function bytesOfKey(secretKey) {
   const bytes = secretKeys.get(secretKey);
   mustBe(bytes, "secretKey", "a secret key that was read", secretKey);
   return bytes;
+}
+
+// Joins secret bytes in an ArrayBuffer of their own, which the caller clears.
+// (Engines keep a short typed array that is made in any other way, as by
+// Uint8Array.of, on their own heap. The garbage collector moves it there, and
+// leaves copies that nobody can clear.)
+function joinedApart(first, second) {
+  const both = new Uint8Array(new ArrayBuffer(first.length + second.length));
+  both.set(first);
+  both.set(second, first.length);
+  return both;
 }
 
 // Of how many rows of a derivation one is kept.
@@ -48,10 +67,11 @@ export async function generateSecretKey() {
   const exported = await subtle.exportKey("pkcs8", pair.privateKey);
   const seed = new Uint8Array(exported, BEFORE_SEED.length, 32);
   const half = new Uint8Array(await subtle.exportKey("raw", pair.publicKey));
-  const secret = Uint8Array.of(...seed, ...half);
+  const secret = joinedApart(seed, half);
   const keyId = crypto.getRandomValues(new Uint8Array(8));
-  const bytes = await calls.takeSecretKey(keyId, secret);
-  [seed, secret].forEach((it) => it.fill(0));
+  const made = h.structOf("new_key", { key_id: keyId, secret });
+  const bytes = await calls.takeSecretKey(made);
+  [seed, secret, made].forEach((it) => it.fill(0));
   return told(bytes, false);
 }
 
@@ -60,8 +80,9 @@ export async function readSecretKey(text, options = {}) {
   const bytes = textOf(text, "text");
   const typed = password === undefined ? null : textOf(password, "password");
   const calls = await h.SigningCalls.load();
-  const unopened = await calls.readSecretKey(bytes);
+  let unopened;
   try {
+    unopened = await calls.readSecretKey(bytes);
     if (typed === null) {
       return told(await calls.openUnsealedKey(unopened), false);
     }
@@ -70,7 +91,9 @@ export async function readSecretKey(text, options = {}) {
     const [log2Rows] = h.fieldOf("unopened_key", "log2_rows", unopened);
     return told(opened, log2Rows < h.LEAST_LOG2_ROWS);
   } finally {
-    unopened.fill(0);
+    unopened?.fill(0);
+    clearCopy(bytes, text);
+    clearCopy(typed, password);
   }
 }
 
@@ -79,7 +102,7 @@ export async function writeSecretKey(secretKey, password, options = {}) {
   const bytes = bytesOfKey(secretKey);
   const typed = password === null ? null : textOf(password, "password");
   if (typed?.length === 0) {
-    throw new TypeError("password is empty: null says that it is not sealed");
+    throw new TypeError("password must not be empty; use null for no password");
   }
   const calls = await h.SigningCalls.load();
   const sealing = h.structOf("sealing", {
@@ -88,14 +111,19 @@ export async function writeSecretKey(secretKey, password, options = {}) {
     memory_limit: h.MEMORY_LIMIT,
   });
   const line = textOf(h.SECRET_KEY_COMMENT);
-  return calls.secretKeyText(bytes, typed, sealing, rowsOf(lowMemory), line);
+  const rows = rowsOf(lowMemory);
+  try {
+    return await calls.secretKeyText(bytes, typed, sealing, rows, line);
+  } finally {
+    clearCopy(typed, password);
+  }
 }
 
 export async function writePublicKey(secretKey) {
   const bytes = bytesOfKey(secretKey);
-  const id = secretKey.keyId.replace(/^0+(?=.)/, "");
+  const comment = textOf(h.PUBLIC_KEY_COMMENT + secretKey.keyId);
   const calls = await h.SigningCalls.load();
-  return calls.publicKeyText(bytes, textOf(h.PUBLIC_KEY_COMMENT + id));
+  return calls.publicKeyText(bytes, comment);
 }
 
 export function clearSecretKey(secretKey) {
@@ -104,24 +132,76 @@ export function clearSecretKey(secretKey) {
 
 // ---- Signing ----
 
-// A signature that was verified: one of a damaged key, whose halves do not
-// belong together, would give the secret half away.
+// Signs a message, and verifies the signature: one by a damaged key, whose
+// halves do not belong together, would give the secret half away.
 async function signed(library, secretKey, publicKey, message) {
-  const seed = h.fieldOf("secret_key", "secret", secretKey).subarray(0, 32);
-  const der = Uint8Array.of(...BEFORE_SEED, ...seed);
+  const key = await importedKey(secretKey);
   const { subtle } = await platformCrypto();
-  const key = await subtle.importKey("pkcs8", der, ED25519, false, ["sign"]);
-  der.fill(0);
   const signature = new Uint8Array(await subtle.sign(ED25519, key, message));
   const isGood = await accepts(publicKey, signature, message);
   held(library, { number: isGood ? 0 : ERRORS.SIGNATURE_REFUSED });
   return signature;
 }
 
+// Imports the seed of a key into WebCrypto.
+async function importedKey(secretKey) {
+  const { subtle } = await platformCrypto();
+  const seed = h.fieldOf("secret_key", "secret", secretKey).subarray(0, 32);
+  const der = joinedApart(BEFORE_SEED, seed);
+  try {
+    return await subtle.importKey("pkcs8", der, ED25519, false, ["sign"]);
+  } finally {
+    der.fill(0);
+  }
+}
+
+// Returns the last part of the name of a File, or of the path of a stream of
+// Node that reads a file. Other data has no name: an empty string.
+function nameOf(data) {
+  if (bytesOf(data) !== null) {
+    return "";
+  }
+  if (typeof data?.stream === "function") {
+    return lastPart(data.name, "/");
+  }
+  const isWindows = globalThis.process?.platform === "win32";
+  const isStream = typeof data?.on === "function";
+  return isStream ? lastPart(data.path, isWindows ? /[/\\]/ : "/") : "";
+}
+
+// Returns what is after the last separator of a name, as a string or in UTF-8.
+function lastPart(name, separator) {
+  const bytes = bytesOf(name);
+  const isName = typeof name === "string" || bytes !== null;
+  return isName ? decodedName(bytes ?? name).split(separator).pop() : "";
+}
+
+function decodedName(name) {
+  try {
+    const decoder = new TextDecoder("utf-8", { fatal: true, ignoreBOM: true });
+    return typeof name === "string" ? name : decoder.decode(name);
+  } catch {
+    throw new TypeError(`a file name that is not UTF-8 ${NOT_IN_COMMENT}`);
+  }
+}
+
+// Makes the trusted comment that Minisign makes of the time and a file name, or
+// one without a file if there is no name.
+function defaultComment(name) {
+  if (/[\r\n]/.test(name)) {
+    throw new TypeError(`a file name with a line break ${NOT_IN_COMMENT}`);
+  }
+  const file = name === "" ? "" : `\tfile:${name}`;
+  return `timestamp:${Math.floor(Date.now() / 1000)}${file}\thashed`;
+}
+
 export async function createSigner(secretKey, options = {}) {
-  const { trustedComment, untrustedComment } = optionsOf(options, ...COMMENTS);
-  const usual = `timestamp:${Math.floor(Date.now() / 1000)}\thashed`;
-  const trusted = textOf(trustedComment ?? usual, "trustedComment");
+  return begin(secretKey, optionsOf(options, ...COMMENTS), () => "");
+}
+
+async function begin(secretKey, { trustedComment, untrustedComment }, name) {
+  const comment = trustedComment ?? defaultComment(name());
+  const trusted = textOf(comment, "trustedComment");
   const untrusted = textOf(untrustedComment ?? UNTRUSTED, "untrustedComment");
   const bytes = bytesOfKey(secretKey);
   const calls = await h.SigningCalls.load();
@@ -136,12 +216,13 @@ export async function createSigner(secretKey, options = {}) {
     const first = await signed(...by, fed.digest);
     const message = await calls.commentMessage(first, trusted);
     const second = await signed(...by, message);
-    return calls.signedText(bytes, first, second, trusted, untrusted);
+    return calls.signedText(known, first, second, trusted, untrusted);
   };
   return takingPieces(library, feed, end);
 }
 
 export async function sign(data, secretKey, options = {}) {
-  const begin = (rest) => createSigner(secretKey, rest);
-  return feedAll(data, options, [...COMMENTS, "progress", "signal"], begin);
+  const known = [...COMMENTS, "progress", "signal"];
+  const beginning = (rest) => begin(secretKey, rest, () => nameOf(data));
+  return feedAll(data, options, known, beginning);
 }

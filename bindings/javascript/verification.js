@@ -77,6 +77,6 @@ function joined(pieces) {
 // A call that is made in its order is not rejected.
 function hold(number) {
   if (number !== 0) {
-    throw new Error(`the library was used wrongly: ${number}`);
+    throw new Error(`the library was misused: error ${number}`);
   }
 }

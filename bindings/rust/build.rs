@@ -3,7 +3,7 @@
 //! around it, by a C compiler for cargo's target: on Linux on x86-64 and AArch64 over the archives
 //! of `dist/`, and everywhere else, or with `MINISIGN_PORTABLE=1`, over the same calls as C.
 
-use std::process::{exit, Command};
+use std::process::{exit, Command, Stdio};
 use std::{env, fs, path::Path};
 
 const OWN: &str = env!("CARGO_MANIFEST_DIR");
@@ -17,11 +17,22 @@ fn main() {
         format!("{OWN}/../..")
     };
     let from = variable("MINISIGN_SOURCES").unwrap_or(own);
-    check_sums(&from);
+    watch(&from);
+    check_dist(&from);
+    if Path::new(&format!("{from}/crates")).exists() {
+        check_sources(&from);
+    }
     build(&from, &compiler());
     println!("cargo:rustc-link-search=native={}", of("OUT_DIR"));
-    for it in ["c", "dist", "include"] {
-        println!("cargo:rerun-if-changed={from}/{it}");
+}
+
+/// Names the files whose changes make cargo run this again. (A packed crate has no sources of the
+/// proved calls, and cargo would run this each time for a path that does not exist.)
+fn watch(from: &str) {
+    for it in ["c", "crates", "crates.txt", "dist", "include", "tools"] {
+        if Path::new(&format!("{from}/{it}")).exists() {
+            println!("cargo:rerun-if-changed={from}/{it}");
+        }
     }
 }
 
@@ -64,12 +75,78 @@ fn said_by(command: &mut Command) -> String {
     })
 }
 
-/// In the repository `dist/` has to be built from the sources beside it.
-fn check_sums(from: &str) {
+/// The files of `dist/` that contain the proved calls.
+const CALLS: [&str; 4] = [
+    "calls-x86-64-v2.a",
+    "calls-x86-64-v3.a",
+    "calls-aarch64.a",
+    "calls.c",
+];
+/// The commands that print the SHA-256 sum of a file: from coreutils, Perl, the BSDs and Windows.
+const SHA256: [&str; 4] = [
+    "sha256sum FILE",
+    "shasum -a 256 FILE",
+    "sha256 -q FILE",
+    "certutil -hashfile FILE SHA256",
+];
+
+/// The published sum of "abc".
+const SUM_OF_ABC: &str = "ba7816bf8f01cfea414140de5dae2223b00361a396177a9cb410ff61f20015ad";
+
+/// Compares the proved calls with their sums in `dist/SHA256SUMS`.
+fn check_dist(from: &str) {
+    let list = format!("{from}/dist/SHA256SUMS");
+    let sums = fs::read_to_string(&list).unwrap_or_else(|why| fail(format!("{list}: {why}")));
+    let command = sha256_command();
+    for name in CALLS {
+        let path = format!("{from}/dist/{name}");
+        if !Path::new(&path).is_file() {
+            fail(format!("{path} is missing"));
+        }
+        let line = format!("{}  {name}", sum_by(command, &path));
+        if !sums.lines().any(|it| it == line) {
+            fail(format!("{path} is damaged: {list} has another sum"));
+        }
+    }
+}
+
+/// Returns the first of the commands that works here.
+fn sha256_command() -> &'static str {
+    let path = format!("{}/abc", of("OUT_DIR"));
+    fs::write(&path, "abc").unwrap_or_else(|why| fail(format!("{path}: {why}")));
+    let mut commands = SHA256.into_iter();
+    commands
+        .find(|it| sum_by(it, &path) == SUM_OF_ABC)
+        .unwrap_or_else(|| {
+            let why = "no SHA-256 program works here: install sha256sum, shasum or sha256";
+            fail(why.to_string())
+        })
+}
+
+/// Returns the sum of a file that a command prints, or an empty string if it prints none.
+fn sum_by(command: &str, path: &str) -> String {
+    let mut words = command.split(' ');
+    let mut command = Command::new(words.next().unwrap_or_default());
+    let said = said_by(command.args(words.map(|it| if it == "FILE" { path } else { it })));
+    // (sha256sum puts a backslash before the sum if the path has one)
+    let mut said = said.split(|it: char| it.is_whitespace() || it == '\\');
+    let is_sum = |it: &&str| it.len() == 64 && it.bytes().all(|byte| byte.is_ascii_hexdigit());
+    said.find(is_sum).unwrap_or_default().to_string()
+}
+
+/// Checks that `dist/` was built from the sources of the proved calls beside it.
+fn check_sources(from: &str) {
     let proved = fs::read_to_string(format!("{from}/dist/PROVED")).unwrap_or_default();
     let script = format!("{from}/tools/sources.sh");
-    let said = said_by(Command::new("sh").args([&*script, "calls"]));
-    if !proved.contains(&said) {
+    let mut command = Command::new("sh");
+    let sum = said_by(command.args([&*script, "calls"]).stderr(Stdio::inherit()));
+    if sum.is_empty() {
+        fail(format!(
+            "the sources of the proved calls cannot be checked: `sh {script} calls` failed"
+        ));
+    }
+    let line = format!("sources of the calls: {sum}");
+    if !proved.lines().any(|it| it == line) {
         fail(format!(
             "{from}/dist is not built from the sources of the proved calls there"
         ));

@@ -1,10 +1,13 @@
 // SPDX-License-Identifier: MIT
-#![doc = include_str!("../README.md")]
+// The examples of README.md are one program, and doctests would be built one by one.
+#![cfg_attr(not(doctest), doc = include_str!("../README.md"))]
 #![deny(unsafe_code, missing_docs)]
 
+mod files;
 mod raw;
 mod signing;
 
+pub use files::write_new;
 pub use signing::{SecretKey, Signer, Work};
 use std::{fmt, fs, io, path::Path};
 
@@ -36,7 +39,8 @@ impl std::error::Error for Reason {}
 pub enum Error {
     /// The text of a public key or of a signature is not well formed, for this reason.
     InvalidEncoding(Reason),
-    /// The signature of the data, or that of the trusted comment, is not accepted: which one.
+    /// The signature of the data or that of the trusted comment is not valid, or the public key or
+    /// a signature is weak (`Reason::WEAK_ED25519`). The reason says which.
     InvalidSignature(Reason),
     /// A file could not be read, or is not UTF-8.
     IoError(io::Error),
@@ -76,9 +80,9 @@ impl From<Reason> for Error {
             Reason::UNSUPPORTED_ALGORITHM => Error::UnsupportedAlgorithm,
             Reason::DIFFERENT_KEY_IDS => Error::UnexpectedKeyId,
             Reason::LEGACY_NOT_ACCEPTED => Error::UnexpectedAlgorithm,
-            Reason::SIGNATURE_REFUSED | Reason::COMMENT_SIGNATURE_REFUSED => {
-                Error::InvalidSignature(reason)
-            }
+            Reason::SIGNATURE_REFUSED
+            | Reason::COMMENT_SIGNATURE_REFUSED
+            | Reason::WEAK_ED25519 => Error::InvalidSignature(reason),
             // (of both texts, and of the base64 of a key alone)
             Reason(16..=27 | 44..=45) => Error::InvalidEncoding(reason),
             _ => Error::Rejected(reason),
@@ -96,7 +100,9 @@ impl fmt::Display for Error {
     fn fmt(&self, f: &mut fmt::Formatter) -> fmt::Result {
         match self {
             Error::IoError(error) => error.fmt(f),
-            Error::WeakLimits => f.write_str("the limits of a sealed key are too low"),
+            Error::WeakLimits => {
+                f.write_str("the key limits are below 524288 operations or 16 MiB")
+            }
             other => other.reason().map_or(Ok(()), |it| it.fmt(f)),
         }
     }
@@ -112,9 +118,10 @@ impl std::error::Error for Error {
     }
 }
 
-/// An Ed25519, whose answers are taken as they are: one that accepts keys or signatures of small
-/// order accepts files that nobody signed, so it has to reject them, as libsodium does. One that
-/// only verifies leaves the other calls as they stand here.
+/// An implementation of Ed25519. The crate takes its results as they are, but rejects public keys
+/// and signatures of small order or with a non-canonical encoding itself
+/// (`Reason::WEAK_ED25519`), so `accepts` need not reject them. An implementation that only
+/// verifies leaves the other methods at their defaults.
 pub trait Ed25519: Sync {
     /// Whether the signature is one of the message under the public key.
     fn accepts(&self, signature: &[u8; 64], message: &[u8], public_key: &[u8; 32]) -> bool;
@@ -148,6 +155,11 @@ pub struct Sodium;
 fn text_of_file(path: &Path) -> io::Result<String> {
     let not_utf8 = |_| io::Error::new(io::ErrorKind::InvalidData, Reason::NOT_UTF8);
     String::from_utf8(fs::read(path)?).map_err(not_utf8)
+}
+
+/// A key ID as `minisign` prints it.
+fn key_id_text(key_id: &[u8; 8]) -> String {
+    format!("{:X}", u64::from_le_bytes(*key_id))
 }
 
 /// Hands over the pieces of what a reader gives until its end, each with how many bytes that were
@@ -204,10 +216,15 @@ impl PublicKey {
         self.untrusted_comment.as_deref()
     }
 
-    /// The 8 bytes of its key ID, which Minisign shows as one little-endian number. Anybody can
-    /// make a key with the same one.
+    /// The 8 bytes of its key ID, which is one little-endian number. Anybody can make a key with
+    /// the same one.
     pub fn key_id(&self) -> &[u8; 8] {
         &self.key.key_id
+    }
+
+    /// The key ID as `minisign` prints it: in upper-case hexadecimal digits, without leading zeros.
+    pub fn key_id_text(&self) -> String {
+        key_id_text(&self.key.key_id)
     }
 
     /// Verifies data at once. With `allow_legacy` signatures over the data itself will do, which
@@ -284,6 +301,11 @@ impl Signature {
     /// The 8 bytes of the key ID that it names, by which its key can be chosen.
     pub fn key_id(&self) -> &[u8; 8] {
         &self.read.key_id
+    }
+
+    /// The key ID as `minisign` prints it: in upper-case hexadecimal digits, without leading zeros.
+    pub fn key_id_text(&self) -> String {
+        key_id_text(&self.read.key_id)
     }
 
     /// Whether it is over the data itself, as Minisign made signatures before version 0.10.

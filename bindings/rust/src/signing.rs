@@ -1,7 +1,8 @@
 // SPDX-License-Identifier: MIT
 //! Signing, and making keys.
 
-use crate::{raw, read_pieces, text_of_file, Ed25519, Error, PublicKey, Reason, Signature};
+use crate::{key_id_text, raw, read_pieces, text_of_file};
+use crate::{Ed25519, Error, PublicKey, Reason, Signature};
 use std::{fmt, fs, io, path::Path};
 
 /// How much memory and time a sealed key may take, and takes.
@@ -35,12 +36,11 @@ pub struct SecretKey(Box<raw::SecretKey>, bool);
 impl SecretKey {
     /// A new key of random bytes.
     pub fn generate(ed25519: &dyn Ed25519) -> Result<SecretKey, Error> {
-        let (mut id, mut seed, mut secret) = ([0; 8], [0; 32], [0; 64]);
-        let is_drawn = ed25519.random(&mut id) && ed25519.random(&mut seed);
-        let is_made = is_drawn && ed25519.expand(&seed, &mut secret);
-        let key = SecretKey(raw::take_secret_key(&id, &secret), false);
+        let (mut new, mut seed) = (raw::NewKey::ZEROS, [0; 32]);
+        let is_drawn = ed25519.random(&mut new.key_id) && ed25519.random(&mut seed);
+        let is_made = is_drawn && ed25519.expand(&seed, &mut new.secret);
+        let key = SecretKey(raw::take_secret_key(&new), false);
         raw::clear(&mut seed);
-        raw::clear(&mut secret);
         let failed = Reason::RANDOM_SOURCE_FAILED.into();
         is_made.then_some(key).ok_or(failed)
     }
@@ -76,8 +76,9 @@ impl SecretKey {
         key
     }
 
-    /// The text of the key, both lines of a file such as `minisign.key`, sealed under a password
-    /// where there is one: `WeakLimits` where the limits of the work are too low for that.
+    /// The text of the key, both lines of a file such as `minisign.key`, sealed under a password if
+    /// there is one: `WeakLimits` if the limits of the work are too low for that. `write_new`
+    /// writes it to a file.
     pub fn encode(
         &self,
         ed25519: &dyn Ed25519,
@@ -102,10 +103,14 @@ impl SecretKey {
         Ok(raw::secret_key_text(key, typed, &sealing, every, comment)?)
     }
 
+    /// The key ID as `minisign` prints it: in upper-case hexadecimal digits, without leading zeros.
+    pub fn key_id_text(&self) -> String {
+        key_id_text(&self.0.key_id)
+    }
+
     /// The text of its public key, both lines of a file such as `minisign.pub`.
     pub fn public_key_text(&self) -> Result<String, Error> {
-        let key_id = u64::from_le_bytes(self.0.key_id);
-        let comment = format!("{}{:X}", raw::PUBLIC_KEY_COMMENT, key_id);
+        let comment = format!("{}{}", raw::PUBLIC_KEY_COMMENT, self.key_id_text());
         Ok(raw::public_key_text(&self.0, comment.as_bytes())?)
     }
 
@@ -154,7 +159,7 @@ impl SecretKey {
 /// Shows the key ID alone.
 impl fmt::Debug for SecretKey {
     fn fmt(&self, f: &mut fmt::Formatter) -> fmt::Result {
-        write!(f, "SecretKey({:X})", u64::from_le_bytes(self.0.key_id))
+        write!(f, "SecretKey({})", self.key_id_text())
     }
 }
 
@@ -184,7 +189,8 @@ impl Signer<'_> {
         let digest = raw::digest(&mut self.state)?;
         let first = self.signed(&digest)?;
         let second = self.signed(&raw::comment_message(&first, trusted)?)?;
-        let text = raw::signed_text(&self.key.0, &first, &second, trusted, untrusted)?;
+        let key = raw::public_key_of(&self.key.0)?;
+        let text = raw::signed_text(&key, &first, &second, trusted, untrusted)?;
         Signature::decode(&text)
     }
 

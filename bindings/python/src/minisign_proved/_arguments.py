@@ -5,6 +5,8 @@ argument of another type, and a ValueError one of another value."""
 import os
 from typing import Any, Callable, Dict, TypeVar, Union, cast
 
+from .errors import NotUtf8
+
 Path = Union[str, bytes, "os.PathLike[str]", "os.PathLike[bytes]"]
 # A text: where it is given as bytes, they are its UTF-8.
 Text = Union[str, bytes]
@@ -13,7 +15,7 @@ Kind = TypeVar("Kind")
 
 def other_type(name: str, wanted: str, value: object) -> TypeError:
     """The error of an argument that is of another type."""
-    return TypeError(f"{name} has to be {wanted}, and not {type(value).__name__}")
+    return TypeError(f"{name} must be {wanted}, not {type(value).__name__}")
 
 
 def octets(name: str, value: object, wanted: str = "bytes") -> bytes:
@@ -29,14 +31,15 @@ def octets(name: str, value: object, wanted: str = "bytes") -> bytes:
 
 
 def text_octets(name: str, value: object) -> bytes:
-    """The bytes of a text. Where a `str` is no text, they are not UTF-8, which the
-    library rejects."""
+    """The UTF-8 of a text. NotUtf8, which names the argument, if it is a `str` that
+    UTF-8 cannot encode. (The message has no part of the text, which may be secret.)"""
     if not isinstance(value, str):
         return octets(name, value, "str or bytes")
     try:
-        return value.encode("utf-8", "surrogateescape")
-    except UnicodeEncodeError:
-        return value.encode("utf-8", "surrogatepass")
+        return value.encode()
+    except UnicodeEncodeError as why:
+        told = f"{name} has a surrogate at index {why.start}, which is not UTF-8"
+        raise NotUtf8(told) from None
 
 
 def path_text(name: str, value: object) -> str:
@@ -47,7 +50,7 @@ def path_text(name: str, value: object) -> str:
     except TypeError:
         raise other_type(name, "a path: str, bytes or os.PathLike", value) from None
     if text == "" or "\0" in text:
-        raise ValueError(f"{name} has to be a path, and not {text!r}")
+        raise ValueError(f"{name} must be a path, not {text!r}")
     return text
 
 
@@ -56,7 +59,7 @@ def choice(name: str, value: object, choices: Dict[str, Kind]) -> Kind:
     check_kind(name, value, str)
     if value not in choices:
         wanted = " or ".join(map(repr, choices))
-        raise ValueError(f"{name} has to be {wanted}, and not {value!r}")
+        raise ValueError(f"{name} must be {wanted}, not {value!r}")
     return choices[cast(str, value)]
 
 
@@ -75,7 +78,7 @@ def check_number(
     if not least <= cast(int, value) <= most:
         told = form(cast(int, value))
         wanted = f"from {form(least)} to {form(most)}"
-        raise ValueError(f"{name} has to be {wanted}, and not {told}")
+        raise ValueError(f"{name} must be {wanted}, not {told}")
 
 
 def check_function(name: str, value: object) -> None:

@@ -3,13 +3,14 @@
 Ed25519 of libsodium or of the package `cryptography`. An error of a call is raised as
 its exception."""
 
+import base64
 import ctypes.util
 import os
 from typing import Dict, List, Type, Union
 
 from . import _header as h
 from ._arguments import choice
-from .errors import BY_NUMBER, MinisignError
+from .errors import BY_NUMBER, MinisignError, WeakEd25519
 
 # The 64 bytes of a secret key: the seed, and its public key.
 Secret = ctypes.Array[ctypes.c_ubyte]
@@ -31,25 +32,6 @@ calls = h.Calls(library, _must)
 
 # ---- Ed25519 ----
 
-# The prime of the field and the order of the group (RFC 8032, section 5.1), and the
-# second coordinates of the eight points of small order. A key or a first half that is
-# such a point could belong to a signature of every message.
-PRIME, ORDER = 2**255 - 19, 2**252 + 27742317777372353535851937790883648493
-SMALL_ORDER = (
-    0,
-    1,
-    PRIME - 1,
-    0x7A03AC9277FDC74EC6CC392CFA53202A0F67100D760B3CBA4FD84D3D706A17C7,
-    0x5FC536D880238B13933C6D305ACDFD5F098EFF289F4C345B027B2C28F95E826,
-)
-
-
-def is_rejected(point: bytes) -> bool:
-    """Whether libsodium rejects 32 bytes as a point: for their second coordinate,
-    before the bit of the sign, or for their order."""
-    second = int.from_bytes(point, "little") % 2**255
-    return second >= PRIME or second in SMALL_ORDER
-
 
 class Sodium:
     """libsodium, by its shared library."""
@@ -58,7 +40,7 @@ class Sodium:
         found = ctypes.util.find_library("sodium")
         self._library = ctypes.CDLL(found or "libsodium.so.23")
         if self._library.sodium_init() < 0:
-            raise OSError("libsodium could not be started")
+            raise OSError("libsodium could not be initialized")
 
     def accepts(self, signature: bytes, message: bytes, key: bytes) -> bool:
         verify, length = self._library.crypto_sign_verify_detached, len(message)
@@ -77,8 +59,9 @@ class Sodium:
 
 
 class Cryptography:
-    """The package `cryptography`, behind checks that make its verdict that of
-    libsodium."""
+    """The package `cryptography`. It accepts some signatures of small order or with
+    non-canonical encodings, which libsodium rejects. The library rejects those first,
+    except in `minisign_install_ask`: see `is_strict`."""
 
     def __init__(self) -> None:
         from cryptography.hazmat.primitives.asymmetric import ed25519
@@ -88,9 +71,6 @@ class Cryptography:
     def accepts(self, signature: bytes, message: bytes, key: bytes) -> bool:
         from cryptography.exceptions import InvalidSignature
 
-        is_high = int.from_bytes(signature[32:], "little") >= ORDER
-        if is_high or is_rejected(key) or is_rejected(signature[:32]):
-            return False
         try:
             self._of.Ed25519PublicKey.from_public_bytes(key).verify(signature, message)
         except (InvalidSignature, ValueError):
@@ -130,3 +110,22 @@ def ed25519() -> Kind:
         except OSError:
             use_ed25519("cryptography")
     return _chosen[0]
+
+
+# ---- What strict Ed25519 rejects ----
+
+STRICT_TEXT = b"untrusted comment: -\n%s\ntrusted comment: -\n%s\n"
+
+
+def is_strict(signature: bytes, key: bytes) -> bool:
+    """Returns whether `minisign_ask` accepts the bytes of a signature and a public key,
+    and does not raise WeakEd25519. `minisign_install_ask` does not test them, so an
+    installation asks `minisign_ask` about a text made of the signature."""
+    line = base64.b64encode(b"ED" + bytes(8) + signature)
+    text = STRICT_TEXT % (line, base64.b64encode(signature))
+    public_key = calls.read_bare_public_key(base64.b64encode(b"Ed" + bytes(8) + key))
+    try:
+        calls.ask(calls.init(), public_key, calls.read_signature(text), text, 0)
+    except WeakEd25519:
+        return False
+    return True

@@ -21,8 +21,13 @@ MEMORY_LIMIT = 1073741824
 LEAST_OPERATIONS_LIMIT = 524288
 LEAST_MEMORY_LIMIT = 16777216
 LEAST_LOG2_ROWS = 14
+NO_PASSWORD = 0
+PASSWORD = 1
+ANY_PASSWORD = 2
 RECORD_TEXT_BYTES = 258
 VERSION_TEXT = "0.3.0"
+SIGNATURE_COMMENT = "signature from minisign secret key"
+TRUSTED_COMMENT_FORMAT = "timestamp:%llu\tfile:%s\thashed"
 SECRET_KEY_COMMENT = "minisign encrypted secret key"
 PUBLIC_KEY_COMMENT = "minisign public key "
 # Sizes to which the length of what is put in is added.
@@ -76,6 +81,7 @@ class State(Structure):
 
 class PublicKey(Structure):
     _fields_ = [
+        ("mark", c_uint64),
         ("key", c_ubyte * 32),
         ("key_id", c_ubyte * 8),
     ]
@@ -130,6 +136,13 @@ class SecretKey(Structure):
     ]
 
 
+class NewKey(Structure):
+    _fields_ = [
+        ("key_id", c_ubyte * 8),
+        ("secret", c_ubyte * 64),
+    ]
+
+
 class SignedParts(Structure):
     _fields_ = [
         ("signature", c_ubyte * 64),
@@ -146,6 +159,17 @@ class Sealing(Structure):
         ("salt", c_ubyte * 32),
         ("operations_limit", c_uint64),
         ("memory_limit", c_uint64),
+    ]
+
+
+class InstallOptions(Structure):
+    _fields_ = [
+        ("numbering", c_uint32),
+        ("is_first", c_uint32),
+        ("again", c_uint32),
+        ("is_check", c_uint32),
+        ("is_waiting", c_uint32),
+        ("must_expire", c_uint32),
     ]
 
 
@@ -174,6 +198,8 @@ class Calls:
         library.minisign_update.argtypes = (POINTER(State), c_void_p, c_size_t)
         library.minisign_digest.restype = error
         library.minisign_digest.argtypes = (POINTER(State), c_void_p)
+        library.minisign_clear.restype = None
+        library.minisign_clear.argtypes = (c_void_p, c_size_t)
         library.minisign_read_public_key.restype = error
         library.minisign_read_public_key.argtypes = (
             c_void_p,
@@ -232,6 +258,7 @@ class Calls:
         library.minisign_opening_memory.argtypes = (
             POINTER(UnopenedKey),
             c_uint64,
+            c_uint64,
             POINTER(c_uint64),
             POINTER(c_uint64),
         )
@@ -250,8 +277,7 @@ class Calls:
         )
         library.minisign_take_secret_key.restype = None
         library.minisign_take_secret_key.argtypes = (
-            c_void_p,
-            c_void_p,
+            POINTER(NewKey),
             POINTER(SecretKey),
         )
         library.minisign_public_key_of.restype = error
@@ -269,7 +295,7 @@ class Calls:
         )
         library.minisign_signed_text.restype = error
         library.minisign_signed_text.argtypes = (
-            POINTER(SecretKey),
+            POINTER(PublicKey),
             POINTER(SignedParts),
             c_void_p,
             c_size_t,
@@ -277,6 +303,20 @@ class Calls:
         )
         library.minisign_secret_key_text.restype = error
         library.minisign_secret_key_text.argtypes = (
+            POINTER(SecretKey),
+            c_uint32,
+            c_void_p,
+            c_size_t,
+            POINTER(Sealing),
+            c_uint64,
+            c_void_p,
+            c_size_t,
+            c_void_p,
+            c_size_t,
+            POINTER(c_size_t),
+        )
+        library.minisign_secret_key_text_with_any_limits.restype = error
+        library.minisign_secret_key_text_with_any_limits.argtypes = (
             POINTER(SecretKey),
             c_uint32,
             c_void_p,
@@ -303,12 +343,7 @@ class Calls:
             POINTER(Installation),
             POINTER(PublicKey),
             POINTER(PublicKey),
-            c_uint32,
-            c_uint32,
-            c_uint32,
-            c_uint32,
-            c_uint32,
-            c_uint32,
+            POINTER(InstallOptions),
         )
         library.minisign_install_due.restype = c_uint32
         library.minisign_install_due.argtypes = (POINTER(Installation),)
@@ -468,9 +503,9 @@ class Calls:
         )
         return key
 
-    def take_secret_key(self, key_id: Octets, secret: Octets) -> SecretKey:
+    def take_secret_key(self, new_key: NewKey) -> SecretKey:
         key = SecretKey()
-        self._library.minisign_take_secret_key(key_id, secret, key)
+        self._library.minisign_take_secret_key(new_key, key)
         return key
 
     def public_key_of(self, key: SecretKey) -> PublicKey:
@@ -479,7 +514,7 @@ class Calls:
         return public_key
 
     def comment_message(self, first: Octets, trusted: bytes) -> bytes:
-        message = create_string_buffer(len(first) + len(trusted))
+        message = create_string_buffer(64 + len(trusted))
         self._library.minisign_comment_message(
             first, trusted, len(trusted), message, len(message)
         )
@@ -487,7 +522,7 @@ class Calls:
 
     def signed_text(
         self,
-        key: SecretKey,
+        key: PublicKey,
         signature: Octets,
         comment_signature: Octets,
         trusted_comment: bytes,
@@ -551,24 +586,9 @@ class Calls:
         installation: Installation,
         key: PublicKey,
         other: PublicKey,
-        is_first: int,
-        again: int,
-        is_check: int,
-        is_waiting: int,
-        must_expire: int,
-        numbering: int,
+        options: InstallOptions,
     ) -> None:
-        self._library.minisign_install_init(
-            installation,
-            key,
-            other,
-            is_first,
-            again,
-            is_check,
-            is_waiting,
-            must_expire,
-            numbering,
-        )
+        self._library.minisign_install_init(installation, key, other, options)
 
     def install_due(self, installation: Installation) -> int:
         number: int = self._library.minisign_install_due(installation)

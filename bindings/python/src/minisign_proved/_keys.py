@@ -4,7 +4,6 @@
 import ctypes
 import os
 import secrets
-import tempfile
 import threading
 import time
 from contextlib import AbstractContextManager, ExitStack
@@ -15,6 +14,8 @@ from . import _header as h
 from ._arguments import Path, Text, check_function, check_kind, check_number
 from ._arguments import octets, path_text, text_octets
 from ._calls import calls, ed25519
+from ._files import replace_file
+from ._files import write_new as write_new
 from .errors import ReadingFailed
 
 __all__ = ["Data", "Password", "Progress", "PublicKey", "SecretKey", "Signature"]
@@ -47,7 +48,7 @@ def read_text(path: Path) -> bytes:
     with open(name, "rb") as file:
         text = file.read(TEXT_BYTES + 1)
     if len(text) > TEXT_BYTES:
-        raise TooLong(f"{name}: it has more than 1 MiB")
+        raise TooLong(f"{name} is larger than 1 MiB")
     return text
 
 
@@ -93,16 +94,17 @@ def identifier(key_id: Iterable[int]) -> str:
 
 
 class Signature:
-    """The text of a signature, as in a file `data.minisig`: bytes that are read once
-    something of it is asked for, or verified."""
+    """The text of a signature, as in a file `data.minisig`: a `str` or its UTF-8. It is
+    parsed when a part of it is asked for, or when it is verified. Of a `str` that UTF-8
+    cannot encode none is made: NotUtf8."""
 
-    def __init__(self, text: bytes) -> None:
-        self._text = octets("text", text)
+    def __init__(self, text: Text) -> None:
+        self._text = text_octets("text", text)
         self._kept: Optional[h.Signature] = None
 
     @property
     def text(self) -> bytes:
-        """Its bytes."""
+        """Its UTF-8."""
         return self._text
 
     @property
@@ -143,11 +145,11 @@ class Signature:
 class PublicKey:
     """A public key, under which signatures are verified."""
 
-    def __init__(self, text: bytes, *, _read: Optional[h.PublicKey] = None) -> None:
-        """Reads both lines of a file such as minisign.pub. NotUtf8,
-        MissingPublicKeyComment, MissingPublicKey, PublicKeyLength, PublicKeyNotBase64,
-        RecordTooShort."""
-        self._read = _read or calls.read_public_key(octets("text", text))
+    def __init__(self, text: Text, *, _read: Optional[h.PublicKey] = None) -> None:
+        """Reads both lines of a file such as minisign.pub, as `str` or as its UTF-8.
+        NotUtf8, also of a `str` that UTF-8 cannot encode; MissingPublicKeyComment,
+        MissingPublicKey, PublicKeyLength, PublicKeyNotBase64, RecordTooShort."""
+        self._read = _read or calls.read_public_key(text_octets("text", text))
 
     @property
     def key(self) -> bytes:
@@ -195,9 +197,9 @@ class PublicKey:
 class Verifier:
     """Verifies data that comes in pieces. Where the texts reject already, it is not
     made: NotUtf8, the errors of the text of a signature, DifferentKeyIds,
-    LegacyNotAccepted. Signatures over the data itself are taken where `allow_legacy` is
-    true: the data is then kept in memory until the end. Threads may share one: their
-    calls are made one after another.
+    LegacyNotAccepted, WeakEd25519. Signatures over the data itself are taken where
+    `allow_legacy` is true: the data is then kept in memory until the end. Threads may
+    share one: their calls are made one after another.
     """
 
     def __init__(
@@ -287,7 +289,7 @@ def old_password(name: str, password: Password) -> Optional[bytes]:
 def new_password(name: str, password: Password) -> Optional[bytes]:
     """The bytes of a password that is to seal a key."""
     if (text := old_password(name, password)) == b"":
-        raise ValueError(f"{name} is empty: None says that a key is not to be sealed")
+        raise ValueError(f"{name} must not be empty; use None for no password")
     return text
 
 
@@ -318,33 +320,42 @@ class SecretKey(AbstractContextManager["SecretKey"]):
         return f"<SecretKey {self.public_key.key_id}>"
 
     def __reduce__(self) -> NoReturn:
-        raise TypeError("a secret key is neither copied nor pickled: see to_bytes")
+        raise TypeError("a secret key cannot be copied or pickled; use to_bytes")
 
     @classmethod
     def generate(cls) -> "SecretKey":
         """A new key, of the system's random bytes."""
         pair = ed25519().pair()
-        opened = calls.take_secret_key(secrets.token_bytes(8), pair)
-        ctypes.memset(pair, 0, ctypes.sizeof(pair))
+        new = h.NewKey((ctypes.c_ubyte * 8)(*secrets.token_bytes(8)))
+        ctypes.memmove(new.secret, pair, ctypes.sizeof(new.secret))
+        opened = calls.take_secret_key(new)
+        for secret in (pair, new):
+            ctypes.memset(ctypes.byref(secret), 0, ctypes.sizeof(secret))
         return cls(opened)
 
     @classmethod
     def from_bytes(
         cls,
-        text: bytes,
+        text: Text,
         password: Password = None,
         *,
         low_memory: bool = False,
         most_rows: int = h.USUAL_ROWS,
     ) -> "SecretKey":
-        """Opens both lines of a file such as minisign.key: KeySealed where that takes a
-        password and there is none, KeyNotSealed where it takes none, WrongPassword,
-        WorkTooHigh where it asks for more than `most_rows` rows of scrypt in all (N
-        times p), and the errors of the text."""
+        """Opens both lines of a file such as minisign.key, as `str` or as its UTF-8.
+
+        Raises NotUtf8, also for a `str` that UTF-8 cannot encode;
+        MissingSecretKeyComment, MissingSecretKey, SecretKeyNotBase64 or RecordTooShort
+        for a damaged text; KeySealed if the key needs a password and there is none,
+        KeyNotSealed if it needs none. A key without a password may be KeyCorrupted. A
+        sealed key may be UnsupportedKeyDerivation, ParametersTooHigh or
+        InvalidParameters; WorkTooHigh if it asks for more than `most_rows` rows of
+        scrypt in all (N times p); and WrongPassword.
+        """
         typed = old_password("password", password)
         check_kind("low_memory", low_memory, bool)
         check_number("most_rows", most_rows, 1, h.ANY_ROWS)
-        unopened = calls.read_secret_key(octets("text", text))
+        unopened = calls.read_secret_key(text_octets("text", text))
         try:
             if typed is None:
                 return cls(calls.open_unsealed_key(unopened))
@@ -442,10 +453,11 @@ class SecretKey(AbstractContextManager["SecretKey"]):
         fed = h.State.from_buffer_copy(state)
         first = signs(calls.digest(state), secret)
         second = signs(calls.comment_message(first, trusted), secret)
-        text = calls.signed_text(self._opened, first, second, trusted, untrusted)
+        key = calls.public_key_of(self._opened)
+        text = calls.signed_text(key, first, second, trusted, untrusted)
         # (one that the public half does not verify would give the secret of a damaged
         # key away)
-        key, signature = calls.public_key_of(self._opened), Signature(text)
+        signature = Signature(text)
         Verifier(PublicKey(b"", _read=key), signature, _fed=fed).finish()
         return signature
 
@@ -465,7 +477,9 @@ def sign(
     progress: Optional[Progress] = None,
 ) -> Signature:
     """Signs a file, and writes the signature to the file `path`.minisig: see
-    `SecretKey.sign`."""
+    `SecretKey.sign`. An older signature is replaced in one step, by a file of the same
+    mode: after an error, as OSError on a full disk, it is unchanged, and no other file
+    is left. If `path`.minisig is a link, the file that it leads to is replaced."""
     name = path_text("path", path)
     check_kind("key", key, SecretKey)
     signature = key.sign(
@@ -474,33 +488,19 @@ def sign(
         untrusted_comment=untrusted_comment,
         progress=progress,
     )
-    with open(name + ".minisig", "wb") as file:
-        file.write(signature.text)
+    replace_file(name + ".minisig", signature.text, is_secret=False)
     return signature
-
-
-def write_new(path: Path, text: bytes) -> None:
-    """Writes a file that its owner alone may read, and that has to be new:
-    FileExistsError."""
-    name, written = path_text("path", path), octets("text", text)
-    flags = os.O_WRONLY | os.O_CREAT | os.O_EXCL | getattr(os, "O_CLOEXEC", 0)
-    with open(os.open(name, flags, 0o600), "wb") as file:
-        file.write(written)
-        file.flush()
-        os.fsync(file.fileno())
 
 
 def change_password(
     path: Path, old: Password, new: Password, *, low_memory: bool = False
 ) -> None:
-    """Seals the secret key of a file under another password: the file is replaced at
-    the end, by one that its owner alone may read. Where a link leads to it, the file is
-    replaced and the link stays. With None as `new` the key is not sealed; an empty one
-    is a ValueError."""
-    name = os.path.realpath(path_text("path", path))
+    """Seals the secret key of a file under another password. The file is replaced in
+    one step, by one that only its owner may read: after an error it is unchanged, and
+    no other file is left. If `path` is a link, the file that it leads to is replaced.
+    With None as `new` the key is not sealed; an empty one is a ValueError."""
+    name = path_text("path", path)
     opening, sealing = old_password("old", old), new_password("new", new)
     with SecretKey.from_file(name, opening, low_memory=low_memory) as key:
         text = key.to_bytes(sealing, low_memory=low_memory)
-    with tempfile.TemporaryDirectory(dir=os.path.dirname(name)) as room:
-        write_new(os.path.join(room, "key"), text)
-        os.replace(os.path.join(room, "key"), name)
+    replace_file(name, text, is_secret=True)

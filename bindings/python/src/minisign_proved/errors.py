@@ -48,7 +48,7 @@ class BadLegacyFlag(MinisignError):
 
 
 class OutOfMemory(MinisignError):
-    """An allocation failed, or a size that no allocation can have was asked for."""
+    """An allocation failed, or its size is too large for any allocation."""
 
     number = 7
 
@@ -66,7 +66,7 @@ class BadComment(MinisignError):
 
 
 class BadPasswordFlag(MinisignError):
-    """with_password is neither 0 nor 1."""
+    """with_password is not 0, 1 or 2."""
 
     number = 10
 
@@ -84,8 +84,8 @@ class NotDue(MinisignError):
     number = 12
 
 
-class BadFirstFlag(MinisignError):
-    """is_first is neither 0 nor 1."""
+class BadOption(MinisignError):
+    """An option of an installation is neither 0 nor 1."""
 
     number = 13
 
@@ -104,181 +104,182 @@ class KeyNotOpened(MinisignError):
 
 
 class MissingPublicKeyComment(MinisignError):
-    """A public key text has no first line."""
+    """The public key file has no comment line."""
 
     number = 16
 
 
 class MissingPublicKey(MinisignError):
-    """A public key text has no second line."""
+    """The public key file has no key line."""
 
     number = 17
 
 
 class PublicKeyLength(MinisignError):
-    """The second line of a public key text is not 56 bytes long."""
+    """The second line of the public key file is not 56 bytes long."""
 
     number = 18
 
 
 class PublicKeyNotBase64(MinisignError):
-    """The second line of a public key text is not base64."""
+    """The second line of the public key file is not base64."""
 
     number = 19
 
 
 class RecordTooShort(MinisignError):
-    """Fewer bytes than a record has."""
+    """There are fewer bytes than the record needs."""
 
     number = 20
 
 
 class MissingUntrustedComment(MinisignError):
-    """A signature text has no first line."""
+    """The signature file has no untrusted comment line."""
 
     number = 21
 
 
 class MissingSignature(MinisignError):
-    """A signature text has no second line."""
+    """The signature file has no signature line."""
 
     number = 22
 
 
 class MissingTrustedComment(MinisignError):
-    """A signature text has no third line."""
+    """The signature file has no trusted comment line."""
 
     number = 23
 
 
 class MissingCommentSignature(MinisignError):
-    """A signature text has no fourth line."""
+    """The signature file has no comment signature line."""
 
     number = 24
 
 
 class UntrustedCommentPrefix(MinisignError):
-    """The first line of a signature text does not begin with untrusted comment: ."""
+    """The first line of the signature file does not begin with untrusted comment: ."""
 
     number = 25
 
 
 class SignatureNotBase64(MinisignError):
-    """A line of a signature text is not base64."""
+    """A line of the signature file is not base64."""
 
     number = 26
 
 
 class TrustedCommentPrefix(MinisignError):
-    """The third line of a signature text does not begin with trusted comment: ."""
+    """The third line of the signature file does not begin with trusted comment: ."""
 
     number = 27
 
 
 class UnsupportedAlgorithm(MinisignError):
-    """The algorithm of a signature is neither Ed nor ED."""
+    """The algorithm of the signature is neither Ed nor ED."""
 
     number = 28
 
 
 class DifferentKeyIds(MinisignError):
-    """The key ID of a signature is not that of the public key."""
+    """The signature was made with a key that has another key ID."""
 
     number = 29
 
 
 class LegacyNotAccepted(MinisignError):
-    """A legacy signature where only prehashed ones are allowed."""
+    """The signature is a legacy one, and only prehashed ones are allowed."""
 
     number = 30
 
 
 class SignatureRefused(MinisignError):
-    """The signature of the data is not accepted."""
+    """The signature of the data is not valid."""
 
     number = 31
 
 
 class CommentSignatureRefused(MinisignError):
-    """The comment signature is too short or is not accepted."""
+    """The comment signature is too short or not valid."""
 
     number = 32
 
 
 class MissingSecretKeyComment(MinisignError):
-    """A secret key text has no first line."""
+    """The secret key file has no comment line."""
 
     number = 33
 
 
 class MissingSecretKey(MinisignError):
-    """A secret key text has no second line."""
+    """The secret key file has no key line."""
 
     number = 34
 
 
 class SecretKeyNotBase64(MinisignError):
-    """The second line of a secret key text is not base64."""
+    """The second line of the secret key file is not base64."""
 
     number = 35
 
 
 class KeySealed(MinisignError):
-    """A key that is asked for as unsealed names a key derivation."""
+    """A secret key that should be unencrypted names a key derivation."""
 
     number = 36
 
 
 class KeyCorrupted(MinisignError):
-    """The checksum of an unsealed key does not match."""
+    """The checksum of an unencrypted secret key does not match."""
 
     number = 37
 
 
 class KeyNotSealed(MinisignError):
-    """A key that is asked for as sealed names no key derivation."""
+    """A secret key that should be encrypted names no key derivation."""
 
     number = 38
 
 
 class UnsupportedKeyDerivation(MinisignError):
-    """A sealed key names a key derivation other than Sc."""
+    """An encrypted key names a key derivation other than Sc."""
 
     number = 39
 
 
 class ParametersTooHigh(MinisignError):
-    """The limits of a sealed key ask for more than is allowed."""
+    """The memory or work limit of an encrypted key is higher than allowed."""
 
     number = 40
 
 
 class InvalidParameters(MinisignError):
-    """The limits lead to parameters that scrypt does not take."""
+    """The limits of an encrypted key give parameters that scrypt rejects."""
 
     number = 41
 
 
 class WrongPassword(MinisignError):
-    """The checksum of an opened key does not match."""
+    """The checksum does not match after decryption, so the password is probably
+    wrong."""
 
     number = 42
 
 
 class WorkTooHigh(MinisignError):
-    """The limits lead to more parallel work than the caller allows."""
+    """Decrypting the key takes more work than the caller allows."""
 
     number = 43
 
 
 class BarePublicKeyLength(MinisignError):
-    """A public key given as base64 alone is not 56 bytes long."""
+    """A bare base64 public key is not 56 bytes long."""
 
     number = 44
 
 
 class BarePublicKeyNotBase64(MinisignError):
-    """A public key given as base64 alone is not base64."""
+    """A bare public key is not base64."""
 
     number = 45
 
@@ -402,13 +403,13 @@ class KeyNotRead(MinisignError):
 
 
 class ReadingFailed(MinisignError):
-    """A source, a file or a prompt's reader failed at a read."""
+    """Reading from a source, a file or a prompt failed."""
 
     number = 64
 
 
 class WritingFailed(MinisignError):
-    """A sink or a prompt's writer failed at a write or a flush."""
+    """Writing to a sink or a prompt, or flushing it, failed."""
 
     number = 65
 
@@ -417,6 +418,32 @@ class RandomSourceFailed(MinisignError):
     """A random source failed or had too few bytes."""
 
     number = 67
+
+
+class WeakEd25519(MinisignError):
+    """The public key or a signature is one that strict Ed25519 rejects: a point has a
+    small order or is not canonical, or the second half of a signature is not below the
+    group order."""
+
+    number = 81
+
+
+class PublicKeyNotRead(MinisignError):
+    """A public key was not read."""
+
+    number = 82
+
+
+class EmptyPassword(MinisignError):
+    """The password is empty, and with_password does not allow that."""
+
+    number = 83
+
+
+class WeakSealing(MinisignError):
+    """The salt is all zeros, or a limit is below the minimum of Minisign."""
+
+    number = 84
 
 
 BY_NUMBER: "dict[int, type[MinisignError]]" = {
@@ -432,7 +459,7 @@ BY_NUMBER: "dict[int, type[MinisignError]]" = {
     10: BadPasswordFlag,
     11: UnreadableComment,
     12: NotDue,
-    13: BadFirstFlag,
+    13: BadOption,
     14: BadNumbering,
     15: KeyNotOpened,
     16: MissingPublicKeyComment,
@@ -486,6 +513,10 @@ BY_NUMBER: "dict[int, type[MinisignError]]" = {
     64: ReadingFailed,
     65: WritingFailed,
     67: RandomSourceFailed,
+    81: WeakEd25519,
+    82: PublicKeyNotRead,
+    83: EmptyPassword,
+    84: WeakSealing,
 }
 
 __all__ = [
@@ -502,7 +533,7 @@ __all__ = [
     "BadPasswordFlag",
     "UnreadableComment",
     "NotDue",
-    "BadFirstFlag",
+    "BadOption",
     "BadNumbering",
     "KeyNotOpened",
     "MissingPublicKeyComment",
@@ -556,4 +587,8 @@ __all__ = [
     "ReadingFailed",
     "WritingFailed",
     "RandomSourceFailed",
+    "WeakEd25519",
+    "PublicKeyNotRead",
+    "EmptyPassword",
+    "WeakSealing",
 ]

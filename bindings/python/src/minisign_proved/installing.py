@@ -17,7 +17,7 @@ from typing import IO, Iterator, Optional, Sequence, Union, cast
 from . import _header as h
 from ._arguments import Path, choice, path_text
 from ._arguments import check_function, check_kind, check_number
-from ._calls import ed25519, error_of, library
+from ._calls import ed25519, error_of, is_strict, library
 from ._keys import Progress, PublicKey, Signature, TooLong, is_file, pieces_of
 from .errors import OlderUpdate
 
@@ -152,7 +152,7 @@ def _received(
     for piece in pieces_of(data, progress):
         held.write(piece)
         if held.tell() > most:
-            raise TooLong("the data is longer than it may be")
+            raise TooLong("the data is larger than the limit")
     held.seek(0)
     return held
 
@@ -171,7 +171,7 @@ def _wanted(
     for public_key in keys:
         check_kind("key", public_key, PublicKey)
     if len(keys) not in (1, 2):
-        raise ValueError(f"key has to be one public key, or two, and not {len(keys)}")
+        raise ValueError(f"key must be one or two public keys, not {len(keys)}")
     check_kind("signature", signature, Signature)
     check_kind("first", first, bool)
     check_kind("must_expire", must_expire, bool)
@@ -179,13 +179,14 @@ def _wanted(
     place = path_text("target", target)
     last = os.path.basename(place)
     if last in ("", ".", ".."):
-        raise ValueError(f"target has to end with a file's name, not as {place!r}")
+        raise ValueError(f"target must end with a file name, not {place!r}")
     file_name = last if name is None else path_text("name", name)
     accepts = ed25519().accepts
 
     def answer(signature: int, data: int, length: int, key: int) -> int:
-        asked = (signature, 64), (data, length), (key, 32)
-        is_accepted = accepts(*(ctypes.string_at(at, size) for at, size in asked))
+        text, public = ctypes.string_at(signature, 64), ctypes.string_at(key, 32)
+        message = ctypes.string_at(data, length)
+        is_accepted = is_strict(text, public) and accepts(text, message, public)
         return h.ANSWER_YES if is_accepted else h.ANSWER_NO
 
     return Wanted(
@@ -206,7 +207,7 @@ def _wanted(
 def _begun(wanted: Wanted) -> Iterator["ctypes._Pointer[Installing]"]:
     """A run, which is ended, and what it has begun removed."""
     if not HAS_HOST:
-        raise NotImplementedError("installing is for Linux: here is no host for it")
+        raise NotImplementedError("installing is supported only on Linux")
     begun = library.begin_installing(ctypes.byref(wanted))
     if not begun:
         raise MemoryError()
@@ -220,7 +221,7 @@ def _must(run: Installing) -> None:
     """Raises what a run was rejected for, or which call failed."""
     if run.error != 0:
         why = (run.cause or b"").decode() or os.strerror(run.number)
-        too_long = TooLong("the data is longer than it may be")
+        too_long = TooLong("the data is larger than the limit")
         raised = too_long if run.is_too_long else error_of(run.error)
         at = os.fsdecode(run.shown or b"")
         raise raised from (OSError(run.number, why, at) if run.shown else None)

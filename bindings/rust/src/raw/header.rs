@@ -21,84 +21,84 @@ impl Reason {
     pub const NO_ROOM: Reason = Reason(5);
     /// allow_legacy is neither 0 nor 1.
     pub const BAD_LEGACY_FLAG: Reason = Reason(6);
-    /// An allocation failed, or a size that no allocation can have was asked for.
+    /// An allocation failed, or its size is too large for any allocation.
     pub const OUT_OF_MEMORY: Reason = Reason(7);
     /// A text, a typed line, a password or a comment is not UTF-8.
     pub const NOT_UTF8: Reason = Reason(8);
     /// A comment of a signature would not be read back as it is.
     pub const BAD_COMMENT: Reason = Reason(9);
-    /// with_password is neither 0 nor 1.
+    /// with_password is not 0, 1 or 2.
     pub const BAD_PASSWORD_FLAG: Reason = Reason(10);
     /// A comment of a signature is one that Minisign would not read back: too long, or with a zero
     /// byte or a carriage return.
     pub const UNREADABLE_COMMENT: Reason = Reason(11);
     /// A call of installing is not due, or cannot go so.
     pub const NOT_DUE: Reason = Reason(12);
-    /// is_first is neither 0 nor 1.
-    pub const BAD_FIRST_FLAG: Reason = Reason(13);
+    /// An option of an installation is neither 0 nor 1.
+    pub const BAD_OPTION: Reason = Reason(13);
     /// A numbering is neither MINISIGN_NUMBERING_TIMESTAMP nor MINISIGN_NUMBERING_VERSION.
     pub const BAD_NUMBERING: Reason = Reason(14);
     /// A secret key was neither opened nor taken in.
     pub const KEY_NOT_OPENED: Reason = Reason(15);
-    /// A public key text has no first line.
+    /// The public key file has no comment line.
     pub const MISSING_PUBLIC_KEY_COMMENT: Reason = Reason(16);
-    /// A public key text has no second line.
+    /// The public key file has no key line.
     pub const MISSING_PUBLIC_KEY: Reason = Reason(17);
-    /// The second line of a public key text is not 56 bytes long.
+    /// The second line of the public key file is not 56 bytes long.
     pub const PUBLIC_KEY_LENGTH: Reason = Reason(18);
-    /// The second line of a public key text is not base64.
+    /// The second line of the public key file is not base64.
     pub const PUBLIC_KEY_NOT_BASE64: Reason = Reason(19);
-    /// Fewer bytes than a record has.
+    /// There are fewer bytes than the record needs.
     pub const RECORD_TOO_SHORT: Reason = Reason(20);
-    /// A signature text has no first line.
+    /// The signature file has no untrusted comment line.
     pub const MISSING_UNTRUSTED_COMMENT: Reason = Reason(21);
-    /// A signature text has no second line.
+    /// The signature file has no signature line.
     pub const MISSING_SIGNATURE: Reason = Reason(22);
-    /// A signature text has no third line.
+    /// The signature file has no trusted comment line.
     pub const MISSING_TRUSTED_COMMENT: Reason = Reason(23);
-    /// A signature text has no fourth line.
+    /// The signature file has no comment signature line.
     pub const MISSING_COMMENT_SIGNATURE: Reason = Reason(24);
-    /// The first line of a signature text does not begin with untrusted comment: .
+    /// The first line of the signature file does not begin with untrusted comment: .
     pub const UNTRUSTED_COMMENT_PREFIX: Reason = Reason(25);
-    /// A line of a signature text is not base64.
+    /// A line of the signature file is not base64.
     pub const SIGNATURE_NOT_BASE64: Reason = Reason(26);
-    /// The third line of a signature text does not begin with trusted comment: .
+    /// The third line of the signature file does not begin with trusted comment: .
     pub const TRUSTED_COMMENT_PREFIX: Reason = Reason(27);
-    /// The algorithm of a signature is neither Ed nor ED.
+    /// The algorithm of the signature is neither Ed nor ED.
     pub const UNSUPPORTED_ALGORITHM: Reason = Reason(28);
-    /// The key ID of a signature is not that of the public key.
+    /// The signature was made with a key that has another key ID.
     pub const DIFFERENT_KEY_IDS: Reason = Reason(29);
-    /// A legacy signature where only prehashed ones are allowed.
+    /// The signature is a legacy one, and only prehashed ones are allowed.
     pub const LEGACY_NOT_ACCEPTED: Reason = Reason(30);
-    /// The signature of the data is not accepted.
+    /// The signature of the data is not valid.
     pub const SIGNATURE_REFUSED: Reason = Reason(31);
-    /// The comment signature is too short or is not accepted.
+    /// The comment signature is too short or not valid.
     pub const COMMENT_SIGNATURE_REFUSED: Reason = Reason(32);
-    /// A secret key text has no first line.
+    /// The secret key file has no comment line.
     pub const MISSING_SECRET_KEY_COMMENT: Reason = Reason(33);
-    /// A secret key text has no second line.
+    /// The secret key file has no key line.
     pub const MISSING_SECRET_KEY: Reason = Reason(34);
-    /// The second line of a secret key text is not base64.
+    /// The second line of the secret key file is not base64.
     pub const SECRET_KEY_NOT_BASE64: Reason = Reason(35);
-    /// A key that is asked for as unsealed names a key derivation.
+    /// A secret key that should be unencrypted names a key derivation.
     pub const KEY_SEALED: Reason = Reason(36);
-    /// The checksum of an unsealed key does not match.
+    /// The checksum of an unencrypted secret key does not match.
     pub const KEY_CORRUPTED: Reason = Reason(37);
-    /// A key that is asked for as sealed names no key derivation.
+    /// A secret key that should be encrypted names no key derivation.
     pub const KEY_NOT_SEALED: Reason = Reason(38);
-    /// A sealed key names a key derivation other than Sc.
+    /// An encrypted key names a key derivation other than Sc.
     pub const UNSUPPORTED_KEY_DERIVATION: Reason = Reason(39);
-    /// The limits of a sealed key ask for more than is allowed.
+    /// The memory or work limit of an encrypted key is higher than allowed.
     pub const PARAMETERS_TOO_HIGH: Reason = Reason(40);
-    /// The limits lead to parameters that scrypt does not take.
+    /// The limits of an encrypted key give parameters that scrypt rejects.
     pub const INVALID_PARAMETERS: Reason = Reason(41);
-    /// The checksum of an opened key does not match.
+    /// The checksum does not match after decryption, so the password is probably wrong.
     pub const WRONG_PASSWORD: Reason = Reason(42);
-    /// The limits lead to more parallel work than the caller allows.
+    /// Decrypting the key takes more work than the caller allows.
     pub const WORK_TOO_HIGH: Reason = Reason(43);
-    /// A public key given as base64 alone is not 56 bytes long.
+    /// A bare base64 public key is not 56 bytes long.
     pub const BARE_PUBLIC_KEY_LENGTH: Reason = Reason(44);
-    /// A public key given as base64 alone is not base64.
+    /// A bare public key is not base64.
     pub const BARE_PUBLIC_KEY_NOT_BASE64: Reason = Reason(45);
     /// Another run holds the lock on this target.
     pub const TARGET_IN_USE: Reason = Reason(46);
@@ -143,12 +143,21 @@ impl Reason {
     pub const SIGNATURE_NOT_READ: Reason = Reason(62);
     /// A secret key that is to be opened was not read.
     pub const KEY_NOT_READ: Reason = Reason(63);
-    /// A source, a file or a prompt's reader failed at a read.
+    /// Reading from a source, a file or a prompt failed.
     pub const READING_FAILED: Reason = Reason(64);
-    /// A sink or a prompt's writer failed at a write or a flush.
+    /// Writing to a sink or a prompt, or flushing it, failed.
     pub const WRITING_FAILED: Reason = Reason(65);
     /// A random source failed or had too few bytes.
     pub const RANDOM_SOURCE_FAILED: Reason = Reason(67);
+    /// The public key or a signature is one that strict Ed25519 rejects: a point has a small order
+    /// or is not canonical, or the second half of a signature is not below the group order.
+    pub const WEAK_ED25519: Reason = Reason(81);
+    /// A public key was not read.
+    pub const PUBLIC_KEY_NOT_READ: Reason = Reason(82);
+    /// The password is empty, and with_password does not allow that.
+    pub const EMPTY_PASSWORD: Reason = Reason(83);
+    /// The salt is all zeros, or a limit is below the minimum of Minisign.
+    pub const WEAK_SEALING: Reason = Reason(84);
 
     /// The name that it has in `minisign.h`, without `MINISIGN_`: of another number "".
     pub fn name(self) -> &'static str {
@@ -166,7 +175,7 @@ impl Reason {
             10 => "BAD_PASSWORD_FLAG",
             11 => "UNREADABLE_COMMENT",
             12 => "NOT_DUE",
-            13 => "BAD_FIRST_FLAG",
+            13 => "BAD_OPTION",
             14 => "BAD_NUMBERING",
             15 => "KEY_NOT_OPENED",
             16 => "MISSING_PUBLIC_KEY_COMMENT",
@@ -220,6 +229,10 @@ impl Reason {
             64 => "READING_FAILED",
             65 => "WRITING_FAILED",
             67 => "RANDOM_SOURCE_FAILED",
+            81 => "WEAK_ED25519",
+            82 => "PUBLIC_KEY_NOT_READ",
+            83 => "EMPTY_PASSWORD",
+            84 => "WEAK_SEALING",
             _ => "",
         }
     }
@@ -238,10 +251,15 @@ pub const MEMORY_LIMIT: usize = 1073741824;
 pub const LEAST_OPERATIONS_LIMIT: usize = 524288;
 pub const LEAST_MEMORY_LIMIT: usize = 16777216;
 pub const LEAST_LOG2_ROWS: usize = 14;
+pub const NO_PASSWORD: usize = 0;
+pub const PASSWORD: usize = 1;
+pub const ANY_PASSWORD: usize = 2;
 pub const TEXT_BYTES: usize = 240;
 pub const SECRET_KEY_BYTES: usize = 233;
 pub const PUBLIC_KEY_BYTES: usize = 77;
 pub const VERSION_TEXT: &str = "0.3.0";
+pub const SIGNATURE_COMMENT: &str = "signature from minisign secret key";
+pub const TRUSTED_COMMENT_FORMAT: &str = "timestamp:%llu\tfile:%s\thashed";
 pub const SECRET_KEY_COMMENT: &str = "minisign encrypted secret key";
 pub const PUBLIC_KEY_COMMENT: &str = "minisign public key ";
 pub const ANSWER_YES: u32 = 7955827;
@@ -260,12 +278,14 @@ impl State {
 #[derive(Clone, Debug, Eq, PartialEq, Ord, PartialOrd, Hash)]
 #[repr(C)]
 pub struct PublicKey {
+    pub mark: u64,
     pub key: [u8; 32],
     pub key_id: [u8; 8],
 }
 
 impl PublicKey {
     pub const ZEROS: Self = Self {
+        mark: 0,
         key: [0; 32],
         key_id: [0; 8],
     };
@@ -382,6 +402,26 @@ impl Drop for SecretKey {
 }
 
 #[repr(C)]
+pub struct NewKey {
+    pub key_id: [u8; 8],
+    pub secret: [u8; 64],
+}
+
+impl NewKey {
+    pub const ZEROS: Self = Self {
+        key_id: [0; 8],
+        secret: [0; 64],
+    };
+}
+
+/// It is cleared at its end.
+impl Drop for NewKey {
+    fn drop(&mut self) {
+        clear(&mut self.secret);
+    }
+}
+
+#[repr(C)]
 pub struct SignedParts {
     pub signature: [u8; 64],
     pub comment_signature: [u8; 64],
@@ -412,6 +452,7 @@ extern "C" {
     fn minisign_init(state: *mut State);
     fn minisign_update(state: *mut State, data: *const u8, len: usize) -> u32;
     fn minisign_digest(state: *mut State, digest: &mut [u8; 64]) -> u32;
+    fn minisign_clear(value: *mut u8, size: usize);
     fn minisign_read_public_key(pk_text: *const u8, pk_text_len: usize, key: *mut PublicKey)
         -> u32;
     fn minisign_read_bare_public_key(
@@ -454,6 +495,7 @@ extern "C" {
     fn minisign_opening_memory(
         unopened: *const UnopenedKey,
         keep_every: u64,
+        most_rows: u64,
         words_wanted: *mut u64,
         bytes_wanted: *mut u64,
     );
@@ -469,7 +511,7 @@ extern "C" {
         bytes_len: usize,
         key: *mut SecretKey,
     ) -> u32;
-    fn minisign_take_secret_key(key_id: &[u8; 8], secret: &[u8; 64], key: *mut SecretKey);
+    fn minisign_take_secret_key(new_key: *const NewKey, key: *mut SecretKey);
     fn minisign_public_key_of(key: *const SecretKey, public_key: *mut PublicKey) -> u32;
     fn minisign_comment_message(
         first: &[u8; 64],
@@ -479,13 +521,26 @@ extern "C" {
         room: usize,
     ) -> u32;
     fn minisign_signed_text(
-        key: *const SecretKey,
+        key: *const PublicKey,
         parts: *const SignedParts,
         text: *mut u8,
         room: usize,
         text_len: *mut usize,
     ) -> u32;
     fn minisign_secret_key_text(
+        key: *const SecretKey,
+        with_password: u32,
+        password: *const u8,
+        password_len: usize,
+        sealing: *const Sealing,
+        keep_every: u64,
+        comment: *const u8,
+        comment_len: usize,
+        text: *mut u8,
+        room: usize,
+        text_len: *mut usize,
+    ) -> u32;
+    fn minisign_secret_key_text_with_any_limits(
         key: *const SecretKey,
         with_password: u32,
         password: *const u8,
@@ -640,9 +695,9 @@ pub fn open_sealed_key(
     Ok(key)
 }
 
-pub fn take_secret_key(key_id: &[u8; 8], secret: &[u8; 64]) -> Box<SecretKey> {
+pub fn take_secret_key(new_key: &NewKey) -> Box<SecretKey> {
     let mut key = Box::new(SecretKey::ZEROS);
-    unsafe { minisign_take_secret_key(key_id, secret, &mut *key) };
+    unsafe { minisign_take_secret_key(new_key, &mut *key) };
     key
 }
 
@@ -653,7 +708,7 @@ pub fn public_key_of(key: &SecretKey) -> Result<PublicKey, Reason> {
 }
 
 pub fn comment_message(first: &[u8; 64], trusted: &[u8]) -> Result<Vec<u8>, Reason> {
-    let mut message = vec![0; first.len() + trusted.len()];
+    let mut message = vec![0; 64 + trusted.len()];
     done(unsafe {
         minisign_comment_message(
             first,
@@ -667,7 +722,7 @@ pub fn comment_message(first: &[u8; 64], trusted: &[u8]) -> Result<Vec<u8>, Reas
 }
 
 pub fn signed_text(
-    key: &SecretKey,
+    key: &PublicKey,
     signature: &[u8; 64],
     comment_signature: &[u8; 64],
     trusted_comment: &[u8],
