@@ -27,8 +27,8 @@ function reject(words) {
 async function begin(script) {
   const parts = await lackingParts();
   if (parts.length > 0) {
-    reject(`This browser lacks ${parts.join(", and ")}, so this page verifies nothing in it. ` +
-      (isSecureContext ? "A newer browser may have what is missing." : FROM_DISK));
+    reject(`This browser lacks ${parts.join(", and ")}, so this page cannot verify anything in it. ` +
+      (isSecureContext ? "A newer browser may have it." : FROM_DISK));
     return;
   }
   const module = bytesOfBase64(MODULE);
@@ -36,8 +36,8 @@ async function begin(script) {
     library = await Library.load(module);
   } catch (why) {
     const isPolicy = why instanceof WebAssembly.CompileError && WebAssembly.validate(module);
-    reject(isPolicy ? `Whoever serves this page lets it run no WebAssembly, so it verifies nothing. ${FROM_DISK}`
-      : "This browser does not run the proved library, so this page verifies nothing. A newer browser may run it.");
+    reject(isPolicy ? `The server of this page forbids WebAssembly, so the page cannot verify anything. ${FROM_DISK}`
+      : "This browser cannot run the proved library, so this page cannot verify anything. A newer browser may run it.");
     return;
   }
   engineBegun = beginEngine(script);
@@ -63,22 +63,19 @@ function hideAnswered() {
 }
 
 function listen() {
-  for (const [name, take] of [["key-text", takeKeyText], ["signature-text", takeSignatureText]]) {
+  for (const [name, take] of [["key-text", typed => inTurnOfKey(() => takeKeyText(typed))], ["signature-text", inTurnOfSignature]]) {
     at(name).value = "";
-    at(name).addEventListener("input", () => {
-      const typed = at(name).value;
-      inTurn(() => take(typed));
-    });
+    at(name).addEventListener("input", () => take(at(name).value));
   }
-  // What was chosen leaves its place empty, so that the same file can be chosen again.
-  for (const [name, take] of [["key-file", files => takeKeyFile(files[0], "chosen")], ["files", takeFiles]]) {
+  // Choosing leaves the place empty, so that the same file can be chosen again.
+  for (const [name, take] of [["key-file", inTurnOfKeyFile], ["files", inTurnOfFiles]]) {
     at(name).addEventListener("change", () => {
       const files = [...at(name).files];
       at(name).value = "";
-      inTurn(() => take(files));
+      take(files);
     });
   }
-  at("key-remove").addEventListener("click", () => inTurn(removeKey));
+  at("key-remove").addEventListener("click", () => inTurnOfKey(removeKey));
   at("clear").addEventListener("click", () => inTurn(clearList));
   // Whoever opened this page can change what stands after # of its address: then all begins anew.
   addEventListener("hashchange", () => location.reload());
@@ -96,7 +93,11 @@ function listen() {
       return;
     }
     const isKey = files.length === 1 && !hasDirectories && !BUILT_IN_KEY && section === at("key");
-    inTurn(() => isKey ? takeKeyFile(files[0], "chosen") : takeFiles(files, hasDirectories));
+    if (isKey) {
+      inTurnOfKeyFile(files);
+    } else {
+      inTurnOfFiles(files, hasDirectories);
+    }
   });
 }
 

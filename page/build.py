@@ -90,10 +90,14 @@ def style():
     return re.sub(r"(?m)^ */\*.*\*/\n", "", read("page/page.css"))
 
 
-def sources_sum():
-    """The sum of all that the page is made from, as dist/PROVED has it."""
-    command = ["sh", os.path.join(TOP, "tools", "sources.sh"), "page"]
-    return subprocess.run(command, stdin=subprocess.DEVNULL, stdout=subprocess.PIPE, check=True).stdout.decode().strip()
+def sources_sum(part="page"):
+    """The sum of the sources of a part of dist/, as dist/PROVED has it."""
+    command = ["sh", os.path.join(TOP, "tools", "sources.sh"), part]
+    ran = subprocess.run(command, stdin=subprocess.DEVNULL, stdout=subprocess.PIPE, stderr=subprocess.PIPE)
+    said, why = ran.stdout.decode().strip(), ran.stderr.decode(errors="replace").strip()
+    if ran.returncode != 0 or not said:
+        raise NotPossible(f"the sum of the sources of the {part} is not known: {why}")
+    return said
 
 
 def named_sums():

@@ -16,36 +16,50 @@ const at = id => document.getElementById(id);
 // The library in the page's own thread reads texts and gives the verdict; the engine that has begun is where data is hashed.
 let library;
 let engineBegun;
-// The public key: its bytes as the library has read them, its key ID, its 56 letters, and its source, which is a kind of
-// SOURCES and the name of a file; or nothing while there is none.
+// The public key, or null while there is none: its bytes as the library has read them, its key ID, its 56 letters, and its source,
+// which is a kind of SOURCES and the name of a file.
 let key = null;
-// The signatures that are built into the page or that its address has, as files, each with the names that its file may have.
+// The signatures that are built into the page (isBuiltIn) or that its link has, as files, each with the names that its file may have.
 const carried = [];
 // A file, its signature and its row, by the file's name and in the order in which they came.
 const downloads = new Map();
-// Those of them that were changed, and have not been looked at since.
+// Downloads that are to be verified again.
 const changed = new Set();
 let isWorking = false;
-// What a person does is taken in its order, also where a file has to be read to know what it is.
+// The signature that was last pasted into its field, as a file, and how many were.
+let pasted = null, pastedCount = 0;
+// Acts of the person are done in their order. An act may have to read a file first, to know what the file is.
 let lastTurn = Promise.resolve();
+// For each act that is not done yet, a function that returns true for the downloads that the act may change.
+const unfinished = new Set();
 // The person's last act, and whether a verdict that it brought was shown.
 let lastAct = {isAnswered: false};
 
-// Does what the person asks for once all before it is done.
-function inTurn(act) {
+// Does what the person asks for once all before it is done. The downloads that this may change become unverified at once, and stay so
+// until it is done: reading a key, a file or a signature from a slow disk takes seconds.
+function inTurn(act, mayChange = () => false) {
+  const isChanging = download => mayChange(download);
   const begin = () => {
     lastAct = {isAnswered: false};
     return act();
   };
-  const showPending = change => {
-    const {dataset} = document.documentElement;
-    dataset.pending = Number(dataset.pending ?? 0) + change;
+  const showPending = () => {
+    document.documentElement.dataset.pending = unfinished.size;
   };
-  showPending(1);
+  unfinished.add(isChanging);
+  showPending();
+  [...downloads.values()].filter(isChanging).forEach(renew);
+  showBand();
   lastTurn = lastTurn.then(begin).catch(() => sayOfFiles(WENT_WRONG)).finally(() => {
-    showPending(-1);
+    unfinished.delete(isChanging);
+    showPending();
     reviewAll();
   });
+}
+
+// Returns true while an act that may change this download is not done yet.
+function isHeld(download) {
+  return [...unfinished].some(isChanging => isChanging(download));
 }
 
 // ---- The public key ----
@@ -56,10 +70,14 @@ function setKey(text, isBare, source) {
     sayOfKey(TOO_LONG_A_KEY, ...beside(source));
     return;
   }
-  const {number, keyId, key: bytes} = library.readKey(text, isBare);
+  const {number: numberRead, keyId, key: bytes} = library.readKey(text, isBare);
   const words = new TextDecoder().decode(text);
+  const letters = numberRead === 0 ? lettersOf(bytes) : "";
+  // The library accepts a key of any algorithm, as the Rust crate does. Only "Ed" is the one of a public key.
+  const isOther = numberRead === 0 && !(isBare ? words : words.split("\n")[1]).includes(letters);
+  const number = isOther ? UNKNOWN_ALGORITHM : numberRead;
   if (number === 0) {
-    key = {bytes, keyId, letters: lettersOf(bytes), source};
+    key = {bytes, keyId, letters, source};
     sayOfKey("Key ", lettersBox(keyId), ", ", ...sourceOf(source), ".");
     at("key-whole").replaceChildren("In full: ", lettersBox(key.letters));
     at("key-whole").hidden = false;
@@ -84,7 +102,7 @@ function clearKey() {
   sayOfKey();
 }
 
-// What was found with the key is found no more.
+// Forgets the key, and with it all verdicts.
 function dropKey() {
   key = null;
   emptyLog();
@@ -97,6 +115,16 @@ function dropKey() {
 
 function sayOfKey(...words) {
   at("key-said").replaceChildren(...words);
+}
+
+// Does an act that gives or removes the key, before which the old key is forgotten at once.
+function inTurnOfKey(act) {
+  clearKey();
+  inTurn(act, () => true);
+}
+
+function inTurnOfKeyFile([file]) {
+  inTurnOfKey(() => takeKeyFile(file, "chosen"));
 }
 
 // A text that was typed or pasted: two lines, or the base64 alone.
@@ -130,14 +158,15 @@ function removeKey() {
 // Takes what is built into the page, and what its address has; no key of that where the page has its own.
 function takeCarried() {
   const {keys, letters, signatures} = partsOfLink(location.hash.slice(1));
-  const linked = signatures.map(text => [(namesIn(text)[0] ?? "link") + SIGNATURE_ENDING, text]);
-  for (const [name, text] of [...linked, ...BUILT_IN_SIGNATURES]) {
+  const carry = (name, text, isBuiltIn) => {
     if (kindOfText(text) === "signature") {
-      carried.push({file: new File([text], name), names: [nameOfSigned(name), ...namesIn(text)]});
+      carried.push({file: new File([text], name), names: [nameOfSigned(name), ...namesIn(text)], isBuiltIn});
     } else {
       sayOfFiles(NO_SIGNATURE_IN_ADDRESS);
     }
-  }
+  };
+  BUILT_IN_SIGNATURES.forEach(([name, text]) => carry(name, text, true));
+  signatures.forEach(text => carry((namesIn(text)[0] ?? "link") + SIGNATURE_ENDING, text, false));
   if (BUILT_IN_KEY || letters) {
     setKey(new TextEncoder().encode(BUILT_IN_KEY || letters), true, {kind: BUILT_IN_KEY ? "page" : "link"});
   } else if (keys.length > 0) {
@@ -148,10 +177,18 @@ function takeCarried() {
   }
 }
 
-// The signatures that a download is verified by: its own, or those that the page carries for its name, or else all of these.
+// Returns the signatures by which a download is verified, in the order in which they are tried. First come those that are built into
+// the page, so that an older file with an older signature does not pass for the file of this release. Then comes the signature that was
+// given with the file, or else those of the link. Of the built-in ones, and of those of the link, only the ones for the file's name
+// are tried (isNamed), or all if none is for it.
 function signaturesOf({name, signature}) {
-  const named = carried.filter(each => each.names.some(other => isAlikeName(other, name)));
-  return signature ? [signature] : (named.length > 0 ? named : carried).map(each => each.file);
+  const carriedFor = isBuiltIn => {
+    const all = carried.filter(each => each.isBuiltIn === isBuiltIn);
+    const named = all.filter(each => each.names.some(other => isAlikeName(other, name)));
+    const isNamed = named.length > 0;
+    return (isNamed ? named : all).map(({file}) => ({file, isBuiltIn, isNamed}));
+  };
+  return [...carriedFor(true), ...(signature ? [{file: signature, isBuiltIn: false, isNamed: true}] : carriedFor(false))];
 }
 
 // ---- The files ----
@@ -180,6 +217,12 @@ async function kindOfFile(file) {
 function nameOfSigned(name) {
   const end = name.lastIndexOf(SIGNATURE_ENDING);
   return end > 0 ? name.slice(0, end) : name.replace(/([^])\.[^.]*$/, "$1");
+}
+
+// Does the act of giving these files, which may change the downloads that have their names or names like them.
+function inTurnOfFiles(files, hasDirectories = false) {
+  const names = new Set(files.flatMap(({name}) => [name, nameOfSigned(name)]).map(bareName));
+  inTurn(() => takeFiles(files, hasDirectories), ({name}) => names.has(bareName(name)));
 }
 
 // Takes files that were chosen or dropped together: each is a public key, a signature or data. One file and one signature
@@ -214,23 +257,55 @@ async function takeFiles(files, hasDirectories = false) {
   await takeKeysAmongFiles(of("key"));
 }
 
-// A text that was pasted as a signature: of the only file that has none, or in the place of the last one.
+// Does the act of changing the text of the signature's field. The signature that was pasted before no longer holds.
+function inTurnOfSignature(typed) {
+  inTurn(() => takeSignatureText(typed), isOfPasted);
+}
+
+function isOfPasted({signature}) {
+  return signature !== null && signature === pasted;
+}
+
+// Takes a text that was pasted as a signature. It replaces the one that was pasted before, whichever file that was for.
 function takeSignatureText(typed) {
   emptySaid();
   const text = typed.trim().replace(/\n\s+/g, "\n");
   const kind = kindOfText(text);
+  const file = kind === "signature" ? fileOfPasted(text) : undefined;
+  [...downloads.values()].filter(download => isOfPasted(download) && download !== file).forEach(withdrawSignature);
   if (kind === "signature") {
-    const [alone, other] = lacking("signature");
-    const before = [...downloads.values()].find(({signature}) => signature?.name === PASTED);
-    takeDownload(new File([text], PASTED), (alone && !other ? alone : before)?.name ?? "pasted", "signature");
+    pasted = new File([text], PASTED);
+    takeDownload(pasted, file?.name ?? "pasted", "signature");
   } else if (text !== "") {
     sayOfFiles(HINTS.get(kind) ?? NO_SIGNATURE);
   }
 }
 
-// A file and a signature that stand alone belong together where their names are alike, or where they are the only ones.
+// Returns the download that a pasted signature is for, if any. Of those without another signature it is the only one that has the signed
+// name, or else the only one for which none was pasted before, or else the last one for which one was.
+function fileOfPasted(text) {
+  const names = namesIn(text), free = [...downloads.values()].filter(download => !download.signature || isOfPasted(download));
+  const named = free.filter(({name}) => names.some(other => isAlikeName(name, other)));
+  const [fresh, other] = free.filter(({pastedAt}) => pastedAt === 0);
+  const [last] = free.filter(({pastedAt}) => pastedAt > 0).sort((one, another) => another.pastedAt - one.pastedAt);
+  return named.length === 1 ? named[0] : fresh && !other ? fresh : last;
+}
+
+// Takes the signature away from a download, and removes the download if nothing is left of it.
+function withdrawSignature(download) {
+  download.signature = null;
+  if (download.data) {
+    renew(download);
+  } else {
+    remove(download);
+  }
+}
+
+// Joins a file and a signature, each of which came alone, if their names are alike or if they are the only ones. A file that has a
+// signature of the page or the link takes only one of its own name.
 function joinLone() {
-  const files = lacking("signature"), signatures = lacking("data"), isPair = files.length === 1 && signatures.length === 1;
+  const files = lacking("signature"), signatures = lacking("data");
+  const isPair = files.length === 1 && signatures.length === 1 && carried.length === 0;
   for (const signature of signatures) {
     const file = files.find(other => !other.signature && (isPair || isAlikeName(other.name, signature.name)));
     if (file) {
@@ -250,8 +325,8 @@ async function takeKeysAmongFiles(files) {
     // (it stands below where a download alone is wanted)
     const side = at("key").nextElementSibling ? "above" : "below";
     for (const file of files) {
-      const stays = key ? [`the key ${side} stays, `, lettersBox(key.keyId), "."] : [`what stands in the field ${side} ${NO_KEY_IN_FIELD}`];
-      sayOfFiles(nameOf(file.name), " came with the files and was not taken: ", ...stays);
+      const stays = key ? [`the key ${side} is kept, `, lettersBox(key.keyId), "."] : [`the text in the field ${side} ${NO_KEY_IN_FIELD}`];
+      sayOfFiles(nameOf(file.name), " came with the files and was ignored: ", ...stays);
     }
   } else if (files.length > 1) {
     clearKey();
@@ -274,19 +349,25 @@ function emptySaid() {
 // Takes a file as the data or the signature of a download.
 function takeDownload(file, name, part) {
   if (!downloads.has(name)) {
-    downloads.set(name, {name, data: null, signature: null, tried: null, row: element("li", ""), run: null, act: null});
+    const row = element("li", "");
+    downloads.set(name, {name, data: null, signature: null, pastedAt: 0, tried: null, row, run: null, act: null});
     at("verdicts").append(downloads.get(name).row);
   }
   const download = downloads.get(name);
   download[part] = file;
+  if (file === pasted) {
+    download.pastedAt = ++pastedCount;
+  }
   renew(download);
 }
 
-// Verifies a download anew, by what the person did last.
+// Makes a download unverified, and has it verified again. The verdict then comes of what the person did last.
 function renew(download) {
   stop(download);
   changed.add(download);
   download.act = lastAct;
+  download.tried = null;
+  showWaiting(download);
 }
 
 function remove(download) {
@@ -329,50 +410,107 @@ function reviewAll() {
   work();
 }
 
+// Returns true if everything is there that the verdict on a download needs.
+function isComplete(download) {
+  return key !== null && download.data !== null && signaturesOf(download).length > 0;
+}
+
+// Takes the next download that can be verified, or returns undefined. One that an unfinished act may change has to wait for the end of
+// the act. Whatever else changes a download later has it verified again.
+function takeChanged() {
+  for (const download of changed) {
+    if (!isHeld(download)) {
+      changed.delete(download);
+      if (isComplete(download)) {
+        return download;
+      }
+    }
+  }
+  return undefined;
+}
+
 // Verifies what can be verified, one after another: the library has one state.
 async function work() {
   if (isWorking) {
     return;
   }
   isWorking = true;
-  // (one that is changed meanwhile comes once more)
-  for (const download of changed) {
-    changed.delete(download);
-    if (!key || !download.data || signaturesOf(download).length === 0) {
-      continue;
-    }
-    const run = download.run = beginRun();
-    const verdict = await Promise.race([verdictOn(download, run), run.ended]).catch(() => ({isGood: false, why: WENT_WRONG}));
-    // Other threads hash from now on: those before may still answer about a file that was given up.
-    if (run.isStopped || verdict.why === WENT_WRONG) {
-      engineBegun.then(engine => engine.end?.());
-      engineBegun = beginEngine();
-    }
-    if (!run.isStopped) {
-      draw(download, () => showVerdict(download, verdict, run.key.source));
-    }
+  for (let download = takeChanged(); download; download = takeChanged()) {
+    await verify(download);
   }
   isWorking = false;
 }
 
-function rejected(number, keyIds) {
-  return {isGood: false, why: WHY_NOT.get(number) ?? WENT_WRONG, number, keyIds};
+async function verify(download) {
+  const run = download.run = beginRun();
+  const verdict = await Promise.race([verdictOn(download, run), run.ended]).catch(() => ({verdict: "bad", why: WENT_WRONG}));
+  // Other threads hash from now on: those before may still answer about a file that was given up.
+  if (run.isStopped || verdict.why === WENT_WRONG) {
+    engineBegun.then(engine => engine.end?.());
+    engineBegun = beginEngine();
+  }
+  if (!run.isStopped) {
+    draw(download, () => showVerdict(download, verdict, run.key.source));
+  }
 }
 
-// The verdict on a download by its signature, or by the first of several that fits, unless the run is stopped meanwhile.
+function rejected(number, keyIds) {
+  const verdict = number === LEGACY_NOT_ACCEPTED ? "unsupported" : "bad";
+  return {verdict, why: WHY_NOT.get(number) ?? WENT_WRONG, number, keyIds};
+}
+
+// Returns the verdict on a download by the first of its signatures that fits, or null if the run is stopped before.
 async function verdictOn(download, run) {
-  const signatures = signaturesOf(download);
+  const signatures = signaturesOf(download), isRelease = signatures[0].isBuiltIn, failed = [];
   for (const signature of signatures) {
-    download.tried = signature;
-    const verdict = await verdictBy(signature, download, run);
-    // (32: of this file, but with another comment)
-    const isOfOther = verdict?.number !== undefined && ![0, 32].includes(verdict.number);
-    if (signatures.length === 1 || !isOfOther) {
+    download.tried = signature.file;
+    const verdict = await verdictBy(signature.file, download, run);
+    if (verdict === null) {
+      return null;
+    }
+    if (verdict.verdict === "good") {
+      return signedVerdict(verdict, download, signature.isBuiltIn, isRelease);
+    }
+    failed.push({...verdict, ...signature});
+    // (the file cannot be read, or it is the one that was signed, but with another comment)
+    if (verdict.number === undefined || verdict.number === COMMENT_NOT_SIGNED) {
       return verdict;
     }
   }
-  download.tried = null;
-  return {isGood: false, why: NONE_FITS};
+  const verdict = failedVerdict(failed, isRelease);
+  download.tried = verdict.file ?? null;
+  return verdict;
+}
+
+// Returns the verdict on a download that a signature fits. It is good only if the file has the signed name and, on the page of a
+// release, the signature is built in.
+function signedVerdict(verdict, {data, tried}, isBuiltIn, isRelease) {
+  const inComment = toldByComment(verdict.comment).names;
+  const names = isBuiltIn && inComment.length === 0 ? [nameOfSigned(tried.name)] : inComment;
+  // (how letters with marks are written makes no other name)
+  const signedNames = names.filter(name => name.normalize() !== data.name.normalize());
+  const otherNames = signedNames.filter(name => !isSignedName(data.name, name));
+  const found = isRelease && !isBuiltIn ? "unlisted" : otherNames.length > 0 ? "renamed" : "good";
+  return {...verdict, verdict: found, signedNames, otherNames};
+}
+
+// Returns the verdict on a download that no signature fits. It is that of the signature that was given for it, or else of the built-in
+// one for its name. Of several there is no single reason.
+function failedVerdict(failed, isRelease) {
+  const uncertain = failed.find(({verdict, isBuiltIn}) => verdict === "unsupported" && isBuiltIn === isRelease);
+  const [given, otherGiven] = failed.filter(({isBuiltIn, isNamed}) => isNamed && !isBuiltIn);
+  const [builtIn, otherBuiltIn] = failed.filter(({isBuiltIn, isNamed}) => isNamed && isBuiltIn);
+  if (uncertain) {
+    return uncertain;
+  }
+  if (given && !otherGiven) {
+    // (a legacy signature from anybody does not make a file look better that the signatures of the release reject)
+    return isRelease ? {...given, verdict: "bad", more: NOT_OF_RELEASE} : given;
+  }
+  if (builtIn && !otherBuiltIn) {
+    return builtIn;
+  }
+  return failed.length === 1 ? failed[0] : {verdict: "bad", why: NONE_FITS};
 }
 
 async function verdictBy(signature, download, run) {
@@ -387,7 +525,7 @@ async function verdictBy(signature, download, run) {
   goesOn(0);
   const text = await textOfFile(signature);
   if (text === null) {
-    return {isGood: false, why: "The signature cannot be read, or is longer than a signature."};
+    return {verdict: "bad", why: "The signature file cannot be read, or is too large for a signature."};
   }
   // What is wrong with the texts is known before any data is read.
   const read = library.readSignature(text), keyIds = {publicKeyId: run.key.keyId, signatureKeyId: read.keyId};
@@ -405,11 +543,11 @@ async function verdictBy(signature, download, run) {
     return null;
   }
   if (!isRead) {
-    return {isGood: false, why: "The file cannot be read, or it was changed meanwhile."};
+    return {verdict: "bad", why: "The file could not be read, or it changed while it was read."};
   }
   const {number, first} = await verification.end();
   if (number === 0) {
-    return {isGood: true, number, keyIds, comment: verification.comment()};
+    return {verdict: "good", number, keyIds, comment: verification.comment()};
   }
   const verdict = rejected(number, keyIds);
   return first && await isOfOtherEnds(new TextDecoder().decode(text), verification) ? {...verdict, why: WHY_NOT_ENDS} : verdict;

@@ -7,31 +7,44 @@ function button(words, call) {
   return made;
 }
 
-// A verdict as its sign, its words, and what is said after them.
-function signed(verdict, more) {
+// Returns a verdict as its sign and its words, with more after them.
+function signed(verdict, ...more) {
   const [sign, words] = VERDICTS.get(verdict);
   const picture = element("span", "", `${sign} `);
   picture.ariaHidden = "true";
-  return element("span", "verdict", picture, words + more);
+  return element("span", "verdict", picture, words, ...more);
 }
 
-// Shows at the top of the window the worst verdict, how many files have it, and what to do next: if a file is verified under
-// a name that is not the signer's, to read the warning.
+// The most files that the band names. (How many there is room for decides page.css.)
+const MAX_NAMED = 20;
+
+// Shows at the top of the window the worst verdict, the files that have it, and the next step.
 function showBand() {
-  const found = Array.from(downloads.values(), download => download.row.dataset.verdict);
-  const verdict = [...VERDICTS.keys()].find(each => found.includes(each));
+  const all = [...downloads.values()], verdictsOf = download => download.row.dataset.verdict;
+  const found = new Set(all.map(verdictsOf));
+  const verdict = [...VERDICTS.keys()].find(each => found.has(each));
   at("band").hidden = verdict === undefined;
-  if (verdict !== undefined) {
-    const of = found.length > 1 ? `: ${found.filter(each => each === verdict).length} of ${found.length} files` : "";
-    at("band").dataset.verdict = verdict;
-    const isWarned = verdict === "good" && at("verdicts").querySelector(".caution") !== null;
-    at("band").replaceChildren(element("p", "", signed(verdict, of)), element("p", "", isWarned ? READ_WARNING : VERDICTS.get(verdict)[2]));
+  if (verdict === undefined) {
+    return;
   }
+  const files = all.filter(download => verdictsOf(download) === verdict);
+  const count = all.length > 1 ? ` (${files.length} of ${all.length} files)` : "";
+  // (a file that was just given may be what is missing)
+  const step = verdict === "waiting" && unfinished.size > 0 ? "reading" : verdict;
+  at("band").dataset.verdict = verdict;
+  at("band").replaceChildren(element("p", "", signed(verdict, `${count}: `, ...namesOf(files))), element("p", "", VERDICTS.get(step)[2]));
 }
 
-// How long the file is, and the name of its signature where that is not the file's with its ending.
+// Returns the names of files, each of which is cut if it is long, with commas between them.
+function namesOf(files) {
+  const names = files.slice(0, MAX_NAMED).map(({name}) => verbatim("bdi", "", ...shown(shortened(name))));
+  const more = files.length > MAX_NAMED ? [` and ${files.length - MAX_NAMED} more`] : [];
+  return [...names.flatMap((name, at) => at === 0 ? [name] : [", ", name]), ...more];
+}
+
+// Returns a line with the size of the file, and the name of the signature if it is not the file's with its ending.
 function partsLine({name, data, signature, tried}) {
-  const size = data ? sizeOf(data.size) : "", its = signature ?? tried;
+  const size = data ? sizeOf(data.size) : "", its = tried ?? signature;
   const isOther = its && its.name !== name + SIGNATURE_ENDING;
   const other = isOther ? ["with the signature ", nameOf(its.name)] : [];
   return element("p", "aside", size, size && other.length > 0 ? ", " : "", ...other);
@@ -62,19 +75,22 @@ function fill(download, verdict, ...inside) {
   const hadFocus = row.contains(document.activeElement);
   row.dataset.verdict = verdict;
   delete row.dataset.number;
-  row.replaceChildren(element("h3", "", signed(verdict, ""), " ", nameOf(download.name)), ...inside);
+  row.replaceChildren(element("h3", "", signed(verdict), " ", nameOf(download.name)), ...inside);
   if (hadFocus) {
     row.tabIndex = -1;
     (row.querySelector("button") ?? row).focus();
   }
 }
 
+// Shows what an unverified download waits for.
 function showWaiting(download) {
   const {name, data} = download;
-  const why = !data ? ["The file itself is missing: choose or drop it, or both at once."]
-    : signaturesOf(download).length === 0 ? ["Its signature is missing: choose or drop ", nameOf(name + SIGNATURE_ENDING), ", or both at once."]
-      : [key ? "It waits for those before it." : "The public key is missing."];
-  fill(download, "waiting", partsLine(download), element("p", "", ...why));
+  const [state, ...why] = isHeld(download) ? ["queued", "It waits until the files that you added last have been read."]
+    : !data ? ["waiting", "The file itself is missing. Choose or drop it, or both together."]
+      : signaturesOf(download).length === 0
+        ? ["waiting", "Its signature is missing. Choose or drop ", nameOf(name + SIGNATURE_ENDING), ", or both together."]
+        : key ? ["queued", "It waits for the files before it."] : ["waiting", "The public key is missing."];
+  fill(download, state, partsLine(download), element("p", "", ...why));
 }
 
 function showProgress(download, done) {
@@ -96,60 +112,70 @@ function stopByHand(download) {
     reviewAll();
   }));
   showBand();
-  say(download, "Stopped, nothing is known of this file");
+  say(download, `${VERDICTS.get("stopped")[1]}.`);
 }
 
 // Shows a verdict, which is never the best one under a key that nobody gave. The first that an act brings comes into view.
-function showVerdict(download, {isGood, why, number, keyIds, comment}, source) {
+function showVerdict(download, verdict, source) {
+  const {why, number, keyIds, comment, otherNames = []} = verdict, isSigned = comment !== undefined;
   const {isGiven, fits, fails} = SOURCES.get(source.kind);
-  const verdict = !isGood ? "bad" : isGiven ? "good" : "unchecked";
-  const ofKey = isGood ? fits : fails;
-  fill(download, verdict, ...(ofKey ? [element("p", isGiven ? "" : "caution", ofKey)] : []), partsLine(download),
-    ...(isGood ? goodLines(download, keyIds, comment, source) : badLines(why, number, keyIds)));
+  const name = isSigned && !isGiven ? "unchecked" : verdict.verdict;
+  const ofKey = isSigned ? fits : fails, warning = name === "unlisted" ? UNLISTED : "";
+  fill(download, name, ...(ofKey ? [element("p", isGiven ? "" : "caution", ofKey)] : []),
+    ...(warning ? [element("p", "caution", warning)] : []), partsLine(download),
+    ...(isSigned ? signedLines(verdict, source) : badLines(verdict)));
   if (number !== undefined) {
     download.row.dataset.number = number;
   }
-  const [, words] = VERDICTS.get(verdict);
-  say(download, `${words}. ${isGood ? `The key is ${keyIds.publicKeyId}.` : why} ${ofKey}`);
+  const [, words] = VERDICTS.get(name);
+  const names = otherNames.map(other => `The signature is for a file named ${seeable(other)}.`);
+  say(download, [`${words}.`, isSigned ? `The key is ${keyIds.publicKeyId}.` : why, warning, ...names, ofKey].filter(each => each).join(" "));
   if (!download.act.isAnswered) {
     download.act.isAnswered = true;
     download.row.scrollIntoView({block: "nearest"});
   }
 }
 
-function goodLines(download, keyIds, comment, source) {
+// Returns the lines of a file that a signature fits.
+function signedLines({keyIds, comment, signedNames, otherNames}, source) {
   const first = element("p", "", "This file is exactly what was signed with the key ", lettersBox(keyIds.publicKeyId), ", ",
     ...sourceOf(source), ".");
+  const names = signedNames.map(name => nameLine(name, otherNames.includes(name)));
   if (comment === "") {
-    return [first, element("p", "", "The trusted comment, which was signed with it, is empty.")];
+    return [first, ...names, element("p", "", "The trusted comment, which was signed with the file, is empty.")];
   }
   const box = verbatim("div", "comment", ...shown(comment));
   box.tabIndex = 0;
   box.role = "group";
   box.ariaLabel = "Trusted comment";
-  const {names, time} = toldByComment(comment);
-  // (but for how letters with marks are written)
-  const otherNames = names.filter(name => name.normalize() !== download.data.name.normalize());
+  const {time} = toldByComment(comment);
   return [
-    first,
-    ...otherNames.map(name => isAlikeName(name, download.data.name)
-      ? element("p", "", "The signer's name of this file is ", nameOf(name), ".")
-      : element("p", "caution", "The signer's name of this file is another one: ", nameOf(name),
-        ". It may be another file, or an older one, than its name here says.")),
-    element("p", "", "The trusted comment, which was signed with it:"), box,
-    ...(time ? [element("p", "", `By the signer's clock it was signed on ${time}.`)] : []),
+    first, ...names, element("p", "", "The trusted comment, which was signed with the file:"), box,
+    ...(time ? [element("p", "", `According to the signer's clock, it was signed on ${time}.`)] : []),
   ];
 }
 
-function badLines(why, number, keyIds) {
+// Returns the line that tells the signed name, as a warning if that is another one.
+function nameLine(name, isOther) {
+  const line = element("p", isOther ? "caution" : "", "The signature is for a file named ", nameOf(name), ".");
+  if (isOther) {
+    line.append(" This may be a different file, or an older one.");
+  }
+  return line;
+}
+
+function badLines({why, more, number, keyIds}) {
   const lines = [element("p", "why", why)];
-  if (number === 29) {
+  if (number === OTHER_KEY) {
     const {signatureKeyId, publicKeyId} = keyIds;
-    lines.push(element("p", "", "The signature's key is ", lettersBox(signatureKeyId), ", and the public key is ",
+    lines.push(element("p", "", "The key ID of the signature is ", lettersBox(signatureKeyId), ", and that of the public key is ",
       lettersBox(publicKeyId), "."));
   }
+  if (more) {
+    lines.push(element("p", "", more));
+  }
   if (number !== undefined) {
-    lines.push(element("p", "aside", `In the library's words: ${library.errorText(number)}.`));
+    lines.push(element("p", "aside", `Message of the library: ${library.errorText(number)}.`));
   }
   return lines;
 }

@@ -1,11 +1,12 @@
 // SPDX-License-Identifier: MIT
 // What a text is: a key, a secret key, a signature, a command line; which key an address has; what a signed comment tells.
 
-const KEY_LETTERS = /^[A-Za-z0-9+/]{56}$/;
-// How the second lines begin: the algorithms of a public key and of the two kinds of signatures, and those of a secret key,
-// with a password and without one.
-const KEY_LINE = /^RW[A-Za-z0-9+/]{54}$/;
+// The second lines begin with an algorithm: "Ed" for a public key and a legacy signature (RWQ to RWT in base64), "ED" for a prehashed
+// signature (RUQ to RUT), and those of a secret key, with a password and without one.
+const KEY_LINE = /^RW[Q-T][A-Za-z0-9+/]{53}$/;
 const SIGNATURE_LINE = /^R[UW][A-Za-z0-9+/]{97}=$/;
+// A part of a prehashed signature's line, which may be as long as a key.
+const CUT_SIGNATURE_LINE = /^RU[Q-T][A-Za-z0-9+/]{20,}$/;
 const SECRET_KEY_LINE = /RW(RTY0Iy|QAAEIy)[A-Za-z0-9+/]{100}/;
 const PGP_LINE = /^-----BEGIN PGP /;
 // How a file of PGP is named that is no text: its first byte is greater than this.
@@ -52,6 +53,9 @@ function hintOf(text) {
   if (lines.some(line => SIGNATURE_LINE.test(line))) {
     return "signature";
   }
+  if (lines.some(line => CUT_SIGNATURE_LINE.test(line))) {
+    return "cut signature";
+  }
   if (text.includes("#") && partsOfLink(text.trim().replace(/^.*?#/s, "")).letters) {
     return "link";
   }
@@ -62,10 +66,10 @@ function hintOf(text) {
   return found === "" ? "" : text.trim() === found ? "alone" : text.includes(found) ? "words" : "broken";
 }
 
-// The 56 letters of a public key, as minisign writes them, from the bytes that the library told of it: the key's 32, and the 8
-// of its key ID after them.
+// Returns the 56 letters of a public key, as minisign writes them, from the struct of the key.
 function lettersOf(key) {
-  return btoa(String.fromCharCode(0x45, 0x64, ...key.subarray(32), ...key.subarray(0, 32)));
+  const {key: begin, key_id: end} = PUBLIC_KEY;
+  return btoa(String.fromCharCode(0x45, 0x64, ...key.subarray(end), ...key.subarray(begin, end)));
 }
 
 // What stands in a part of a link, percent-encoded, or the text whose base64 stands there; or nothing where it is neither.
@@ -85,7 +89,7 @@ function partsOfLink(after) {
   const valuesOf = (name, isText) => parts.filter(part => part.startsWith(name)).map(part => decoded(part.slice(name.length), isText));
   const named = valuesOf("key=", false);
   const keys = named.length > 0 ? named : parts.filter(part => !part.startsWith("sig=")).map(part => decoded(part, false));
-  const letters = keys.length === 1 && KEY_LETTERS.test(keys[0]) ? keys[0] : "";
+  const letters = keys.length === 1 && KEY_LINE.test(keys[0]) ? keys[0] : "";
   return {keys, letters, signatures: valuesOf("sig=", true)};
 }
 
@@ -108,11 +112,28 @@ function toldByComment(comment) {
   return told;
 }
 
-// Whether two names differ at most in directories, in large and small letters, and in the number of a second download.
+// Returns the name without directories, a number in parentheses, and the difference between large and small letters.
+function bareName(name) {
+  return withoutDirectories(name).replace(/\s?\(\d+\)(?=(\.[^.\s]+)*$)/, "").normalize().toLowerCase();
+}
+
+function withoutDirectories(name) {
+  return name.replace(/^.*[\\/]/s, "");
+}
+
+// Returns true if a file and a signature of these names may belong together. This decides only which signature is tried.
 function isAlikeName(name, other) {
-  const [bare, otherBare] = [name, other].map(each =>
-    each.replace(/^.*[\\/]/s, "").replace(/\s?\(\d+\)(?=(\.[^.\s]+)*$)/, "").normalize().toLowerCase());
-  return bare === otherBare;
+  return bareName(name) === bareName(other);
+}
+
+// The suffix that a browser adds to the name of a second download, before the extensions: "app (1).zip", "app(1).tar.gz".
+const SUFFIX = /^(.+?)\s?\(\d{1,2}\)((?:\.[^.\s()]+)*)$/s;
+
+// Returns true if a file's name, or its name without one SUFFIX, is the signed one. A browser shows the page no directories, so those of
+// the signed name are not compared.
+function isSignedName(name, signedName) {
+  const own = name.normalize(), signed = signedName.normalize();
+  return [own, own.replace(SUFFIX, "$1$2")].some(each => each === signed || each === withoutDirectories(signed));
 }
 
 // The trusted comments that may have been signed where the text's own, cut of white space, was not: with what stands at its

@@ -2,82 +2,98 @@
 // The words of the page: why a file is not verified, by the numbers of include/minisign.h, what helps if something else was
 // given than was asked for, and how a stranger's text is shown.
 
-const DAMAGED = "Get the signature again: it was cut short or damaged, or it is no Minisign signature.";
-const NO_KEY = "Get the public key again: it was cut short or damaged, or it is no Minisign key.";
+const DAMAGED = "Download the signature again: it is incomplete or damaged, or it is not a Minisign signature.";
+const NO_KEY = "Get the public key again: it is incomplete or damaged, or it is not a Minisign key.";
+
+// Error numbers of include/minisign.h that the page knows by name. It gives the first for a public key, too: the library does not check
+// the algorithm of a key.
+const UNKNOWN_ALGORITHM = 28, OTHER_KEY = 29, LEGACY_NOT_ACCEPTED = 30, COMMENT_NOT_SIGNED = 32;
 
 const WHY_NO_KEY = new Map([
-  [8, `This public key is not a text. ${NO_KEY}`],
-  [16, `The text of the public key is empty. ${NO_KEY}`],
-  [17, `The text of the public key has no second line. ${NO_KEY}`],
-  [18, `The second line of the public key is not 56 letters and digits long. ${NO_KEY}`],
-  [19, `The second line of the public key has a letter that no key has. ${NO_KEY}`],
-  [20, `The public key has too few bytes. ${NO_KEY}`],
-  [44, `A public key is 56 letters and digits long, and this is not. ${NO_KEY}`],
-  [45, `The public key has a letter that no key has. ${NO_KEY}`],
+  [UNKNOWN_ALGORITHM, `This is not a Minisign public key: those begin with RW. ${NO_KEY}`],
+  [8, `The public key is not text in UTF-8. ${NO_KEY}`],
+  [16, `The public key is empty. ${NO_KEY}`],
+  [17, `The public key file has no second line. ${NO_KEY}`],
+  [18, `The second line of the public key file does not have 56 letters and digits. ${NO_KEY}`],
+  [19, `The second line of the public key file has a character that a key cannot have. ${NO_KEY}`],
+  [20, `The public key is too short. ${NO_KEY}`],
+  [44, `This does not have the 56 letters and digits of a public key. ${NO_KEY}`],
+  [45, `The public key has a character that a key cannot have. ${NO_KEY}`],
 ]);
 
 const WHY_NOT = new Map([
-  [8, `The signature is not a text. ${DAMAGED}`],
-  [20, `The signature has too few bytes. ${DAMAGED}`],
+  [8, `The signature is not text in UTF-8. ${DAMAGED}`],
+  [20, `The signature is too short. ${DAMAGED}`],
   [21, `The signature is empty. ${DAMAGED}`],
   [22, `The signature has no second line. ${DAMAGED}`],
   [23, `The signature has no third line. ${DAMAGED}`],
   [24, `The signature has no fourth line. ${DAMAGED}`],
-  [25, `The first line of the signature does not begin as that of a Minisign signature. ${DAMAGED}`],
-  [26, `A line of the signature has a letter that no signature has. ${DAMAGED}`],
-  [27, `The third line of the signature does not begin as that of a Minisign signature. ${DAMAGED}`],
-  [28, `The signature is of a kind that Minisign does not know. ${DAMAGED}`],
-  [29, "The signature was made with another key than the public key here."],
-  [30, "The signature is of Minisign's older kind, which this page verifies only for files of up to 64 MiB."],
+  [25, `The first line of the signature does not begin with “untrusted comment:”. ${DAMAGED}`],
+  [26, `The second or fourth line of the signature has a character that a signature cannot have. ${DAMAGED}`],
+  [27, `The third line of the signature does not begin with “trusted comment:”. ${DAMAGED}`],
+  [UNKNOWN_ALGORITHM, `The signature has an algorithm that Minisign does not know. ${DAMAGED}`],
+  [OTHER_KEY, "The signature was made with another key than this public key."],
+  [LEGACY_NOT_ACCEPTED, "The signature is in Minisign's legacy format, which this page verifies only for files of up to 64 MiB. " +
+    "Verify the file with the program minisign instead."],
   [31, "This file is not the one that was signed, or the signature was not made with this key. Do not use the file."],
-  [32, "The trusted comment is not the one that was signed with the file. Do not use the file."],
+  [COMMENT_NOT_SIGNED, "The trusted comment is not the one that was signed with the file. Do not use the file."],
+  [81, "The public key or the signature is weak or malformed, so it proves nothing about any file. Do not use the file."],
 ]);
 
-// Where the comment differs from the signed one by white space at its ends alone, which the library reads away.
+// For a comment that differs from the signed one only by white space at its ends, which the library ignores.
 const WHY_NOT_ENDS = "The file is the one that was signed, but its trusted comment was signed with other white space at " +
-  "its ends, and this page takes a comment without any. Nobody need have meant harm: ask for a signature whose comment has " +
-  "none there.";
+  "its beginning or end, and this page accepts only comments without such white space. This need not be an attack: ask the " +
+  "signer for a signature with a comment that begins and ends without white space.";
 
-const WENT_WRONG = "The page went wrong, so nothing is known of the file.";
-const TOO_LONG_A_KEY = "No public key: this cannot be read, or is longer than the text of a key.";
+const WENT_WRONG = "This page failed, so the file was not verified.";
+const TOO_LONG_A_KEY = "No public key: this file cannot be read, or is too large for a public key.";
 
 // What stands where a key should, by the words of hintOf.
 const HINTS = new Map([
-  ["secret key", "This is a secret key. Nobody but its owner may ever see it, and no page needs it. " +
-    "The public key is the other file, mostly minisign.pub."],
-  ["signature", "This is a signature, and not a key. Choose or drop it together with its file."],
-  ["key", `This is a public key, and not a signature.${BUILT_IN_KEY ? "" : " Paste it into the key's field."}`],
-  ["PGP", "This is of PGP, which this page does not verify. A Minisign signature ends in .minisig, and a key begins with RW."],
-  ["link", "This is a link to a page like this, and who made the link chose the key in it. Paste the key that the project publishes."],
-  ["command", "This is a command line. Paste only the key in it, 56 letters and digits after -P, which begin with RW."],
-  ["words", "There are other words around the key, or quotes, or characters that show nothing. Paste only the key:"],
-  ["broken", "The key is broken over several lines. Paste it as one:"],
-  ["alone", "The key stands alone here, without the first line of a key's file. Paste it into the field:"],
+  ["secret key", "This is a secret key. Nobody but its owner may see it, and no web page needs it. " +
+    "The public key is in another file, usually minisign.pub."],
+  ["signature", "This is a signature, not a key. Choose or drop it together with its file."],
+  ["cut signature", "This is part of a signature, not a key. A public key begins with RW."],
+  ["key", `This is a public key, not a signature.${BUILT_IN_KEY ? "" : " Paste it into the field for the key."}`],
+  ["PGP", "This is a PGP key or signature, which this page cannot verify. The name of a Minisign signature ends in .minisig, and a " +
+    "Minisign key begins with RW."],
+  ["link", "This is a link to a page like this one. Whoever made the link chose the key in it. Paste the key that the project publishes."],
+  ["command", "This is a command line. Paste only the key in it: the 56 letters and digits after -P, which begin with RW."],
+  ["words", "There are other words, quotes or invisible characters around the key. Paste only the key:"],
+  ["broken", "The key is broken over several lines. Paste it as one line:"],
+  ["alone", "This is only the key, without the first line of a public key file. Paste it into the field:"],
 ]);
 // After these words the key itself stands.
 const HINTS_WITH_KEY = ["command", "words", "broken", "alone"];
-const NO_SIGNATURE = "This is not the text of a signature, whose four lines begin with “untrusted comment:”.";
+const NO_SIGNATURE = "This is not a signature. A signature has four lines, and the first one begins with “untrusted comment:”.";
 
-const HAS_DIRECTORIES = "A directory cannot be verified: open it, and drop what is in it.";
-const SEVERAL_KEYS = "No public key: these are several keys. Choose or drop one of them.";
-const NO_KEY_IN_ADDRESS = "No public key: the link to this page has something else after # than the 56 letters and digits of a key.";
-const OTHER_KEY_IN_ADDRESS = "The link to this page names another key, or something else, which is not taken.";
-const NO_SIGNATURE_IN_ADDRESS = "The link to this page has no whole signature after sig=, or was cut short.";
-const NONE_FITS = "This file is none of those that the signatures here are of. Do not use the file.";
-const NO_KEY_IN_FIELD = "stays, and is no key. Put it right, or empty the field.";
-const WHOSE = "This page cannot know whose key it is. Compare its 56 letters and digits with those that the project publishes.";
-const WITH_FILES = "The key came with the files: who made the files may have made the key.";
-const BY_LINK = "The key came with the link to this page: who made the link chose it.";
-const READ_WARNING = "Before you use the file, read the warning below.";
-const PASTE = "Before you use the file, get the key from where the project publishes it, and paste it into its field.";
+const HAS_DIRECTORIES = "A directory cannot be verified. Open it and drop the files in it.";
+const SEVERAL_KEYS = "No public key: these are several keys. Choose or drop only one.";
+const NO_KEY_IN_ADDRESS = "No public key: in the link to this page, what follows # is not the 56 letters and digits of a key.";
+const OTHER_KEY_IN_ADDRESS = "The link to this page names another key, or something else, which is ignored.";
+const NO_SIGNATURE_IN_ADDRESS = "The link to this page has no complete signature after sig=. It may have been cut short.";
+const NONE_FITS = "None of the signatures here is for this file. Do not use the file.";
+const NOT_OF_RELEASE = "It is not a file of this release either: none of the signatures that are built into this page is for it.";
+const UNLISTED = "The signature of this file is not built into this page. It came with the file or with the link. " +
+  "The file may be from an older release, or something else that the owner of the key has signed.";
+const NO_KEY_IN_FIELD = "is kept, but it is not a key. Correct it, or empty the field.";
+const WHOSE = "This page cannot know whose key it is. Compare its 56 letters and digits with the key that the project publishes.";
+const WITH_FILES = "The key came with the files, so whoever made the files may have made the key.";
+const BY_LINK = "The key came with the link to this page, so whoever made the link chose it.";
+const PASTE = "Before you use the file, get the key from where the project publishes it, and paste it into the field for the key.";
 
-// The verdicts and what stands in the place of one, the worst first: the sign, the words, and what to do next.
+// The verdicts, and the states before one, the worst first: the sign, the words, and the next step. (page.css gives each its colour.) A file
+// that is read comes before one that waits for something, so that nobody is asked for what is just being read.
 const VERDICTS = new Map([
   ["bad", ["✗", "NOT verified", `Do not use the file: get it${BUILT_IN_KEY ? "" : ", its signature and the key"} again from the project.`]],
-  ["unchecked", ["?", "Signed, by a key that you have not checked", PASTE]],
-  ["stopped", ["–", "Stopped: nothing is known of this file", "Have it verified again, below."]],
+  ["unchecked", ["?", "Signed, by a key that you have not checked", "Before you use the file, paste the key that the project publishes."]],
+  ["unlisted", ["!", "Signed by this key, but not part of this release", "Get the file of this release from the project."]],
+  ["renamed", ["!", "Signed, but under another name", "Compare the two names, below, before you use the file."]],
+  ["unsupported", ["?", "This page cannot verify it", "Verify the file with the program minisign."]],
+  ["stopped", ["–", "Stopped before it was verified", "Verify it again, below."]],
+  ["reading", ["…", "Not verified yet", "Wait until it has been read."]],
+  ["queued", ["…", "Not verified yet", "Wait until it has been read."]],
   ["waiting", ["…", "Not verified yet", "Add what is missing, below."]],
-  ["reading", ["…", "Not verified yet", "Wait until it is read."]],
   ["good", ["✓", "Verified", `You can use the file, if ${BUILT_IN_KEY ? "this page" : "the key"} is the project's own.`]],
 ]);
 
@@ -91,7 +107,7 @@ const SOURCES = new Map([
   ["page", {
     from: ["which is built into this page"],
     isGiven: true,
-    fits: "The key is built into this page: the verdict is worth as much as the place that you have the page from.",
+    fits: "The key is built into this page, so you can trust the verdict as much as the place where you got the page.",
     fails: "",
   }],
 ]);
@@ -136,6 +152,15 @@ function verbatim(...parts) {
   const made = element(...parts);
   made.translate = false;
   return made;
+}
+
+// The most characters of a name that are shown where there is little room, and how many of them are its last ones.
+const MAX_NAME = 40, NAME_END = 16;
+
+// Returns the name without its middle if it is long. What tells versions apart is mostly at the end.
+function shortened(name) {
+  const letters = [...name];
+  return letters.length <= MAX_NAME ? name : `${letters.slice(0, MAX_NAME - NAME_END - 1).join("")}…${letters.slice(-NAME_END).join("")}`;
 }
 
 // The name of a file, in its own box.
