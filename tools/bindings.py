@@ -11,15 +11,16 @@ their types (`errors.js`, `errors.d.ts`) and what signing needs (`header.js`).
 Parts of these files are written by hand and kept: their heads, and what their calls share. What the package for
 JavaScript verifies by, which the page has too, is written by hand (`calls.js`), and compared by its test.
 
-Needs Python 3.9 or later.
+Needs Python 3.9 or later and clang.
 """
 
 import re
 import sys
 import textwrap
 
+import boundary
 import sources
-from c_header import FILE as HEADER, Header, both
+from c_header import FILE as HEADER, both, parsed
 from sources import Unfit
 
 RUST = "bindings/rust/src/raw/header.rs"
@@ -44,24 +45,21 @@ def name_of(constant):
     return "".join(word.capitalize() for word in constant.removeprefix("minisign_").split("_"))
 
 
-# Calls that are declared and get no function: a package leaves the memory of a derivation to the library.
-DECLARED_ALONE = ("minisign_opening_memory", "minisign_open_sealed_key_in_place")
-
-
-def is_secret(struct):
-    """Whether a struct holds a secret key."""
-    return struct.endswith("_key") and struct != "minisign_public_key"
+# Calls that are declared and get no function: a package leaves the memory of a derivation to the library, clears values by its own
+# language, and seals under no weak limits.
+DECLARED_ALONE = ("minisign_opening_memory", "minisign_open_sealed_key_in_place", "minisign_clear", "minisign_secret_key_text_with_any_limits")
 
 
 # ---- The calls as a caller has them ----
 
 
 def role_of(call, parameter, after, header):
-    """What a parameter is for, as a word of the tables below, by those after it; and how many of them belong to it, with itself."""
+    """What a parameter is for, as a word of the tables below, by its type and its role; and how many of those after it belong to
+    it, with itself."""
     structs = header.structs
     if parameter.kind in header.in_parts:
         return "parts", 1
-    if parameter.name.startswith("with_"):
+    if "presence" in parameter.roles:
         return "password", 3
     if parameter.count:
         return ("array" if parameter.const else "new array"), 1
@@ -70,13 +68,14 @@ def role_of(call, parameter, after, header):
             raise Unfit(f"{call.name}: {parameter.name}, after which no length stands")
         if parameter.const:
             return "bytes", 2
+        if "room" not in parameter.roles:
+            raise Unfit(f"{call.name}: {parameter.name} has no role that says how long it is")
         if [one.kind + one.star for one in after] == ["size_t", "size_t*"]:
             return "text", 3
-        is_message = any(one.name == "questions" for one in call.parameters)
-        return ("short text" if call.answer == "size_t" else "message" if is_message else "joined"), 2
+        return ("short text" if call.answer == "size_t" else "message"), 2
     if parameter.star and parameter.kind in structs:
-        is_new = parameter.name == "questions" or not parameter.const and not after and (len(call.parameters) > 1 or call.answer == "void")
-        return "struct" if not is_new else "secret" if is_secret(parameter.kind) else "new struct", 1
+        is_new = "output" in parameter.roles
+        return "struct" if not is_new else "secret" if parameter.kind in header.secrets else "new struct", 1
     return "new number" if parameter.star else "answer" if parameter.kind == "enum minisign_answer" else "number", 1
 
 
@@ -88,28 +87,31 @@ def roles(call, header, rest):
         rest = rest[taken:]
 
 
-def room_of(call, header):
-    """How many bytes a call writes, as the names of a size and of lengths: as the size says that is named as the call is, and otherwise
-    all that it takes."""
-    fitting = [size for size in header.sizes if size.name.removesuffix("_BYTES") in call.name.upper()]
-    if fitting:
-        size = max(fitting, key=lambda size: len(size.name))
-        return [size.name], [name.removesuffix("_len") for name in size.lengths]
-    return [], [parameter.name for parameter in call.parameters if parameter.const and parameter.kind == "uint8_t"]
+def room_of(call, parameter, header, length_of, field_of):
+    """How long the buffer of a parameter has to be, as its role says: a sum of numbers, constants, and lengths of what the call
+    takes."""
+    constants = {name for name, *_ in [*header.numbers, *header.sizes]}
+    lengths = {length.name: bytes.name for bytes, length in boundary.lengths([*header.taken(call)]) if length}
+    lengths |= {name.rpartition("->")[2]: of.rpartition("->")[2] for name, of in lengths.items()}
+
+    def term(word):
+        if word in lengths:
+            return length_of(lengths[word])
+        if not word.isdigit() and word not in constants and "." not in word:
+            raise Unfit(f"{call.name}: {word}, which {parameter.name} has room for, is not known")
+        return field_of(word) if "." in word else word
+
+    return " + ".join(term(word) for word in parameter.roles.get("room", "0").split(" + "))
 
 
-def in_words(call, header, table, kind_of, length_of):
+def in_words(call, header, table, kind_of, length_of, field_of=str):
     """What the rows of a table say of the parameters of a call: what it takes, what is done before, what is handed over, and
     of what the call writes the types and the values. Of a struct of parts each part is taken, and all are handed over in it."""
-    size, lengths = room_of(call, header)
     columns = [[], [], [], [], []]
 
     def filled(role, parameter):
         return {"name": parameter.name, "of": kind_of(parameter.kind, header), "count": parameter.count, "mut": "" if parameter.const else "mut ",
-                "room": " + ".join([*size, *map(length_of, lengths)]), "parts": table["between parts"].join(parts_of(parameter)),
-                "size": call.name.removeprefix("minisign_").removeprefix("install_").upper() + "_BYTES",
-                # (the comment is shorter than the text that has it)
-                "longest": "signature.comment_len" if any(part.name == "signature" for part in call.parameters) else "len(sig_text)"}
+                "room": room_of(call, parameter, header, length_of, field_of), "parts": table["between parts"].join(parts_of(parameter))}
 
     def parts_of(parameter):
         for role, part in roles(call, header, header.structs[parameter.kind] if parameter.kind in header.in_parts else ()):
@@ -136,9 +138,8 @@ PYTHON_ROLES = {
     "bytes": ("{name}: bytes", "", "{name}, len({name})", "", ""),
     "text": ("", "length = c_size_t()\n{name} = create_string_buffer({room})", "{name}, len({name}), length",
              "bytes", "{name}.raw[: length.value]"),
-    "short text": ("", "{name} = create_string_buffer({size})", "{name}, len({name})", "bytes", "{name}.raw[:length]"),
-    "message": ("", "{name} = create_string_buffer(64 + {longest})", "{name}, len({name})", "bytes", "{name}.raw"),
-    "joined": ("", "{name} = create_string_buffer({room})", "{name}, len({name})", "bytes", "{name}.raw"),
+    "short text": ("", "{name} = create_string_buffer({room})", "{name}, len({name})", "bytes", "{name}.raw[:length]"),
+    "message": ("", "{name} = create_string_buffer({room})", "{name}, len({name})", "bytes", "{name}.raw"),
     "struct": ("{name}: {of}", "", "{name}", "", ""),
     "new struct": ("", "{name} = {of}()", "{name}", "{of}", "{name}"),
     "secret": ("", "{name} = {of}()", "{name}", "{of}", "{name}"),
@@ -161,7 +162,7 @@ def ctype(kind, header):
 
 def argument(parameter, header):
     """The type of an argument in ctypes: bytes, a pointer to a number or a struct, or a number."""
-    if parameter.kind in ("uint8_t", "char"):
+    if parameter.kind in ("uint8_t", "char", "void"):
         return "c_void_p"
     return f"POINTER({ctype(parameter.kind, header)})" if parameter.star else ctype(parameter.kind, header)
 
@@ -201,7 +202,11 @@ def python_line(line):
 
 def docstring(text, indent):
     """A text as a docstring."""
-    lines = textwrap.wrap(f'"""{text}', PYTHON_WIDTH - len(indent), break_on_hyphens=False)
+    width = PYTHON_WIDTH - len(indent)
+    lines = textwrap.wrap(f'"""{text}', width, break_on_hyphens=False)
+    if len(lines) == 1 and len(lines[0]) + 3 > width:
+        # black moves the closing quotes of a single line back to its end, however long it is.
+        lines = textwrap.wrap(f'"""{text}', width - 3, break_on_hyphens=False)
     ending = '"""' if len(lines[-1]) + 3 <= PYTHON_WIDTH - len(indent) else f'\n{indent}"""'
     return "".join(f"{indent}{line}\n" for line in lines)[:-1] + ending + "\n"
 
@@ -266,8 +271,7 @@ GO_ROLES = {
     "bytes": ("{name} []byte", "", "pointer({name}), C.size_t(len({name}))", "", ""),
     "text": ("", "{name}, length := make([]byte, {room}), C.size_t(0)", "pointer({name}), C.size_t(len({name})), &length", "[]byte",
              "{name}[:length]"),
-    "message": ("", "{name} := make([]byte, 64+{longest})", "pointer({name}), C.size_t(len({name}))", "[]byte", "{name}"),
-    "joined": ("", "{name} := make([]byte, {room})", "pointer({name}), C.size_t(len({name}))", "[]byte", "{name}"),
+    "message": ("", "{name} := make([]byte, {room})", "pointer({name}), C.size_t(len({name}))", "[]byte", "{name}"),
     "struct": ("{name} *C.{of}", "", "{name}", "", ""),
     "new struct": ("", "{name} := new(C.{of})", "{name}", "*C.{of}", "{name}"),
     "secret": ("", "{name} := new(C.{of})", "{name}", "*C.{of}", "{name}"),
@@ -309,13 +313,17 @@ def go_call(call, header):
         lines, types = [f"return {', '.join([*told, 'done(err)'])}"], [*types, "error"]
         made = f"err := {made}" if told else made
         lines = [made, *lines] if told else [f"return done({made})"]
+    elif call.answer != "void" and not told:
+        lines, types = [f"return {made}"], [f"C.{call.answer.removeprefix('enum ')}"]
+    elif call.answer != "void":
+        raise Unfit(f"{call.name} answers a number and writes something: give it no function in Go")
     else:
         lines = [made, *([f"return {', '.join(told)}"] if told else [])]
     result = f" ({', '.join(types)})" if len(types) > 1 else "".join(f" {kind}" for kind in types)
     inside = "".join(f"\t{line}\n" for line in before + lines)
     text = f"\nfunc call{name_of(call.name)}({', '.join(taken)}){result} {{\n{inside}}}\n"
     # (gofmt has no blanks around a sign in brackets)
-    return re.sub(r"(?<=[)\d]) \+ (?=len)", "+", named(text, header))
+    return re.sub(r"(?<=[)\d]) \+ (?=len|signature)", "+", named(text, header))
 
 
 def go_header(header):
@@ -333,7 +341,7 @@ JAVASCRIPT_ROLES = {
     "bytes": ("{name}", "", "{name}, BigInt({name}.length)", "", ""),
     "text": ("", "const {name} = new Uint8Array({room});\nconst length = new Uint8Array(8);", "{name}, BigInt({name}.length), length",
              "", "cut({name}, length)"),
-    "joined": ("", "const {name} = new Uint8Array({room});", "{name}, BigInt({name}.length)", "", "{name}"),
+    "message": ("", "const {name} = new Uint8Array({room});", "{name}, BigInt({name}.length)", "", "{name}"),
     "struct": ("{name}", "", "{name}", "", ""),
     "new struct": ("", "const {name} = new Uint8Array({of});", "{name}", "", "{name}"),
     "secret": ("", "const {name} = new Uint8Array({of});", "{name}", "", "{name}"),
@@ -348,11 +356,11 @@ JAVASCRIPT_WIDTH = 80
 SIGNING = ("read_secret_key", "open_unsealed_key", "open_sealed_key", "take_secret_key", "public_key_of", "comment_message", "signed_text",
            "secret_key_text", "public_key_text")
 # The structs that are read and written here, and the sizes of numbers in them.
-JAVASCRIPT_STRUCTS = ("public_key", "unopened_key", "secret_key", "sealing")
+JAVASCRIPT_STRUCTS = ("public_key", "unopened_key", "secret_key", "new_key", "sealing")
 WIDTHS = {"uint8_t": 1, "uint32_t": 4, "uint64_t": 8}
 # The part of calls.js that is made, and what that reads of two structs.
 JAVASCRIPT_MADE, JAVASCRIPT_END = "made by tools/bindings.py ----\n\n", "// ---- What is made ends here ----"
-READ_OF = {"signature": ("key_id", "legacy"),
+READ_OF = {"public_key": ("key", "key_id"), "signature": ("key_id", "legacy"),
            "questions": ("public_key", "digest", "signature", "comment_signature", "message_len", "comment_offset", "comment_len", "legacy")}
 
 
@@ -438,7 +446,7 @@ def javascript_types(header):
 
 # ---- Rust ----
 
-RUST_TYPES = {"uint8_t": "u8", "char": "u8", "uint32_t": "u32", "uint64_t": "u64", "size_t": "usize"}
+RUST_TYPES = {"uint8_t": "u8", "char": "u8", "void": "u8", "uint32_t": "u32", "uint64_t": "u64", "size_t": "usize"}
 
 RUST_ROLES = {
     "password": ("{name}: Option<&[u8]>",
@@ -449,11 +457,9 @@ RUST_ROLES = {
     "bytes": ("{name}: &[u8]", "", "{name}.as_ptr(), {name}.len()", "", ""),
     "text": ("", "let mut {name} = vec![0; {room}];\n    let mut len = 0;",
              "{name}.as_mut_ptr(), {name}.len(), &mut len", "String", "text_of({name}, len)"),
-    "short text": ("", "let mut {name} = vec![0; {size}];", "{name}.as_mut_ptr(), {name}.len()",
+    "short text": ("", "let mut {name} = vec![0; {room}];", "{name}.as_mut_ptr(), {name}.len()",
                    "String", "text_of({name}, len)"),
-    "message": ("", "let mut {name} = vec![0; 64 + signature.comment_len as usize];", "{name}.as_mut_ptr(), {name}.len()",
-                "Vec<u8>", "{name}"),
-    "joined": ("", "let mut {name} = vec![0; {room}];", "{name}.as_mut_ptr(), {name}.len()", "Vec<u8>", "{name}"),
+    "message": ("", "let mut {name} = vec![0; {room}];", "{name}.as_mut_ptr(), {name}.len()", "Vec<u8>", "{name}"),
     "struct": ("{name}: &{mut}{of}", "", "{name}", "", ""),
     "new struct": ("", "let mut {name} = {of}::ZEROS;", "&mut {name}", "{of}", "{name}"),
     # (a secret key stays in one place)
@@ -512,7 +518,7 @@ def rust_unsafe(before, name, handed, after):
 
 def rust_call(call, header):
     """A function that makes a call and answers what that writes."""
-    taken, before, handed, types, told = in_words(call, header, RUST_ROLES, rust_type, "{}.len()".format)
+    taken, before, handed, types, told = in_words(call, header, RUST_ROLES, rust_type, "{}.len()".format, "{} as usize".format)
     handed = [word for words in handed for word in ([words] if "\n" in words else words.split(", "))]
     made = lambda before, after: rust_unsafe(before, call.name, handed, after)
     result, value = in_one(types) or "()", in_one(told)
@@ -546,8 +552,8 @@ def rust_struct(struct, fields, header):
         return made
     of_zeros = f" {zeros[0]} " if len(zeros) == 1 else "\n" + "".join(f"        {zero},\n" for zero in zeros) + "    "
     made += f"\nimpl {name_of(struct)} {{\n    pub const ZEROS: Self = Self {{{of_zeros}}};\n}}\n"
-    if is_secret(struct):
-        cleared = "".join(f"        clear(&mut self.{field.name});\n" for field in fields if field.count and field.name != "key_id")
+    if struct in header.secrets:
+        cleared = "".join(f"        clear(&mut self.{field.name});\n" for field in fields if "secret" in field.roles)
         made += RUST_CLEARED.format(struct=name_of(struct), cleared=cleared)
     return made
 
@@ -582,7 +588,7 @@ def rust_header(header):
 
 
 def made():
-    header, installing_too = Header(sources.read(HEADER)), both()
+    header, installing_too = parsed(sources.read(HEADER)), both()
     for path, make in ((RUST, rust_header), (GO_ERRORS, go_errors), (GO, go_header), (JAVASCRIPT_ERRORS, javascript_errors),
                        (JAVASCRIPT_TYPES, javascript_types), (JAVASCRIPT, javascript_header),
                        (JAVASCRIPT_CALLS, javascript_calls), (PYTHON_ERRORS, python_errors)):

@@ -16,10 +16,6 @@ OWN = "minisign_version"
 # How long a line of the boundary may be.
 COLUMNS = 115
 
-# What is secret that a call is given or gives back: parameters by their names, and structs.
-SECRETS = {"secret", "sk_text", "password", "minisign_unopened_key", "minisign_secret_key"}
-
-
 def proved_calls(header):
     return [call for call in header.calls if call.name != OWN]
 
@@ -30,7 +26,7 @@ def plain(kind):
 
 
 def plain_parameter(parameter):
-    return parameter.const + plain(parameter.kind) + (" *" if parameter.star or parameter.count else "")
+    return parameter.const + ("uint8_t" if parameter.kind == "void" else plain(parameter.kind)) + (" *" if parameter.star or parameter.count else "")
 
 
 def lengths(parameters):
@@ -56,9 +52,10 @@ def in_lines(begin, parts, end):
     return textwrap.fill(text, COLUMNS, subsequent_indent=" " * indent, break_on_hyphens=False).replace("\u00a0", " ")
 
 
-def call_text(call, taken):
-    """The proved call as it is declared, with what it takes, and the function that makes it."""
-    sees_secrets = any(SECRETS & {one.name, one.kind} for one in call.parameters)
+def call_text(call, taken, secrets):
+    """The proved call as it is declared, with what it takes, and the function that makes it. A call that sees a secret, as a
+    parameter or in one of these structs, clears what it used."""
+    sees_secrets = any("secret" in one.roles or one.kind in secrets for one in call.parameters)
     result = "" if call.answer == "void" else "result = " if sees_secrets else "return "
     cast = "" if call.answer == plain(call.answer) else f"({call.answer}) "
     body = [in_lines(f"    {result}{cast}CALL({call.name})(", arguments(taken), ");")]
@@ -79,7 +76,7 @@ def head_of(file, end):
 
 def boundary_text(header):
     """The source of the boundary."""
-    return "\n".join([head_of(FILE, rf"\w+ {OWN}\(void\)\n\{{.*?\n\}}"), *(call_text(call, [*header.taken(call)]) for call in proved_calls(header))])
+    return "\n".join([head_of(FILE, rf"\w+ {OWN}\(void\)\n\{{.*?\n\}}"), *(call_text(call, [*header.taken(call)], header.secrets) for call in proved_calls(header))])
 
 
 # ---------------------------------------------------------------------------------------------------------------

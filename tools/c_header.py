@@ -1,58 +1,72 @@
-"""Reads the headers, `include/minisign.h` and `include/minisign_install.h`: constants, enums, structs and calls. A
-form that it does not know is an error, so that nothing is skipped.
+"""Reads the headers, `include/minisign.h` and `include/minisign_install.h`, as clang reads them: constants, enums, structs,
+calls with their comments, and the roles that the headers state by `MINISIGN_ROLE`. A form that this file does not know is an
+error, so that nothing is skipped.
+
+Roles of parameters and fields:
+
+    output        the call fills the struct and does not read what it held
+    presence      1 if the pointer and the length after it are given, 0 if not
+    room SIZE     a buffer of SIZE bytes is large enough. SIZE is a sum of numbers, of constants and sizes without
+                  `MINISIGN_`, and of lengths, as names of parameters or of fields
+    secret        a secret: who holds it clears it
 """
 
+import functools
+import json
+import os
 import re
+import subprocess
+import sys
+import tempfile
 from collections import namedtuple
 
-from sources import Unfit, read
+from sources import ROOT, Unfit, read
+
+sys.path.append(os.path.join(ROOT, "tests", "shared"))
+
+import needs
 
 FILE = "include/minisign.h"
 INSTALLING = "include/minisign_install.h"
 
-NUMBER = re.compile(r"^#define MINISIGN_(\w+) (\d+|UINT64_MAX)$", re.M)
-TEXT = re.compile(r'^#define MINISIGN_(\w+) ("[^"]*")$', re.M)
-SIZE = re.compile(r"^#define MINISIGN_(\w+)\(([\w, ]+)\)(?: \\\n   )? \((\d+)(?: \+ \(size_t\) \(\w+\))+\)$", re.M)
-ENUM = re.compile(r"^enum minisign_(\w+) \{(.*?)^\};", re.M | re.S)
-MEMBER = re.compile(r"(?:/\*((?:(?!\*/).)*)\*/\s*)?MINISIGN_(\w+) = (0x[0-9a-f]+|\d+)", re.S)
-STRUCT = re.compile(r"^typedef struct (minisign_\w+) \{(.*?)^\} \1;", re.M | re.S)
-CALL = re.compile(r"^((?:enum )?\w+) (minisign_\w+)\(([^)]*)\);", re.M)
-VALUE = re.compile(r"(const )?((?:enum )?\w+) (\*?)(\w+)(?:\[(\d+)\])?")
-
-
 # The names in what follows are without `MINISIGN_`. A size grows with the lengths of what is put in.
 Size = namedtuple("Size", "name number lengths")
 Member = namedtuple("Member", "comment name number")
-Call = namedtuple("Call", "answer name parameters")
+Call = namedtuple("Call", "answer name parameters comment")
 # A parameter, or a field of a struct: as it is declared, and in parts. The count of an array is a number, and empty of others.
-Value = namedtuple("Value", "text const kind star name count")
+Value = namedtuple("Value", "text const kind star name count roles")
 
-
-def value(text):
-    text = " ".join(text.split())
-    found = VALUE.fullmatch(text)
-    if not found:
-        raise Unfit(f"{FILE}: {text} is no parameter and no field that is read")
-    return Value(text, *(group or "" for group in found.groups()))
+# A type as clang writes it, and a macro in the output of -dD.
+TYPE = re.compile(r"(const )?((?:enum )?\w+) ?(\*?)(?:\[(\d+)\])?")
+MACRO = re.compile(r"#define MINISIGN_(\w+)(?:\(([^)]*)\))? ?(.*)")
+# Macros that are no constants: MINISIGN_VERSION is computed of three others.
+NO_CONSTANTS = ("VERSION",)
+PROBE = "minisign_probe_"
 
 
 class Header:
-    """What the text of a header declares, or that of both, one after the other. A struct with pointers (`in_parts`) is for the
-    caller alone: the proved calls take its fields one by one."""
+    """What the text of a header declares, or the texts of both. A struct with pointers (`in_parts`) is for the caller alone: the
+    proved calls take its fields one by one. `secrets` are the structs with a secret field."""
 
-    def __init__(self, text):
-        self.text = text
-        self.numbers = [(name, number.replace("UINT64_MAX", "0xffffffffffffffff")) for name, number in NUMBER.findall(text)]
-        self.texts = TEXT.findall(text)
-        self.sizes = [Size(name, number, lengths.split(", ")) for name, lengths, number in SIZE.findall(text)]
-        self.enums = {name: members(body) for name, body in ENUM.findall(text)}
-        bare = re.sub(r"(?m)^#.*\n|/\*(?:.|\n)*?\*/", "", text).replace("MINISIGN_MUST_USE ", "")
-        self.structs = {name: [value(word) for word in body.split(";")[:-1]] for name, body in STRUCT.findall(bare)}
-        self.calls = [Call(answer, name, [value(word) for word in parameters.split(",") if word.strip() != "void"])
-                      for answer, name, parameters in CALL.findall(bare)]
+    def __init__(self, *texts):
+        with tempfile.TemporaryDirectory(prefix="header-") as room:
+            names = [os.path.join(room, f"part{at}.h") for at in range(len(texts))]
+            for name, text in zip(names, texts):
+                with open(name, "w", encoding="utf-8") as file:
+                    file.write(text)
+            macros = [*macros_of(room, names)]
+            declared = [*declarations(room, names, macros)]
+        values = {name.removeprefix(PROBE): number for _, found in enums_of(declared) for _, name, number in found if name.startswith(PROBE)}
+        self.texts = [(name, body) for name, _, body in macros if body.startswith('"')]
+        self.numbers = [(name, shown(values[name])) for name, lengths, _ in macros if name in values and lengths is None]
+        self.sizes = [Size(name, str(values[name]), re.split(", ?", lengths)) for name, lengths, _ in macros if name in values and lengths is not None]
+        self.enums = {name.removeprefix("minisign_"): [Member(comment, member.removeprefix("MINISIGN_"), number) for comment, member, number in found]
+                      for name, found in enums_of(declared) if name}
+        self.structs = {node["name"]: [value(field, text) for field in inner(node, "FieldDecl")]
+                        for node, text in declared if node["kind"] == "RecordDecl"}
+        self.calls = [*calls_of(declared)]
         self.in_parts = {name for name, fields in self.structs.items() if any(field.star for field in fields)}
-        if len(self.calls) != len(re.findall(r"\bminisign_\w+\(", bare)):
-            raise Unfit(f"{FILE}: a call is not read")
+        self.secrets = {name for name, fields in self.structs.items() if any("secret" in field.roles for field in fields)}
 
     def taken(self, call):
         """The parameters of the proved call: in place of a struct of parts its fields."""
@@ -68,14 +82,138 @@ class Header:
         return [enum for enum in self.enums["error"] if enum.number]
 
 
+@functools.lru_cache(maxsize=None)
+def parsed(*texts):
+    """What these texts declare; each is read once."""
+    return Header(*texts)
+
+
 def both():
     """What the two headers declare."""
-    return Header(read(FILE) + read(INSTALLING))
+    return parsed(read(FILE), read(INSTALLING))
 
 
-def members(body):
-    found = [Member(" ".join(comment.replace("*", " ").split()), name, int(number, 0))
-             for comment, name, number in MEMBER.findall(body)]
-    if len(found) != body.count(" = "):
-        raise Unfit(f"{FILE}: a member of an enum is not read:{body}")
-    return found
+def run_clang(room, main, *flags):
+    """What clang writes for a file that has this text."""
+    path = os.path.join(room, "main.c")
+    with open(path, "w", encoding="utf-8") as file:
+        file.write(main)
+    command = [needs.program("clang", "clang"), "-std=c11", "-DMINISIGN_READ_ROLES", "-I", os.path.join(ROOT, "include"), *flags, path]
+    ran = subprocess.run(command, stdin=subprocess.DEVNULL, stdout=subprocess.PIPE, stderr=subprocess.PIPE)
+    if ran.returncode:
+        raise Unfit(f"clang: {ran.stderr.decode(errors='replace')[:1000]}")
+    return ran.stdout.decode()
+
+
+def including(names):
+    return "#include <stddef.h>\n#include <stdint.h>\n" + "".join(f'#include "{name}"\n' for name in names)
+
+
+def macros_of(room, names):
+    """The macros that are constants, texts or sizes, in their order: the name, the parameters or None, and the body."""
+    file, found = "", {}
+    for line in run_clang(room, including(names), "-E", "-dD").split("\n"):
+        if line.startswith("# "):
+            file = line.split('"')[1]
+        elif line.startswith("#undef MINISIGN_"):
+            found.pop(line[len("#undef MINISIGN_"):], None)
+        elif file in names and (macro := MACRO.fullmatch(line)) and macro[3] and not macro[3].startswith("__attribute__"):
+            found[macro[1]] = macro[2], macro[3]
+    return [(name, *how) for name, how in found.items() if name not in NO_CONSTANTS]
+
+
+def declarations(room, names, macros):
+    """The declarations of these files, each with the text of its file, and one enum with the values of the macros. The output of
+    clang names a file only where it is not that of the place before."""
+    numbers = [(name, "" if lengths is None else f"({', '.join('0' for _ in lengths.split(','))})") for name, lengths, body in macros if not body.startswith('"')]
+    probes = "".join(f"    {PROBE}{name} = MINISIGN_{name}{given},\n" for name, given in numbers)
+    main = including(names) + (f"enum {{\n{probes}}};\n" if probes else "")
+    tree, file = json.loads(run_clang(room, main, "-fsyntax-only", "-fparse-all-comments", "-Xclang", "-ast-dump=json")), ""
+    texts = {name: read(name) for name in names}
+    for node in tree["inner"]:
+        file = at = last_file(node.get("loc", {}), file)
+        file = last_file(node, file)
+        is_probe = at.endswith("/main.c") and node["kind"] == "EnumDecl"
+        is_new = "previousDecl" not in node and node.get("storageClass") != "static" and not node.get("isImplicit")
+        if is_new and (is_probe or at in texts):
+            yield node, texts.get(at, "")
+
+
+def last_file(node, before):
+    """The file of the last place in a node, or the one before where the node names none."""
+    return ([each["file"] for each in within(node) if "offset" in each and "file" in each] or [before])[-1]
+
+
+def within(node):
+    """A node of the tree and all nodes below it, in the order of the output."""
+    if isinstance(node, dict):
+        yield node
+    for each in node.values() if isinstance(node, dict) else node if isinstance(node, list) else ():
+        yield from within(each)
+
+
+def inner(node, kind):
+    return [each for each in node.get("inner", ()) if each.get("kind") == kind]
+
+
+def comment_of(node):
+    """The text of a declaration's comment."""
+    words = [each["text"] for comment in inner(node, "FullComment") for each in within(comment) if "text" in each]
+    return " ".join(" ".join(words).split())
+
+
+def enums_of(declared):
+    """The enums: the name, and for each member its comment, its name and its value."""
+    for node, _ in declared:
+        if node["kind"] == "EnumDecl":
+            yield node.get("name", ""), [(comment_of(each), each["name"], int(next(part["value"] for part in within(each) if part.get("kind") == "ConstantExpr")))
+                                         for each in inner(node, "EnumConstantDecl")]
+
+
+def shown(number):
+    return str(number) if number < 1 << 63 else hex(number)
+
+
+def value(node, text):
+    """A parameter or a field. Of the type of a parameter clang drops the length of an array, which comes after the name."""
+    place = node["loc"].get("expansionLoc", node["loc"])
+    after = re.match(r"\w+\[(\d+)\]", text[place["offset"]:])
+    found = TYPE.fullmatch(node["type"]["qualType"])
+    if not found:
+        raise Unfit(f"{node['type']['qualType']} {node.get('name')}: a type that is not known")
+    const, kind, star, count = (group or "" for group in found.groups())
+    if after and not count:
+        star, count = "", after[1]
+    declared = f"{const}{kind} {star}{node['name']}" + (f"[{count}]" if count else "")
+    return Value(declared, const, kind, star, node["name"], count, roles_of(node))
+
+
+def roles_of(node):
+    """The roles of a parameter or a field, each with what is said of it."""
+    roles = {}
+    for attribute in inner(node, "AnnotateAttr"):
+        words = [json.loads(each["value"]) for each in within(attribute) if each.get("kind") == "StringLiteral"]
+        role, _, more = words[-1].partition(" ")
+        if role not in ("output", "presence", "room", "secret") or (role == "room") != bool(more):
+            raise Unfit(f"{node['name']}: a role that is not known: {words}")
+        roles[role] = more
+    return roles
+
+
+def calls_of(declared):
+    """The calls. A comment above several declarations is that of each."""
+    comment, end = "", 0
+    for node, text in declared:
+        if node["kind"] != "FunctionDecl":
+            continue
+        begin = place_of(node["range"]["begin"])
+        if comment_of(node):
+            comment = comment_of(node)
+        elif not re.fullmatch(r"[^;]*;\s*", text[end:begin]):
+            raise Unfit(f"{node['name']} has no comment right above it: put a #define above the comment")
+        end = place_of(node["range"]["end"])
+        yield Call(node["type"]["qualType"].partition(" (")[0], node["name"], [value(each, text) for each in inner(node, "ParmVarDecl")], comment)
+
+
+def place_of(place):
+    return place.get("expansionLoc", place)["offset"]

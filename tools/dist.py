@@ -1,13 +1,15 @@
 #!/usr/bin/env python3
 """Makes `dist/`: the proved calls of the crate minisign_c as archives and, translated, as C (`portable_calls.py`),
 the page that verifies a download, `PROVED`, which names the kit and the sources that they were proved by, and
-`SHA256SUMS`; and the copies that `carried.py` makes.
+`SHA256SUMS`.
 
     tools/dist.py [PART ..]            proves, builds and writes them
     tools/dist.py --check [PART ..]    proves and builds them, and compares them byte for byte with what stands there
 
 PART is `calls` or `page`; by default both. It takes libraries that `rt lib` proved as they stand, and proves the
 others first. With `--after SAID` it takes those that a finished `rt ci` left here: SAID is a file of what that said.
+It writes nothing if a verdict rests on proofs that an earlier `rt check` kept (`incremental=trusted`): run `rt ci`
+first, and then this script with `--after`.
 In the gate `--check` runs beside `rt ci`, and builds over what that proves (`tests/shared/proved.py`).
 
 With another kit of the same logic the bytes may differ, and so may the page's with another wasm-opt. `--check` then
@@ -15,7 +17,7 @@ says so; of the page it compares all but the module. (tests/c tries the archives
 bytes are the same, and prints a line for each failure; the last line is `N passed, M failed`. The head of PROVED is
 by hand.
 
-Needs Python 3.9 or later, the kit, and what `page/build.py` needs.
+Needs Python 3.9 or later, clang, the kit, and what `page/build.py` needs.
 """
 
 import argparse
@@ -35,7 +37,6 @@ sys.path += [os.path.join(ROOT, *words) for words in (("tests", "shared"), ("pag
 import boundary
 import build
 import c_header
-import carried
 import needs
 import portable_calls
 import proved
@@ -56,6 +57,8 @@ C_CALLS, C_CALLS_OF, TRANSLATED = "calls.c", "calls-x86-64-v2.a", "translated fr
 LISTED = [*ARCHIVES, C_CALLS, PAGE_FILE, PROVED]
 # What PROVED says, in this order.
 SAID_OF = ["kit", "sources of the calls", *ARCHIVES, TRANSLATED, SOURCES_OF_PAGE, PAGE_FILE, LOWERED, MODULE]
+# What the verdict of a file says if its proof took results of earlier runs, without checking them again.
+FROM_EARLIER_RUNS = "incremental=trusted"
 # The parts, with the crate of each. (The page stands on fewer crates, which `rt ci` proves first.)
 PARTS = {"page": PAGE, "calls": CALLS}
 
@@ -73,11 +76,6 @@ def kit_line():
     if shutil.which("rt") is None:
         raise needs.Missing("there is no rt: proving needs the Rattle kit, which README.md tells of; `make -C c` builds without it")
     return said_by("rt", "version")
-
-
-def sources_sum(part):
-    """The sum over the sources of a part."""
-    return said_by("sh", os.path.join(HERE, "sources.sh"), part)
 
 
 def read(name):
@@ -105,7 +103,7 @@ def built_calls(room, is_check):
         archive = os.path.join(room, name)
         print(f"dist: {name}, and proving first what is not proved", flush=True)
         verdict = proved.build_archive(CALLS, archive, *flags, *kept, compilers=compilers if name == C_CALLS_OF else None)
-        yield Built(name, read(archive), {name: verdict, "sources of the calls": sources_sum("calls")})
+        yield Built(name, read(archive), {name: verdict, "sources of the calls": build.sources_sum("calls")})
     names = [call.name for call in boundary.proved_calls(c_header.both())]
     said = f"{C_CALLS}, by tools/wasm_to_c.py, which is tested and not proved; sum of the bitcode {hashlib.sha256(read(bitcode)).hexdigest()}"
     yield Built(C_CALLS, portable_calls.text(bitcode, names, room).encode(), {TRANSLATED: said})
@@ -114,7 +112,7 @@ def built_calls(room, is_check):
 def built_page(*_):
     """The page, which names the sum of its sources, as PROVED will name that and the module."""
     module, by = build.lowered(build.proved_module()), build.lowering()
-    sums = build.sum_of(module), sources_sum("page")
+    sums = build.sum_of(module), build.sources_sum("page")
     page = build.page(module, by, sums=sums).encode()
     yield Built(PAGE_FILE, page, {PAGE_FILE: proved.verdicts[PAGE], SOURCES_OF_PAGE: sums[1], LOWERED: by, MODULE: sums[0]})
 
@@ -145,7 +143,12 @@ def make(parts):
     if lines["kit"] != kit and {*parts} != {*PARTS}:
         raise needs.Missing(f"dist/ was made by {lines['kit']}, and here is {kit}: name no part, so that all is made by one kit")
     lines["kit"] = kit
-    for file in built(parts):
+    made = built(parts)
+    for file in made:
+        if FROM_EARLIER_RUNS in file.lines.get(file.name, ""):
+            raise proved.NotBuilt(f"the verdict of {file.name} says {FROM_EARLIER_RUNS}, because it rests on proofs that an earlier `rt check` "
+                                  "kept. Nothing was written.\nhint: run `rt ci | tee said`, and then `python3 tools/dist.py --after said`")
+    for file in made:
         write(file.name, file.data)
         lines.update(file.lines)
         print(f"dist: {file.name}, {len(file.data)} bytes")
@@ -175,7 +178,14 @@ def check_sources(report, parts, lines):
         crate, key = PARTS[part], f"sources of the {part}"
         wanted = {*proved.crates()[crate].below, crate}
         report.check({*below, *more} == wanted, "tools/sources.sh", f"it does not name the crates that {crate} stands on")
-        report.check(lines.get(key) == sources_sum(part), "dist", f"the {key} have changed since it was made: run tools/dist.py")
+        report.check(lines.get(key) == build.sources_sum(part), "dist", f"the {key} have changed since it was made: run tools/dist.py")
+
+
+def check_verdicts(report, lines):
+    """Each verdict of PROVED is of a whole proof."""
+    for name in [*ARCHIVES, PAGE_FILE]:
+        said = lines.get(name, "")
+        report.check(said.startswith("logic=proved ") and FROM_EARLIER_RUNS not in said.split(), PROVED, f"the verdict of {name} is {said!r}")
 
 
 def check_built(report, file, lines, kit):
@@ -199,6 +209,7 @@ def check(parts):
     """Compares these parts with what is proved and built now."""
     report, (_, lines), kit = Checks(), said_by_proved(), kit_line()
     check_files(report)
+    check_verdicts(report, lines)
     check_sources(report, parts, lines)
     module = build.taken_from(os.path.join(DIST, PAGE_FILE))[0]
     report.check(lines.get(MODULE) == build.sum_of(module), f"dist/{PAGE_FILE}", f"its module is not the one that {PROVED} names")
@@ -237,7 +248,6 @@ def main(words):
         if given.check:
             return check(parts)
         make(parts)
-        carried.write()
     except (needs.Missing, proved.NotBuilt, build.NotPossible, OSError) as why:
         print(f"FAILED: {why}" + ("\n0 passed, 1 failed" if given.check else ""))
         return 1

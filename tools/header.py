@@ -9,7 +9,7 @@ boundary before the proved calls (`boundary.py`), and their manual pages (`manua
 
 A name in C is the name in the source, in capitals after `MINISIGN_`, or the one of `NAMES`. The comment is the first
 sentence of the source's. The head of `c/library/boundary.c`, and the head and the end of each manual page, are
-written by hand and kept. Needs Python 3.9 or later.
+written by hand and kept. Needs Python 3.9 or later and clang.
 """
 
 import re
@@ -20,7 +20,7 @@ from collections import namedtuple
 import boundary
 import manual
 import sources
-from c_header import FILE as HEADER, INSTALLING, Header
+from c_header import FILE as HEADER, INSTALLING, parsed
 from sources import ROOT, Unfit, read
 
 FORMATS = "docs/FORMATS.md"
@@ -31,9 +31,10 @@ NUMBERS = "crates/minisign_external/src/numbers.rt"
 INSTALL = "crates/minisign_install"
 INSTALL_NUMBERS = f"{INSTALL}/specs/Hosted.antt"
 
-# Named errors with this number or a greater one are answered by no call of the header, but for those that a host may tell.
-UNANSWERED = 46
-TOLD_BY_HOSTS = ("ReadingFailed", "WritingFailed", "RandomSourceFailed")
+# The named errors that no call of the headers returns. All others have a name in C. (tests/c/error_lists.py compares.)
+UNANSWERED = {"GoingBackFailed", "EndOfInput", "PasswordTooLong", "PasswordsDiffer", "EncryptedKeyRefused", "RefusedByGivenKey",
+              "TrustedCommentAbsent", "SignatureBoxIncomplete", "ClockIncorrect", "DataChanged", "InvalidOutputLength",
+              "InputOrOutputFailed", "FormattingFailed", "InvalidUtf8"}
 
 # Where C has a better name than the source.
 NAMES = {
@@ -84,8 +85,13 @@ def comments_of(file, enum):
     found = re.findall(r"((?:^    ///.*\n)+)    (\w+)(?: \{[^}]*\}|\(\w+\))?,$", body, re.M)
     if len(found) != len(re.findall(r"^    [A-Z]\w*", body, re.M)):
         raise Unfit(f"{enum}: a variant without a comment")
-    bare = {variant: " ".join(re.sub(r"(?m)^ *///", "", comment).split()) for comment, variant in found}
-    return {variant: re.match(r"(?:`[^`]*`|[^.`])*\.", text)[0].replace("`", "") for variant, text in bare.items()}
+    return {variant: first_sentence(comment) for comment, variant in found}
+
+
+def first_sentence(comment):
+    """The first sentence of a comment of the source."""
+    bare = " ".join(re.sub(r"(?m)^ *///", "", comment).split())
+    return re.match(r"(?:`[^`]*`|[^.`])*\.", bare)[0].replace("`", "")
 
 
 def numbers_of(comments, file, definition):
@@ -114,6 +120,16 @@ def fault_rows():
     return [(name, number, kind, longer.get(name, text)) for name, number, kind, text in rows]
 
 
+def weak_row():
+    """The error that the calls for other languages add to those of the library, in the same form, and its first sentence."""
+    number, found = read(NUMBERS), read("crates/minisign_external/specs/Numbers.antt")
+    told = re.search(r"((?:^///.*\n)+)pub const WEAK_ED25519: u32 = (\d+);$", number, re.M)
+    text = re.search(r'^weak_text = codes "([^"]*)"$', found, re.M)
+    if not told or not text or f"\nweak_number = {told[2]}\n" not in found:
+        raise Unfit(f"{NUMBERS}: WEAK_ED25519 has not one number and one text")
+    return ("WeakEd25519", told[2], "Verify", text[1]), first_sentence(told[1])
+
+
 def install_rows(comments):
     """The errors that installing adds, in the same form."""
     rows = re.findall(r'^install_row (\w+) =\s+row (\d+) (\w+) \(codes "([^"]*)"\)$', read(f"{INSTALL}/specs/Faults.antt"), re.M)
@@ -124,8 +140,9 @@ def install_rows(comments):
 
 def all_numbers(rows, comments):
     """The errors that calls of the header answer."""
-    named = {name for name, number, _, _ in fault_rows() if int(number) >= UNANSWERED and name not in TOLD_BY_HOSTS}
-    found = [*misuses(), *(Number(int(number), name, comments[name]) for name, number, _, _ in rows if name not in named)]
+    if UNANSWERED - {name for name, *_ in rows}:
+        raise Unfit(f"UNANSWERED names {', '.join(sorted(UNANSWERED - {name for name, *_ in rows}))}, which is no named error")
+    found = [*misuses(), *(Number(int(number), name, comments[name]) for name, number, _, _ in rows if name not in UNANSWERED)]
     if len({error.number for error in found}) != len(found) or len({error.name for error in found}) != len(found):
         raise Unfit("two errors have one number or one name")
     if {*NAMES} - {error.variant for error in found}:
@@ -148,6 +165,41 @@ def choice_text(choice):
     numbers = numbers_of(comments_of(choice.file, choice.enum), choice.numbers, f"{name}_number")
     first = ["    /* Nothing: the installation was never begun. */\n    MINISIGN_DUE_NOTHING = 0"] if choice.prefix == "DUE" else []
     return enum_text(name, numbers, f"{choice.prefix}_", first)
+
+
+# The attributes of calls: a compiler that knows them warns of a NULL pointer and of a length that is greater than the buffer.
+# (clang has no `access`; a call is declared again, for which some compilers would warn)
+ATTRIBUTES = """#if defined(__GNUC__) && !defined(__TINYC__)
+#pragma GCC diagnostic push
+#pragma GCC diagnostic ignored "-Wredundant-decls"
+#define MINISIGN_WITH(call, ...) __typeof__(call) call __attribute__((__VA_ARGS__))
+#if defined(__clang__) || __GNUC__ < 10
+#define MINISIGN_ACCESS(mode, pointer, length)
+#else
+#define MINISIGN_ACCESS(mode, pointer, length) __access__(mode, pointer, length)
+#endif
+%s
+#undef MINISIGN_ACCESS
+#undef MINISIGN_WITH
+#pragma GCC diagnostic pop
+#endif
+"""
+
+
+def attributes_text(header):
+    """The attributes of each call: which pointers are never NULL, and which point to as many elements as the next parameter says."""
+    lines = []
+    for call in header.calls:
+        accesses, not_null = [], []
+        for at, (parameter, length) in enumerate(boundary.lengths(call.parameters), 1):
+            if length:
+                accesses.append(f"MINISIGN_ACCESS(__{'read' if parameter.const else 'write'}_only__, {at}, {at + 1})")
+            elif parameter.star or parameter.count:
+                not_null.append(str(at))
+        if accesses or not_null:
+            parts = [*accesses, *([f"__nonnull__({', '.join(not_null)})"] if not_null else [])]
+            lines.append(boundary.in_lines(f"MINISIGN_WITH({call.name}, ", parts, ");"))
+    return ATTRIBUTES % "\n".join(lines)
 
 
 def answers_text(numbers):
@@ -200,17 +252,21 @@ def formats_text(numbers, rows, comments):
 def made():
     """The files that are made, in whole or in part, with their texts."""
     comments, installing = comments_of(FAULTS, "NamedFault"), comments_of(f"{INSTALL}/src/faults.rt", "InstallFault")
-    rows, comments = [*fault_rows(), *install_rows(installing)], comments | installing
+    weak, of_weak = weak_row()
+    rows, comments = [*fault_rows(), weak, *install_rows(installing)], comments | installing | {weak[0]: of_weak}
     numbers = all_numbers(rows, comments)
-    header = header_text(HEADER, {"Numbers": enum_text("error", numbers, first=["    MINISIGN_OK = 0"]), "Answers": answers_text(numbers)})
-    installing = header_text(INSTALLING, {choice.place: choice_text(choice) for choice in CHOICES})
+    # (what a struct of one header is, the calls of the other need not know)
+    header = header_text(HEADER, {"Numbers": enum_text("error", numbers, first=["    MINISIGN_OK = 0"]), "Answers": answers_text(numbers),
+                                  "Attributes": attributes_text(parsed(read(HEADER)))})
+    installing = header_text(INSTALLING, {**{choice.place: choice_text(choice) for choice in CHOICES},
+                                          "Attributes": attributes_text(parsed(read(INSTALLING)))})
     yield HEADER, header
     yield INSTALLING, installing
-    calls = Header(header + installing)
+    calls = parsed(header, installing)
     yield boundary.FILE, boundary.boundary_text(calls)
     yield boundary.POINTERS, boundary.pointers_text(calls)
     yield "c/library/names", boundary.names_text(calls)
-    version = dict(Header(header).texts)["VERSION_TEXT"].strip('"')
+    version = dict(calls.texts)["VERSION_TEXT"].strip('"')
     for file, page, examples in ((HEADER, header, manual.EXAMPLES), (INSTALLING, installing, {})):
         yield manual.page_of(file), manual.manual_text(manual.page_of(file), page, version, examples)
     yield FORMATS, formats_text(numbers, rows, comments)

@@ -76,7 +76,8 @@ def filled(lines):
 
 
 def without_guards(text):
-    """The code that a caller reads: no lines for the preprocessor but definitions of constants."""
+    """The code that a caller reads: no roles, and no lines for the preprocessor but definitions of constants."""
+    text = re.sub(r" MINISIGN_ROLE\([^)]*\)", "", text)
     text = re.sub(r"#if.*?#endif\n", "", text, flags=re.S)
     return re.sub(r"^#(?:ifn?def|endif|include|define MINISIGN_(?:INSTALL_)?H$).*\n?", "", text, flags=re.M)
 
@@ -84,6 +85,8 @@ def without_guards(text):
 def manual_text(page, header, version, examples):
     """A manual page, with the header in pieces: comments that stand at the left edge, and what is between them; then the examples."""
     at, made, kept = 0, [], read(page)
+    # (the attributes of calls are for compilers)
+    header = re.sub(r"/\* Attributes, made by .*?/\* The end of the attributes\. \*/\n\n", "", header, flags=re.S)
     for found in [*PIECE.finditer(header), None]:
         end, begun = (found.start(), found.end()) if found else (len(header), 0)
         for part in (code(without_guards(header[at:end])), prose(found[0]) if found else []):

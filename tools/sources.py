@@ -17,6 +17,7 @@ from dataclasses import dataclass, field
 ROOT = os.path.dirname(os.path.dirname(os.path.realpath(__file__)))
 sys.path.append(os.path.join(ROOT, "tests", "shared"))
 
+import needs
 from checks import Checks
 
 # What holds no brackets that count: comments, texts and characters.
@@ -49,7 +50,7 @@ def keep_all(made):
                 with open(os.path.join(ROOT, path), "w", encoding="utf-8") as opened:
                     opened.write(text)
             checks.check(read(path) == text, path, f"it is not up to date: run {sys.argv[0]}")
-    except (Unfit, KeyError) as why:
+    except (Unfit, KeyError, needs.Missing) as why:
         checks.check(False, sys.argv[0], why)
     return checks.end()
 

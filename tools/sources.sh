@@ -1,12 +1,13 @@
 #!/bin/sh
-# Prints one sum (SHA-256) over the sources that a part of dist/ is proved and built from: all files of the crates' src, specs
-# and proofs, with their names, what crates.txt says of these crates, and of the page also what page/build.py reads.
+# Prints one SHA-256 sum over the sources that a part of dist/ is proved and built from: all files of the crates' src, specs and
+# proofs, with their names, the lines of crates.txt for these crates, and for the page also what page/build.py reads.
 #
 #     tools/sources.sh calls
 #     tools/sources.sh page
 #
-# make compares it (c/Makefile), so it needs nothing but sh, find, sort, grep, xargs and sha256sum. tools/dist.py sees to it that
-# these are all the crates.
+# c/Makefile compares the sum with dist/PROVED, so this needs only sh, find, sort, grep, xargs and a program for SHA-256
+# (tools/sha256.sh). If a step fails, no sum is printed, and the exit status is not 0. tools/dist.py checks that the list of crates
+# is complete.
 set -eu
 LC_ALL=C
 export LC_ALL
@@ -20,15 +21,27 @@ page) crates="$below minisign_page" directories="page LICENSE crates.txt include
 *) echo 'usage: tools/sources.sh calls|page' >&2; exit 2 ;;
 esac
 
-# Of each crate its line, and then the sum of each file.
-print_sums() {
+# Prints the line of each crate in crates.txt.
+list_crates() {
     for crate in $crates; do
-        grep "^$crate[ :]" crates.txt
+        grep "^$crate[ :]" crates.txt || { echo "tools/sources.sh: crates.txt has no line for $crate" >&2; exit 1; }
+    done
+}
+
+# Prints the paths of all files that the sum covers.
+list_files() {
+    for crate in $crates; do
         directories="$directories crates/$crate/src crates/$crate/specs crates/$crate/proofs"
     done
     for directory in $directories; do
         test ! -e "$directory" || find "$directory" -type f -name '[!.]*[!~]' ! -name minisign.html ! -name '*.pyc' ! -name '*.md' -print
-    done | sort | xargs sha256sum
+    done
 }
 
-print_sums | sha256sum | cut -d ' ' -f 1
+# Each step has a command substitution of its own: in a pipeline only the exit status of the last command counts.
+lines=$(list_crates)
+files=$(list_files)
+files=$(printf '%s\n' "$files" | sort)
+sums=$(printf '%s\n' "$files" | xargs sh tools/sha256.sh)
+sum=$(printf '%s\n%s\n' "$lines" "$sums" | sh tools/sha256.sh)
+echo "${sum%% *}"

@@ -2,9 +2,11 @@
 """Makes docs/TRUSTED.md: everything that the promise of the whole rests on, as the definitions' own text with their
 files, in the order of use: what a verdict is, what opening and signing add, then devices, the calls from C, and
 installing. What the clauses reach is found by following their names; a definition stands in the first part that
-reaches it, below what first uses it. Of a file in which nearly all counts, and of the kit, the end of a part names
-the definitions alone. What is written by hand stands in the document itself and is kept: all before and after the
-parts, and of each part its title and its first paragraph, but for the numbers of definitions and lines.
+reaches it, below what first uses it. The first part also prints each definition of the kit that it reaches, so that a
+reader without the kit has all of it. Of a file in which nearly all counts, and of the rest of the kit, the end of a
+part has only the names of the definitions. What is written by hand stands in the document itself and is kept: all
+before and after the parts, and of each part its title and its first paragraph, but for the numbers of definitions and
+lines.
 
     tools/trusted.py            writes the document
     tools/trusted.py --check    fails where it is not up to date; the last line is `N passed, M failed`
@@ -34,15 +36,16 @@ SIGNING = Part((("minisign", "sign_bytes", "headline"),))
 DEVICES = Part((("minisign", "verify_texts", "headline"), ("minisign", "SecretKey::from_box", "headline"),
                 ("minisign", "sign_texts", "headline")))
 # The calls from C in their order: what they come to together, whoever makes them.
-FROM_C = Part((("minisign_c", "verify_in_a_row", ""), ("minisign_c", "sign_in_a_row", "verifies")),
+FROM_C = Part((("minisign_c", "verify_in_a_row", "number"), ("minisign_c", "verify_in_a_row", "accepted"), ("minisign_c", "sign_in_a_row", "verifies")),
               # (the table of errors, which docs/FORMATS.md shows)
               files=r"/crates/minisign_base/specs/Faults\.antt")
 # (What an update is, and what a run may bring, stands in the document; the rest is read in its files.)
 INSTALLING = Part((("minisign_install", "any_run_installs_only_updates", "safe"),),
                   files=r"/crates/minisign_install/(?!specs/(?:Installing|Comments)\.)")
 RUNS = Part((("minisign_install", "any_sequence_of_runs_ends_well", "ends"),), files="/crates/")
+LISTS = Part((("minisign_lists", "verify_listed", ""), ("minisign_lists", "lists_are_decided", "")), "listed_verdict")
 KIT = Part(())
-PARTS = (VERDICT, OPENING, SIGNING, DEVICES, FROM_C, INSTALLING, RUNS, KIT)
+PARTS = (VERDICT, OPENING, SIGNING, DEVICES, FROM_C, INSTALLING, RUNS, LISTS, KIT)
 
 # What is written by hand behind the parts begins so.
 TAIL = "\n\n## Notation"
@@ -61,6 +64,10 @@ def function_of(library, crate, path, clause):
     return found[0]
 
 
+# The directories of the kit's logic, on which its libraries stand.
+OF_LOGIC = re.compile(r"/rattle/(?:logic|antt)/")
+
+
 def is_of_faults(definition):
     return bool(OF_FAULTS.search(definition.file))
 
@@ -75,12 +82,19 @@ class Trusted:
                         for part in PARTS}
         # By what stands for a definition: its part. In the order in which it is used.
         self.parts = {}
+        # The kit's definitions, with the part that reaches each one first.
+        self.of_kit = {}
+        # The names under which definitions of the kit are imported, where these differ from their own.
+        self.renamed = {}
         # What the logic has without a definition, and what is found nowhere.
         self.built_in, self.unknown = set(), set()
         for part in PARTS[:-1]:
             for root in self.roots(part):
                 self.follow(root, part)
             self.end_with_faults(part)
+            if part is VERDICT:
+                # (the first part explains what it uses)
+                self.built_in_first, self.renamed_first = {*self.built_in}, {**self.renamed}
 
     def roots(self, part):
         """What the clauses of a part name, that with which it begins first, and then the traits that they name. (Of the
@@ -111,6 +125,8 @@ class Trusted:
         is_own = self.library.is_own(definition.file)
         if definition not in self.parts:
             self.parts[definition] = part if is_own else KIT
+            if not is_own:
+                self.of_kit[definition] = part
             for each in self.named_by(definition):
                 self.follow(each, part)
 
@@ -130,6 +146,8 @@ class Trusted:
             definition = definition or self.data_of(module, source)
             if definition is not None:
                 found.append((place_in(text, name), definition))
+                if is_word_of_kit(definition, self.library) and definition.name != name:
+                    self.renamed[name] = definition.name
             elif [*self.library.chain(module, source)][-1][0].startswith("Prim."):
                 self.built_in.add(name)
             else:
@@ -170,6 +188,11 @@ class Trusted:
         return self.found(re.sub(r"//.*", "", definition.text), sources.read_source(definition.file).imports)
 
 
+def is_word_of_kit(definition, library):
+    """True for a definition of the kit that is no data type, of which the cases have names of their own."""
+    return isinstance(definition, Definition) and definition.kind == "word" and not library.is_own(definition.file)
+
+
 def signature_of(definition):
     """All up to the first clause of a word, and the whole of a record."""
     later = next((at for at, line in enumerate(definition.lines) if at and not line.startswith(" ")), None)
@@ -202,8 +225,30 @@ def text_of(definition):
     return text
 
 
-def block_of(language, definitions):
-    return f"```{language}\n" + "\n\n".join(map(text_of, definitions)) + "\n```"
+def text_of_kit(definition):
+    """The text of a definition of the kit. The comments of its logic, which are for those who change it, are left out."""
+    text = "\n".join(definition.lines).rstrip() if OF_LOGIC.search(definition.file) and isinstance(definition, Definition) \
+        else text_of(definition)
+    return re.sub(r"(?m)^// TODO.*\n", "", text)
+
+
+def block_of(language, definitions, text_by=text_of):
+    return f"```{language}\n" + "\n\n".join(map(text_by, definitions)) + "\n```"
+
+
+# What the names mean that the first part uses and that have no definition.
+BUILT_IN = """\
+- `ℕ` is the type of the natural numbers: `zero`, and `suc n`, which is n + 1. The signs of arithmetic are explained under [Notation](#notation).
+- `compare m n` gives `Ordering.lt`, `Ordering.eq` or `Ordering.gt`.
+- `native_or` and `native_xor` are the bitwise "or" and "exclusive or" of two numbers.
+- A `String` of the logic is a text in quotes, and `code` gives the code point of a character. The `String` of `std_alloc` is the string type of the library std; `bytes.items` is the list of its bytes. In `codes`, `nil` and `∷ᴸ` are the `[]` and `∷` of lists.
+- `Unit` is a type with one value, and `⊥` a type without values.
+- You can skip `lit≤`, `leb→le`, `subst`, `T`, `refl` and the definitions that they use. They occur only in proofs inside values, for example that `=` is a printable character, and do not change any result.
+- The structs also contain types and conditions (`ghost`) that no definition above uses."""
+
+
+def names_of(built_in):
+    return ", ".join(f"`{name}`" for name in sorted(built_in) if not re.search(r"\w-\w", name))
 
 
 def lines_of(texts):
@@ -245,7 +290,7 @@ class Facts:
     def of(self, part, linked):
         """What a part says of the known values of its definitions."""
         for file, subjects in self.about.get(part, {}).items():
-            yield f"Known values, in {linked(file)}:\n\n" + "\n".join(
+            yield f"Known values, whose statements are in {linked(file)}:\n\n" + "\n".join(
                 f"- `{subject.name}`: {', '.join(facts)}" for subject, facts in subjects.items())
 
 
@@ -281,6 +326,19 @@ class Writer:
             yield self.linked(file)
             yield block_of("antt" if file.endswith(".antt") else "rust", of_file)
 
+    def in_full(self, definitions):
+        """Definitions of the kit with their text, and what a reader without the kit has to know besides."""
+        yield ("### The kit's definitions\n\nThe definitions above use these definitions of the kit. They are printed here file by "
+               "file, in the order of their first use. The paths are relative to `rattle/` in the kit.")
+        for file in dict.fromkeys(definition.file for definition in definitions):
+            yield f"`{self.library.shown(file)}`:"
+            of_file = [definition for definition in definitions if definition.file == file]
+            yield block_of("antt" if file.endswith(".antt") else "rust", of_file, text_of_kit)
+        renamed = ", ".join(f"`{name}` is `{own}`" for name, own in sorted(self.trusted.renamed_first.items()))
+        yield f"Some definitions are imported under another name: {renamed}."
+        yield f"These names have no definition, because the logic itself has them: {names_of(self.trusted.built_in_first)}."
+        yield BUILT_IN
+
     def by_name(self, definitions, name_of):
         """The names of definitions, by their files."""
         files = {}
@@ -290,16 +348,20 @@ class Writer:
 
     def built_in(self):
         """What the logic has without a definition."""
-        names = sorted(name for name in self.trusted.built_in if not re.search(r"\w-\w", name))
-        return "The logic itself has " + ", ".join(f"`{name}`" for name in names) + ", and `Type`, `→`, `×`, `λ`."
+        return f"These names have no definition, because the logic itself has them: {names_of(self.trusted.built_in)}, `Type`, `→`, `×`, `λ`."
 
     def part(self, number, part):
         """The text of a part: its clauses, its definitions in the order of use, then those that stand here by name, and
         the facts."""
         definitions = [name for name, its in self.trusted.parts.items() if its is part]
+        in_full = [name for name, its in self.trusted.of_kit.items() if its is VERDICT]
+        if part is KIT:
+            definitions = [name for name in definitions if name not in in_full]
+        in_full = in_full if part is VERDICT else []
         shown = [definition for definition in definitions if not re.search(part.files, definition.file)]
         clauses = [text for _, text in self.clauses_of(part)]
-        self.counts[number] = (len(definitions), lines_of([*clauses, *map(text_of, definitions)]))
+        self.counts[number] = (len(definitions) + len(in_full),
+                               lines_of([*clauses, *map(text_of, definitions), *map(text_of_kit, in_full)]))
         pieces = [self.by_hand(number, self.counts[number])]
         if part is KIT:
             return "\n\n".join([*pieces, self.by_name(definitions, self.library.shown), self.built_in()])
@@ -309,7 +371,8 @@ class Writer:
         if shown != definitions:
             named = (definition for definition in definitions if definition not in shown)
             pieces += ["By name:", self.by_name(named, self.linked)]
-        return "\n\n".join([*pieces, *self.facts.of(part, self.linked)])
+        pieces += self.facts.of(part, self.linked)
+        return "\n\n".join([*pieces, *(self.in_full(in_full) if in_full else ())])
 
     def document(self):
         parts = [self.part(number, part) for number, part in enumerate(PARTS, 1)]

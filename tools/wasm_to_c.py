@@ -8,9 +8,13 @@ things anew, in the frame of the function that is called, so that no variable la
 stack of the machine, as long as the deepest call below needs it (`sp` is its end), and a table of the data that holds
 addresses (`table`).
 
-Nothing here is proved. A table translates each instruction, and `goto` blocks and branches. An instruction that it
-does not know is an error with its name: floats, vectors, calls by table, memory that grows, recursion.
-tests/c/translated.py compares each row, and random functions, with another WebAssembly.
+A table translates each instruction on numbers and each load and store; blocks and branches become `goto`. An
+instruction that the translator does not know is an error with its name: floats, vectors, calls by table, memory that
+grows, recursion.
+
+tests/c/table_proofs.py proves each row of the table by z3, as clang compiles it. Control flow, local variables, the
+stack and the data are tested and not proved: tests/c/translated.py compares each row, and random functions, with
+another WebAssembly.
 """
 
 import re
@@ -375,9 +379,16 @@ def in_c(text, a, b):
 
 
 def frame_of(function):
-    """How much of the stack of the machine a function takes, as it says once where it begins."""
+    """Returns how many bytes of the machine's stack a function takes, which its code states exactly once."""
     code = function.instructions
-    found = [(code[at + 1], code[at + 2].name) for at, instruction in enumerate(code) if instruction.name == "global.get"]
+    reads = [at for at, instruction in enumerate(code) if instruction.name == "global.get"]
+    if len(reads) == 1 and code[reads[0] + 1].name == "local.set":
+        # LLVM may keep the stack pointer in a variable until the frame is first used. Nothing else may be in that variable.
+        variable = code[reads[0] + 1].operand
+        uses = [(at, instruction.name) for at, instruction in enumerate(code)
+                if instruction.name.startswith("local.") and instruction.operand == variable]
+        reads = [at for at, name in uses if name == "local.get"] if [name for _, name in uses] == ["local.set", "local.get"] else []
+    found = [(code[at + 1], code[at + 2].name) for at in reads]
     if len(found) != 1 or found[0][0].name != "i64.const" or found[0][1] not in ("i64.sub", "i64.add"):
         raise Unread(f"{function.name}: how much of the stack it takes")
     (size, how), = found
