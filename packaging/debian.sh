@@ -1,12 +1,13 @@
 #!/bin/sh
 # SPDX-License-Identifier: MIT
 #
-# Makes packages for Debian of a release: unpacks it, puts packaging/debian into it as debian/, and builds it. The packages and
-# the source package stand in DIRECTORY afterwards. You are the maintainer, as DEBFULLNAME and DEBEMAIL name you.
+# Builds Debian packages from a release: unpacks it, adds packaging/debian as debian/, and runs dpkg-buildpackage. DIRECTORY
+# then has the binary packages and the source package. DEBFULLNAME and DEBEMAIL name you as the maintainer.
 #
 #     DEBFULLNAME=NAME DEBEMAIL=ADDRESS packaging/debian.sh minisign-in-rattle-VERSION.tar.gz DIRECTORY
 #
-# It needs dpkg-dev, debhelper and what packaging/debian/control names. Nothing is signed, and nothing is sent anywhere.
+# On Debian `apt install build-essential debhelper libsodium-dev pkg-config` installs everything that this needs. The script
+# signs nothing and uploads nothing.
 set -eu
 if [ $# != 2 ] || [ -z "${DEBFULLNAME-}" ] || [ -z "${DEBEMAIL-}" ]; then
     sed -n 's/^#     //p' "$0" >&2
@@ -22,7 +23,7 @@ tar -xzf "$archive" -C "$room"
 cd "$room/$top"
 cp -R packaging/debian debian
 
-# (the number in the name of the shared library, as c/Makefile has it, is that of the package too)
+# The package of the shared library has the version in its name that c/Makefile puts into the name of the library.
 abi=$(make -s --no-print-directory -C c soname | sed 's/^libminisign\.so\.//')
 date=$(date -u -R -r CHANGELOG.md)
 maintainer=$(printf '%s <%s>' "$DEBFULLNAME" "$DEBEMAIL" | sed 's/[\\&|]/\\&/g')

@@ -1,34 +1,35 @@
 #!/bin/sh
 # SPDX-License-Identifier: MIT
 #
-# Prints the archive of a release, the same bytes each time, each file dated as the commit; `make -C c
-# release` calls it, and checks that dist/ fits the sources.
+# Writes the archive of a release to standard output. The same commit gives the same bytes: each file has the date of the
+# commit. `make -C c release` calls this script, after it has checked that dist/ was built from the sources.
 #
 #     packaging/release.sh NAME > FILE
 #
-# NAME is the directory that the archive unpacks to. Where git knows this repository, the archive has what
-# is tracked, as it stands; elsewhere, as in a release, what is there, but for what was built.
+# NAME is the directory in the archive. In a git repository, the archive contains the tracked files as they are in the
+# working tree. Elsewhere, for example in a release, it contains all files except those that were built.
 set -eu
 name=$1
 cd "$(dirname "$0")/.."
 
-# What a release has: all that is built from and of, and its documents; of the tests the corpus, and what tools/ shares with them.
+# The contents of a release: everything needed to build it and to rebuild dist/, the documents, and from the tests only the
+# corpus and the modules that tools/ uses too.
 parts='CHANGELOG.md CONTRIBUTING.md HANDLES LICENSE SECURITY.md bench/README.md bindings c compare/README.md
     compare/oracle/README.md crates crates.txt dist docs examples include packaging page tools tests/corpus tests/shared'
 
-# Their paths, one a line. What is tracked and removed is not there.
+# Prints the paths of these files, one per line. Tracked files that were deleted are left out.
 list_files() {
     # shellcheck disable=SC2086
     if test -e .git; then
         git ls-files -- $parts
     else
-        find $parts -type d \( -name out -o -name target -o -name __pycache__ \) -prune -o -type f ! -name '*.pyc' -print
+        find $parts -type d \( -name out -o -name target -o -name __pycache__ \) -prune -o -type f ! -name '*.pyc' ! -path 'bindings/go/*.[ach]' -print
     fi | grep -vx 'c/release.md' | while read -r path; do
         test ! -e "$path" || printf '%s\n' "$path"
     done | LC_ALL=C sort
 }
 
-# The moment of the commit, in seconds since 1970; in a release that of its own files.
+# Prints the time of the commit, or in a release that of its files, in seconds since 1970.
 moment() {
     if test -n "${SOURCE_DATE_EPOCH-}"; then
         echo "$SOURCE_DATE_EPOCH"
@@ -47,7 +48,7 @@ list_files >"$room/files"
 test -s "$room/files" || { echo 'packaging/release.sh: no file of the repository is found' >&2; exit 1; }
 tar -cf "$room/archive" -T "$room/files"
 tar -xf "$room/archive" -C "$room/$name"
-# Its README is that of a release, which stays where it is from.
+# The README of a release is c/release.md. It is kept under this name too, so that a release can make a release.
 cp c/release.md "$room/$name/README.md"
 cp c/release.md "$room/$name/c/release.md"
 moment=$(moment)

@@ -1,0 +1,31 @@
+#!/bin/sh
+# SPDX-License-Identifier: MIT
+#
+# Tags a release of the version of include/minisign.h: makes a commit on top of the present one, with the files from which the Go
+# module is built (bindings/go_copies.sh), and the tags vVERSION and bindings/go/vVERSION for it. git ignores these files
+# elsewhere, but `go` fetches the module as a commit has it, so a release's commit needs them. No branch and no file moves.
+#
+#     packaging/tag.sh
+#
+# Run it in a clone without changes, once CI and `make -f tests/Makefile release` have passed. Then push both tags.
+set -eu
+cd "$(dirname "$0")/.."
+version=$(sed -n 's/^.define MINISIGN_VERSION_TEXT "\(.*\)"/\1/p' include/minisign.h)
+test -z "$(git status --porcelain)" || { echo 'packaging/tag.sh: there are changes that are not committed' >&2; exit 1; }
+for tag in "v$version" "bindings/go/v$version"; do
+    ! git rev-parse -q --verify "refs/tags/$tag" >/dev/null || { echo "packaging/tag.sh: there is a tag $tag" >&2; exit 1; }
+done
+make -s -C c current
+sh bindings/go_copies.sh
+
+# The commit is made in an index of its own, so the working files and the branch are unchanged.
+GIT_INDEX_FILE=$(git rev-parse --absolute-git-dir)/tag-index
+export GIT_INDEX_FILE
+trap 'rm -f "$GIT_INDEX_FILE"' EXIT
+trap 'exit 1' HUP INT TERM
+git read-tree HEAD
+git add -f bindings/go/*.[ach]
+commit=$(git commit-tree "$(git write-tree)" -p HEAD -m "release: add the files of the Go module to $version")
+git tag "v$version" "$commit"
+git tag "bindings/go/v$version" "$commit"
+echo "Tagged $commit. Next: git push origin v$version bindings/go/v$version"
