@@ -1,16 +1,16 @@
 #!/usr/bin/env python3
-"""In a fresh Debian, of the release that the documents name, a user without rights builds and tests what needs no kit.
+"""Checks that an ordinary user can build and test in a fresh Debian, of the release that the documents name.
 
-    tests/fresh_debian.py            the scripts that tests/scripts.txt marks by `debian`, which the gate runs nowhere else
-    tests/fresh_debian.py SCRIPT ..  these
-    tests/fresh_debian.py --all      all that need no kit
+    tests/fresh_debian.py            runs the scripts of IN_DEBIAN in tests/Makefile, which CI runs nowhere else
+    tests/fresh_debian.py SCRIPT ..  runs these scripts
+    tests/fresh_debian.py --all      runs all scripts that need no kit
 
-It makes the system by debootstrap, and has a new user, who has the repository at home, run `make -C c check` over the
-scripts. They install nothing, and find no newer compiler. The marked scripts build and install as the documents say,
-by the compilers and tools that those name. The others need root, other compilers, or much more to install.
+It makes the system by debootstrap. A new user, who has the repository at home, runs `make -C c check` over the
+scripts, which install nothing and find no newer compiler. The scripts of IN_DEBIAN build and install as the documents
+say, with the compilers and tools that those name. The others need root, other compilers, or many more packages.
 
-If no fresh Debian can be had, since only root may make one and a mirror has to answer, it says why, and runs the
-marked scripts here. The last line is `N passed, M failed`.
+A fresh Debian needs root and a mirror that answers. Without them the script says why, and runs the scripts here.
+The last line is `N passed, M failed`.
 
 Needs Python 3.9 or later, debootstrap, unshare, and root; it installs debootstrap if it may.
 """
@@ -18,6 +18,7 @@ Needs Python 3.9 or later, debootstrap, unshare, and root; it installs debootstr
 import functools
 import os
 import re
+import shlex
 import shutil
 import subprocess
 import sys
@@ -37,9 +38,9 @@ hold = functools.partial(static_library.hold, seconds=3000)
 SUITE, MIRROR = "bookworm", "http://deb.debian.org/debian"
 USER = "ann"
 HOME = f"/srv/{USER}"
-# What packages.txt names, and no marked script needs: browsers, other compilers and systems, emulators, and what makes packages.
-LEFT_OUT = re.compile(r"acl|chromium|firefox|fonts|lintian|debhelper|dpkg-dev|win|mingw|s390x|riscv64|arm|aarch64|qemu|tcc|"
-                      r"clang|lld|musl|mandoc|mypy|black|rustfmt|typescript|go-minisign|binaryen|nodejs")
+# The packages of packages.txt that no script of IN_DEBIAN needs: browsers, other compilers and systems, emulators, packaging.
+LEFT_OUT = re.compile(r"acl|build-essential|chromium|firefox|fonts|lintian|debhelper|dpkg-dev|win|mingw|s390x|riscv64|arm|aarch64|qemu|"
+                      r"tcc|lld|musl|mandoc|mypy|black|rustfmt|typescript|go-minisign|binaryen|nodejs")
 
 
 def in_debian(root, user, line):
@@ -67,17 +68,16 @@ def make_debian(root, is_all):
 
 
 def main(words):
-    # What `tests/check.py` is told: the marked scripts, all, or those that are named.
-    told = {(): ["--debian"], ("--all",): []}.get(tuple(words), words)
+    targets = {(): ["debian"], ("--all",): ["check"]}.get(tuple(words), ["check", f"ONLY={' '.join(words)}"])
     with tempfile.TemporaryDirectory(prefix="fresh-debian-") as room:
         os.chmod(room, 0o755)
         try:
             make_debian(f"{room}/debian", bool(words))
-            command = in_debian(f"{room}/debian", USER, f"cd minisign && make -s -C c check CHECK='{' '.join(told)}'")
+            command = in_debian(f"{room}/debian", USER, f"cd minisign && make -s -C c check CHECK={shlex.quote(shlex.join(targets))}")
         except (NotBuilt, needs.Missing, OSError, subprocess.SubprocessError) as why:
             print(f"no fresh Debian: {why}; the scripts run here")
-            command = [sys.executable, os.path.join(HERE, "check.py"), *told]
-        return subprocess.run(command, stdin=subprocess.DEVNULL).returncode
+            command = ["make", "--no-print-directory", "-k", "-f", "tests/Makefile", "LOGS=out/debian", *targets]
+        return subprocess.run(command, cwd=os.path.dirname(HERE), stdin=subprocess.DEVNULL).returncode
 
 
 if __name__ == "__main__":

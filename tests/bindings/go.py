@@ -10,11 +10,11 @@ for AArch64 in an emulator; over the calls as C it answers the same here, for AR
 Windows under wine; without cgo a sentence says so. What it answers is compared with `c/minisign`, with libsodium and
 with the header (`ask_all`). 20,000 damaged texts, and keys and signatures that the caller has changed since they were
 read, or put together, get the verdict of go-minisign, which is run beside, but for differences that tables name. The
-program of README.md is built. Each bug of go/planted.txt is noticed. It prints a line for each failure; the last line
-is `N passed, M failed`.
+examples of README.md are pasted into a module and run. Each mutant of go/mutants is noticed. It prints a line for each
+failure; the last line is `N passed, M failed`.
 
-Needs Python 3.9 or later, golang-go, make, a C compiler, binutils and libsodium with its header, and of Debian
-golang-github-jedisct1-go-minisign-dev, gcc-aarch64-linux-gnu, libc6-dev-arm64-cross, gcc-arm-linux-gnueabihf,
+Needs Python 3.9 or later, golang-go, make, clang, a C compiler, binutils, libsodium with its header, minisign, strace, and of
+Debian golang-github-jedisct1-go-minisign-dev, gcc-aarch64-linux-gnu, libc6-dev-arm64-cross, gcc-arm-linux-gnueabihf,
 libc6-dev-armhf-cross, qemu-user-static, gcc-mingw-w64-x86-64, wine64 and git. It installs what is missing if it may.
 """
 
@@ -33,12 +33,13 @@ import emulated
 import ending
 import needs
 import portable
+import process
 import shared_cases
 import static_library
+from mutants import mutants_of
 from shared_cases import TOP, Program, names_in, read, run, write
 
 PACKAGE = os.path.join(TOP, "bindings", "go")
-LINES = 500
 # What tools/bindings.py makes.
 MADE = ("errors.go", "header.go")
 # How many pages of 4 KiB may be in memory after so many calls, or keys, that were not after a tenth of them.
@@ -83,7 +84,8 @@ REJECTED_HERE = {
     "UNTRUSTED_COMMENT_PREFIX": lambda case: not case.signature.startswith(b"untrusted comment: "),
     "PUBLIC_KEY_LENGTH": lambda case: len(line_of(case.key, 2)) != 56,
     "SIGNATURE_NOT_BASE64": lambda case: is_broken(case) or not all(is_canonical(line_of(case.signature, number)) for number in (2, 4)),
-    "SIGNATURE_REFUSED": lambda case: case in [vector for vector, _ in shared_cases.vector_texts()],
+    # A comment signature that is cut short is 64 zero bytes in a Signature.
+    "WEAK_ED25519": lambda case: is_broken(case) or case in [vector for vector, _ in shared_cases.vector_texts()],
 }
 # Which cases go-minisign rejects, by its words, and this package accepts.
 REJECTED_THERE = {
@@ -134,15 +136,21 @@ class Go:
 
 
 def check_sources(checks):
-    """The package is small, and calls C in one file alone."""
+    """Checks that only raw.go calls C, and the README."""
     names = [name for name in os.listdir(PACKAGE) if name.endswith(".go") and not name.endswith("_test.go")]
     texts = {name: read(PACKAGE, name).decode() for name in names if name not in MADE}
     for name, text in texts.items():
         checks.check(name == "raw.go" or 'import "C"' not in text and '"unsafe"' not in text, f"{name}: it calls C")
-    shared_cases.check_written(checks, "go", shared_cases.code_of("\n".join(texts.values())), LINES)
+    shared_cases.check_readme(checks, "go")
 
 
 # ---- What its programs answer ----
+
+
+def shown(reading):
+    """The key IDs of a key and of a signature, as bytes and as text, and the signature's algorithm."""
+    ids = reading.key_id, reading.signature_key_id
+    return " ".join([*(key_id.hex() for key_id in ids), *map(shared_cases.shown_id, ids), "Ed" if reading.is_legacy else "ED"])
 
 
 def ask_all(program, room, minisign, cases):
@@ -150,9 +158,9 @@ def ask_all(program, room, minisign, cases):
     told = lambda name: rf'rejected {name} "minisign: .*"'
     program.ask_answers(minisign, cases, (["verify"], True), (["files", room], True),
                         *((["pieces", str(length)], False) for length in (1, 128, 1000, 0)))
-    program.ask_reasons(["verify"], shared_cases.vector_texts(), told)
+    program.ask_vectors(["verify"], told)
     program.ask_reasons(["pieces", "7"], shared_cases.rejections(), told)
-    program.ask_readings(["read"], lambda reading: f"{reading.key_id.hex()} {reading.signature_key_id.hex()} {'Ed' if reading.is_legacy else 'ED'}")
+    program.ask_readings(["read"], shown)
     record = base64.b64decode(shared_cases.LETTERS)
     program.ask_bare(f"{record[2:10].hex()} {record[10:].hex()} <nil>", *[".*minisign: base64 conversion failed.*"] * 3)
 
@@ -207,21 +215,22 @@ def check_signing(program, room, minisign, opens=True):
     program.ask_itself(20, "shown")
     program.ask_itself(9, "wrong")
     shared_cases.check_signing(program, room, minisign, opens=opens)
+    shared_cases.check_key_ids(program, os.path.join(room, "ids"), minisign)
+    shared_cases.check_written(program, os.path.join(room, "written"))
 
 
-# What the examples say of `app`, which is a kept file, with or without the published signature beside it.
-README = [("test", True, 0, "trusted comment: timestamp:1556193335\tfile:test <nil> 4\n", ""),
-          ("hello", True, 1, "", "Signature verification failed"), ("test", False, 1, "", "no such file or directory")]
+# What the example of README.md that verifies says of `app`, which is a kept file, with or without the published signature beside it.
+VERIFIED = [("test", True, 0, "trusted comment: timestamp:1556193335\tfile:test\n", ""),
+            ("hello", True, 1, "", "Signature verification failed"), ("test", False, 1, "", "no such file or directory")]
 
 
 def check_readme(checks, go, room, package, minisign):
-    """The examples of README.md accept a file that its key has signed, and no other one; and sign one."""
+    """The examples of README.md, each pasted into a file of a user's module: they are built, verify a file that its key has signed, and no
+    other one; make a key, sign by it, and verify a stream."""
     directory = os.path.join(room, "readme")
     os.makedirs(directory)
-    program = read(HERE, "go", "readme.go").decode()
-    for mark, example in zip(("VERIFY", "SIGN", "STREAM"), re.findall(r"```go\n(.*?)```", read(package, "README.md").decode(), re.S)):
-        program = program.replace(f"\t// {mark}\n", example)
-    write(directory, "main.go", program.encode())
+    for number, example in enumerate(shared_cases.readme_blocks("go")):
+        write(directory, f"example{number}.go", example.encode())
     go.begin(directory, package)
     # (it is built of what Go has put into its directory `vendor`, as if nothing else were there)
     go.run(directory, "mod", "vendor")
@@ -229,17 +238,20 @@ def check_readme(checks, go, room, package, minisign):
     os.rename(package, away)
     go.run(directory, "build", "-mod=vendor", "-o", "readme")
     os.rename(away, package)
-    shutil.copy(shared_cases.PATHS[1], os.path.join(directory, "app"))
-    run([minisign, "-G", "-W", "-s", "app.key", "-p", "app.pub"], directory)
-    ran = run(["./readme", "sign"], directory)
-    verified = run([minisign, "-V", "-Q", "-p", "app.pub", "-m", "app"], directory)
-    checks.check((ran[0], verified[1]) == (0, b"version:2\tfile:app\n"), f"the example of README.md that signs: {ran} {verified}")
-    for app, is_signed, *wanted, why in README:
+    for app, is_signed, *wanted, why in VERIFIED:
+        write(directory, "app.minisig", b"")
         os.remove(os.path.join(directory, "app.minisig"))
         for name, kept in (("app", app), ("app.minisig", "published.minisig"))[:1 + is_signed]:
             shutil.copy(os.path.join(shared_cases.CORPUS, kept), os.path.join(directory, name))
         status, said, told = run(["./readme"], directory)
-        checks.check([status, said.decode()] == wanted and why in told, f"the examples of README.md, {app}: {status} {said!r} {told}")
+        checks.check([status, said.decode()] == wanted and why in told, f"the example that verifies, {app}: {status} {said!r} {told}")
+    shutil.copy(os.path.join(HERE, "go", "readme.go"), os.path.join(directory, "readme_test.go"))
+    write(directory, "app-3", b"version 3")
+    said = go.run(directory, "test", "-mod=mod", "-count=1", "-v", ".")
+    checks.check("--- PASS: TestExamples" in said, f"the examples that sign: {said[-800:]}")
+    checks.check(os.stat(os.path.join(directory, "new.key")).st_mode & 0o777 == 0o600, "the mode of the key that the example makes")
+    verified = run([minisign, "-V", "-Q", "-p", "new.pub", "-m", "app-3"], directory)
+    checks.check(verified[:2] == (0, b"version:3\tfile:app\n"), f"what the example has signed: {verified}")
 
 
 # ---- Where it is built ----
@@ -248,7 +260,7 @@ def check_readme(checks, go, room, package, minisign):
 NEEDED = ("go", "gcc", "ld", "as", "git")
 # For another system or the race detector all of Go's own library is compiled, in less time unoptimized, but for what an emulator computes.
 QUICKLY = ["-gcflags=all=-N -l -dwarf=false", "-gcflags=crypto/...=-dwarf=false", "-ldflags=-w"]
-NO_CGO = "minisign calls C: set CGO_ENABLED=1, and CC to a C compiler for this system"
+NO_CGO = "minisign needs cgo: set CGO_ENABLED=1, and CC to a C compiler for this system"
 
 
 def check_own_tests(checks, go, package):
@@ -280,15 +292,31 @@ def check_as_c(checks, go, room, package, minisign):
 
 
 def check_by_git(checks, room):
-    """As a dependency by a git path of `example.com`, in a path with blanks, with few programs in PATH and no make; over the archives."""
+    """The commit that packaging/tag.sh makes is a dependency by a git path of `example.com`, by its tag and by its commit, in a path with
+    blanks, with few programs in PATH and no make, over the archives. A commit without a tag does not have the C files."""
     clone, own = commands.Clone(room), os.path.join(room, "repository.git")
     os.rename(clone.top, own)
     config = write(room, "gitconfig", f'[url "file://{room}/"]\n\tinsteadOf = https://example.com/\n'.encode())
     go = Go(room, PATH=shared_cases.few_programs(room, *NEEDED), GIT_CONFIG_GLOBAL=config, GOSUMDB="off", GOFLAGS="-mod=mod -modcacherw", GOPROXY="direct")
-    commit = clone.git("rev-parse", "HEAD", at=own).strip()
-    program = go.build("answers.go", os.path.join(room, "a user's module"), f"example.com/repository.git/bindings/go@{commit}")
-    said = Program(checks, program).run("verify", cases=shared_cases.corpus()[:1])[1]
-    checks.check(said.startswith(b"accepted") and "machine_minisign_update" not in names_in(program), f"by a git path: {said!r}")
+    untagged, files = (clone.git("rev-parse", "HEAD", at=own).strip(), clone.git("ls-files", at=own))
+    write(own, ".git/config", read(own, ".git/config") + b"[user]\n\tname = Ann\n\temail = ann@example.com\n")
+    checks.ended("packaging/tag.sh", process.run(["sh", "packaging/tag.sh"], own), says=f" v{shared_cases.VERSION} bindings/go/v{shared_cases.VERSION}\n")
+    commit, branch = (clone.git("rev-parse", name, at=own).strip() for name in (f"v{shared_cases.VERSION}", "HEAD"))
+    added = {*clone.git("diff", "--name-only", untagged, commit, at=own).split()}
+    checks.check(added and all(re.fullmatch(r"bindings/go/[\w-]+\.[ach]", name) for name in added), f"the tagged commit adds {added}")
+    unchanged = (untagged, files, "") == (branch, clone.git("ls-files", at=own), clone.git("status", "--porcelain", at=own))
+    checks.check(unchanged, "packaging/tag.sh moved the branch or changed its index")
+    status, said = process.run(["sh", "packaging/tag.sh"], own)
+    checks.check(status == 1 and "there is a tag" in said, f"a second tag: status {status}: {said}")
+    for at in (commit, f"v{shared_cases.VERSION}"):
+        program = go.build("answers.go", os.path.join(room, f"a user's module at {at}"), f"example.com/repository.git/bindings/go@{at}")
+        said = Program(checks, program).run("verify", cases=shared_cases.corpus()[:1])[1]
+        checks.check(said.startswith(b"accepted") and "machine_minisign_update" not in names_in(program), f"by a git path at {at}: {said!r}")
+    try:
+        go.build("answers.go", os.path.join(room, "without a tag"), f"example.com/repository.git/bindings/go@{untagged}")
+        checks.check(False, "a commit without a tag is built")
+    except static_library.NotBuilt as why:
+        checks.check("archive.h" in str(why), f"a commit without a tag: {why}")
 
 
 def check_without_cgo(checks, go, room, package):
@@ -311,8 +339,8 @@ def with_compiled_c(go, package, room):
     return copied
 
 
-def check_planted(checks, go, package, room, minisign):
-    """Each planted bug is noticed by what is asked of a program over the changed package."""
+def check_mutants(checks, go, package, room, minisign):
+    """Each mutant is noticed by what is asked of a program over the changed package."""
     def ask(found, changed, directory, word):
         built = lambda name: go.build(f"{name}.go", os.path.join(directory, name), changed, "-ldflags=-s -w")
         if word == "sign":
@@ -322,7 +350,7 @@ def check_planted(checks, go, package, room, minisign):
             check_changed(found, built("changed"))
 
     compiled = with_compiled_c(go, package, room)
-    shared_cases.check_planted(checks, compiled, shared_cases.bugs_of(HERE, "go", "planted.txt"), room, ask)
+    shared_cases.check_mutants(checks, compiled, "bindings/go", mutants_of("bindings", "go", "mutants"), room, ask)
 
 
 def run_all(checks, room):
@@ -353,7 +381,7 @@ def run_all(checks, room):
     check_changed(checks, go.build("changed.go", os.path.join(room, "changed"), package, **Go.AS_USUAL))
     check_go_minisign(checks, go, room, program)
     check_readme(checks, go, room, package, minisign)
-    check_planted(checks, go, package, room, minisign)
+    check_mutants(checks, go, package, room, minisign)
     check_without_cgo(checks, go, room, package)
     check_as_c(checks, go, room, package, minisign)
     check_by_git(checks, room)

@@ -7,14 +7,16 @@ without network and kit.
 
 The module is that of PAGE, by default the one of `dist/`. What it answers is compared with `c/minisign`, with libsodium
 and with the header (`ASKED`), and its list of errors and its sizes of structs with the header. The types need neither
-those of the web nor those of Node. The examples of README.md run. It runs where there is nothing but the language and a
-few globals that browsers, Node, Deno and workers all have, and needs each of these. Each bug of javascript/planted.txt
-is noticed. Where there is no npm, all files are packed that it could take. It prints a line for each failure; the last
-line is `N passed, M failed`.
+those of the web nor those of Node. The examples of README.md are programs as they are pasted, each of which runs and
+has the right types. It runs where there is nothing but the language and a few globals that browsers, Node, Deno and
+workers all have, and needs each of these. Options are plain objects; long data does not block the event loop; a new
+key file is its owner's; a cleared key leaves no seed in memory; and a bundle that only verifies has no signing code.
+Each mutant of javascript/mutants is noticed. Where there is no npm, all files are packed that it could take. It
+prints a line for each failure; the last line is `N passed, M failed`.
 
-Needs Python 3.9 or later, nodejs (the one that the environment names NODE, if any), node-typescript, make, clang,
-lld, a C compiler, libsodium with its header, and for the browsers chromium, chromium-driver and firefox-esr. It
-installs what is missing if it may.
+Needs Linux, Python 3.9 or later, nodejs (the one that the environment names NODE, if any), node-typescript, esbuild,
+make, clang, lld, a C compiler, libsodium with its header, and for the browsers chromium, chromium-driver and
+firefox-esr. It installs what is missing if it may.
 """
 
 import functools
@@ -30,20 +32,23 @@ HERE = os.path.dirname(os.path.realpath(__file__))
 sys.path += [HERE, *(os.path.join(HERE, "..", name) for name in ("shared", "page"))]
 
 import ending
+import javascript_memory
 import needs
 import shared_cases
 import static_library
 from browser import Chromium
 from firefox import Firefox
+from mutants import mutants_of
 from shared_cases import PATHS, PUBLISHED, TOP, Program, read, run, write
+from texts import record_of, text_of
 
 PACKAGE = os.path.join(TOP, "bindings", "javascript")
-PROGRAMS = [os.path.join(HERE, "javascript", name) for name in ("answers.mjs", "signing.mjs", "streams.mjs", "bare.mjs")]
+PROGRAMS = [os.path.join(HERE, "javascript", f"{name}.mjs") for name in (
+    "answers", "signing", "streams", "bare", "options", "long", "files", "heap", "bundled", "bundled_signing")]
 MODULE, SIGNING_MODULE = "module.js", "signing_module.js"
 # What tools/bindings.py makes, and which part of calls.js.
 MADE = ("errors.js", "header.js")
 MADE_IN_CALLS = re.compile("// ---- Of include/minisign.h, made by tools/bindings.py ----.*// ---- What is made ends here ----", re.S)
-LINES = 600
 # The globals that the package uses besides those of the language. All are of the web, and of the list that all of these have
 # (the "Minimum common web platform API").
 GLOBALS = ("TextDecoder", "TextEncoder", "WebAssembly", "atob", "crypto")
@@ -54,7 +59,7 @@ KEYS, GROWTH_OF_KEYS = 1_000, 16 * 1048576
 # What becomes of streams, each tried in a program of its own, which an error that is lost would end.
 STREAMS = ("aborted", "cancelled", "descriptors", "late", "event", "both", "absent", "opening", "begun", "between", "web", "accepted")
 # The errors of the header that verifying has besides usage errors.
-VERIFYING = {8, *range(16, 33), 44, 45}
+VERIFYING = {8, *range(16, 33), 44, 45, 81}
 
 
 def made(room, page):
@@ -71,34 +76,32 @@ def made(room, page):
     return user
 
 
-def text_of(name):
+def text_of_package(name):
     return read(PACKAGE, name).decode()
 
 
 def check_sources(checks, user):
-    """The package is small, names its files and the header's version, calls the module in one file alone, and has the errors of
-    the header that verifying has."""
-    described = json.loads(text_of("package.json"))
+    """Checks that package.json names the files and the version, that only calls.js calls the module, and that the errors are those
+    of the header."""
+    described = json.loads(text_of_package("package.json"))
     checks.same(described["version"], shared_cases.VERSION, "the version of package.json")
     names = {name for name in os.listdir(os.path.join(user, "node_modules", "minisign-proved")) if name.endswith((".js", ".ts"))}
     checks.check(set(described["files"]) == names, f"package.json names {described['files']}, and there are {sorted(names)}")
-    code = []
     for name in sorted(names - {MODULE, SIGNING_MODULE, *MADE}):
-        bare = re.sub(r"/\*.*?\*/", "", MADE_IN_CALLS.sub("", text_of(name)), flags=re.S)
-        code += [] if name.endswith(".d.ts") else shared_cases.code_of(bare)
+        bare = re.sub(r"/\*.*?\*/", "", MADE_IN_CALLS.sub("", text_of_package(name)), flags=re.S)
         checks.check(name == "calls.js" or not re.search(r"page_|WebAssembly\.|\.memory\b|\.calls\b", bare), f"{name}: it calls the module")
-    shared_cases.check_written(checks, "javascript", code, LINES)
-    wanted, found = shared_cases.ERRORS, re.search(r"ERRORS = Object\.freeze\(\{(.*?)\}\)", text_of("errors.js"), re.S)[1]
+    shared_cases.check_readme(checks, "javascript")
+    wanted, found = shared_cases.ERRORS, re.search(r"ERRORS = Object\.freeze\(\{(.*?)\}\)", text_of_package("errors.js"), re.S)[1]
     errors = {name: int(number) for name, number in re.findall(r"(\w+): (\d+)", found)}
     checks.check(errors == wanted, f"errors.js has other errors than the header: {set(errors.items()) ^ set(wanted.items())}")
-    typed = set(re.findall(r'"([A-Z0-9_]+)"', re.search(r"type ErrorCode =(.*?);", text_of("errors.d.ts"), re.S)[1]))
+    typed = set(re.findall(r'"([A-Z0-9_]+)"', re.search(r"type ErrorCode =(.*?);", text_of_package("errors.d.ts"), re.S)[1]))
     checks.check(typed == set(wanted), f"errors.d.ts has other errors than the header: {typed ^ set(wanted)}")
-    sizes = {name: int(size) for name, size in re.findall(r"const (STATE|KEY|SIGNATURE|QUESTIONS)_BYTES = (\d+);", text_of("calls.js"))}
+    sizes = {name: int(size) for name, size in re.findall(r"const (STATE|KEY|SIGNATURE|QUESTIONS)_BYTES = (\d+);", text_of_package("calls.js"))}
     places = shared_cases.layout(user)
     structs = {"STATE": "state", "KEY": "public_key", "SIGNATURE": "signature", "QUESTIONS": "questions"}
     checks.check(sizes == {name: places[f"minisign_{of}"] for name, of in structs.items()}, f"calls.js has other sizes than the header: {sizes}")
     for struct, count in (("SIGNATURE", 2), ("QUESTIONS", 8)):
-        told = re.search(rf"const {struct} = \{{(.*?)\}};", text_of("calls.js"), re.S)[1]
+        told = re.search(rf"const {struct} = \{{(.*?)\}};", text_of_package("calls.js"), re.S)[1]
         found = {name: int(at) for name, at in re.findall(r"(\w+): (\d+)", told)}
         wanted_at = {name: places[f"minisign_{struct.lower()}.{name}"] for name in found}
         checks.check(len(found) >= count and found == wanted_at, f"calls.js has {struct} at {found}, and the header at {wanted_at}")
@@ -118,7 +121,7 @@ def ask_cases(program, minisign, cases):
     """With legacy signatures and without."""
     program.ask_answers(minisign, cases, (["cases", "legacy"], True), (["cases"], False))
     program.ask_reasons(["cases"], shared_cases.rejections())
-    program.ask_reasons(["cases", "legacy"], shared_cases.vector_texts())
+    program.ask_vectors(["cases", "legacy"])
 
 
 def ask_pieces(program, minisign, _):
@@ -132,7 +135,6 @@ def ask_itself(program, *_):
     for least, word in ((32, "wrong"), (10, "verifier"), (9, "letters")):
         program.ask_itself(least, word, cases=[PUBLISHED])
     program.ask_comments(["comment"])
-    program.ask_vectors(["vectors"])
 
 
 def ask_streams(program, *_):
@@ -144,7 +146,7 @@ def ask_readings(program, minisign, _):
     """It tells which key a signature names, and whether it is legacy, before anything is asked; and verifies with what was read."""
     def form(reading):
         comment, = shared_cases.answers_of(minisign, [reading.case], allow_legacy)
-        ids = " ".join(f"{shared_cases.shown_id(key_id):0>16}" for key_id in (reading.key_id, reading.signature_key_id))
+        ids = " ".join(map(shared_cases.shown_id, (reading.key_id, reading.signature_key_id)))
         verdict = shared_cases.rejected(".*") if comment is None else shared_cases.accepted(comment)
         return f"{ids} {str(reading.is_legacy).lower()} {verdict}"
 
@@ -152,11 +154,25 @@ def ask_readings(program, minisign, _):
         program.ask_readings(words, form)
         rows = [(case, name) for case, name in shared_cases.rejections()
                 if case.signature != PUBLISHED.signature and not (allow_legacy and name == "LEGACY_NOT_ACCEPTED")]
-        program.ask_reasons(words, rows, lambda name: rf"([0-9A-F]{{16}} [0-9A-F]{{16}} (true|false) )?rejected {name}")
+        program.ask_reasons(words, rows, lambda name: rf"([0-9A-F]{{1,16}} [0-9A-F]{{1,16}} (true|false) )?rejected {name}")
+
+
+def ask_options(program, *_):
+    """Options are plain objects with own, known properties, whatever Object.prototype has."""
+    paths = [PATHS[0], PATHS[1], os.path.join(shared_cases.CORPUS, "published-legacy.minisig")]
+    for least, word in ((120, "kinds"), (100, "polluted")):
+        by_node(program.checks, program.directory, "options.mjs").ask_itself(least, word, *paths)
+
+
+def ask_long(program, *_):
+    """Other tasks run while long data is read, so that an AbortSignal ends it."""
+    for least, word in ((6, "verifying"), (1, "signing"), (3, "timers"), (2, "same"), (8, "cut")):
+        by_node(program.checks, program.directory, "long.mjs").ask_itself(least, word, PATHS[0], PATHS[2])
 
 
 # All that is asked of the programs that verify.
-ASKED = {"cases": ask_cases, "pieces": ask_pieces, "read": ask_readings, "itself": ask_itself, "streams": ask_streams}
+ASKED = {"cases": ask_cases, "pieces": ask_pieces, "read": ask_readings, "itself": ask_itself, "streams": ask_streams, "options": ask_options,
+         "long": ask_long}
 
 
 def check_signing(checks, user, room, minisign, opens=True):
@@ -169,22 +185,119 @@ def check_signing(checks, user, room, minisign, opens=True):
     return program
 
 
-def check_readme(checks, user):
-    """The examples of the README accept data that its key has signed, and reject other data; and sign."""
-    verifying, signing, streaming = re.findall(r"^```js\n(.*?)^```$", text_of("README.md"), re.M | re.S)
-    given = 'import {readFileSync} from "node:fs";\nconst [data, signature] = process.argv.slice(-2).map(name => readFileSync(name));\n'
-    data, hello = PATHS[1], os.path.join(shared_cases.CORPUS, "hello")
-    verified, told = (text.encode() for text in ("verified, and signed with it: timestamp:1556193335\tfile:test\n",
-                                                 "E7620F1842B4E81F timestamp:1556193335\tfile:test\n"))
-    verifies = f"{signing}import {{verify}} from 'minisign-proved'; console.log((await verify(data, minisig, pub)).trustedComment);\n"
-    has = f'const key = "{shared_cases.LETTERS}", pieces = [data];\n'
-    for name, example, rows in (("readme.mjs", verifying, ((data, verified, ""), (hello, b"", "SIGNATURE_REFUSED"))),
-                                ("streamed.mjs", has + streaming, ((data, told, ""), (hello, told, "SIGNATURE_REFUSED"))),
-                                ("signed.mjs", verifies, ((data, b"version:2\n", ""),))):
-        write(user, name, (given + example).encode())
-        for path, wanted, reason in rows:
-            status, said, why = by_node(checks, user, name).run(path, PATHS[2])
-            checks.check((status, said) == (int(reason != ""), wanted) and (reason in why if reason else why == ""), f"the README's {name}: {status} {said} {why}")
+# Names of files: in a directory, with letters of other languages and with what separates fields.
+NAMES = ["app", "an app (1) \u00e9.tar.gz", "below/app.zip", "tab\there"]
+# Key IDs with leading zeros and without, as numbers.
+KEY_IDS = [0, 1, 0x0F, 0x10, 0xABCDEF0123, 0x0123456789ABCDEF, 0xE7620F1842B4E81F, 2**64 - 1]
+
+
+def check_files(checks, user, room, minisign):
+    """The default trusted comment of a file is that of `c/minisign`; a new key file is its owner's and replaces nothing; and a key ID
+    is what `c/minisign` prints."""
+    os.makedirs(os.path.join(room, "below"))
+    os.makedirs(os.path.join(room, "full"))
+    program, secret = by_node(checks, user, "files.mjs"), os.path.join(room, "key")
+    run([minisign, "-G", "-W", "-s", "key", "-p", "pub"], room)
+    for name in NAMES:
+        write(room, name, b"data")
+        run([minisign, "-S", "-s", "key", "-m", name, "-x", "sig"], room)
+        wanted = re.sub(rb"timestamp:\d+", b"timestamp:TIME", read(room, "sig").split(b"\n")[2] + b"\n")
+        status, said, why = program.run("comments", os.path.join(room, name))
+        checks.check((status, said) == (0, wanted), f"the default comment of {name!r}: {said} {why} in place of {wanted}")
+    program.ask_itself(25, "names")
+    os.makedirs(os.path.join(room, "new"))
+    program.ask_itself(33, "new", os.path.join(room, "new"))
+    # (a limit of the size of files, which no file can have a byte under; Node ignores the signal)
+    command = ["sh", "-c", 'ulimit -f 0; exec "$@"', "sh", *program.command, "full", os.path.join(room, "full")]
+    status, said, why = run(command, user, program.environment)
+    checks.check((status, said) == (0, b"EFBIG\tEFBIG\n\t\n"), f"a new file that cannot be written: {status} {said} {why}")
+    record = record_of(read(secret))
+    for number in KEY_IDS:
+        path = write(room, "other", text_of(record[:54] + number.to_bytes(8, "little") + record[62:126] + bytes(32)))
+        run([minisign, "-R", "-f", "-s", path, "-p", "other.pub"], room)
+        wanted = f"{number:X}\n{read(room, 'other.pub').decode().splitlines()[0]}\n"
+        status, said, why = program.run("ids", path)
+        checks.check((status, said.decode()) == (0, wanted), f"the key ID {number:#x}: {said} {why} in place of {wanted!r}")
+
+
+# How often the seed may be found in what malloc has freed: WebCrypto leaves some copies there, but none for each signature.
+MOST_FREED = 10
+# How often a search is repeated that finds the seed. A leak is found each time; what malloc has freed is sometimes reused late.
+SEARCHES = 3
+
+
+def check_memory(checks, user, room, minisign):
+    """While a key is in use, and after it was cleared, its seed is nowhere in the engine's heap, of which nobody can clear it; and after
+    it was cleared no more copies are left than WebCrypto leaves."""
+    run([minisign, "-G", "-W", "-s", "open", "-p", "pub"], room)
+    write(room, "sealed", shared_cases.sealed(read(room, "open"), shared_cases.LIMITS[4][0]))
+    program, ways = by_node(checks, user, "heap.mjs"), (["generate"], ["read", f"{room}/open"], ["read", f"{room}/sealed", shared_cases.PASSWORD])
+    for words in ways:
+        environment = dict(os.environ, **program.environment)
+        for _ in range(SEARCHES):
+            found = javascript_memory.search([*program.command, *words], user, environment, MOST_FREED)
+            (used_freed, used), (freed, cleared) = found
+            is_clean = used_freed > 0 and used == cleared == 0 and freed <= MOST_FREED
+            if is_clean:
+                break
+        checks.check(is_clean, f"{words[0]}: the seed is in memory (malloc, others): {found}")
+
+
+# What only a bundle that signs has.
+OF_SIGNING = ("pkcs8", "minisign_signed_text", "minisign_read_secret_key")
+
+
+def check_bundles(checks, user, room, _):
+    """A bundle of a program that only verifies has nothing of signing, and one of a program that signs has all of it. Both run."""
+    esbuild, of_module = needs.program("esbuild", "esbuild"), read(user, "node_modules", "minisign-proved", SIGNING_MODULE).decode()
+    of_signing = [*OF_SIGNING, re.search('"(.*)"', of_module)[1][:1000]]
+    words = [part.hex() for part in PUBLISHED[1:]]
+    for name, comment in (("bundled", "timestamp:1556193335\tfile:test"), ("bundled_signing", "signed")):
+        for form in [[f"--format={form}", f"--platform={platform}"] for form in ("esm", "cjs", "iife") for platform in ("node", "browser", "neutral")]:
+            made = os.path.join(room, "made.mjs" if "esm" in form[0] else "made.cjs")
+            told = run([esbuild, f"{name}.mjs", "--bundle", "--minify", "--log-level=warning", f"--outfile={made}", *form], user)
+            text = read(made).decode()
+            has = [part in text for part in of_signing]
+            checks.check(has == [name == "bundled_signing"] * len(has), f"esbuild {name} {form}: signing: {has}, {told}")
+            status, said, why = by_node(checks, user, made).run(*words)
+            checks.check((status, said.decode()) == (0, f"{comment}\n"), f"esbuild {name} {form}: {status} {said} {why}")
+            if name == "bundled":
+                named = re.search(r"bundle has (\d+) kB", text_of_package("README.md"))
+                checks.check(named and abs(len(text) - 1000 * int(named[1])) < 1000, f"README.md does not say that a bundle has {len(text)} bytes")
+
+
+def check_readme(checks, user, room, minisign):
+    """Each block of the README is a program as it is pasted: all run in one project, in their order, and have the right types. The one
+    that verifies, and the one that reads a stream, reject other data; `c/minisign` accepts what the one that signs has written."""
+    directory = shutil.copytree(user, os.path.join(room, "user"))
+    blocks = shared_cases.readme_blocks("javascript")
+    for name, text in (("app", read(PATHS[1])), ("app.minisig", read(PATHS[2])), ("release.zip", b"a release\n")):
+        write(directory, name, text)
+    for number, block in enumerate(blocks):
+        write(directory, f"readme-{number}.mjs", block.encode())
+        write(directory, f"readme-{number}.ts", block.encode())
+    for name in ("readme.json", "readme_node.d.ts"):
+        shutil.copy(os.path.join(HERE, "javascript", name), directory)
+    status, said, why = run([needs.program("tsc", "node-typescript"), "-p", "readme.json"], directory)
+    checks.check(status == 0, f"the types of the README's blocks: {said.decode()[-1500:]}{why}")
+    status, said, why = run([minisign, "-V", "-q", "-p", "minisign.pub", "-m", "release.zip"], directory)
+    checks.check(status != 0, "there is a signature before the README's block has made it")
+    verified = "verified, and signed with it: timestamp:1556193335\tfile:test\n"
+    streamed = r"[0-9A-F]{1,16} timestamp:\d+\tfile:release.zip\thashed\n"
+    rows = [("app", verified, "SIGNATURE_REFUSED"), (None, "", None), ("release.zip", streamed, "SIGNATURE_REFUSED")]
+    checks.same(len(blocks), len(rows), "the number of the README's blocks")
+    for number, (data, wanted, reason) in enumerate(rows):
+        program = by_node(checks, directory, f"readme-{number}.mjs")
+        status, said, why = program.run()
+        checks.check(status == 0 and re.fullmatch(wanted, said.decode()) and why == "", f"the README's block {number}: {status} {said} {why}")
+        if reason:
+            write(directory, data, read(directory, data) + b"x")
+            status, said, why = program.run()
+            checks.check(status == 1 and reason in why, f"the README's block {number} of other data: {status} {said} {why}")
+            write(directory, data, read(directory, data)[:-1])
+    status, _, why = run([minisign, "-V", "-q", "-p", "minisign.pub", "-m", "release.zip"], directory)
+    checks.check(status == 0, f"c/minisign of what the README's block has signed: {why}")
+    checks.same(os.stat(os.path.join(directory, "minisign.key")).st_mode & 0o777, 0o600, "the mode of the README's key")
 
 
 def check_types(checks, user):
@@ -214,8 +327,8 @@ Handler = type("Handler", (http.server.SimpleHTTPRequestHandler,), {"log_message
 
 def check_browsers(checks, user, room, minisign):
     """It answers in a page and in a worker of Chromium and of Firefox what it has to."""
-    kept, vectors = shared_cases.corpus(), [case for case, _ in shared_cases.vectors()]
-    cases = kept + shared_cases.damaged() + [case for case, _ in shared_cases.vector_texts()]
+    kept, vectors = shared_cases.corpus(), [case for case, _ in shared_cases.vector_texts()]
+    cases = kept + shared_cases.damaged()
     asked = {"cases": cases, "pieces": kept, "vectors": vectors}
     digits = {what: [[part.hex() for part in case[1:]] for case in of] for what, of in asked.items()}
     run([minisign, "-G", "-W", "-s", "strong", "-p", "public"], room)
@@ -250,6 +363,8 @@ def check_told(checks, what, answers, room, minisign, cases):
     program.ask_answers(minisign, shared_cases.corpus(), (["pieces"], False))
     program.ask_vectors(["vectors"])
     checks.check(answers["cancelled"], f"{what}: a stream is not cancelled")
+    checks.check(answers["aborted"], f"{what}: an abort by a timer does not end the verification of a long array")
+    checks.same(answers["comment"], "timestamp:TIME\tfile:app 1.zip\thashed", f"{what}, the default comment of a File")
     checks.same(answers["signs"], "version:2,true,false,version:2,true,false KEY_NOT_OPENED", f"{what}, signing")
     for name, text in zip(("sealed", "sealed.pub"), answers["pair"]):
         write(room, name, text.encode())
@@ -258,23 +373,35 @@ def check_told(checks, what, answers, room, minisign, cases):
     checks.check(found[:2] == (0, f"{what}\n".encode()), f"{what}: c/minisign does not sign by a sealed key: {found}")
 
 
-def check_planted(checks, user, room, minisign):
-    """Each planted bug is noticed by what is asked of the programs over the changed package, in Node."""
+# What is checked in a directory of its own.
+IN_ROOMS = {"files": check_files, "memory": check_memory, "bundles": check_bundles, "readme": check_readme}
+
+
+def room_of(room, name):
+    """A new directory in a room."""
+    os.makedirs(os.path.join(room, name))
+    return os.path.join(room, name)
+
+
+def check_mutants(checks, user, room, minisign):
+    """Each mutant is noticed by what is asked of the programs over the changed package, in Node."""
     def ask(found, changed, directory, word):
         """Asks in a copy of the user's directory, over the changed package."""
         copied = shutil.copytree(user, os.path.join(directory, "user"), ignore=shutil.ignore_patterns("minisign-proved"))
         os.symlink(changed, os.path.join(copied, "node_modules", "minisign-proved"))
         if word == "sign":
             check_signing(found, copied, os.path.join(directory, "signed"), minisign, opens=False)
+        elif word in IN_ROOMS:
+            IN_ROOMS[word](found, copied, room_of(directory, word), minisign)
         else:
             ASKED[word](by_node(found, copied, "answers.mjs"), minisign, shared_cases.corpus())
 
     package = os.path.join(user, "node_modules", "minisign-proved")
-    shared_cases.check_planted(checks, package, shared_cases.bugs_of(HERE, "javascript", "planted.txt"), room, ask)
+    shared_cases.check_mutants(checks, package, "bindings/javascript", mutants_of("bindings", "javascript", "mutants"), room, ask)
 
 
 def run_all(checks, room):
-    page = os.path.realpath(sys.argv[1]) if len(sys.argv) > 1 else os.path.join(TOP, "dist", "minisign.html")
+    page = next(filter(os.path.isfile, sys.argv[1:]), os.path.join(TOP, "dist", "minisign.html"))
     user, minisign = made(room, page), shared_cases.c_minisign(room)
     check_sources(checks, user)
     cases = shared_cases.all_cases(checks, minisign)
@@ -286,12 +413,15 @@ def run_all(checks, room):
     tried = {name for _, name in shared_cases.rejections()} | {"BARE_PUBLIC_KEY_LENGTH", "BARE_PUBLIC_KEY_NOT_BASE64"}
     wanted = {name for name, number in shared_cases.ERRORS.items() if number in VERIFYING}
     checks.check(tried == wanted, f"an error is not tried: {tried ^ wanted}")
-    check_signing(checks, user, os.path.join(room, "signed"), minisign).ask_growth(KEYS, GROWTH_OF_KEYS)
-    check_readme(checks, user)
+    signing = check_signing(checks, user, os.path.join(room, "signed"), minisign)
+    if signing:
+        signing.ask_growth(KEYS, GROWTH_OF_KEYS)
+    for name, check in IN_ROOMS.items():
+        check(checks, user, room_of(room, name), minisign)
     check_types(checks, user)
     check_bare(checks, user)
     check_browsers(checks, user, room, minisign)
-    check_planted(checks, user, room, minisign)
+    check_mutants(checks, user, room, minisign)
 
 
 if __name__ == "__main__":

@@ -7,8 +7,8 @@ rustfmt, gofmt, black, and prettier.
 Debian has the first three, which run here; they also lay out what tools/bindings.py makes. Of JavaScript, whose
 formatter Debian does not have, this looks at the width of lines, indentation, quotes, the blanks inside of brackets,
 the brackets around parameters and the comma behind the last of a list. No formatter breaks comments and docstrings:
-this looks at their width. Then it notices each line of layout.txt, which is laid out otherwise. It prints a line for
-each failure; the last line is `N passed, M failed`.
+this looks at their width. It notices each mutant of layout_mutants. It prints a line for each failure; the last line is
+`N passed, M failed`.
 
 Needs Python 3.9 or later, and of Debian rustfmt, golang-go and black. It installs what is missing if it may.
 """
@@ -24,8 +24,8 @@ sys.path.append(os.path.join(HERE, "..", "shared"))
 
 import ending
 import needs
-from planted import copy_sources
-from shared_cases import TOP, bugs_of, check_planted, read, run
+from mutants import copy_sources, mutants_of
+from shared_cases import TOP, check_mutants, read, run
 
 # The files of each language from the top of the repository, how wide its lines are, and its formatter and the package that has that:
 # it says nothing and ends well where all is as it writes it.
@@ -100,7 +100,7 @@ def check_language(checks, language, top):
 def run_all(checks, room):
     for language in LANGUAGES:
         check_language(checks, language, TOP)
-    check_planted(checks, copy_sources(room, "bindings", "examples"), bugs_of(HERE, "layout.txt"), room,
+    check_mutants(checks, copy_sources(room, "bindings", "examples"), "", mutants_of("bindings", "layout_mutants"), room,
                   lambda found, changed, _, language: check_language(found, language, changed))
 
 

@@ -6,15 +6,15 @@ package `cryptography`.
     tests/bindings/python.py
 
 The archive is also built where there is no archive of calls for the system, and for others. Its answers are compared
-with those of `c/minisign`: the kept corpus, 500 damaged texts, data in pieces; and with those of libsodium:
-the signatures of Ed25519 that implementations answer differently. Also: the exceptions and structs are those of the
-header; the types hold; each call names the argument that is of another type or value; calls hold no memory in the
-end; threads; keys and signatures of Minisign's own program; the examples of the README; the cases of tests/installer
-for `install` and `check`; and each bug of python/planted.txt is noticed. It prints a line for each case that failed or was
+with those of `c/minisign`: the kept corpus, 500 damaged texts, data in pieces; and with those of libsodium: the
+signatures of Ed25519 that implementations answer differently. Also: the exceptions and structs are those of the
+header; the types hold; each call names the argument that is of another type or value; calls hold no memory in the end;
+threads; keys and signatures of Minisign's own program; the examples of the README; the cases of tests/installer for
+`install` and `check`; and each mutant of python/mutants is noticed. It prints a line for each case that failed or was
 skipped; the last line is `N passed, M failed`.
 
-Needs Debian's Python with pip, venv, setuptools, wheel and cryptography, mypy, make, binutils, a C compiler,
-libsodium with its header, minisign and setfacl, musl-gcc, and of Debian gcc-mingw-w64-x86-64, wine64,
+Needs Debian's Python with pip, venv, setuptools, wheel and cryptography, mypy, make, binutils, clang, a C compiler,
+libsodium with its header, minisign and setfacl, musl-gcc, strace, and of Debian gcc-mingw-w64-x86-64, wine64,
 gcc-aarch64-linux-gnu, libc6-dev-arm64-cross and qemu-user-static. It installs what is missing if it may.
 """
 
@@ -39,6 +39,7 @@ import portable
 import process
 import shared_cases as shared
 import static_library
+from mutants import mutants_of
 from running import build_preload
 from shared_cases import TOP, read, run, write
 from static_library import hold
@@ -46,9 +47,6 @@ from static_library import hold
 USER, CHECKS, INSTALLER = (os.path.join(HERE, f"python_{name}.py") for name in ("user", "checks", "installing"))
 PACKAGE = "minisign_proved"
 SOURCES = os.path.join(TOP, "bindings", "python")
-# How many lines are written by hand. Docstrings do not count.
-LINES = 800
-MADE = ("errors.py", "_header.py")
 
 
 @functools.lru_cache(maxsize=None)
@@ -65,9 +63,8 @@ def python():
 # All that building runs, beside Python: no make.
 NEEDED = ("gcc", "x86_64-linux-gnu-gcc", "ld", "as", "objcopy")
 NO_COMPILER = "minisign-proved is built by a C compiler with GNU's options, as gcc and clang have them: {} is none, so name one in CC"
-# What is changed in setup.py, and with which of its libraries that is noticed: with C alone, or with the archives.
-SETUP_BUGS = [("setup.py", 'flags.append("-DMINISIGN_PORTABLE")', 'flags.append("-DMINISIGN_NO")', "1"),
-              ("setup.py", "={prefix}_{name}", "=v2_{name}", "")]
+# The value of MINISIGN_PORTABLE with which a mutant of setup.py has to fail.
+SETUPS = {"C alone": "1", "the archives": ""}
 
 
 def build(sources, programs, **environment):
@@ -112,12 +109,12 @@ def check_builds(checks, archive, room):
     status, why, _ = build(unpacked("another compiler"), programs, CC="cl")
     checks.check(status != 0 and NO_COMPILER.format("cl") in why, f"a compiler without GNU's options: {why[-500:]}")
 
-    def ask(found, changed, directory, is_portable):
-        status, why, library = build(changed, programs, CC=gcc, MINISIGN_PORTABLE=is_portable)
+    def ask(found, changed, directory, setup):
+        status, why, library = build(changed, programs, CC=gcc, MINISIGN_PORTABLE=SETUPS[setup])
         found.check(status == 0, why)
-        check_loaded(found, "planted", gcc, library)
+        check_loaded(found, "a mutant", gcc, library)
 
-    shared.check_planted(checks, unpacked("planted"), SETUP_BUGS, room, ask)
+    shared.check_mutants(checks, unpacked("mutants"), "bindings/python", mutants_of("bindings", "python", "setup_mutants"), room, ask)
     return programs
 
 
@@ -151,12 +148,10 @@ def environment(room, name, wheel, *words):
 
 
 def check_sources(checks):
-    """The package is small, without its docstrings, which alone have three quotes, and its README too."""
+    """Checks the README, and that all sources parse with the oldest supported version of Python."""
     sources = glob.glob(os.path.join(SOURCES, "src", PACKAGE, "*.py"))
-    by_hand = [read(path).decode() for path in [*sources, os.path.join(SOURCES, "setup.py")] if os.path.basename(path) not in MADE]
-    shared.check_written(checks, "python", shared.code_of(re.sub('""".*?"""', "", "\n".join(by_hand), flags=re.S), "#"), LINES)
+    shared.check_readme(checks, "python")
     for path in sources:
-        # (a `SyntaxError` where it is not for the oldest version of Python that the package is for)
         checks.check(ast.parse(read(path), path, feature_version=(3, 9)))
 
 
@@ -218,14 +213,12 @@ def ask_all(user, minisign, cases):
     user.ask_answers(minisign, cases, (["answers", "allow"], True), (["answers", "reject"], False))
     user.ask_answers(minisign, shared.corpus() + shared.large(minisign), (["pieces"], True))
     user.ask_reasons(["answers", "reject"], shared.rejections())
-    user.ask_reasons(["answers", "allow"], shared.vector_texts())
+    user.ask_vectors(["answers", "allow"])
     user.ask_readings(["read"], shown)
-    user.ask_vectors(["vectors"])
 
 
 def check_examples(checks, python_path, room):
-    """The examples of the README, one after the other, in a directory with what they name."""
-    examples = "\n".join(re.findall(r"^```python\n(.*?)^```$", read(SOURCES, "README.md").decode(), re.M | re.S))
+    """The examples of README.md, pasted into one program, in a directory with the files that they name."""
     os.makedirs(os.path.join(room, "there"))
     for name, data in (("app-2", b"version 2"), ("app-3", b"version 3"), ("data", b"data")):
         write(room, name, data)
@@ -233,7 +226,7 @@ def check_examples(checks, python_path, room):
     minisign("-G", "-W", "-p", "app.pub", "-s", "app.key")
     for name, comment in (("app-2", "version:2\tfile:app"), ("data", "data")):
         minisign("-S", "-s", "app.key", "-m", name, "-t", comment)
-    status, _, why = run([python_path, "-c", examples], room)
+    status, _, why = run([python_path, write(room, "program.py", shared.readme_program("python").encode())], room)
     checks.check(status == 0 and read(room, "there", "app") == b"version 2", f"the examples of the README: {why[-500:]}")
     status, _, why = minisign("-V", "-p", "new.pub", "-m", "app-3")
     checks.check(status == 0, f"what the example has signed: {why}")
@@ -248,21 +241,23 @@ def check_installing(checks, python_path, room):
     checks.passed += int(passed or 0)
 
 
-# ---- Planted bugs ----
+# ---- Mutants ----
 
-def check_planted(checks, python_path, package, room, minisign):
-    """Each planted bug is noticed by the checks of its word."""
+def check_mutants(checks, python_path, package, room, minisign):
+    """Each mutant of the package is noticed by the checks that it names."""
     def ask(found, changed, directory, word):
         # (over libsodium a start takes less time)
-        user = user_of(found, python_path, "cryptography" if word == "vectors" else "libsodium", os.path.dirname(changed))
+        user = user_of(found, python_path, "cryptography" if word in ("vectors", "strict") else "libsodium", os.path.dirname(changed))
         asked = {"answers": lambda: user.ask_reasons(["answers", "reject"], shared.rejections()),
                  "read": lambda: user.ask_readings(["read"], shown),
                  "pieces": lambda: user.ask_answers(minisign, shared.corpus(), (["pieces"], True)),
-                 "vectors": lambda: user.ask_vectors(["vectors"]),
+                 "vectors": lambda: user.ask_vectors(["answers", "allow"]),
+                 "strict": lambda: user.ask_itself(1, "installing", directory),
+                 "ids": lambda: shared.check_key_ids(user, os.path.join(directory, "ids"), minisign),
                  "sign": lambda: shared.check_signing(user, os.path.join(directory, "signed"), minisign)}
         asked.get(word, lambda: user.ask_itself(1, word, directory))()
 
-    shared.check_planted(checks, package, shared.bugs_of(HERE, "python", "planted.txt"), room, ask)
+    shared.check_mutants(checks, package, f"bindings/python/src/{PACKAGE}", mutants_of("bindings", "python", "mutants"), room, ask)
 
 
 def run_all(checks, room):
@@ -274,7 +269,7 @@ def run_all(checks, room):
     check_types(checks, beside, package)
     check_examples(checks, alone, os.path.join(room, "examples"))
     cases = shared.all_cases(checks, minisign)
-    words = {"memory": 1, "threads": 3, "installing": 40, "signals": 3, "arguments": 1000, "parts": 25, "keys": 30}
+    words = {"memory": 1, "threads": 3, "installing": 40, "signals": 3, "arguments": 1000, "parts": 25, "keys": 30, "writing": 40}
     for kind, python_path, more in (("libsodium", alone, {"passwords": 10, "documentation": 100}), ("cryptography", beside, {})):
         user, own = user_of(checks, python_path, kind), os.path.join(room, kind)
         os.mkdir(own)
@@ -282,7 +277,9 @@ def run_all(checks, room):
         for word, least in {**words, **more}.items():
             user.ask_itself(least, word, own)
         shared.check_signing(user, os.path.join(own, "signed"), needs.minisign())
-    check_planted(checks, beside, package, room, minisign)
+        shared.check_key_ids(user, os.path.join(own, "ids"), minisign)
+    shared.check_written(user, os.path.join(room, "written"))
+    check_mutants(checks, beside, package, room, minisign)
     check_installing(checks, alone, room)
 
 

@@ -11,6 +11,7 @@ import concurrent.futures
 import contextlib
 import copy
 import enum
+import errno
 import functools
 import importlib
 import inspect
@@ -21,12 +22,14 @@ import pickle
 import pydoc
 import random
 import re
+import resource
 import shutil
 import signal
+import stat
 import struct
 import sys
 import threading
-from typing import Any, Callable, Dict, Iterator, List, NamedTuple, Sequence, Tuple, Type
+from typing import Any, Callable, Dict, Iterator, List, NamedTuple, Optional, Sequence, Tuple, Type
 from unittest import mock
 
 import minisign_proved as minisign
@@ -162,16 +165,124 @@ def keys(room: str) -> None:
     taken.clear()
     check(not any(taken._opened.secret), "a key that was cleared has its secret")
 
-    fresh = os.path.join(room, "fresh.key")
-    minisign.write_new(fresh, b"text")
-    check(os.stat(fresh).st_mode & 0o777 == 0o600, "the mode of a new file")
-    rejects(FileExistsError, lambda: minisign.write_new(fresh, b"other"), "a file that is there")
-
+    readers: List[Tuple[Callable[[Text], object], bytes]] = [
+        (PublicKey, key.public_bytes()), (Signature, key.sign(data).text), (SecretKey.from_bytes, key.to_bytes(None))]
+    for reader, text in readers:
+        check(told(reader(text.decode())) == told(reader(text)), f"{reader} of a str")
+        for surrogate in ("\ud800", "\udcff"):
+            rejects(minisign.NotUtf8, lambda: reader(f"key {surrogate}"), f"{reader} of {surrogate!r}", "^text has a surrogate at index 4, ")
     check(key.public_key.verify(b"", key.sign(write(room, "empty", b""), trusted_comment="empty")) == "empty", "an empty file")
 
     rejects(minisign.TooLong, lambda: PublicKey.from_file(write(room, "long", bytes(1 << 20 | 1))), "a text of more than 1 MiB")
     rejects(FileNotFoundError, lambda: minisign.verify(os.path.join(room, "none"), key.public_key), "a file that is not there")
     check(issubclass(minisign.WrongPassword, minisign.MinisignError) and minisign.WrongPassword.number > 0, "the kinds of errors")
+
+
+@contextlib.contextmanager
+def full_disk() -> Iterator[None]:
+    """Lets no file have more than 16 bytes: a write of more writes these, and the next one fails."""
+    soft, hard = resource.getrlimit(resource.RLIMIT_FSIZE)
+    resource.setrlimit(resource.RLIMIT_FSIZE, (16, hard))
+    try:
+        yield
+    finally:
+        resource.setrlimit(resource.RLIMIT_FSIZE, (soft, hard))
+
+
+@contextlib.contextmanager
+def umask(mask: int) -> Iterator[None]:
+    before = os.umask(mask)
+    try:
+        yield
+    finally:
+        os.umask(before)
+
+
+def mode_of(path: str) -> int:
+    return stat.S_IMODE(os.stat(path).st_mode)
+
+
+def writing(room: str) -> None:
+    """Files of keys and signatures are written whole or not at all."""
+    key, room = SecretKey.generate(), os.path.join(room, "writing")
+    os.mkdir(room)
+    data, old, fresh = write(room, "data", b"data"), os.path.join(room, "data.minisig"), os.path.join(room, "fresh.key")
+
+    def fails_whole(call: Callable[[], object], what: str, *steps: str) -> None:
+        """On a full disk, and if it is interrupted in one of these steps, a call changes no file and leaves none."""
+        before, links = files(room), sorted(os.listdir(room))
+        with full_disk():
+            rejects(OSError, call, f"{what} on a full disk")
+        check((files(room), sorted(os.listdir(room))) == (before, links), f"{what} on a full disk: {set(files(room).items()) ^ set(before.items())}")
+        for name in steps:
+            with mock.patch.object(os, name, side_effect=KeyboardInterrupt):
+                rejects(KeyboardInterrupt, call, f"{what}, interrupted in {name}")
+            check((files(room), sorted(os.listdir(room))) == (before, links), f"{what}, interrupted in {name}: {set(files(room)) ^ set(before)}")
+
+    fails_whole(lambda: minisign.write_new(fresh, key.to_bytes(None)), "a new key", "fsync")
+    for mask in (0o777, 0o277, 0o022, 0):
+        with umask(mask):
+            minisign.write_new(fresh, b"text")
+        check((mode_of(fresh), files(room)[fresh]) == (0o600, b"text"), f"the mode of a new key under the umask {mask:o} is {mode_of(fresh):o}")
+        rejects(FileExistsError, lambda: minisign.write_new(fresh, b"other"), "a new key at a name that is taken")
+        check(files(room)[fresh] == b"text", "a file at the name of a new key was changed")
+        os.remove(fresh)
+    os.symlink("elsewhere", fresh)
+    rejects(FileExistsError, lambda: minisign.write_new(fresh, b"text"), "a new key at a link that leads nowhere")
+    os.remove(fresh)
+
+    fails_whole(lambda: minisign.sign(data, key), "the first signature", "fsync", "replace")
+    with umask(0o027):
+        first = minisign.sign(data, key, trusted_comment="first")
+    check((mode_of(old), files(room)[old]) == (0o640, first.text), "a first signature has the mode that the umask gives it")
+    fails_whole(lambda: minisign.sign(data, key), "a signature in the place of another one", "fsync", "replace")
+    os.chmod(old, 0o604)
+    link = os.path.join(room, "linked.minisig")
+    os.rename(old, link)
+    os.symlink("linked.minisig", old)
+    with open(old, "rb") as opened:
+        second = minisign.sign(data, key, trusted_comment="second")
+        check(opened.read() == first.text, "a signature that is being read is changed")
+    check(os.path.islink(old) and (mode_of(link), files(room)[link]) == (0o604, second.text), "the link, or the mode of a signature, is another one")
+    os.remove(old)
+    os.mkfifo(old)
+    pipe = os.open(old, os.O_RDONLY | os.O_NONBLOCK)
+    piped = minisign.sign(data, key)
+    check(stat.S_ISFIFO(os.stat(old).st_mode) and os.read(pipe, 10_000) == piped.text, "a pipe was replaced, or has another signature")
+    os.close(pipe)
+
+    secret = write(room, "secret.key", key.to_bytes(None))
+    fails_whole(lambda: minisign.change_password(secret, None, None), "a key with another password", "fsync", "replace")
+    for mode in (0o644, 0o400):
+        os.chmod(secret, mode)
+        minisign.change_password(secret, None, None)
+        check(mode_of(secret) == 0o600, f"the mode of a key that had {mode:o} is {mode_of(secret):o}")
+    os.remove(old)
+    for number in (0, errno.EINVAL, errno.EIO):
+        check_synced(lambda: minisign.sign(data, key), "a signature", number)
+        check(os.path.isfile(old), "a signature whose directory was not synced is not there")
+        check_synced(lambda: minisign.write_new(fresh, b"text"), "a new key", number, fails=number == errno.EIO)
+        check(os.path.exists(fresh) == (number != errno.EIO), f"a new key, whose directory was synced with the error {number}, is there or not")
+        with contextlib.suppress(OSError):
+            os.remove(fresh)
+
+
+def check_synced(call: Callable[[], object], what: str, number: int, fails: bool = False) -> None:
+    """A call syncs a file and then a directory, which has this error, if any; and fails then, or does not."""
+    synced: List[str] = []
+
+    def sync(descriptor: int) -> None:
+        is_directory = stat.S_ISDIR(os.fstat(descriptor).st_mode)
+        synced.append("directory" if is_directory else "file")
+        if is_directory and number != 0:
+            raise OSError(number, "the directory is not synced")
+
+    with mock.patch.object(os, "fsync", sync):
+        if fails:
+            rejects(OSError, call, f"{what}, and the error {number} of its directory")
+        else:
+            call()
+    check(synced == ["file", "directory"], f"{what}: synced are {synced}")
 
 
 def parts(room: str) -> None:
@@ -282,6 +393,9 @@ def installing(room: str) -> None:
     for most, source in ((2, io.BytesIO(b"two")), (2, path), (0, path)):
         stops(minisign.TooLong, f"data of more than {most} bytes", source, most=most)
     stops(minisign.SignatureRefused, "other data", io.BytesIO(b"2"), most=3)
+    weak_key, weak = weak_update(b"version:2\tfile:app")
+    rejects(minisign.WeakEd25519, lambda: weak_key.verify(b"two", weak), "a weak key and signature")
+    stops(minisign.CommentSignatureRefused, "an update under a weak key", path, weak, weak_key, first=True)
     waits, end = os.pipe()
     os.set_blocking(waits, False)
     with open(waits, "rb", buffering=0) as pipe:
@@ -313,7 +427,15 @@ def installing(room: str) -> None:
     # (other systems than Linux have a library without the host)
     with mock.patch.object(_calls, "library", object()):
         importlib.reload(host)
-    rejects(NotImplementedError, lambda: host.install(public, path, two, place), "a library without the host", "^installing is for Linux: ")
+    rejects(NotImplementedError, lambda: host.install(public, path, two, place), "a library without the host", "^installing is supported only on Linux$")
+
+
+def weak_update(comment: bytes) -> Tuple[PublicKey, Signature]:
+    """Returns a public key and a signature that are valid for every file if Ed25519 accepts small orders: the neutral element, and S = 0."""
+    key_id, neutral = b"weak key", b"\1" + bytes(31)
+    key, signature, second = map(base64.b64encode, (b"Ed" + key_id + neutral, b"ED" + key_id + neutral + bytes(32), neutral + bytes(32)))
+    text = b"untrusted comment: weak\n%s\ntrusted comment: %s\n%s\n" % (signature, comment, second)
+    return PublicKey.from_base64(key), Signature(text)
 
 
 def tells_of_updates(key: SecretKey, path: str, place: str) -> None:
@@ -476,9 +598,9 @@ def table(room: str) -> List[Row]:
     progress: Dict[str, Any] = {"progress": ("function or none", None)}
     update: Dict[str, Any] = {"must_expire": ("truth", False), "numbering": ("numbering", "version"), "name": ("path or none", "app")}
     return [
-        Row("Signature", minisign, text=("bytes", signature.text)),
+        Row("Signature", minisign, text=("text", signature.text.decode())),
         Row("Signature.from_file", Signature, path=("path", path + ".minisig")),
-        Row("PublicKey", minisign, text=("bytes", secret.public_bytes())),
+        Row("PublicKey", minisign, text=("text", secret.public_bytes().decode())),
         Row("PublicKey.from_file", PublicKey, path=("path", os.path.join(room, "data.pub"))),
         Row("PublicKey.from_base64", PublicKey, letters=("text", secret.public_bytes().split(b"\n")[1].decode())),
         Row("PublicKey.verify", public, data=("data", b"data"), signature=("signature", signature), allow_legacy=("truth", False)),
@@ -489,7 +611,7 @@ def table(room: str) -> List[Row]:
         Row("verify", minisign, path=("path", path), key=("public key", public), signature=("signature or none", None), allow_legacy=("truth", False), **progress),
         Row("SecretKey", minisign, opened=("secret key", secret._opened)),
         Row("SecretKey.generate", SecretKey),
-        Row("SecretKey.from_bytes", SecretKey, text=("bytes", secret.to_bytes(None)), **opening),
+        Row("SecretKey.from_bytes", SecretKey, text=("text", secret.to_bytes(None).decode()), **opening),
         Row("SecretKey.from_file", SecretKey, path=("path", key_path), **opening),
         Row("SecretKey.to_bytes", secret, password=("new password", None), comment=("text", "comment \u00e9"), low_memory=("truth", False), **limits),
         Row("SecretKey.public_bytes", secret, comment=("text or none", "comment \u00e9")),

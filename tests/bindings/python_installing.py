@@ -22,7 +22,8 @@ sys.path += [os.path.join(HERE, "..", name) for name in ("shared", "tool", "inst
 
 import ending
 from cut_off import BEGINNINGS, CUTS
-from installers import RealInstaller
+from downloads import download_cases
+from installers import AGAIN, ORDER, RealInstaller
 from real_installing import cases_of
 from running import expect, run_cases
 from runs import Installing
@@ -39,35 +40,57 @@ STATUSES = {
     **dict.fromkeys((minisign.NoRecord, minisign.DamagedRecord, minisign.KeptByTimestamp, minisign.KeptByVersion), UNRECORDED),
     **dict.fromkeys((minisign.OutOfMemory, minisign.ReadingFailed, minisign.WritingFailed, minisign.RandomSourceFailed), FAILED),
 }
-# What it says to type after some of them.
-REMEDIES = {
-    minisign.NoRecord: "{record} is missing: --first installs all the same", minisign.DamagedRecord: "{record} is damaged: --first installs all the same",
-    minisign.SameNumber: "--again installs all the same", minisign.OtherFile: "{name} is wanted: --name gives another name",
-    minisign.KeptByVersion: "it was installed by version: add --numbering version",
-    minisign.KeptByTimestamp: "it was installed by timestamp: add --numbering timestamp",
+# The hints of the program in C after some of them, and after causes of failed calls.
+HINTS = {
+    minisign.NoRecord: "use --first for the first installation", minisign.DamagedRecord: "use --first to install anyway",
+    minisign.SameNumber: "use --again to install anyway", minisign.TargetInUse: "use --wait SECONDS to wait for it",
+    minisign.OtherFile: "use --name NAME if the update is signed under another name than {name}",
+    minisign.KeptByVersion: "use --numbering version", minisign.KeptByTimestamp: "use --numbering timestamp",
+    minisign.DifferentKeyIds: "use the public key of the signer", minisign.DirectoryNotSynced: "run the command again",
+    minisign.TooLong: "use --most BYTES to accept larger data",
+    **dict.fromkeys((minisign.OlderUpdate, minisign.Expired), "download the latest update"),
+    **dict.fromkeys((minisign.SignatureRefused, minisign.CommentSignatureRefused, minisign.OtherSize), AGAIN),
 }
-NO_NUMBER = {"version": "without --numbering version the number is its timestamp", "timestamp": "--numbering version takes the number from its version"}
+NO_NUMBER = {"version": "omit --numbering version if the comment has a field timestamp:", "timestamp": "use --numbering version if the comment has a field version:"}
+HINTS_OF_CAUSES = {
+    "this directory does not exist": "create it first",
+    "only the owner of this file can open it": "give it the same owner as the installed file",
+    "this file is too long for a version record": "remove it and use --first to install anyway",
+    "another process removed or replaced this lock file": "run the command again",
+    "the mode ": "use --mode to choose another mode", "it was written at ": "set the system clock",
+}
 
 
-def failure_text(why):
-    """What the program in C says of a call that failed."""
-    if why.strerror == os.strerror(why.errno) and isinstance(why, FileNotFoundError):
-        return f"error: {why.filename}: there is no such directory"
-    return f"error: {why.filename}: {why.strerror}" + (f" (os error {why.errno})" if why.strerror == os.strerror(why.errno) else "")
+def failure(why, place):
+    """The error and the hint, if there is one, of the program in C about a call that failed."""
+    cause, is_own = why.strerror, why.strerror != os.strerror(why.errno)
+    if not is_own and isinstance(why, FileNotFoundError):
+        cause, is_own = "this directory does not exist", True
+    hint = next((hint for front, hint in HINTS_OF_CAUSES.items() if cause.startswith(front)), None)
+    if cause.startswith("this is "):
+        kind = cause if why.filename == place else ""
+        hint = ("give the path that it leads to" if "symbolic link" in kind else "give the path of a file in it" if "directory" in kind
+                else "remove it or move it away")
+    return f"error: {why.filename}: {cause}" + ("" if is_own else f" (os error {why.errno})"), hint
 
 
-def rejection_text(data, signature, place, name, numbering, error):
-    """What the program in C says of an update that is rejected."""
-    if isinstance(error, minisign.TooLong):
-        return f"error: {data}: it is longer than it may be"
+def rejection(data, signature, place, name, numbering, error):
+    """The error and the hint, if there is one, of the program in C about an update that is rejected."""
     at = signature
-    if isinstance(error, (minisign.SignatureRefused, minisign.OlderUpdate, minisign.OtherSize)):
+    if isinstance(error, (minisign.SignatureRefused, minisign.OlderUpdate, minisign.OtherSize, minisign.TooLong)):
         at = data
-    elif STATUSES.get(type(error)) in (FAILED, IN_USE, NOT_ON_DISK, UNRECORDED, SAME):
+    elif STATUSES.get(type(error)) == UNRECORDED:
+        at = os.path.join(os.path.dirname(place) or ".", f".{os.path.basename(place)}.number")
+    elif STATUSES.get(type(error)) in (FAILED, IN_USE, NOT_ON_DISK, SAME):
         at = place
-    more = NO_NUMBER[numbering] if isinstance(error, minisign.NoNumber) else REMEDIES.get(type(error), "")
-    record = os.path.join(os.path.dirname(place) or ".", f".{os.path.basename(place)}.number")
-    return "\n".join(filter(None, (f"error: {at}: {error}", more.format(record=record, name=name))))
+    hint = NO_NUMBER[numbering] if isinstance(error, minisign.NoNumber) else HINTS.get(type(error))
+    return f"error: {at}: {error}", hint and hint.format(name=name)
+
+
+def report(*said):
+    """Prints errors, and the last hint."""
+    hints = [f"hint: {hint}" for _, hint in said if hint]
+    print(*(error for error, _ in said), *hints[-1:], sep="\n", file=sys.stderr)
 
 
 def read_text(kind, word):
@@ -75,7 +98,9 @@ def read_text(kind, word):
     try:
         return kind(word)
     except minisign.MinisignError as error:
-        text, status = "it is longer than it may be" if isinstance(error, minisign.TooLong) else error, REJECTED
+        text, status = error, REJECTED
+        if isinstance(error, minisign.TooLong):
+            text = f"this file is larger than 1 MiB\nhint: {ORDER}"
     except OSError as why:
         text, status = f"{why.strerror} (os error {why.errno})", FAILED
     print(f"error: {word}: {text}", file=sys.stderr)
@@ -104,16 +129,15 @@ def install(words):
         is_new = minisign.install(public_keys, data, text, place, again="--again" in options, mode=None if mode is None else int(mode, 8),
                                   most=most, wait=int(options.get("--wait", 0)), **wanted)
     except minisign.MinisignError as error:
-        status = STATUSES.get(type(error), REJECTED)
-        if status == FAILED and isinstance(error.__cause__, OSError):
-            print(failure_text(error.__cause__), file=sys.stderr)
-        else:
-            print(rejection_text(data, signature, place, name or os.path.basename(place), numbering, error), file=sys.stderr)
-        if status == NOT_ON_DISK or (status == EXPIRED and error.__cause__):
-            print(failure_text(error.__cause__), file=sys.stderr)
+        status, cause = STATUSES.get(type(error), REJECTED), error.__cause__
+        has_cause = status in (FAILED, NOT_ON_DISK, EXPIRED) and isinstance(cause, OSError)
+        said = [rejection(data, signature, place, name or os.path.basename(place), numbering, error)]
+        if has_cause:
+            said = [*said[status == FAILED:], failure(cause, place)]
+        report(*said)
         return status
     except OSError as why:
-        print(failure_text(why), file=sys.stderr)
+        report(failure(why, place))
         return FAILED
     return 0 if is_new else THERE
 
@@ -122,7 +146,7 @@ def install(words):
 
 # What needs the words or the messages of a program, and not of a function.
 LEFT_OUT = {"progress at a terminal", "a closed error stream", "an allocation that fails", "an error stream that nobody reads",
-            "what a check shows", "the script of the document", "the unit of the document",
+            "what a check shows", "the unit of the document",
             "a mode that is asked for, of what is there already"}
 KEPT = {"a name that begins with a dash", "another name than the signed one"}
 
@@ -130,7 +154,8 @@ KEPT = {"a name that begins with a dash", "another name than the signed one"}
 def chosen_cases(installing):
     # (what the host does after a cut over other beginnings, the cases of the program show)
     cut_off = {f"cut off by {cut}, over {begin}" for begin, *_ in BEGINNINGS[1:] for cut, _ in CUTS}
-    left_out = LEFT_OUT | cut_off | {name for name, *_ in word_cases} - KEPT
+    # (the updater script runs a program)
+    left_out = LEFT_OUT | cut_off | {name for name, *_ in (*word_cases, *download_cases)} - KEPT
     found = [*cases_of(installing)]
     expect(left_out | KEPT <= {case[0] for case in found}, "what is left out is no case")
     return [case for case in found if case[0] not in left_out]

@@ -1,6 +1,6 @@
 """A user of the Python package, in a Python that has it installed: `python.py` runs it. With the word `answers`,
-`pieces`, `read` or `vectors` it answers a line for each case that it reads; with `make`, `sign`, `opened` or `sealed`
-it does that with a key; with another one it is `python_checks.py`, which imports more and so takes longer to begin.
+`pieces` or `read` it answers a line for each case that it reads; with `make`, `sign`, `opened`, `sealed`,
+`write` or `ids` it does that with a key; with another one it is `python_checks.py`, which imports more and so takes longer to begin.
 
 Needs Python 3.9 or later.
 """
@@ -11,10 +11,10 @@ import os
 import random
 import re
 import sys
-from typing import Callable, Iterator, List, Optional, Tuple
+from typing import Callable, Dict, Iterator, List, Optional, Tuple
 
 import minisign_proved as minisign
-from minisign_proved import PublicKey, SecretKey, Signature, Verifier, _calls
+from minisign_proved import PublicKey, SecretKey, Signature, Verifier
 
 
 # ---- Cases that are read ----
@@ -80,12 +80,6 @@ def read() -> None:
         print(PublicKey(key).key_id, signature.key_id, signature.is_legacy)
 
 
-def vectors() -> None:
-    kind = _calls.ed25519()
-    for key, message, signature in read_cases():
-        print("true" if kind.accepts(signature, message, key) is True else "false")
-
-
 # ---- Keys and signing ----
 
 
@@ -116,21 +110,39 @@ def opened(key: str, password: Optional[str] = None) -> None:
     print("weak" if SecretKey.from_file(key, password).is_weak else "strong")
 
 
+def write_key(path: str, text: str) -> None:
+    """Writes a new key file."""
+    minisign.write_new(path, text.encode())
+
+
+def ids(key: str) -> None:
+    """Prints the key IDs of a secret key and of its public key, and the text of that."""
+    secret = SecretKey.from_file(key)
+    shown, = re.findall("<SecretKey (.*)>", repr(secret))
+    print(shown, secret.public_key.key_id)
+    print(secret.public_bytes().decode(), end="")
+
+
 def outcome(call: Callable[..., None], *words: str) -> str:
     try:
         call(*words)
     except minisign.MinisignError as why:
         return name_of(why)
+    except OSError as why:
+        return str(why)
     except ValueError as why:
         return "WEAK_LIMITS" if "_limit" in str(why) else str(why)
     return "OK"
 
 
+# What says how it ended.
+CALLS: Dict[str, Callable[..., None]] = {"make": make, "sign": sign, "sealed": sealed, "write": write_key}
+
 if __name__ == "__main__":
     kind, word, *rest = sys.argv[1:]
     minisign.use_ed25519(kind)
-    if word in ("make", "sign", "sealed"):
-        print(outcome(globals()[word], *rest))
+    if word in CALLS:
+        print(outcome(CALLS[word], *rest))
     elif word in globals():
         globals()[word](*rest)
     else:

@@ -2,18 +2,18 @@
 """Tries the crate of `bindings/rust` as its user has it: packed by cargo, unpacked into an empty directory, and built
 by cargo without network, registry and kit, by a program of another crate that names it `minisign-verify`: in a path
 with blanks, with no make in PATH, as a git dependency, for Windows, where wine runs it, and for AArch64. The examples
-of README.md and of its comments run.
+of README.md are pasted into a crate and run.
 
     tests/bindings/rust.py
 
 What it answers is compared with `c/minisign`, with libsodium and with the header (`ask_all`), and its structs with those
-of the header; what is written by hand has at most 650 lines, and no `unsafe` outside one module; without its feature
-`sodium` nothing of libsodium is linked. Each bug of rust/planted.txt is noticed. It prints a line for each failure;
+of the header; there is no `unsafe` outside one module; without its feature
+`sodium` nothing of libsodium is linked. Each mutant of rust/mutants is noticed. It prints a line for each failure;
 the last line is `N passed, M failed`.
 
-Needs Python 3.9 or later, cargo, rustc, make, a C compiler, binutils and libsodium with its header, git, and of
-Debian libstd-rust-dev-windows, gcc-mingw-w64-x86-64, wine64, gcc-aarch64-linux-gnu, libc6-dev-arm64-cross and
-qemu-user-static. It installs what is missing if it may; apt-get fetches Rust's library for AArch64 once. Where
+Needs Python 3.9 or later, cargo, rustc, make, clang, a C compiler, binutils, libsodium with its header, minisign, strace,
+git, and of Debian libstd-rust-dev-windows, gcc-mingw-w64-x86-64, wine64, gcc-aarch64-linux-gnu, libc6-dev-arm64-cross
+and qemu-user-static. It installs what is missing if it may; apt-get fetches Rust's library for AArch64 once. Where
 another cargo than Debian's comes first in PATH, that is tried too.
 """
 
@@ -34,13 +34,13 @@ import needs
 import portable
 import shared_cases
 import static_library
+from mutants import mutants_of
 from shared_cases import TOP, Program, read, record_of, run, write
 
 CRATE = os.path.join(TOP, "bindings", "rust")
-# What is written by hand, of which the first three have nothing unsafe; and what tools/bindings.py makes.
-BY_HAND = ["build.rs", "src/lib.rs", "src/signing.rs", "src/raw.rs", "src/raw/sodium.rs"]
+# What is written by hand, of which the first four have nothing unsafe; and what tools/bindings.py makes.
+BY_HAND = ["build.rs", "src/lib.rs", "src/files.rs", "src/signing.rs", "src/raw.rs", "src/raw/sodium.rs"]
 MADE = "src/raw/header.rs"
-LINES = 650
 NO_SODIUM = dict.fromkeys(("crypto_sign", "sodium_init", "randombytes"), False)
 # How many pages of 4 KiB may be in memory after so many calls that were not after a tenth of them.
 CALLS, PAGES = 10_000, 16
@@ -51,7 +51,7 @@ ALONE = 'minisign-proved = {{ path = "{crate}", default-features = false }}'
 # The structs of the header, as the crate names them.
 STRUCTS = {"minisign_state": "State", "minisign_public_key": "PublicKey", "minisign_signature": "Signature",
            "minisign_questions": "Questions", "minisign_unopened_key": "UnopenedKey", "minisign_secret_key": "SecretKey",
-           "minisign_signed_parts": "SignedParts", "minisign_sealing": "Sealing"}
+           "minisign_signed_parts": "SignedParts", "minisign_sealing": "Sealing", "minisign_new_key": "NewKey"}
 
 # What the crate makes of the header's errors, where it has the name that minisign-verify has; and where that takes data in pieces.
 KNOWN = dict(line.split() for line in read(HERE, "rust", "known.txt").decode().splitlines())
@@ -102,9 +102,9 @@ class Cargo:
 
 
 def check_sources(checks):
-    """The crate is small, and unsafe in one module alone."""
+    """Checks that `unsafe` is in one module only, the README, and the list of files."""
     code = {name: shared_cases.code_of(read(CRATE, name).decode()) for name in BY_HAND}
-    shared_cases.check_written(checks, "rust", sum(code.values(), []), LINES)
+    shared_cases.check_readme(checks, "rust")
     for name, lines in code.items():
         words = "\n".join(lines).replace("unsafe_code", "")
         checks.check(name.startswith("src/raw") or "unsafe" not in words, f"{name}: it has `unsafe`")
@@ -138,21 +138,29 @@ def reason(known):
     return line_of
 
 
+def shown(reading):
+    """The key IDs of a key and of a signature, as bytes and as text, and whether the signature is legacy."""
+    ids = reading.key_id, reading.signature_key_id
+    return " ".join([*(key_id.hex() for key_id in ids), *map(shared_cases.shown_id, ids), str(reading.is_legacy).lower()])
+
+
 def ask_all(program, room, minisign, cases):
     """All that is asked of a program over the crate."""
     program.ask_answers(minisign, cases, (["verify"], True), (["strict"], False), (["reader"], False),
                         *((["pieces", str(length)], False) for length in (1, 128, 1000, 0)))
     program.ask_reasons(["strict"], shared_cases.rejections(), reason(KNOWN))
     program.ask_reasons(["pieces", "7"], shared_cases.rejections(), reason(IN_PIECES))
-    program.ask_reasons(["verify"], shared_cases.vector_texts(), reason(KNOWN))
+    program.ask_vectors(["verify"], reason(KNOWN))
     program.ask_comments(["comment"], reason(IN_PIECES))
-    program.ask_readings(["read"], lambda reading: f"{reading.key_id.hex()} {reading.signature_key_id.hex()} {str(reading.is_legacy).lower()}")
-    program.ask_vectors(["accepts"])
+    program.ask_readings(["read"], shown)
+    program.ask_libsodium(["accepts"])
     of_length, of_base64 = (f"Err(InvalidEncoding(BARE_PUBLIC_KEY_{why}))" for why in ("LENGTH", "NOT_BASE64"))
     program.ask_bare(*map(re.escape, ("Ok(None)", of_length, of_base64, of_length)))
     # (nothing secret is shown, and a reason by its name)
     program.ask_itself(6, "shown")
     shared_cases.check_signing(program, os.path.join(room, "signed"), minisign, lambda name: f"Err(Rejected({name}))", "Ok(())")
+    shared_cases.check_key_ids(program, os.path.join(room, "ids"), minisign)
+    shared_cases.check_written(program, os.path.join(room, "written"), "Ok(())")
 
 
 # ---- Where it is built ----
@@ -161,8 +169,6 @@ def ask_all(program, room, minisign, cases):
 NEEDED = ("cargo", "rustc", "gcc", "cc", "ld", "as", "ar", "objcopy", "git", "sh", "sha256sum", "find", "sort", "grep", "xargs", "cut", "dirname")
 WINDOWS, ARM = "x86_64-pc-windows-gnu", "aarch64-unknown-linux-gnu"
 NO_COMPILER = "there is no C compiler with GNU's options, as gcc and clang have them, that builds for "
-# (build.rs, and what is changed in it)
-TARGET_BUG = ("build.rs", "processor && system && has_numbers && has(", "has(", "the target")
 
 
 def messages():
@@ -170,6 +176,39 @@ def messages():
     signature = shared_cases.PUBLISHED.signature
     second = record_of(signature)[10:] + signature.split(b"\n")[2].removeprefix(b"trusted comment: ")
     return f"{hashlib.blake2b(bytes([7]) * 1000).hexdigest()}\n{second.hex()}\nOk(())\n"
+
+
+# What the example of README.md that verifies says of `app`, which is a kept file, by the published signature.
+VERIFIED = [("test", 0, "timestamp:1556193335\tfile:test\n", ""), ("hello", 1, "", "InvalidSignature(SIGNATURE_REFUSED)")]
+
+
+def check_readme(checks, cargo, room, crate, minisign):
+    """The examples of README.md, pasted one below the other into the crate of a user who depends on this one as README.md says: they are
+    built, verify a file that its key has signed, and no other one; make a key, sign by it, and verify a stream."""
+    directory = os.path.join(room, "readme")
+    dependency, = re.findall(r"^```toml\n(.*?)^```$", read(CRATE, "README.md").decode(), re.M | re.S)
+    os.makedirs(os.path.join(directory, "src", "bin"))
+    os.makedirs(os.path.join(directory, "vendor"))
+    os.symlink(crate, os.path.join(directory, "vendor", os.path.basename(crate)))
+    write(directory, "Cargo.toml", read(HERE, "rust", "user.toml").replace(b"[dependencies]\n", dependency.encode()))
+    write(directory, "src/main.rs", shared_cases.readme_program("rust").encode())
+    shutil.copy(os.path.join(HERE, "rust", "readme.rs"), os.path.join(directory, "src", "bin"))
+    # (a user who pastes all has warnings that not all is called)
+    status, why = cargo.try_to_run(directory, "build", RUSTFLAGS="", **Cargo.UNOPTIMIZED)
+    if not checks.check(status == 0, f"the examples of README.md are not built: {why[-1500:]}"):
+        return
+    programs = os.path.join(cargo.target, "debug")
+    shutil.copy(shared_cases.PATHS[2], os.path.join(directory, "app.minisig"))
+    for app, *wanted, reason in VERIFIED:
+        shutil.copy(os.path.join(shared_cases.CORPUS, app), os.path.join(directory, "app"))
+        status, said, why = run([f"{programs}/user"], directory)
+        checks.check([status, said.decode()] == wanted and reason in why, f"the example that verifies, {app}: {status} {said} {why}")
+    write(directory, "app-3", b"version 3")
+    status, said, why = run([f"{programs}/readme"], directory)
+    checks.check((status, said.decode()) == (0, "version:3\tfile:app\n9 bytes were read\n"), f"the examples that sign: {status} {said} {why}")
+    checks.check(os.stat(os.path.join(directory, "new.key")).st_mode & 0o777 == 0o600, "the mode of the key that the example makes")
+    verified = run([minisign, "-V", "-Q", "-p", "new.pub", "-m", "app-3"], directory)
+    checks.check(verified[:2] == (0, b"version:3\tfile:app\n"), f"what the example has signed: {verified}")
 
 
 class Place:
@@ -238,26 +277,26 @@ def check_targets(checks, programs, crate, room):
         status, why = Place(programs, directory, "for Windows", ALONE.format(crate=changed)).build(WINDOWS, CC="gcc")
         found.check(status != 0 and NO_COMPILER + WINDOWS in why, f"the compiler for here for Windows: {why[-500:]}")
 
-    shared_cases.check_planted(checks, crate, [TARGET_BUG], room, ask_for_windows)
+    shared_cases.check_mutants(checks, crate, "bindings/rust", mutants_of("bindings", "rust", "build_mutants"), room, ask_for_windows)
 
 
-def check_planted(checks, cargo, crate, room, minisign):
-    """Each planted bug is noticed by what is asked of a program over the changed crate, which may have warnings. All stand in one place, where
-    cargo compiles what differs from the one before."""
+def check_mutants(checks, cargo, crate, room, minisign):
+    """Each mutant is noticed by what is asked of a program over the changed crate, which may have warnings. All mutants are built in one
+    directory, so that cargo compiles only what differs from the previous mutant."""
     place = os.path.join(room, "changed")
-    planted = new_crate(room, "planted", RENAMED.format(crate=place), "answers.rs")
+    user = new_crate(room, "mutants", RENAMED.format(crate=place), "answers.rs")
 
     def ask(found, changed, directory, _):
         shutil.rmtree(place, ignore_errors=True)
         os.rename(changed, place)
-        cargo.run(planted, "build", RUSTFLAGS="", CARGO_INCREMENTAL="1", **Cargo.UNOPTIMIZED)
+        cargo.run(user, "build", RUSTFLAGS="", CARGO_INCREMENTAL="1", **Cargo.UNOPTIMIZED)
         ask_all(Program(found, f"{cargo.target}/debug/user"), directory, minisign, shared_cases.corpus())
 
-    shared_cases.check_planted(checks, crate, shared_cases.bugs_of(HERE, "rust", "planted.txt"), room, ask)
+    shared_cases.check_mutants(checks, crate, "bindings/rust", mutants_of("bindings", "rust", "mutants"), room, ask)
 
 
 def check_toolchain(checks, room, toolchain, minisign, is_first):
-    """What one cargo builds. With the first one it is asked of more cases and for growth and threads, bugs are planted, and it is built in
+    """What one cargo builds. With the first one it is asked of more cases and for growth and threads, mutants are tried, and it is built in
     many places."""
     cargo = Cargo(room, *toolchain, **({} if is_first else Cargo.UNOPTIMIZED))
     # (cargo builds what it packs, and throws that away)
@@ -267,15 +306,14 @@ def check_toolchain(checks, room, toolchain, minisign, is_first):
     program = Program(checks, shutil.copy(os.path.join(cargo.target, "release", "user"), answers))
     few = shared_cases.corpus() + shared_cases.damaged(60)
     ask_all(program, room, minisign, shared_cases.all_cases(checks, minisign) if is_first else few)
-    said = cargo.run(crate, "test", "--doc", **Cargo.UNOPTIMIZED)
-    checks.check(re.search(r"test result: ok\. [2-9] passed; 0 failed; 0 ignored", said), f"the examples: {said[-500:]}")
+    check_readme(checks, cargo, room, crate, minisign)
     check_inside(checks, cargo, crate, room)
     cargo.run(crate, "check", "--no-default-features", **Cargo.UNOPTIMIZED)
     if not is_first:
         return
     program.ask_growth(CALLS, PAGES, few)
     program.ask_threads(few)
-    check_planted(checks, cargo, crate, room, minisign)
+    check_mutants(checks, cargo, crate, room, minisign)
     programs = shared_cases.few_programs(room, *NEEDED)
     check_here(checks, programs, crate, room)
     check_targets(checks, programs, crate, room)

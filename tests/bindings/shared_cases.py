@@ -7,7 +7,9 @@ package's language, one on each line, and compares what comes back with `c/minis
 Needs Python 3.9 or later, make, a C compiler and libsodium with its header. It installs what is missing if it may.
 """
 
+import base64
 import concurrent.futures
+import contextlib
 import functools
 import os
 import random
@@ -24,12 +26,12 @@ sys.path += [os.path.join(TOP, *path) for path in (("tests", "shared"), ("tests"
 import c_header
 import edges
 import minisign_cases
+import mutants
 import needs
 import static_library
 import texts
 from cases import kept_cases, key_errors, signature_errors
 from checks import Checks
-from planted import MARK, before_and_after
 from process import SECONDS, run_program
 from running import Failure, expect, read, write
 from static_library import hold
@@ -82,23 +84,29 @@ def code_of(text, comment="//"):
     return [line for line in text.splitlines() if line.strip() and not line.strip().startswith(comment)]
 
 
-# How long a README may be, and what it answers, in this order.
-README_LINES = 95
+# The sections of each package's README, in this order.
 README_PARTS = ["Install", "Verify", "Sign", "Stream", "Errors", "What is different from", "Systems", "What is proved, and what is not"]
-# How long its example of verifying may be, without what it imports and where it begins and ends.
-README_VERIFYING = 5
+# What the blocks of each package's README are named after that are its examples.
+FENCES = {"rust": "rust", "go": "go", "python": "python", "javascript": "js"}
 
 
-def check_written(checks, package, code, most):
-    """The lines of code that are written by hand are so many at the most. The README is short and answers in the order of the others, and
-    its key and signature are kept ones."""
-    checks.check(len(code) <= most, f"the package has {len(code)} lines")
+def readme_blocks(package):
+    """The examples of a package's README, in their order, exactly as a reader pastes them."""
     text = read(TOP, "bindings", package, "README.md").decode()
-    lines, parts = text.splitlines(), re.findall(r"^## (What is different from|.*)", text, re.M)
-    checks.check(len(lines) <= README_LINES, f"README.md has {len(lines)} lines")
+    return re.findall(rf"^```{FENCES[package]}\n(.*?)^```$", text, re.M | re.S)
+
+
+def readme_program(package):
+    """The program of a reader who pastes all examples of a package's README, one below the other, and adds nothing."""
+    return "\n".join(readme_blocks(package))
+
+
+def check_readme(checks, package):
+    """Checks that a package's README has the same sections as the others, an example of verifying, and uses only the published key."""
+    text = read(TOP, "bindings", package, "README.md").decode()
+    parts = re.findall(r"^## (What is different from|.*)", text, re.M)
     checks.check([part for part in parts if part in README_PARTS] == README_PARTS, f"README.md has the parts {parts}")
-    example = re.search(r"^## Verify\n.*?^```\w+\n(.*?)^```", text, re.M | re.S)
-    checks.check(example and len(example[1].splitlines()) <= README_VERIFYING, f"README.md verifies in more lines: {example}")
+    checks.check(re.search(r"^## Verify\n.*?^```\w+\n.+?^```", text, re.M | re.S), "README.md has no example of verifying")
     kept = (PUBLISHED.key + b"\n" + PUBLISHED.signature).decode().split("\n")
     for letters in re.findall(r"\bR[UW][A-Za-z0-9+/=]{54,}", text):
         checks.check(letters in kept, f"README.md has other texts than the corpus: {letters}")
@@ -137,12 +145,13 @@ def vectors():
 
 @functools.lru_cache(maxsize=None)
 def vector_texts():
-    """The same signatures as cases of the older kind. A host that accepts one rejects the comment's signature, and so all of them are
-    rejected: the header's name of why tells the answer. Another case fits every file where small orders are accepted."""
-    rows = [(Case(vector["name"], key, bytes.fromhex(vector["msg"]), signature), "COMMENT_SIGNATURE_REFUSED" if vector["sodium"] else "SIGNATURE_REFUSED")
+    """Returns the same signatures as legacy signatures, each with the name of its error in the header. A host that accepts a vector rejects
+    its comment signature, so all are rejected, and the error tells the verdict. The last cases are valid for every file if small orders are
+    accepted."""
+    rows = [(Case(vector["name"], key, bytes.fromhex(vector["msg"]), signature), edges.error_of(vector))
             for vector in edges.vectors() for key, signature in [edges.legacy_texts(vector)]]
     key, signature = edges.texts_for_every_file()
-    return rows + [(Case("a signature for every file", key, data, signature), "SIGNATURE_REFUSED") for data in (b"", b"data", bytes(100_000))]
+    return rows + [(Case("a signature for every file", key, data, signature), "WEAK_ED25519") for data in (b"", b"data", bytes(100_000))]
 
 
 def damaged(count=DAMAGED):
@@ -175,13 +184,27 @@ def readings():
     another key: as Python's base64 decodes it."""
     cases = [case for case, row in zip(corpus(), texts.kept_rows()) if row["status"] == 0 and row["signature"] != "no-utf8.minisig"]
     cases.append(cases[0]._replace(name="a signature of another key", key=read(CORPUS, "second.pub")))
+    cases += [with_key_id(PUBLISHED, number) for number in SHORT_KEY_IDS]
     decoded = [(case, record_of(case.key), record_of(case.signature)) for case in cases]
     return [Reading(case, key[2:10], signature[2:10], signature[:2] == b"Ed") for case, key, signature in decoded]
 
 
 def shown_id(key_id):
-    """A key ID as Minisign shows it."""
+    """A key ID as Minisign prints it: upper-case hexadecimal digits, without leading zeros."""
     return f"{int.from_bytes(key_id, 'little'):X}"
+
+
+# Key IDs that Minisign prints with fewer than 16 digits: 15, 14, 9, 1, and the only one whose first digit is a zero.
+SHORT_KEY_IDS = [0xABCDEF012345678, 0x620F1842B41F0A, 0x123456789, 0xB, 0]
+
+
+def with_key_id(case, number):
+    """A case whose key and signature have another key ID. It is accepted if the case is: Ed25519 does not sign key IDs."""
+    def changed(text):
+        record = record_of(text)
+        return text.replace(*map(base64.b64encode, (record, record[:2] + number.to_bytes(8, "little") + record[10:])))
+
+    return case._replace(name=f"the key ID {number:X}", key=changed(case.key), signature=changed(case.signature))
 
 
 # ---- What c/minisign answers ----
@@ -299,10 +322,16 @@ class Program:
             said = self.run("bare", text)[1].decode()
             self.checks.check(re.fullmatch(wanted, said.strip(), re.S), f"{self.name}: the key {text!r} alone: {said} in place of {wanted}")
 
-    def ask_vectors(self, words):
-        """Its Ed25519 answers as libsodium does."""
+    def ask_vectors(self, words, told=rejected):
+        """Its verdicts on the vectors are those of libsodium, whatever Ed25519 it is over."""
+        rows = vector_texts()
+        self.checks.check(len(rows) == edges.COUNT + 3, f"there are {len(rows)} vectors")
+        self.ask_reasons(words, rows, told)
+
+    def ask_libsodium(self, words):
+        """Its Ed25519, which is that of libsodium, accepts the vectors that libsodium accepts."""
         cases, wanted = zip(*vectors())
-        self.checks.check(len(cases) == 293, f"there are {len(cases)} vectors")
+        self.checks.check(len(cases) == edges.COUNT, f"there are {len(cases)} vectors")
         self.ask(words, cases, ["true" if is_accepted else "false" for is_accepted in wanted])
 
     def ask_growth(self, count, most, cases=()):
@@ -392,36 +421,91 @@ def check_weak(checks, answer, room, secret, good):
         checks.check(said == ("WEAK_LIMITS" if is_weak else good), f"sealing under {limits}: {said}")
 
 
-# ---- Planted bugs ----
+def check_key_ids(program, room, minisign):
+    """A package's program and `c/minisign` print a key ID as Debian's minisign does, also one with leading zeros: `ids KEY` prints the key
+    IDs of a secret key and of its public key, and then the text of the public key, which has the key ID in its comment."""
+    os.makedirs(room)
+    run([minisign, "-G", "-W", "-s", "secret", "-p", "public"], room)
+    record = record_of(read(room, "secret"))
+    for number in SHORT_KEY_IDS:
+        key = write(room, "short", text_of(record[:54] + number.to_bytes(8, "little") + record[62:126] + bytes(32)))
+        wanted = []
+        for name, made in ((needs.minisign(), "by-debian"), (minisign, "by-c")):
+            run([name, "-R", "-f", "-s", key, "-p", made], room)
+            wanted.append(read(room, made).decode())
+        shown = f"{number:X}"
+        program.checks.same(wanted[0].split("\n")[0], f"untrusted comment: minisign public key {shown}", "Debian's minisign")
+        program.checks.same(wanted[1], wanted[0], f"the public key {shown} of c/minisign")
+        said = program.run("ids", key)[1].decode()
+        program.checks.same(said, f"{shown} {shown}\n{wanted[0]}", f"{program.name}, the key {shown}")
+
+
+# Runs a program under a umask, and with files of at most 512 bytes: a write beyond these fails, as on a full disk.
+LIMITED = 'trap "" XFSZ; umask "$0"; ulimit -f 1; exec "$@"'
+KEY_TEXT = "the text of a key\n" * 20
+
+
+def check_written(program, room, good="OK"):
+    """`write FILE TEXT` writes a new key file that only its owner may read, replaces nothing, syncs the file and its directory, and leaves
+    no file after an error. It says that all was good, or why it was not."""
+    os.makedirs(room)
+    checks, path = program.checks, os.path.join(room, "new.key")
+    there = lambda: {name: os.path.islink(os.path.join(room, name)) or read(room, name) for name in os.listdir(room)}
+
+    def written(what, is_good, *before, text=KEY_TEXT, mask="022"):
+        limited = Program(checks, *before, "sh", "-c", LIMITED, mask, *program.command, **program.environment)
+        status, said, why = limited.run("write", path, text)
+        checks.check((said.decode().strip() == good) == is_good and status == 0, f"{program.name}, {what}: {status}, {said}, {why[-500:]}")
+
+    for mask in ("777", "277", "022", "000"):
+        written(f"a new key under the umask {mask}", True, mask=mask)
+        mode = os.stat(path).st_mode & 0o7777
+        checks.check((mode, there()) == (0o600, {"new.key": KEY_TEXT.encode()}), f"{program.name}, the umask {mask}: {mode:o}, {there()}")
+        written("a key at a name that is taken", False, text="other")
+        checks.check(there() == {"new.key": KEY_TEXT.encode()}, f"{program.name}, a key at a name that is taken: {there()}")
+        os.remove(path)
+    os.symlink("elsewhere", path)
+    written("a key at a link that leads nowhere", False)
+    checks.check(there() == {"new.key": True}, f"{program.name}, a key at a link that leads nowhere: {there()}")
+    os.remove(path)
+    written("a key on a full disk", False, text=KEY_TEXT * 2)
+    checks.check(there() == {}, f"{program.name}, a key on a full disk leaves {there()}")
+    strace = needs.program("strace", "strace")
+    if run([strace, "true"])[0] != 0:
+        print(f"skipped: whether {program.name} syncs a new key: strace may not trace here")
+        return
+    trace = os.path.join(os.path.dirname(room), os.path.basename(room) + "-trace")
+    written("a key that is synced", True, strace, "-f", "-qq", "-y", "-e", "trace=fsync,openat", "-o", trace)
+    calls = read(trace).decode()
+    synced = re.findall(r"fsync\(\d+<(.*?)>\) += 0", calls)
+    checks.check(synced == [path, room], f"{program.name}, a new key: synced are {synced}")
+    created = re.findall(rf'"{path}", ([A-Z_|]+), (\d+)', calls)
+    checks.check([mode for flags, mode in created if "O_EXCL" in flags] == ["0600"], f"{program.name}, a new key is created with {created}")
+    for at, error in ((path, "EIO"), (path, "EINVAL"), (room, "EIO"), (room, "EINVAL")):
+        with contextlib.suppress(FileNotFoundError):
+            os.remove(path)
+        is_good = (at, error) == (room, "EINVAL")
+        written(f"{at} that is not synced: {error}", is_good, strace, "-f", "-qq", "-P", at, "-e", f"inject=fsync:error={error}", "-o", trace)
+        checks.check(os.path.exists(path) == is_good, f"{program.name}, {at} that is not synced, {error}: {there()}")
+
+
+# ---- Mutants ----
 
 
 class Noticing(Checks):
-    """Ends at the first check that fails, of what may have a bug."""
+    """Ends at the first check that fails."""
 
     def check(self, holds, *what):
         expect(holds, *what)
         return True
 
 
-# A bug, marked as by `wdiff`, of one line but for what goes and comes.
-BUG = re.compile(rf"(?:{MARK.pattern}|[^\n])+", re.S)
-
-
-def bugs_of(*path):
-    """The bugs of a file: the file that each is in, the text that is there and the one in its place, and by what it has to be noticed.
-    A line with the first and the last of these stands above the bugs, and a blank one below."""
-    for part in re.split(r"\n\n(?=\S+: \w+\n)", read(*path).decode()):
-        head, *bugs = (found[0] for found in BUG.finditer(part))
-        file, word = head.split(": ")
-        for bug in bugs:
-            yield (file, *before_and_after(bug), word)
-
-
-def is_noticed(package, room, ask, file, old, new, word):
-    """Whether a question fails over a copy of a package in which a file is changed."""
-    with tempfile.TemporaryDirectory(prefix="planted-", dir=room) as directory:
+def is_noticed(package, room, ask, word, mutant=None, inside=""):
+    """Returns true if a check fails over a copy of a package with this mutant, or without any."""
+    with tempfile.TemporaryDirectory(prefix="mutant-", dir=room) as directory:
         changed = shutil.copytree(package, os.path.join(directory, "package", os.path.basename(package)))
-        write(changed, file, read(changed, file).decode().replace(old, new, 1).encode())
+        if mutant:
+            mutants.apply(mutant, changed, inside)
         try:
             ask(Noticing(), changed, directory, word)
         except (Failure, OSError):
@@ -429,15 +513,16 @@ def is_noticed(package, room, ask, file, old, new, word):
     return False
 
 
-def check_planted(checks, package, bugs, room, ask):
-    """Each bug, a file with what is changed in it to what, is noticed by what `ask` asks of a copy of a package, with a directory of its
-    own and the word of the bug; and no copy without a bug."""
-    bugs = [*bugs]
-    for word, file in {bug[3]: bug[0] for bug in bugs}.items():
-        checks.check(not is_noticed(package, room, ask, file, "", "", word), f"without a bug a copy is noticed: {word}")
-    for file, old, new, word in bugs:
-        is_there = old.encode() in read(package, file)
-        checks.check(is_there and is_noticed(package, room, ask, file, old, new, word), f"planted in {file}, and not noticed: {new}")
+def check_mutants(checks, package, inside, found, room, ask):
+    """Checks that `ask` notices each mutant of a package, and no copy without a mutant. The package is a copy of the repository's directory
+    `inside`. `ask` takes the checks, the changed copy, an empty directory and the case that must fail."""
+    for word in sorted({mutant.case for mutant in found}):
+        checks.check(not is_noticed(package, room, ask, word), f"{word}: it fails over a copy without a mutant")
+    for mutant in found:
+        try:
+            checks.check(is_noticed(package, room, ask, mutant.case, mutant, inside), f"{mutant.case} does not notice the mutant {mutant.name}")
+        except Failure as why:
+            checks.check(False, str(why))
 
 
 # ---- What the header says ----

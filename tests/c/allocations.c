@@ -241,7 +241,7 @@ static void check_library(size_t memory)
 
     memset(secret_key, 0x5a, sizeof secret_key);
     given_back = uncleared = 0;
-    minisign_take_secret_key(bytes_of("12345678"), secret_key, &key);
+    take(bytes_of("12345678"), secret_key, &key);
     error = seal(&key, password, memory, 1, text, sizeof text, &len);
     check_block_of(error == MINISIGN_OK && given_back > 0 && is_held(0), "making a key", memory, 1);
     given_back = 0;

@@ -55,6 +55,13 @@ static void add_signature(const minisign_signature *signature)
     add_number(signature->reserved);
 }
 
+static void add_public_key(const minisign_public_key *key)
+{
+    add_number(key->mark);
+    add(key->key, sizeof key->key);
+    add(key->key_id, sizeof key->key_id);
+}
+
 static size_t length_in(FILE *file)
 {
     unsigned char b[4];
@@ -129,8 +136,8 @@ int main(int argc, char **argv)
         memset(&bare, 9, sizeof bare);
         printf("%d ", minisign_read_public_key(texts[0], lens[0], &key));
         printf("%d ", minisign_read_bare_public_key(texts[0], lens[0], &bare));
-        add(&key, sizeof key);
-        add(&bare, sizeof bare);
+        add_public_key(&key);
+        add_public_key(&bare);
         memset(&signature, 11, sizeof signature);
         printf("%d ", minisign_read_signature(texts[1], lens[1], &signature));
         add_signature(&signature);

@@ -262,7 +262,8 @@ static void read_keys(enum minisign_error (*read)(const uint8_t *text, size_t le
         memset(&told, 0xa5, sizeof told);
         untouched = told;
         check(read(bytes_of(row->text), strlen(row->text), &told) == row->error, "not the error %u: %s", row->error, row->text);
-        check(row->key != NULL ? is_hex((const uint8_t *) &told, row->key) : memcmp(&told, &untouched, sizeof told) == 0,
+        check(row->key != NULL ? is_hex((const uint8_t *) &told + offsetof(minisign_public_key, key), row->key)
+                               : memcmp(&told, &untouched, sizeof told) == 0,
               "another key: %s", row->text);
     }
 }

@@ -24,13 +24,12 @@ import sys
 import time
 
 HERE = os.path.dirname(os.path.realpath(__file__))
-sys.path += [os.path.join(HERE, "..", name) for name in ("shared", "bindings", "")]
+sys.path += [os.path.join(HERE, "..", name) for name in ("shared", "bindings")]
 
 import ending
 import installed
 import needs
 import static_library
-from check import processor_seconds
 from copies import TOP, Tree, copy_tree, files_below
 from process import run
 from python import python
@@ -48,7 +47,7 @@ VERIFIED = "Signature and comment signature verified\nTrusted comment: timestamp
 
 PLACE = os.path.join("a b", "c d")
 # The directories that have a Makefile, with what is built there in a directory of others, and what is tried with a wrong OUT.
-MAKEFILES = {"c": ("all release C_CALLS=", "all install release uninstall clean"), "bindings": ("rust go", "all rust javascript clean"),
+MAKEFILES = {"c": ("all archive C_CALLS=", "all install archive release uninstall clean"), "bindings": ("rust go", "all rust javascript clean"),
              "examples/rust": ("", "out/minisign-verify clean")}
 # Where paths in the copy, and in its directories, lead that fall apart at their blanks.
 NEIGHBOURS = ("a", "a b/c", *(f"{PLACE}/{directory}/{name}" for directory in MAKEFILES
@@ -96,6 +95,12 @@ class Copy:
 
     def make(self, directory, *words, says=""):
         return self.ended("make", "-s", "-C", directory, *words, says=says)
+
+
+def processor_seconds():
+    """Returns the processor time of all commands that have ended."""
+    times = os.times()
+    return times.children_user + times.children_system
 
 
 # ---- With few programs ----

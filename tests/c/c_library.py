@@ -1,19 +1,19 @@
 #!/usr/bin/env python3
 """Compiles and runs programs that call the static library of `c/` through `include/minisign.h` alone.
 
-    tests/c/c_library.py
+    tests/c/c_library.py [WORD ..]
 
 They try the declarations beside the exports of the sources, the layout of its structs as C and as C++ (`exports.py`),
-usage errors and NULL (`usage_errors.c`), the texts of keys and signatures, of which reading and verifying make no
+usage errors and NULL (`usage_errors.c`), keys and signatures that strict Ed25519 rejects (`weak_ed25519.c`), the texts of keys and signatures, of which reading and verifying make no
 allocation, and the number of each rejection (`asked_texts.c`), the text of each number (`error_texts.c`), an
 installation at each of its calls (`installations.c`), memory from malloc, which is cleared before it is given back
 (`allocations.c`), each allocation failing (`out_of_memory.c`), buffers beside pages without access (`guard_pages.c`),
 threads (`threads.c`), and random calls beside a model (`random_calls.c`); each program also with sanitizers, where the
 compiler has them. The library is built over `dist/` (`static_library.py`), once more with the copy of the calls for
-processors without AVX2 alone, and once more with -DMINISIGN_NO_THREADS: such a library names no call for threads. It
-prints a line for each failure; the last line is `N passed, M failed`.
+processors without AVX2 alone, and once more with -DMINISIGN_NO_THREADS: such a library names no call for threads. WORD
+selects the libraries and the programs whose name contains it. It prints a line for each failure; the last line is `N passed, M failed`.
 
-Needs binutils, a C compiler and a C++ compiler, and installs what is missing if it may.
+Needs binutils, clang, a C compiler and a C++ compiler, and installs what is missing if it may.
 """
 
 import os
@@ -26,6 +26,7 @@ sys.path.append(os.path.join(HERE, "..", "shared"))
 import ending
 import exports
 import needs
+import selected
 import static_library
 from process import run, run_apart
 
@@ -35,7 +36,7 @@ SANITIZED = ["-fsanitize=address,undefined", "-fno-sanitize-recover=all"]
 WRAPPED = ["-Wl,--wrap=malloc", "-Wl,--wrap=realloc", "-Wl,--wrap=free"]
 
 # The programs, with what each is linked with.
-PROGRAMS = {"usage_errors": [], "asked_texts": WRAPPED, "error_texts": [], "installations": WRAPPED, "guard_pages": [], "random_calls": [],
+PROGRAMS = {"usage_errors": [], "weak_ed25519": [], "asked_texts": WRAPPED, "error_texts": [], "installations": WRAPPED, "guard_pages": [], "random_calls": [],
             "allocations": [*WRAPPED, "-Wl,--wrap=madvise"], "threads": ["-pthread"],
             "out_of_memory": [*WRAPPED, "-Wl,--wrap=madvise", "-Wl,--wrap=pthread_create"]}
 programs_named = lambda *names: {name: PROGRAMS[name] for name in names}
@@ -73,8 +74,15 @@ def check_declarations(checks, room):
 
 def run_all(checks, room):
     compiler = needs.c_compiler()
-    check_declarations(checks, room)
+    if selected.is_selected("declarations"):
+        check_declarations(checks, room)
     for number, (what, (words, kinds)) in enumerate(LIBRARIES.items()):
+        if os.environ.get("UNPROVED") and any("dist" in word for word in words):
+            print(f"left out with UNPROVED: {what}")
+            continue
+        programs = {name: linking for name, linking in PROGRAMS.items() if selected.is_selected(what, name)}
+        if not programs:
+            continue
         library = static_library.library(os.path.join(room, str(number)), *words)
         named = {*re.findall(r"\w*pthread\w*", run([needs.program("nm", "binutils"), "--undefined-only", library])[1])}
         checks.check(bool(named) != (what == "without threads"), f"{what}: the library calls for threads {named}")
@@ -82,7 +90,7 @@ def run_all(checks, room):
             if flags == SANITIZED and not needs.compiles(compiler, needs.HELLO, SANITIZED):
                 print("skipped: the programs with sanitizers, which the compiler lacks")
             else:
-                check_programs(checks, what, PROGRAMS, compiler, library, *flags)
+                check_programs(checks, what, programs, compiler, library, *flags)
 
 
 if __name__ == "__main__":

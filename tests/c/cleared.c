@@ -17,9 +17,9 @@
 
 /* ---- What the calls are given, and what they make ---- */
 
-static uint8_t secret_key[64], password[64], sealed[1024], damaged[1024], unsealed[1024], public_key[1024], text[4096];
+static uint8_t password[64], sealed[1024], damaged[1024], unsealed[1024], public_key[1024], text[4096];
 static size_t password_len, sealed_len, unsealed_len, public_len, text_len;
-static uint8_t key_id[8] = "12345678";
+static minisign_new_key new_key = { .key_id = { '1', '2', '3', '4', '5', '6', '7', '8' } };
 static minisign_sealing sealing;
 static minisign_unopened_key unopened;
 static minisign_secret_key key, opened;
@@ -42,7 +42,7 @@ struct range {
 };
 
 /* What is the caller's own: secrets stand in it by right. */
-static const struct range own[] = { { secret_key, sizeof secret_key }, { password, sizeof password },
+static const struct range own[] = { { new_key.secret, sizeof new_key.secret }, { password, sizeof password },
                                     { unsealed, sizeof unsealed },     { &key, sizeof key },
                                     { &opened, sizeof opened },        { &unopened, sizeof unopened } };
 
@@ -99,7 +99,7 @@ static const struct step *step;
 
 static enum minisign_error take(void)
 {
-    minisign_take_secret_key(key_id, secret_key, &key);
+    minisign_take_secret_key(&new_key, &key);
     return MINISIGN_OK;
 }
 
@@ -120,8 +120,8 @@ static enum minisign_error make_sealed(void)
         sealing.salt[i] = (uint8_t) i;
     }
     rows = step->kept;
-    return minisign_secret_key_text(&key, 1, password, password_len, &sealing, rows, COMMENT, sizeof COMMENT - 1, sealed,
-                                    sizeof sealed, &sealed_len);
+    return minisign_secret_key_text_with_any_limits(&key, 1, password, password_len, &sealing, rows, COMMENT,
+                                                    sizeof COMMENT - 1, sealed, sizeof sealed, &sealed_len);
 }
 
 static enum minisign_error make_unsealed(void)
@@ -182,7 +182,8 @@ static enum minisign_error sign(void)
     error = error != MINISIGN_OK ? error : minisign_digest(&state, digest);
     error = error != MINISIGN_OK ? error : minisign_comment_message(parts.signature, COMMENT, sizeof COMMENT - 1,
                                                                     message, sizeof message);
-    return error != MINISIGN_OK ? error : minisign_signed_text(&opened, &parts, text, sizeof text, &text_len);
+    error = error != MINISIGN_OK ? error : minisign_public_key_of(&opened, &public);
+    return error != MINISIGN_OK ? error : minisign_signed_text(&public, &parts, text, sizeof text, &text_len);
 }
 
 /* What the search has to find: a secret on the stack, in a register, and elsewhere. */
@@ -193,19 +194,19 @@ static enum minisign_error leave_all(void)
     volatile uint8_t left[256];
 
     for (size_t i = 0; i < 32; i++) {
-        left[64 + i] = secret_key[i];
+        left[64 + i] = new_key.secret[i];
         elsewhere[64 + i] = left[64 + i];
     }
 #if defined(__aarch64__)
-    __asm__ __volatile__("ldr q17, [%0]" : : "r"(secret_key) : "v17", "memory");
+    __asm__ __volatile__("ldr q17, [%0]" : : "r"(new_key.secret) : "v17", "memory");
 #elif defined(__s390x__)
-    __asm__ __volatile__("ld %%f4, 0(%0)\n\tld %%f5, 8(%0)" : : "a"(secret_key) : "f4", "f5", "memory");
+    __asm__ __volatile__("ld %%f4, 0(%0)\n\tld %%f5, 8(%0)" : : "a"(new_key.secret) : "f4", "f5", "memory");
 #elif defined(__riscv)
-    __asm__ __volatile__("fld fa4, 0(%0)\n\tfld fa5, 8(%0)" : : "r"(secret_key) : "fa4", "fa5", "memory");
+    __asm__ __volatile__("fld fa4, 0(%0)\n\tfld fa5, 8(%0)" : : "r"(new_key.secret) : "fa4", "fa5", "memory");
 #elif defined(__arm__)
-    __asm__ __volatile__("vldr d4, [%0]\n\tvldr d5, [%0, #8]" : : "r"(secret_key) : "d4", "d5", "memory");
+    __asm__ __volatile__("vldr d4, [%0]\n\tvldr d5, [%0, #8]" : : "r"(new_key.secret) : "d4", "d5", "memory");
 #else
-    __asm__ __volatile__("movups (%0), %%xmm7" : : "r"(secret_key) : "xmm7", "memory");
+    __asm__ __volatile__("movups (%0), %%xmm7" : : "r"(new_key.secret) : "xmm7", "memory");
 #endif
     return MINISIGN_OK;
 }
@@ -257,7 +258,7 @@ int main(void)
 
     watch();
     for (size_t i = 0; i < needles[0].len; i++) {
-        secret_key[i] = needles[0].masked[i] ^ MASK;
+        new_key.secret[i] = needles[0].masked[i] ^ MASK;
     }
     for (password_len = 0; password_len < needles[3].len; password_len++) {
         password[password_len] = needles[3].masked[password_len] ^ MASK;

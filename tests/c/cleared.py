@@ -7,8 +7,8 @@ After a key was made, opened, also in memory of the caller's, or signed with, `c
 program may write and all registers: for the first half of the secret key and its first 16 bytes, for the password,
 also as scrypt puts it into its two first blocks, for what scrypt derives, and for the base64 of the key. It finds
 them in what is the caller's, and nowhere else. It is built over each copy of the proved calls, with the C library of
-GNU and with musl, with -O0 and with -O2, for AArch64 under qemu; the deepest call takes less than half of the stack
-that is cleared. To show that the search is not blind, it finds a secret that is left on purpose; and without the
+GNU and with musl, with -O0 and with -O2, for AArch64 under qemu; the deepest call of each copy takes no more of the
+stack than minisign.h says. To show that the search is not blind, it finds a secret that is left on purpose; and without the
 clearing of the stack, of registers, or of memory that is given back, it finds something each time. `c/minisign`
 makes, opens, changes and signs with keys, and is searched so whenever it opens, writes or closes a file, and at its
 end: nothing is found outside of the pages that it keeps secrets in, and at the end nothing there. It prints a line
@@ -36,7 +36,7 @@ import proved
 import static_library
 from c_library import STRICT
 from command_running import put_files
-from planted import copy_sources
+from mutants import copy_sources
 from process import run, run_program
 from running import build_preload, read, write
 from texts import Limits, record_of, sealed, stream, text_of
@@ -90,7 +90,7 @@ class Builder:
 
     def copy(self, name, old, new):
         """A copy of what is built, in which a file is changed."""
-        top = copy_sources(self.room, "c", "include", "dist")
+        top = copy_sources(self.room, "c", "include", "dist", "tools")
         text, count = re.subn(old, new, read(top, "c", name).decode())
         if not count:
             raise static_library.NotBuilt(f"c/{name} has nothing like {old!r}")
@@ -235,7 +235,26 @@ def check_bugs(checks, builder):
             depths = {step: depth for step, depth in run.depths.items() if "signals" not in step}
             deepest = max(depths, key=depths.get)
             print(f"deepest: {deepest}, {depths[deepest]} bytes; with signals {max(run.depths.values())}")
-            checks.check(2 * depths[deepest] < cleared_bytes(), f"the calls take so much of the stack: {depths}")
+            checks.check(0 < depths[deepest] < 1024 * header_kibibytes()[0], f"the calls take so much of the stack: {depths}")
+
+
+def header_kibibytes():
+    """How much of the stack the header says that a call uses: of the archives, and of the calls as C."""
+    text = re.sub(r"\n \* +", " ", read(proved.ROOT, "include", "minisign.h").decode())
+    return [int(number) for number in re.search(r"archives use less than (\d+) KiB[^.]* calls as C less than (\d+) KiB\.", text).groups()]
+
+
+def check_depths(checks, builder):
+    """Each copy of the calls uses no more of the stack than the header says."""
+    top, clang = builder.copy(*BUGS[NOTHING_CLEARED][:3]), needs.program("clang", "clang")
+    # (a word about the calls as C keeps make from taking an object that was compiled before)
+    c_calls = ["PORTABLE=1", f"C_CALLS={top}/dist/calls.c"]
+    for compiler, level, words, limit in ((needs.c_compiler(), "-O2", COPIES[0], 0), (needs.c_compiler(), "-O2", c_calls, 1),
+                                          (needs.c_compiler(), "-O0", c_calls, 1), (clang, "-O2", c_calls, 1)):
+        run = Run([builder.program(compiler, level, *words, top=top)])
+        depths = {step: depth for step, depth in run.depths.items() if "signals" not in step}
+        checks.check(not run.wrong and 0 < max(depths.values(), default=0) < 1024 * header_kibibytes()[limit] < cleared_bytes(),
+                     f"{compiler} {level} {words}: so much of the stack is used: {run.wrong[:5]} {depths}")
 
 
 def run_all(checks, room):
@@ -243,6 +262,7 @@ def run_all(checks, room):
     check_copies(checks, builder)
     check_program(checks, builder)
     check_bugs(checks, builder)
+    check_depths(checks, builder)
 
 
 if __name__ == "__main__":

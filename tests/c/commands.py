@@ -1,6 +1,6 @@
 #!/usr/bin/env python3
-"""Runs the commands of the documents as a reader does: those between the fences of README.md, examples/README.md and
-docs/INSTALLING.md, one after the other in one clone of the repository, in one shell at a terminal.
+"""Runs the commands of the documents as a reader does: those between the fences of README.md, examples/README.md,
+docs/INSTALLING.md and docs/QUESTIONS.md, one after the other in one clone of the repository, in one shell at a terminal.
 
     tests/c/commands.py
 
@@ -27,10 +27,10 @@ from at_terminal import AtTerminal
 from copies import TOP, copy_tree, files_below
 from running import read, write
 
-DOCUMENTS = ("README.md", "examples/README.md", "docs/INSTALLING.md")
+DOCUMENTS = ("README.md", "examples/README.md", "docs/INSTALLING.md", "docs/QUESTIONS.md")
 # What is left out, by how it begins, and why.
-LEFT_OUT = {"make -C c prove": "it needs the kit", "bash .ci/run": "it needs the kit", "make -C c check": "it runs this",
-            "apt install ": "it changes the system"}
+LEFT_OUT = {"make -C c prove": "it needs the kit", "bash .ci/run": "it needs the kit", "(cd crates/minisign_tool ": "it needs the kit",
+            "make -C c check": "it runs this", "apt install ": "it changes the system"}
 # How the commands end that begin so, and what they say: a check the number, and the signed comment. Others may say what they like.
 ENDS = {"../c/out/minisign-install --check ": (10, "2\r\nversion:2\tfile:app\r\n"),
         "../c/out/minisign-install --numbering version there/release.pub ": (10, ""),
@@ -38,7 +38,7 @@ ENDS = {"../c/out/minisign-install --check ": (10, "2\r\nversion:2\tfile:app\r\n
 # What is there afterwards; of a record, which has a key and a digest in two more lines, the first line.
 LEFT = {"try-signing/copy": b"test", "try-signing/there/app": b"version 3\n", "try-signing/there/.app.number": b"version:3",
         "try-installing/there/app": b"version 2\n", "try-installing/there/.app.number": b"version:2",
-        "try-installing/there/.release.pub.number": b"version:1"}
+        "try-installing/there/.release.pub.number": b"version:1", "try-ci/app": b"version 1\n"}
 SECRET_KEYS = {"try-signing/my.key", "try-installing/my.key", "try-installing/root.key"}
 # A command has ended, or asks for a password.
 ENDED = "--- ended with status "
@@ -67,15 +67,13 @@ def run_in_shell(directory, commands, room, path=None):
 def answer(terminal):
     """Types the password at each question until a command has ended: its status, None where it has not, and what it said."""
     said = b""
-    while terminal.read_until(STOP):
-        found = STOP.search(terminal.shown)
-        said += terminal.shown[:found.start()]
-        terminal.shown = terminal.shown[found.end():]
+    while found := terminal.expect(STOP):
+        said += terminal.before
         if found[1]:
             return int(found[1]), said.decode(errors="replace")
         terminal.wait_for_hiding()
         terminal.type(PASSWORD)
-    return None, (said + terminal.shown).decode(errors="replace")
+    return None, (said + terminal.before).decode(errors="replace")
 
 
 class Clone:

@@ -137,8 +137,10 @@ static void signing(void)
 {
     minisign_unopened_key of_tests;
     minisign_secret_key opened;
+    minisign_public_key half;
 
     CHECK(read_and_open(SECRET_KEY, NULL, &of_tests, &opened) == MINISIGN_OK);
+    CHECK(minisign_public_key_of(&opened, &half) == MINISIGN_OK);
     for (size_t len = 0; len < sizeof SECRET_KEY; len++) {
         used = 0;
         minisign_unopened_key *unopened = NEW(minisign_unopened_key);
@@ -151,7 +153,7 @@ static void signing(void)
     }
     for (size_t len = 0; len < 200; len += IS_EMULATED ? 7 : 1) {
         used = 0;
-        minisign_secret_key *key = ALONE(minisign_secret_key, opened);
+        minisign_public_key *key = ALONE(minisign_public_key, half);
         minisign_signed_parts *parts = NEW(minisign_signed_parts);
         uint8_t *trusted = filled(len, 't'), *untrusted = filled(len / 2, 'u');
         size_t *text_len = NEW(size_t), room = 0;
@@ -174,14 +176,14 @@ static void signing(void)
 /* Keys that are taken in, their public halves, and room of each length for their texts. */
 static void making(void)
 {
-    static const uint8_t secret[64] = { 1 };
+    static const minisign_new_key new_key = { "1234567", { 1 } };
     static const minisign_sealing none;
 
     for (size_t room = 0; room <= MINISIGN_SECRET_KEY_BYTES(1); room++) {
         used = 0;
         minisign_secret_key *key = NEW(minisign_secret_key);
         size_t *text_len = NEW(size_t);
-        minisign_take_secret_key(copied("12345678", 8), copied((const char *) secret, 64), key);
+        minisign_take_secret_key(ALONE(minisign_new_key, new_key), key);
         CHECK(minisign_public_key_of(key, PUBLIC_KEY()) == MINISIGN_OK);
         used = 2;
         CHECK(minisign_secret_key_text(key, 0, NULL, 0, &none, 1, copied("c", 1), 1, buffer(room), room, text_len)
@@ -201,7 +203,7 @@ static void opening_in_place(uint64_t p)
     uint8_t text[MINISIGN_SECRET_KEY_BYTES(1)];
     size_t text_len = 0;
 
-    minisign_take_secret_key(bytes_of("12345678"), secret, &key);
+    take(bytes_of("12345678"), secret, &key);
     CHECK(seal(&key, "pw", 1 << 20, p, text, sizeof text, &text_len) == MINISIGN_OK);
     for (size_t i = 0; i < 4 * LENGTH(kept); i++) {
         const char *password = i % 4 == 3 ? "wp" : "pw";
@@ -211,7 +213,7 @@ static void opening_in_place(uint64_t p)
         minisign_secret_key *opened = NEW(minisign_secret_key), before = *opened;
         CHECK(minisign_read_secret_key(copied(text, text_len), text_len, unopened) == MINISIGN_OK);
         uint64_t *words_wanted = NEW(uint64_t), *bytes_wanted = NEW(uint64_t);
-        minisign_opening_memory(unopened, kept[i / 4], words_wanted, bytes_wanted);
+        minisign_opening_memory(unopened, kept[i / 4], 1024 * p, words_wanted, bytes_wanted);
         CHECK(4 * *words_wanted <= BYTES && *bytes_wanted <= BYTES);
         size_t words_len = (size_t) *words_wanted - (i % 4 == 1), parts_len = (size_t) *bytes_wanted - (i % 4 == 2);
         uint8_t *words = buffer(4 * words_len), *parts = buffer(parts_len);
@@ -239,8 +241,9 @@ static enum minisign_error ask_and_answer(minisign_installation *i)
 /* An installation at which this is due. */
 static minisign_installation *installing(uint32_t due)
 {
+    static const minisign_install_options options = { .numbering = MINISIGN_NUMBERING_TIMESTAMP };
     minisign_installation *i = NEW(minisign_installation);
-    enum minisign_error error = minisign_install_init(i, PUBLIC_KEY(), PUBLIC_KEY(), 0, 0, 0, 0, 0, MINISIGN_NUMBERING_TIMESTAMP);
+    enum minisign_error error = minisign_install_init(i, PUBLIC_KEY(), PUBLIC_KEY(), ALONE(minisign_install_options, options));
 
     while (error == MINISIGN_OK && minisign_install_due(i) != due) {
         switch (minisign_install_due(i)) {

@@ -7,32 +7,37 @@ of the header verify and sign good and bad input. A release installs the same (`
 
 It prints a line for each failure; the last line is `N passed, M failed`.
 
-Needs make, binutils, pkg-config, groff, a C and a C++ compiler, rustc, libsodium with its header and minisign, and
-installs what is missing if it may.
+Needs make, binutils, pkg-config, groff, clang, a C and a C++ compiler, rustc, libsodium with its header, minisign and
+ssh-agent, and installs what is missing if it may.
 """
 
+import base64
+import contextlib
 import os
 import re
 import shlex
+import subprocess
 import sys
 
 HERE = os.path.dirname(os.path.realpath(__file__))
 sys.path += [os.path.join(HERE, "..", name) for name in ("shared", os.path.join("..", "tools"))]
 
+import c_header
 import ending
+import mutants
 import needs
 import static_library
-from c_header import Header
 from needles import SEED_AT
 from process import run, run_apart
 from running import read, write
 from texts import CORPUS, Limits, record_of, sealed, text_of, turned
 
 EXAMPLES = os.path.join(static_library.DIRECTORY, "examples")
+README = os.path.join(HERE, "..", "..", "README.md")
 STRICT = ["-Wall", "-Wextra", "-Wpedantic", "-Werror"]
 
 # What is installed beside the shared library, whose name has its version.
-FILES = ["bin/minisign", "bin/minisign-install", "include/minisign.h", "include/minisign_install.h", "include/minisign_simple.h",
+FILES = ["bin/minisign", "bin/minisign-install", "include/minisign.h", "include/minisign_install.h", "include/minisign_stream.h",
          "lib/libminisign.a", "lib/libminisign.so", "lib/pkgconfig/minisign.pc", "share/man/man1/minisign.1",
          "share/man/man1/minisign-install.1", "share/man/man3/minisign.3", "share/man/man3/minisign_install.3"]
 # A result that is dropped.
@@ -44,7 +49,7 @@ def installed_files(checks, root):
     """What was installed, and the names in it."""
     found = {os.path.relpath(os.path.join(at, name), root) for at, _, names in os.walk(root) for name in names}
     versions = [name for name in found if re.fullmatch(r"lib/libminisign\.so\.\d+\.\d+(?:\.\d+)?", name)]
-    pages = {page: {call.name for call in Header(read(root, "include", f"{page}.h").decode()).calls}
+    pages = {page: {call.name for call in c_header.parsed(read(root, "include", f"{page}.h").decode()).calls}
              for page in ("minisign", "minisign_install")}
     names = set().union(*pages.values())
     links = {f"share/man/man3/{name}.3": page for page, calls in pages.items() for name in calls}
@@ -90,7 +95,7 @@ class Installed:
             "C++ 17 over the shared library": [self.cpp, "-std=c++17", *self.flags, in_cpp, *shared],
             "Rust": [*rust, in_rust, "-C", f"link-arg={root}/lib/libminisign.a", "-l", "sodium"],
             "Rust over the shared library": [*rust, "-L", f"{root}/lib", "-l", "dylib=minisign", in_rust, "-l", "sodium"],
-            "simple calls": [self.c, "-std=c99", *self.flags, f"{HERE}/simple.c", *self.linking]}.items()}
+            "stream": [self.c, "-std=c99", *self.flags, f"{HERE}/stream.c", *self.linking]}.items()}
 
     def build(self, name, command):
         """The words that run a program, which is built."""
@@ -161,7 +166,7 @@ def check_signing(checks, over, program, cases):
             os.remove(made)
         status, _, why = run_apart([*program, secret, data, made, comment, *password])
         if rejected:
-            is_said = why in (f"sign: {rejected}\n", f"simple: {rejected}\n")
+            is_said = why in (f"sign: {rejected}\n", f"stream: {rejected}\n")
             checks.check(status == 1 and is_said, f"{program}, {what}: status {status}, {why!r}")
             checks.check(not os.path.exists(made), f"{program}, {what}: a signature was written")
         else:
@@ -172,7 +177,7 @@ def check_signing(checks, over, program, cases):
 
 
 def check_signers(checks, over):
-    """The example, and the one call, which takes no password; where its own signature is not accepted nothing of it is left."""
+    """Signs with the example and with the calls of minisign_stream.h, which take no password here."""
     key, pub, data, nothing = map(over.path, ("key.key", "key.pub", "data", "nothing"))
     record, by_minisign = record_of(read(key)), over.path("sealed.key")
     over.by_minisign("-G", "-p", "sealed.pub", "-s", "sealed.key", typed=b"pw\npw\n")
@@ -181,9 +186,10 @@ def check_signers(checks, over):
     of_long = write(over.room, "long.key", text_of(sealed(record, b"p" * 1024, Limits())))
     long, shorter = (write(over.room, f"{count}.password", b"p" * count + b"\n") for count in (1024, 1023))
     # (of each half a byte, and the last one; Minisign leaves the checksum of such a key at zeros)
-    halves = [write(over.room, f"half{at}.key", text_of(turned(record, at))) for at in (SEED_AT + 32, SEED_AT, SEED_AT + 63)]
-    two_lines = "a comment has a line break, or the trusted one white space at an end"
-    not_taken = "a comment is too long for minisign, or has a zero byte or a carriage return"
+    halves = [write(over.room, f"half{number}.key", text_of(turned(record, at)))
+              for number, at in enumerate((SEED_AT + 32, SEED_AT, SEED_AT + 63))]
+    two_lines = "a comment contains a line break, or the trusted comment begins or ends with white space"
+    not_taken = "a comment is too long for Minisign, or contains a zero byte or a carriage return"
     of_halves, unread = "the key does not sign: its halves do not belong together", "a file cannot be opened"
     cases = [
         ("a key that was never sealed", (key, data, COMMENT), None),
@@ -203,18 +209,68 @@ def check_signers(checks, over):
         *((f"{half}, of which a half was changed", (half, data, COMMENT), of_halves) for half in halves),
         ("no data", (key, nothing, COMMENT), unread),
         ("no key", (nothing, data, COMMENT), unread)]
-    by_simple = {of_halves: "Signature verification failed", unread: "a file cannot be read"}
+    by_stream = {of_halves: "Signature verification failed", unread: "a file cannot be read"}
     example = over.build_c("sign", f"{EXAMPLES}/sign.c")
     check_signing(checks, over, example, cases)
-    check_signing(checks, over, over.verifiers["simple calls"],
-                  [(what, case, by_simple.get(rejected, rejected)) for what, case, rejected in cases if len(case) == 3])
+    check_signing(checks, over, over.verifiers["stream"],
+                  [(what, case, by_stream.get(rejected, rejected)) for what, case, rejected in cases if len(case) == 3])
     for made, rejected in ((f"{nothing}/made", unread), ("/dev/full", "the signature cannot be written")):
         checks.same(run([*example, key, data, made, COMMENT]), (1, f"sign: {rejected}\n"), f"signing to {made}")
 
 
+def with_another_letter(text, at):
+    """Base64 in which one letter is another one."""
+    return text[:at] + (b"B" if text[at:at + 1] == b"A" else b"A") + text[at + 1:]
+
+
+def outcomes(over, program):
+    """The results of the stream calls on valid and invalid input."""
+    paths = [os.path.join(CORPUS, name) for name in ("published.pub", "test", "published.minisig")]
+    key, data, sig, made = *map(over.path, ("key.pub", "data", "sig")), over.path("made-by-a-mutant")
+    text = read(sig)
+    wrong = [write(over.room, f"{at}.sig", with_another_letter(text, text.index(text.split(b"\n")[number]) + at))
+             for number, at in ((1, 41), (3, 42))]
+    yield run([*program, "misuse", *paths])
+    for path in wrong:
+        yield run([*program, key, data, path])
+    for secret in ("half0.key", "key.key"):
+        yield run([*program, over.path(secret), data, made, COMMENT])
+
+
+def check_mutants(checks, over):
+    """Each mutant of minisign_stream.h changes the result of a call."""
+    wanted = [*outcomes(over, over.verifiers["stream"])]
+    for mutant in mutants.mutants_of("c", "stream_mutants"):
+        copy = mutants.copy_sources(over.room, "include")
+        mutants.apply(mutant, copy)
+        program = over.build(f"program {mutant.name}", [over.c, "-std=c99", "-I", f"{copy}/include", f"{HERE}/stream.c", *over.linking])
+        checks.check([*outcomes(over, program)] != wanted, f"nothing noticed the mutant {mutant.name}")
+
+
+# What follows the function of README.md to make it a program: readme DATA SIGNATURE.
+CALLING_README = """
+int main(int argc, char **argv)
+{
+    static char signature[65536];
+    FILE *data = fopen(argv[argc - 2], "rb"), *file = fopen(argv[argc - 1], "rb");
+    return data == NULL || file == NULL ? 2 : !is_genuine(data, signature, fread(signature, 1, sizeof signature, file));
+}
+"""
+
+
+def check_readme(checks, over):
+    """Compiles the function that README.md shows, and runs it on a valid signature and on others."""
+    (shown,) = re.findall(r"(?ms)^```c\n(.*?)^```$", read(README).decode())
+    readme = over.build_c("readme", write(over.room, "readme.c", (shown + CALLING_README).encode()))
+    good, signature = (os.path.join(CORPUS, name) for name in ("test", "published.minisig"))
+    for what, data, sig, status in (("valid", good, signature, 0), ("other data", signature, signature, 1),
+                                    ("no signature", good, good, 1), ("a directory", over.room, signature, 1)):
+        checks.same(run([*readme, data, sig]), (status, ""), f"README.md, {what}")
+
+
 def check_updater(checks, over):
-    """An updater's check under the published key, and under one that has signed an empty file: data that are not read whole
-    are not taken for that."""
+    """Runs the updater's check with the published key, and with a key that signed an empty file: a file that cannot be read
+    does not pass for an empty one."""
     good, signature = (os.path.join(CORPUS, name) for name in ("test", "published.minisig"))
     other, long = write(over.room, "other-test", turned(read(good), 0)), write(over.room, "long", bytes(1 << 24))
     missing, empty, empty_signature = map(over.path, ("nothing", "empty", "empty.sig"))
@@ -224,12 +280,72 @@ def check_updater(checks, over):
     for what, check, words, status in (
             ("good", published, (good, signature), 0), ("other data", published, (other, signature), 1),
             ("no signature", published, (good, good), 1), ("no data", published, (missing, signature), 2),
-            ("no text", published, (good, missing), 2), ("too long a text", published, (good, long), 2),
+            ("no signature file", published, (good, missing), 2), ("too long a signature file", published, (good, long), 2),
             ("an empty file", under, (empty, empty_signature), 0), ("other data than none", under, (good, empty_signature), 1),
             ("no data for an empty file", under, (missing, empty_signature), 2),
             ("a directory for an empty file", under, (over.room, empty_signature), 2),
-            ("too long a file for an empty file", under, (long, empty_signature), 2)):
-        checks.same(run([*check, *words]), (status, ""), f"check, {what}")
+            ("a long file for an empty one", under, (long, empty_signature), 1)):
+        comment = {good: "timestamp:1556193335\tfile:test", empty: "t"}[words[0]] + "\n" if status == 0 else ""
+        checks.same(run([*check, *words]), (status, comment), f"check, {what}")
+    published_paths = (os.path.join(CORPUS, "published.pub"), good, signature)
+    checks.same(run([*over.verifiers["stream"], "misuse", *published_paths]), (0, ""), "misuse of the stream calls")
+
+
+# An agent that answers each request of a signature by these bytes.
+FALSE_AGENT = """
+import socket, sys
+server = socket.socket(socket.AF_UNIX)
+server.bind(sys.argv[1])
+server.listen()
+print(flush=True)
+while True:
+    connection, _ = server.accept()
+    connection.recv(1 << 17)
+    connection.sendall(bytes.fromhex(sys.argv[2]))
+    connection.close()
+"""
+
+
+def public_key_of_ssh(line):
+    """The minisign public key file for the key in a line of an ssh public key file."""
+    key = base64.b64decode(line.split()[1])[-32:]
+    return b"untrusted comment: an ssh key\n" + base64.b64encode(b"Ed" + b"\1\2\3\4\5\6\7\10" + key) + b"\n"
+
+
+@contextlib.contextmanager
+def running_agent(command, socket):
+    """Runs an agent at a socket until it is no longer needed."""
+    with subprocess.Popen(command, stdout=subprocess.PIPE, stderr=subprocess.DEVNULL) as process:
+        process.stdout.readline()
+        yield {"SSH_AUTH_SOCK": socket}
+        process.terminate()
+
+
+def check_agent(checks, over):
+    """Signs with a key that an ssh-agent holds. A false signature, and an agent without the key, leave no signature file."""
+    keygen, agent, add = (needs.program(name, "openssh-client") for name in ("ssh-keygen", "ssh-agent", "ssh-add"))
+    program = over.build("agent_sign", [over.c, "-std=c11", "-D_DEFAULT_SOURCE", *over.flags, f"{EXAMPLES}/agent_sign.c", *over.linking])
+    for name in ("first", "second"):
+        checks.ended(f"ssh-keygen, {name}", run([keygen, "-q", "-t", "ed25519", "-N", "", "-f", over.path(name)]))
+        write(over.room, f"{name}.minisign.pub", public_key_of_ssh(read(over.room, f"{name}.pub")))
+    data, made, room = over.path("data"), over.path("by-agent"), over.path
+    commands = [over.path("first.minisign.pub"), data, made, COMMENT]
+    with running_agent([agent, "-D", "-a", room("agent")], room("agent")) as environment:
+        checks.ended("ssh-add", run_apart([add, "-q", over.path("first")], **environment)[:2])
+        checks.same(run_apart([*program, *commands], **environment), (0, "", ""), "signing by an agent")
+        said = over.by_minisign("-Q", "-V", "-p", "first.minisign.pub", "-m", data, "-x", made)
+        checks.same(said, f"{COMMENT}\n", "the signature of an agent")
+        os.remove(made)
+        other = run_apart([*program, over.path("second.minisign.pub"), *commands[1:]], **environment)
+        checks.same(other, (1, "", "agent_sign: Signature verification failed\n"), "an agent without the key")
+    false = "00000053" "0e" "0000004f" "0000000b" + b"ssh-ed25519".hex() + "00000040" + "07" * 64
+    for what, answer in (("a false signature", false), ("a short answer", "00000001" "05"), ("no answer", "")):
+        with running_agent([sys.executable, "-c", FALSE_AGENT, room(f"false {what}"), answer], room(f"false {what}")) as environment:
+            said = run_apart([*program, *commands], **environment)
+            checks.same(said, (1, "", "agent_sign: Signature verification failed\n"), f"an agent, {what}")
+    for what, environment in (("no agent", {"SSH_AUTH_SOCK": room("nothing")}), ("too long a path", {"SSH_AUTH_SOCK": "a" * 200})):
+        checks.check(run_apart([*program, *commands], **environment)[0] == 1, what)
+    checks.check(not os.path.exists(made), "a signature file was left after an error")
 
 
 def check_programs(checks, over):
@@ -245,7 +361,8 @@ def run_all(checks, room):
     root = f"{room}/dest/prefix"
     installed_files(checks, root)
     over = Installed(checks, root, room)
-    for check in (check_dropped, check_verifiers, check_signers, check_updater, check_programs):
+    for check in (check_dropped, check_verifiers, check_signers, check_mutants, check_readme, check_updater, check_agent,
+                  check_programs):
         check(checks, over)
 
 

@@ -44,6 +44,7 @@ mod minisign {
     #[derive(Default)]
     #[repr(C)]
     pub struct PublicKey {
+        mark: u64,
         key: [u8; 32],
         key_id: [u8; 8],
     }

@@ -55,19 +55,23 @@ static int make(int argc, char **argv, int is_secret)
     const char *password = argc > 9 ? argv[9] : "", *comment = argv[is_secret ? 8 : 4];
     size_t text_len = 0;
     uint8_t key_id[8], secret[64];
+    minisign_new_key new_key;
     minisign_secret_key key;
     minisign_sealing sealing;
     uint32_t error;
 
     read_hexadecimal(key_id, sizeof key_id, argv[2]);
     read_hexadecimal(secret, sizeof secret, argv[3]);
-    minisign_take_secret_key(key_id, secret, &key);
+    memcpy(new_key.key_id, key_id, sizeof key_id);
+    memcpy(new_key.secret, secret, sizeof secret);
+    minisign_take_secret_key(&new_key, &key);
     if (is_secret) {
         read_hexadecimal(sealing.salt, sizeof sealing.salt, argv[4]);
         sealing.operations_limit = number_of(argv[5]);
         sealing.memory_limit = number_of(argv[6]);
-        error = minisign_secret_key_text(&key, argc > 9, bytes_of(password), strlen(password), &sealing, number_of(argv[7]),
-                                         bytes_of(comment), strlen(comment), text, sizeof text, &text_len);
+        error = minisign_secret_key_text_with_any_limits(&key, argc > 9 ? MINISIGN_ANY_PASSWORD : MINISIGN_NO_PASSWORD,
+                                                         bytes_of(password), strlen(password), &sealing, number_of(argv[7]),
+                                                         bytes_of(comment), strlen(comment), text, sizeof text, &text_len);
     } else {
         error = minisign_public_key_text(&key, bytes_of(comment), strlen(comment), text, sizeof text, &text_len);
     }
@@ -90,7 +94,7 @@ static uint32_t open_in_place(const minisign_unopened_key *unopened, const char 
     uint32_t *words, error;
     uint8_t *parts;
 
-    minisign_opening_memory(unopened, every, &words_wanted, &bytes_wanted);
+    minisign_opening_memory(unopened, every, rows, &words_wanted, &bytes_wanted);
     words = filled(words_wanted * sizeof *words);
     parts = filled(bytes_wanted);
     error = minisign_open_sealed_key_in_place(unopened, bytes_of(password), strlen(password), every, rows, words,
@@ -111,7 +115,7 @@ static int tell_memory(char **argv)
     uint32_t error = minisign_read_secret_key(bytes_of(argv[3]), strlen(argv[3]), &unopened);
 
     if (error == MINISIGN_OK) {
-        minisign_opening_memory(&unopened, number_of(argv[2]), &words, &parts);
+        minisign_opening_memory(&unopened, number_of(argv[2]), MINISIGN_ANY_ROWS, &words, &parts);
         printf("%" PRIu64 " %" PRIu64 "\n", words, parts);
     }
     return status_of(error);

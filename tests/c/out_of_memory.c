@@ -133,7 +133,7 @@ static void open_without_memory(const minisign_secret_key *opened)
     memset(&key, 0, sizeof key);
     requests = threads = hints = 0;
     greatest = 0;
-    minisign_opening_memory(&unopened, MINISIGN_KEEP_EVERY_ROW, &words_wanted, &bytes_wanted);
+    minisign_opening_memory(&unopened, MINISIGN_KEEP_EVERY_ROW, MINISIGN_USUAL_ROWS, &words_wanted, &bytes_wanted);
     CHECK(words_wanted <= room && bytes_wanted <= sizeof parts);
     CHECK(open_in_place("pw", (size_t) words_wanted - 1) == MINISIGN_NO_ROOM);
     CHECK(open_in_place("wp", room) == MINISIGN_WRONG_PASSWORD);

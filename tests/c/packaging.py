@@ -5,11 +5,15 @@ musl; `at_hand.py` installs.)
     tests/c/packaging.py
 
 Their flags count in each command; without any, programs and the shared library are hardened as Debian's are. The
-programs load the shared libsodium, or its archive if you say so. By the flags of Ubuntu and Fedora what is built
-verifies the kept signatures, and any compiler links the library, which has no code but the processor's. With
--fcf-protection and -mbranch-protection the library's object has their notes, by which the linker and the system turn
-the checks on where all else has them, and the assembly begins as they want it; the archives of dist/ have none, so
-that is with PORTABLE=1. It prints a line for each failure; the last line is `N passed, M failed`.
+programs load the shared libsodium, or its archive if you say so, and are static with LDFLAGS=-static. By the flags of
+Ubuntu and Fedora what is built verifies the kept signatures, and any compiler links the library, which has no code
+but the processor's. With -fcf-protection and -mbranch-protection the library's object has their notes, by which the
+linker and the system turn the checks on where all else has them, and the assembly begins as they want it; the
+archives of dist/ have none, so that is with PORTABLE=1. It prints a line for each failure; the last line is
+`N passed, M failed`.
+
+The packages that README.md and other texts name bring all that is needed, without recommended packages, as apt-get
+says of an empty Debian. debian/copyright and APKBUILD say what LICENSE says of the kit's code in dist/.
 
 Needs make, binutils, gcc, libsodium with its header and archive, and gcc-aarch64-linux-gnu, and installs what is
 missing if it may.
@@ -27,13 +31,27 @@ import ending
 import needs
 import static_library
 from process import run
-from running import write
+from proved import ROOT as TOP
+from running import read, write
 
 PROGRAMS = ("minisign", "minisign-install")
+# The packages that a reader on Debian needs. The texts must name packages that bring these without recommended packages, which
+# containers do not install: gcc, for example, only recommends libc6-dev.
+BUILDING = {"gcc", "libc6-dev", "make", "binutils"}
+PREREQUISITES = {"README.md": {*BUILDING, "libsodium-dev"}, "c/release.md": {*BUILDING, "libsodium-dev"},
+                 "bindings/rust/README.md": {*BUILDING, "cargo", "libsodium-dev"}, "bindings/go/README.md": {*BUILDING, "golang-go"},
+                 "bindings/python/README.md": {*BUILDING, "python3-setuptools", "python3-wheel", "python3-pip", "libsodium23"}}
+OF_GNU = ("README.md", "c/release.md", "c/Makefile", "bindings/rust/README.md", "bindings/go/README.md")
+PACKING = "packaging/debian.sh"
+# The terms of the kit's crates in LICENSE, and the sentence after them; and a copyright line there.
+OF_KIT = re.compile(r"Of the kit's crates, its files say this:(.*?)\nSo (nothing .*?)\.", re.S)
+HOLDER = re.compile(r"Copyright \(c\) ([\d-]+ .*?)\.?$", re.M)
 CHECK = os.path.join(static_library.DIRECTORY, "check.sh")
 # What has to stand in each command that compiles, and in each that links.
 GIVEN = {"CPPFLAGS": "-DNAMED=1", "CFLAGS": "-O1", "LDFLAGS": "-Wl,--hash-style=gnu"}
 COMPILING, LINKING = {GIVEN["CPPFLAGS"], GIVEN["CFLAGS"]}, {GIVEN["CFLAGS"], GIVEN["LDFLAGS"]}
+# Static programs; the shared library, which `all` builds as well, cannot be linked by -static.
+STATIC = ["SODIUM=static", "LDFLAGS=-static"]
 LTO = "-flto=auto -ffat-lto-objects"
 UBUNTU = {"CFLAGS": f"-g -O2 {LTO} -fstack-protector-strong -fstack-clash-protection -Wformat -Werror=format-security -fcf-protection",
           "CPPFLAGS": "-Wdate-time -D_FORTIFY_SOURCE=3", "LDFLAGS": f"-Wl,-Bsymbolic-functions {LTO} -Wl,-z,relro -Wl,-z,now"}
@@ -79,14 +97,19 @@ def check_hardened(checks, out):
 def check_sodium(checks, room):
     """libsodium is linked as it is said."""
     for out, words, is_shared in (("out", [], True), ("static", ["SODIUM=static"], False),
-                                  ("named", ["SODIUM=-lsodium -Wl,-rpath,/named"], True)):
+                                  ("named", ["SODIUM=-lsodium -Wl,-rpath,/named"], True), ("alone", STATIC, False)):
         if out != "out":
             # (what the programs are linked with stands built)
-            shutil.copytree(f"{room}/out", f"{room}/{out}", symlinks=True, ignore=shutil.ignore_patterns(*PROGRAMS))
+            shutil.copytree(f"{room}/out", f"{room}/{out}", symlinks=True, ignore=shutil.ignore_patterns(*PROGRAMS, "libminisign.so*"))
         checks.ended(f"make {words}", make("-s", f"OUT={room}/{out}", *words))
         for name in PROGRAMS:
             _, said = run(["readelf", "-d", f"{room}/{out}/{name}"])
             checks.check(("libsodium.so" in said) == is_shared and ("[/named]" in said) == (out == "named"), f"{out}/{name}: {said}")
+            _, said = run(["readelf", "-lW", f"{room}/{out}/{name}"])
+            checks.check(("program interpreter" in said) == (words != STATIC), f"{out}/{name}, make {words}: {said}")
+        _, said = run(["readelf", "-hdW", f"{room}/{out}/libminisign.so"])
+        checks.check("DYN (Shared object file)" in said and "Library soname: [libminisign.so." in said, f"{out}/libminisign.so: {said}")
+        checks.ended(f"make test {words}", run(["sh", CHECK, f"{room}/{out}/minisign"]), says=" 0 failed\n")
 
 
 def check_test(checks):
@@ -131,9 +154,62 @@ def check_notes(checks, room, compiler):
         checks.check(first and landing in first[0], f"{flag}: the assembly begins with {first and first[0]!r}")
 
 
+def installed_by(names):
+    """The packages that apt-get puts into an empty Debian to install these, without recommended ones."""
+    command = ["apt-get", "-s", "-o", "Dir::State::status=/dev/null", "--no-install-recommends", "install", *names]
+    find = lambda: {*re.findall(r"(?m)^Inst (\S+)", run(command)[1])} or None
+    if find() is None and needs.may_install():
+        needs.apt_get("update")
+    return needs.need(find, f"a list of Debian's packages with {' '.join(names)}")
+
+
+def check_prerequisites(checks):
+    """What a text has a reader install brings all that is needed, and the texts name GNU make. Packages for Debian need build-essential."""
+    texts = {name: read(TOP, name).decode() for name in (*PREREQUISITES, *OF_GNU, PACKING)}
+    for name in OF_GNU:
+        checks.check("GNU make" in texts[name], f"{name} does not name GNU make")
+    head = re.match(r"(?:#.*\n)+", texts["c/Makefile"])[0]
+    checks.check(PREREQUISITES["README.md"] <= {*re.findall(r"[\w-]+", head)}, "the head of c/Makefile does not name all packages")
+    control = read(TOP, "packaging/debian/control").decode()
+    building = {*re.findall(r"([a-z][\w.+-]+)(?: \(.*?\))?(?:, |$)", re.search(r"(?m)^Build-Depends: (.*)$", control)[1])}
+    wanted = {**PREREQUISITES, PACKING: {*BUILDING, "build-essential", "dpkg-dev", *building} - {"debhelper-compat"} | {"debhelper"}}
+    if not needs.is_debian():
+        return
+    for name, packages in wanted.items():
+        named = re.search(r"apt install ([a-z0-9.+ -]+)", texts[name])
+        found = installed_by(named[1].split()) if named else set()
+        checks.check(packages <= found, f"{name}: what it has a reader install lacks {sorted(packages - found)}")
+
+
+def check_licences(checks):
+    """debian/copyright and APKBUILD say what LICENSE says of the kit's crates whose code is in dist/."""
+    said, unknown = OF_KIT.search(read(TOP, "LICENSE").decode()).groups()
+    holders, crates = HOLDER.findall(said), {*re.findall(r"\b(sha2|base64|hex|itoa|core|std_alloc)\b", said)}
+    checks.check(len(holders) == 7 and len(crates) == 6, f"LICENSE names {holders} and {crates}")
+    unknown = " ".join(unknown.replace("`", "").split())
+    debian, alpine = read(TOP, "packaging/debian/copyright").decode(), read(TOP, "packaging/alpine/APKBUILD").decode()
+    files = re.search(r"(?ms)^Files: dist/\*$(.*?)\n\n", debian)[1]
+    for holder in holders:
+        named, comment = (" ".join(part.split()) for part in files.split("License:"))
+        checks.check(holder in named and holder in comment, f"debian/copyright does not name {holder} for dist/")
+    for name, text in (("debian/copyright", files), ("APKBUILD", alpine)):
+        for crate in crates:
+            checks.check(re.search(rf"\b{crate}\b", text), f"{name} does not name the kit's crate {crate}")
+    for name, text in (("debian/copyright", debian), ("APKBUILD", alpine.replace("\n# ", " "))):
+        checks.check(unknown in " ".join(text.split()), f"{name} does not say: {unknown}")
+    licences = {*re.split(r",? and | or ", re.search(r"(?m)^License: (.*)$", files)[1])}
+    checks.same(licences, {"Expat", "Apache-2.0", "Rattle-kit-without-terms"}, "the licences of dist/ in debian/copyright")
+    for licence in licences:
+        checks.check(re.search(rf"(?m)^License: {licence}\n ", debian), f"debian/copyright has no text for {licence}")
+    named = re.search(r'(?m)^license="(.*)"$', alpine)[1]
+    checks.same(named, "MIT AND (MIT OR Apache-2.0) AND LicenseRef-Rattle-kit-without-terms", "the licence of APKBUILD")
+
+
 def run_all(checks, room):
     compiler, out = needs.libsodium(), f"{room}/out"
     static_library.run_make(f"OUT={out}")
+    check_prerequisites(checks)
+    check_licences(checks)
     check_flags(checks, room)
     check_hardened(checks, out)
     check_sodium(checks, room)

@@ -86,7 +86,7 @@ def check_here(checks, room, answers):
                            "LDFLAGS="], gcc, SANITIZED, PROGRAMS),
             ("tcc", [f"CC={tcc}", "TARGET=x86_64-linux", "LD=ld", "OBJCOPY=objcopy", "AR=ar", "CFLAGS=", "CPPFLAGS=", "HAS_PAGES="],
              gcc, [NO_THREADS], OF_MALLOC),
-            ("musl", of_musl, emulated.musl_compiler(), ["-static"], programs_named("usage_errors", "asked_texts", "random_calls"))):
+            ("musl", of_musl, emulated.musl_compiler(), ["-static"], programs_named("usage_errors", "weak_ed25519", "asked_texts", "random_calls"))):
         made = f"{room}/{what}/libminisign.a"
         static_library.run_make("CC=gcc", "PORTABLE=1", f"OUT={room}/{what}", *words, made)
         answers.check(what, compiler, made, *LESS, *flags)
@@ -195,7 +195,7 @@ def check_windows(checks, room, answers):
     for library in ("libminisign.a", "libminisign.dll.a"):
         what, over = f"Windows, {library}", (compiler, f"{place}/{library}", *LESS, "-w", "-D__USE_MINGW_ANSI_STDIO=1")
         answers.check(what, *over, before=before)
-        check_programs(checks, what, programs_named("usage_errors", "asked_texts", "error_texts", "random_calls"), *over, before=before)
+        check_programs(checks, what, programs_named("usage_errors", "weak_ed25519", "asked_texts", "error_texts", "random_calls"), *over, before=before)
     windows.end()
 
 
@@ -241,6 +241,8 @@ def check_compiled(checks, room, _):
 
 
 PARTS = {"here": check_here, "archives": check_archives, "elsewhere": check_elsewhere, "windows": check_windows, "compiled": check_compiled}
+# A word of the command line is a part, or one of the other processors.
+ALWAYS = tuple(check.__name__ for check in PARTS.values())
 
 
 def run_all(checks, room):

@@ -235,7 +235,7 @@ static void on_key(void)
             secret[i] = (uint8_t) draw(256);
         }
         memcpy(key_id, secret + 20, 8);
-        minisign_take_secret_key(key_id, secret, &keys[at]);
+        take(key_id, secret, &keys[at]);
         opened[at] = 1;
         CHECK(memcmp(keys[at].secret, secret, 64) == 0 && memcmp(keys[at].key_id, key_id, 8) == 0);
         return;
@@ -249,7 +249,7 @@ static void on_key(void)
         break;
     case 4: CHECK(minisign_public_key_text(&keys[at], comment, comment != NULL, text, room, &len) == wanted); break;
     case 5:
-        CHECK(minisign_secret_key_text(&keys[at], bad_flag ? 2 + draw(9) : 0, NULL, 0, &none, draw(3), comment, comment != NULL, text, room, &len)
+        CHECK(minisign_secret_key_text(&keys[at], bad_flag ? 3 + draw(9) : 0, NULL, 0, &none, draw(3), comment, comment != NULL, text, room, &len)
               == (bad_flag ? MINISIGN_BAD_PASSWORD_FLAG : wanted));
         if (!bad_flag && wanted == MINISIGN_OK) {
             minisign_unopened_key unopened = { 0 };
@@ -305,7 +305,7 @@ int main(void)
         signatures[i] = signature_of(rows[0].text);
     }
     signature_mark = signatures[0].mark;
-    minisign_take_secret_key(any_signature, any_signature, &keys[0]);
+    take(any_signature, any_signature, &keys[0]);
     mark = keys[0].mark;
     opened[0] = 1;
     for (long call = 0; call < CALLS; call++) {

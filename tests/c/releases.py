@@ -6,7 +6,8 @@
 A release has the same bytes twice, the moment of the commit, the sources of what is built in it, and each document
 that a text of it names. Where it is unpacked there is no kit, no Python and no repository: there gcc and clang build
 it, it is checked, installed and used, also without what stands built, and writes the same release again. By gcc it
-installs the bytes that the repository does, which `installed.py` uses. Its own program signs it. Debian's tools and
+installs the bytes that the repository does, which `installed.py` uses. Its own program signs it by a key whose path
+is relative to the caller's directory, or nothing changes; and minisign-install takes it. Debian's tools and
 the steps of Alpine's build file, over musl, make packages of it, and `packaging/others` packs what is installed. No
 maintainer is made up, and no file of the repository is a secret key. It prints a line for each failure; the last line
 is `N passed, M failed`.
@@ -18,9 +19,11 @@ and Debian's dpkg-dev, debhelper and lintian, and installs what is missing if it
 import glob
 import os
 import re
+import shlex
 import shutil
 import sys
 import tarfile
+import time
 
 HERE = os.path.dirname(os.path.realpath(__file__))
 sys.path.append(os.path.join(HERE, "..", "shared"))
@@ -35,7 +38,7 @@ from commands import has_secret_key
 from copies import TOP, Tree, files_below, listed
 from packaging import make
 from process import run
-from running import read
+from running import read, write
 
 CORPUS = os.path.join(TOP, "tests", "corpus")
 # How what was published is verified by a program in CORPUS.
@@ -50,11 +53,16 @@ ADDRESS = re.compile(r"[\w.+-]+@[\w-]+(?:\.[\w-]+)+")
 TOYS = {"crates/minisign_compare/data/plain.key", "crates/minisign_compare/data/sealed.key"}
 # Whoever makes a package names themselves: here the name and address are those that no person has.
 MAINTAINER = {"DEBFULLNAME": "Nobody & Co", "DEBEMAIL": "nobody@example.org"}
-UNSIGNED = "the release is not signed, as RELEASE_KEY names no secret key"
+UNSIGNED = "the archive is not signed: publish what `make release RELEASE_KEY=..` writes"
+# The trusted comment that Minisign writes without -t.
+OWN_COMMENT = r"(?m)^trusted comment: timestamp:\d+\tfile:{}\thashed$"
+# The exit status of minisign-install for an older update.
+INSTALLING_OLDER = 4
 # What Debian's packages and Alpine's have.
 OF_DEBIAN = ("usr/include/minisign.h", "usr/share/man/man1/minisign-proved.1.gz", "usr/share/minisign-in-rattle/minisign.html",
              "usr/share/doc/minisign-in-rattle/copyright", "usr/lib/*/libminisign.so.*.*.*", "usr/lib/*/pkgconfig/minisign.pc")
-OF_ALPINE = ("usr/lib/libminisign.so", "usr/include/minisign.h", "usr/share/man/man1/minisign-proved.1")
+OF_ALPINE = ("usr/lib/libminisign.so", "usr/include/minisign.h", "usr/share/man/man1/minisign-proved.1",
+             "usr/share/licenses/minisign-in-rattle/LICENSE")
 # Without the calls as C, which take the most time: `portable.py` compiles them over musl, and `packaging.py` by Ubuntu's flags.
 WITHOUT_C = "C_CALLS="
 # How Alpine's tool runs the steps of its build file.
@@ -71,11 +79,10 @@ def archive_in(place):
     return archive
 
 
-def release(checks, out, *words):
-    """Has a release made: its archive."""
-    said = checks.ended(f"make release {words}", make("-s", "release", f"OUT={out}", *words))
-    checks.check((UNSIGNED in said) == (not words), f"make release {words} says: {said}")
-    checks.check(words or not glob.glob(f"{out}/*.minisig"), "a release without a key is signed, or has older signatures beside it")
+def unsigned(checks, out, *words):
+    """The archive that `make archive` writes, which has no signature beside it."""
+    checks.ended(f"make archive {words}", make("-s", "archive", f"OUT={out}", *words), says=UNSIGNED)
+    checks.check(not glob.glob(f"{out}/*.minisig"), "an unsigned archive has older signatures beside it")
     return archive_in(out)
 
 
@@ -87,7 +94,7 @@ def check_verifying(checks, what, *command):
 
 def check_release(checks, room):
     """A release, in a place without anything else: what is unpacked."""
-    archives = [release(checks, f"{room}/{name}") for name in ("one", "two")]
+    archives = [unsigned(checks, f"{room}/{name}") for name in ("one", "two")]
     checks.check(read(archives[0]) == read(archives[1]), "two releases of the same sources differ")
     checks.ended("SHA256SUMS", run(["sha256sum", "-c", "SHA256SUMS"], f"{room}/one"))
     with tarfile.open(archives[0]) as archive:
@@ -143,30 +150,87 @@ def check_licence(checks):
         checks.check(re.search(rf"\b{name}\b", terms), f"LICENSE does not say of the kit's crate {name} under which terms it stands")
 
 
-def check_signed(checks, room, program, minisign):
-    """With a key archive and sums are signed by the program that is in the release, and without one that is there not at all."""
-    key = f"{room}/own key"
-    checks.ended("a pair for this run", run([program, "-G", "-W", "-p", f"{key}.pub", "-s", f"{key}.key"]))
-    archive = release(checks, f"{room}/one", f"RELEASE_KEY={key}.key", WITHOUT_C, "CFLAGS=-O0", "CPPFLAGS=")
-    for name in (archive, f"{room}/one/SHA256SUMS"):
-        verifying = ["-V", "-p", f"{key}.pub", "-m", name]
-        for by in (minisign, program):
-            checks.ended(f"{name} by {by}", run([by, *verifying]), says=os.path.basename(archive).removesuffix(".tar.gz"))
-        with open(name, "ab") as file:
-            file.write(b"\n")
-        checks.ended(f"a changed {name}", run([minisign, *verifying]), status=1)
-    words = ("-s", "release", f"OUT={room}/one", f"RELEASE_KEY={room}/no.key", WITHOUT_C, "CFLAGS=-O0", "CPPFLAGS=")
-    checks.ended("with a key that is not there", make(*words), status=2)
-    checks.check(not glob.glob(f"{room}/one/*.minisig"), "with a key that is not there a release is signed")
-    release(checks, f"{room}/one")
-    checks.check(read(archive) == read(archive_in(f"{room}/two")), "a key changes the archive")
+class Signing:
+    """Runs `make release` from a directory that has keys of this run."""
+
+    # (not optimized, which takes less time)
+    WORDS = (WITHOUT_C, "CFLAGS=-O0", "CPPFLAGS=")
+
+    def __init__(self, checks, room, program):
+        self.place, self.out, self.program = f"{room}/own keys", f"{room}/one", program
+        os.mkdir(self.place)
+        checks.ended("a pair for this run", run([program, "-G", "-W", "-p", "a.pub", "-s", "a key"], self.place))
+        shutil.copy(f"{self.place}/a key", f"{self.place}/-key")
+        write(self.place, "no key", b"untrusted comment: no key\nRWQ\n")
+
+    def release(self, *words):
+        """Calls make from that directory, as a shell does: its status, and what it said."""
+        command = shlex.join(["make", "-s", "-C", static_library.DIRECTORY, "release", f"OUT={self.out}", *self.WORDS, *words])
+        return run(["sh", "-c", f"cd {shlex.quote(self.place)} && {command}"], PATH=static_library.path_without_kit())
+
+    def files(self):
+        """What is in OUT of a release, with its bytes."""
+        return {name: read(self.out, name) for name in os.listdir(self.out) if re.match("minisign-in-rattle|SHA256SUMS|packing", name)}
+
+
+def check_signed(checks, signing, minisign):
+    """A release is signed by a key whose path is relative to where make is called: archive and sums, each under the comment that
+    Minisign writes, and by the program in the release."""
+    archive = unsigned(checks, signing.out)
+    data = read(archive)
+    for key in ("a key", f"{signing.place}/a key", "-key", "../own keys/a key"):
+        checks.ended(f"make release RELEASE_KEY='{key}'", signing.release(f"RELEASE_KEY={key}"))
+        for name in (archive, f"{signing.out}/SHA256SUMS"):
+            verifying = ["-V", "-p", f"{signing.place}/a.pub", "-m", name]
+            for by in (minisign, signing.program):
+                checks.ended(f"{name} by {by}", run([by, *verifying]), says=f"\tfile:{os.path.basename(name)}\thashed\n")
+            comment = OWN_COMMENT.format(re.escape(os.path.basename(name)))
+            checks.check(re.search(comment, read(f"{name}.minisig").decode()), f"{name}.minisig has another trusted comment")
+        checks.check(read(archive) == data and len(signing.files()) == 4, f"a key changes the archive, or {sorted(signing.files())} are there")
+    with open(archive, "ab") as file:
+        file.write(b"\n")
+    checks.ended("a changed archive", run([minisign, "-V", "-p", f"{signing.place}/a.pub", "-m", archive]), status=1)
+
+
+def check_not_signed(checks, signing):
+    """If a release cannot be signed, the last one is unchanged, and where there was none there is no archive."""
+    for has_release in (True, False):
+        if has_release:
+            checks.ended("a release", signing.release("RELEASE_KEY=a key"))
+        else:
+            for name in signing.files():
+                os.remove(os.path.join(signing.out, name))
+        before = signing.files()
+        for key, why in (("", "RELEASE_KEY has to name the secret key"), ("missing", f"{signing.place}/missing, which is not a file"),
+                         (".", "which is not a file"), ("no key", "this is not a secret key")):
+            checks.ended(f"a release by the key '{key}'", signing.release(f"RELEASE_KEY={key}"), status=2, says=why)
+            checks.check(signing.files() == before, f"a release by the key '{key}' leaves {sorted(signing.files())} of {sorted(before)}")
+
+
+def check_installed(checks, signing, installer):
+    """minisign-install takes a release, and the next one after it, and then not the first one again."""
+    target = f"{signing.place}/installed"
+    os.mkdir(target)
+    words, kept = [[installer, "--first"], [installer]], []
+    for number, installing in enumerate(words):
+        checks.ended("a release", signing.release("RELEASE_KEY=a key"))
+        for name in ("SHA256SUMS", os.path.basename(archive_in(signing.out))):
+            paths = [os.path.join(signing.out, name), os.path.join(signing.out, f"{name}.minisig"), os.path.join(target, name)]
+            checks.ended(f"{name}, installed by {installing}", run([*installing, f"{signing.place}/a.pub", *paths]))
+            checks.check(read(paths[0]) == read(paths[2]), f"{name} is not installed")
+            if number == 0:
+                kept.append([shutil.copy(path, f"{signing.place}/older {os.path.basename(path)}") for path in paths[:2]] + paths[2:])
+        # (a timestamp counts seconds)
+        time.sleep(1.1 if number == 0 else 0)
+    for paths in kept:
+        checks.ended(f"an older {paths[0]}", run([installer, f"{signing.place}/a.pub", *paths]), status=INSTALLING_OLDER)
 
 
 def check_compiler(checks, room, top, name):
     """A release that is built by a compiler, checked, installed, and used from what was installed, with few programs in PATH."""
     place, compiler = os.path.join(room, f"by-{name}"), needs.program(name, name)
     os.mkdir(place)
-    tree = Tree(place, top, compiler, [name], "basename", "date", "env", "gzip", "ldconfig", "mktemp", "tar")
+    tree = Tree(place, top, compiler, [name], "basename", "date", "env", "gzip", "ldconfig", "mktemp", "mv", "tar")
     with static_library.kept_object({"CC": compiler, "OUT": f"{place}/out"}):
         for goal in ("all", "check", f"install DESTDIR={place}/dest PREFIX=/usr"):
             said = checks.ended(f"a release by {name}, {goal}", tree.run(f"make -C c CC={name} OUT={place}/out {goal}"))
@@ -201,6 +265,8 @@ def check_debian(checks, room, archive):
     """Debian's packages: built, without an error of lintian, and used as they are unpacked."""
     for name, package in (("dpkg-buildpackage", "dpkg-dev"), ("dh", "debhelper"), ("lintian", "lintian")):
         needs.program(name, package)
+    # (dpkg-buildpackage wants the package itself, and not only the programs that it depends on)
+    needs.need(lambda: run(["dpkg-query", "-W", "build-essential"])[0] == 0 or None, "build-essential", "build-essential")
     command, place = ["sh", os.path.join(TOP, "packaging", "debian.sh"), archive, f"{room}/debian"], f"{room}/debian"
     checks.ended("packages without a maintainer", run(command, **dict.fromkeys(MAINTAINER, "")), status=2)
     checks.check(not os.path.exists(place), "packages without a maintainer are begun")
@@ -251,6 +317,10 @@ def check_others(checks, room, top):
     checks.check(not os.path.exists(f"{room}/others"), "packaging/others, clean, leaves something")
 
 
+# These make what the others check.
+ALWAYS = ("check_release", "check_compiler")
+
+
 def run_all(checks, room):
     needs.libsodium()
     minisign, top = needs.minisign(), check_release(checks, room)
@@ -260,8 +330,11 @@ def run_all(checks, room):
     check_compiler(checks, room, top, "clang")
     tree, root = check_compiler(checks, room, top, "gcc")
     check_same(checks, room, root)
-    check_signed(checks, room, f"{root}/bin/minisign", minisign)
-    checks.ended("a release of a release", tree.run(f"make -s -C c release CC=gcc OUT={room}/again"))
+    signing = Signing(checks, room, f"{root}/bin/minisign")
+    check_signed(checks, signing, minisign)
+    check_not_signed(checks, signing)
+    check_installed(checks, signing, f"{root}/bin/minisign-install")
+    checks.ended("a release of a release", tree.run(f"make -s -C c archive CC=gcc OUT={room}/again"))
     checks.check(read(archive_in(f"{room}/again")) == read(archive_in(f"{room}/two")), "a release of a release differs from it")
     check_others(checks, room, top)
     check_alpine(checks, room, top)

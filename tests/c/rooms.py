@@ -4,10 +4,10 @@
     tests/c/rooms.py
 
 No name means two things in the rooms of the programs and in what they share; no room takes from another but as
-docs/ARCHITECTURE.md says; what only Linux has stands in one file each; no function, and not all that is written by
-hand, is longer than it may be. Each message of the programs is Minisign's own or stands in a test. The manual pages
-have a date, and mandoc finds nothing. What is built needs only names that glibc 2.31 has. Without libsodium's header
-make says so in one sentence. It prints a line for each failure; the last line is `N passed, M failed`.
+docs/ARCHITECTURE.md says; what only Linux has stands in one file each. Each message of the programs is Minisign's own or
+stands in a test. The manual pages have a date, and mandoc finds nothing. What is built needs only names that glibc 2.31
+has. Without libsodium's header make says so in one sentence. The script warns of functions with more than 50 lines that
+LONG does not list; a warning is not a failure. It prints a line for each failure; the last line is `N passed, M failed`.
 
 Needs make, gcc, binutils, mandoc, minisign 0.11 and libsodium with its header, and installs what is missing if it
 may.
@@ -30,9 +30,10 @@ from process import run
 from running import read, write
 
 C = static_library.DIRECTORY
-# What is made and not written by hand; and how many lines may be, but for what the calls as C need besides and for examples.
+# Generated files.
 MADE = {f"{C}/install/usage.h", f"{C}/library/boundary.c"}
-MAX_LINES, MAX_FUNCTION = 6583, 50
+# A function with more lines is a warning, but for these.
+FUNCTION_LINES, LONG = 50, ()
 OF_PROGRAMS, ROOMS = ("minisign", "install", "shared"), ("minisign", "install", "shared", "library", "library/portable", "examples")
 # Which headers each room takes besides its own: those of a room, or one.
 TAKES = {"minisign": ("shared/", "library/clearing.h"), "install": ("shared/",), "shared": (), "library": ()}
@@ -43,9 +44,10 @@ OF_LINUX = {"handles.c": ("O_PATH", "fstatfs", "ST_NOSYMFOLLOW", '"/proc/self/fd
 NAMING = ("command_line", "installer", "c", "verdicts", "shared", "bindings")
 # Messages that no test can cause, and why.
 NOT_CAUSED = {
-    "The data could not be fed": "the state was begun, and its digest is asked for later",
+    "the data could not be hashed": "the state was begun, and its digest is asked for later",
     "too many files at once": "those that wait go to their places before they are so many",
-    "others replace it again and again": "others would have to do so within each of a hundred openings",
+    "other processes keep replacing this file": "others would have to do so within each of a hundred openings",
+    "atexit() failed": "the C library has room for 32 functions at least",
 }
 MOST_GLIBC = (2, 31)
 # What the headers of an older glibc have in place of a name of its own.
@@ -84,7 +86,7 @@ def check_rooms(checks, code):
 
 
 def check_sources(checks, files):
-    """What stands once, and how long functions are."""
+    """What stands once; warns of long functions."""
     for name, file in ((name, file) for file, names in OF_LINUX.items() for name in names):
         found = {os.path.basename(path) for path, text in files.items() if name in text}
         checks.check(found == {file}, f"{name} stands in {sorted(found)}, and not in {file} alone")
@@ -95,11 +97,9 @@ def check_sources(checks, files):
         ends = len(re.findall(r"^\}$", text, re.M))
         checks.check(len(functions) == ends, f"{path}: {len(functions)} functions were found, and {ends} end")
         for function in functions:
-            length = function.count("\n")
-            checks.check(length <= MAX_FUNCTION or path in MADE, f"{path}: {function.splitlines()[0]} has {length} lines")
-    count = sum(text.count("\n") for path, text in files.items() if path not in MADE and os.path.basename(os.path.dirname(path)) in TAKES)
-    print(f"lines of C that are written by hand: {count}")
-    checks.check(count <= MAX_LINES, f"{count} lines of C are written by hand, of at most {MAX_LINES}")
+            length, name = function.count("\n"), re.search(r"(\w+)\(", function)[1]
+            if length > FUNCTION_LINES and path not in MADE and name not in LONG:
+                print(f"warning: {path}: the function {name} has {length} lines")
 
 
 def messages_of(text):

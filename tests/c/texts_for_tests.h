@@ -157,11 +157,21 @@ static inline enum minisign_error seal(const minisign_secret_key *key, const cha
 {
     const minisign_sealing sealing = { .operations_limit = memory / 32 * p, .memory_limit = memory };
 
-    return minisign_secret_key_text(key, 1, bytes_of(password), strlen(password), &sealing, MINISIGN_KEEP_EVERY_ROW,
-                                    bytes_of("c"), 1, text, room, text_len);
+    return minisign_secret_key_text_with_any_limits(key, MINISIGN_PASSWORD, bytes_of(password), strlen(password), &sealing,
+                                                    MINISIGN_KEEP_EVERY_ROW, bytes_of("c"), 1, text, room, text_len);
 }
 
-/* Makes the text of a signature of what stands in different places. */
+/* Takes in a new key of what stands in different places. */
+static inline void take(const uint8_t key_id[8], const uint8_t secret[64], minisign_secret_key *key)
+{
+    minisign_new_key new_key;
+
+    memcpy(new_key.key_id, key_id, sizeof new_key.key_id);
+    memcpy(new_key.secret, secret, sizeof new_key.secret);
+    minisign_take_secret_key(&new_key, key);
+}
+
+/* Makes the text of a signature of what stands in different places, under the key ID of a secret key. */
 static inline enum minisign_error make_signed_text(const minisign_secret_key *key, const uint8_t signature[64],
                                                    const uint8_t comment_signature[64], const uint8_t *trusted,
                                                    size_t trusted_len, const uint8_t *untrusted, size_t untrusted_len,
@@ -169,10 +179,15 @@ static inline enum minisign_error make_signed_text(const minisign_secret_key *ke
 {
     minisign_signed_parts parts = { .trusted_comment = trusted, .trusted_comment_len = trusted_len,
                                     .untrusted_comment = untrusted, .untrusted_comment_len = untrusted_len };
+    minisign_public_key public_key;
+    enum minisign_error error = minisign_public_key_of(key, &public_key);
 
+    if (error != MINISIGN_OK) {
+        return error;
+    }
     memcpy(parts.signature, signature, sizeof parts.signature);
     memcpy(parts.comment_signature, comment_signature, sizeof parts.comment_signature);
-    return minisign_signed_text(key, &parts, text, room, text_len);
+    return minisign_signed_text(&public_key, &parts, text, room, text_len);
 }
 
 #endif

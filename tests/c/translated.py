@@ -7,9 +7,9 @@ another WebAssembly, Node's (`translated.js`), which is right.
 It tries each instruction of its table on pairs of numbers at edges and at random, those that end the program where
 they have to, and each load and store; functions at random, of blocks, loops, branches, calls and what reads and writes
 memory; data with addresses; and the stack of the machine: translated, and compiled with and without a sanitizer of
-undefined behaviour. Bugs that are planted in machine.h (`translated_bugs.txt`), in the table and in the stack are
-noticed. What the translator does not know is an error that names it. It prints a line for each failure; the last line
-is `N passed, M failed`.
+undefined behaviour. The mutants of machine.h (`machine_mutants`), of the table and of the stack are noticed. What the
+translator does not know is an error that names it. It prints a line for each failure; the last line is
+`N passed, M failed`.
 
 Needs a C compiler and Node, and installs what is missing if it may.
 """
@@ -32,6 +32,7 @@ import needs
 import static_library
 import wasm_object
 import wasm_to_c
+from mutants import applied_to, mutants_of
 from process import run_program
 from running import read, write
 
@@ -209,6 +210,8 @@ CHANGES = {"copy": "local.get 0 i64.const 9 i64.add local.get 0 i64.const 4 i64.
 # A frame of the stack with the parameter in it, and its end.
 FRAME = "global.get 0 i64.const 32 i64.sub local.tee 1 global.set 0 local.get 1 local.get 0 i64.store 8"
 LEAVE = "local.get 1 i64.const 32 i64.add global.set 0"
+# A frame of a function that calls nothing, with the stack pointer in a variable until the frame is used.
+LATE_FRAME = "global.get 0 local.set 1 local.get 1 i64.const 32 i64.sub local.tee 2 local.get 0 i64.store 8"
 
 
 def add_numbers(module, drawn):
@@ -243,14 +246,16 @@ def add_memory(module, drawn):
 
 
 def add_places(module, _):
-    """A function that reads data by an address, one that goes on from an address that data holds, and two with frames, with calls; what
-    an address is a multiple of is seen as well."""
+    """A function that reads data by an address, one that goes on from an address that data holds, and three with frames, with calls;
+    what an address is a multiple of is seen as well."""
     data = module.add("data_read", ["i64"], "i64", "i64.const data local.get 0 i64.add i64.load8_u 0")
     followed = module.add("data_followed", ["i64"], "i64", f"i64.const data i64.load {POINTER_AT} i64.load8_u 2")
     below = module.add("frame_below", ["i64"], "i64", f"{FRAME} local.get 1 i64.load32_u 8 {LEAVE}", ["i64"])
     code = f"{FRAME} local.get 0 i64.const 77 i64.add call {below} local.get 1 i64.load 8 i64.xor local.get 1 i64.const 15 i64.and i64.add"
     above = module.add("frame_above", ["i64"], "i64", f"{code} {LEAVE}", ["i64"])
-    return [*(call(data, (at,)) for at in range(16)), call(followed, ()), *(call(at, (value,)) for value in EDGES for at in (below, above))]
+    late = module.add("frame_late", ["i64"], "i64", f"{LATE_FRAME} local.get 2 i64.load32_u 8", ["i64", "i64"])
+    frames = (below, above, late)
+    return [*(call(data, (at,)) for at in range(16)), call(followed, ()), *(call(at, (value,)) for value in EDGES for at in frames)]
 
 
 # ---- Functions at random ----
@@ -391,9 +396,6 @@ def check_answers(checks, case, runners):
             checks.check(runners.in_c(program, asked).status == -6, f"{name} does not end the program")
 
 
-# Bugs of machine.h, by what stands there and what stands in its place.
-MACHINE_BUGS = re.findall(r"(?m)^([^#\n].*) => ?(.*)$", read(HERE, "translated_bugs.txt").decode())
-FORWARDS = "static inline void memcpy_forwards(u8 *to, const u8 *from, size_t len) { while (len-- > 0) { *to++ = *from++; } }\n"
 # Rows of the table, with what stands in their place.
 TABLE_BUGS = {"i64.load8_u": "load8(a) + 1", "i64.load32_u": "sign32(load32(a))", "i32.shl": "a << b % 31", "i64.lt_s": "a < b",
               "i64.extend_i32_s": "(u64) a", "i32.store16": "store8(a, b)", "i32.extend8_s": "(u32) sign16(a)", "i64.rotr": "rotl64(a, b)"}
@@ -425,12 +427,9 @@ def is_noticed(case, runners, **more):
 
 
 def check_bugs(checks, case, little, runners):
-    """Each bug is noticed, those of a single instruction where there is no more."""
-    for old, new in MACHINE_BUGS:
-        checks.check(old in MACHINE, f"machine.h has no {old}")
-        changed = MACHINE.replace(old, new).replace("/* ---- Memory ---- */", FORWARDS)
-        changed = changed.replace("#define IS_COPIED 1", "#define IS_COPIED 0") if "load8" in old or "store8" in old else changed
-        checks.check(is_noticed(little, runners, machine=changed), f"nothing notices {new} in place of {old}")
+    """Each mutant is noticed, those of a single instruction by the case that has nothing else."""
+    for mutant in mutants_of("c", "machine_mutants"):
+        checks.check(is_noticed(little, runners, machine=applied_to(MACHINE, mutant)), f"nothing notices the mutant {mutant.name} of machine.h")
     for name, wrong in TABLE_BUGS.items():
         with mock.patch.dict(wasm_to_c.IN_C, {name: wrong}):
             checks.check(is_noticed(little, runners), f"nothing notices {wrong} for {name}")
@@ -444,7 +443,9 @@ REJECTED = {
     "a float": ("0x4300000000", "f32.const"), "a float that is compared": ("0x5b", "f32.eq"), "a root": ("0x9f", "f64.sqrt"),
     "a call by table": ("0x110000", "call_indirect"), "more memory": ("0x4000", "memory.grow"), "a vector": ("0xfd", "0xfd"),
     "a load of a float": ("f32.load 0", "f32.load"), "a conversion": ("i32.trunc_f32_s", "i32.trunc_f32_s"),
-    "another variable": ("global.get 1", "how much of the stack it takes"), "other instructions": ("0x0640", "0x6"),
+    "another variable": ("global.get 1", "how much of the stack it takes"),
+    "a stack pointer that is used twice": ("global.get 0 local.set 0 local.get 0 i64.const 8 i64.sub drop local.get 0 drop",
+                                           "how much of the stack it takes"), "other instructions": ("0x0640", "0x6"),
     "a number that nobody put there": ("drop", "the stack is empty"), "a call of itself": ("i64.const 0 call 0", "calls itself"),
     "a block of two": ("0x0200", "a block that takes values"),
 }

@@ -4,6 +4,8 @@
  * nothing. Right calls stand beside them, which shows that it is the use that is rejected. random_calls.c has calls
  * in the wrong order. And for each pointer of each call, NULL with length 0 acts as a pointer to no bytes.
  */
+#include <minisign_install.h>
+
 #include "texts_for_tests.h"
 
 static minisign_questions questions;
@@ -204,7 +206,7 @@ static void taken_in(void)
     minisign_public_key public_key;
 
     memset(&taken, 0xaa, sizeof taken);
-    minisign_take_secret_key(key.key_id, key.secret, &taken);
+    take(key.key_id, key.secret, &taken);
     CHECK(memcmp(&taken, &key, sizeof key) == 0);
     CHECK(minisign_public_key_of(&taken, &public_key) == MINISIGN_OK);
     CHECK(memcmp(public_key.key, key.secret + 32, 32) == 0 && memcmp(public_key.key_id, key.key_id, 8) == 0);
@@ -223,8 +225,9 @@ static enum minisign_error make_key(uint32_t with_password, uint64_t memory_limi
 {
     const minisign_sealing sealing = { .operations_limit = 4 * 32768, .memory_limit = memory_limit };
 
-    return minisign_secret_key_text(&of_zeros, with_password, bytes_of("abc"), 3, &sealing, MINISIGN_KEEP_FEW_ROWS,
-                                    bytes_of(comment), strlen(comment), text, room, &text_len);
+    return minisign_secret_key_text_with_any_limits(&of_zeros, with_password, bytes_of("abc"), 3, &sealing,
+                                                    MINISIGN_KEEP_FEW_ROWS, bytes_of(comment), strlen(comment), text, room,
+                                                    &text_len);
 }
 
 /* Opens the sealed key, with memory of malloc or in so many words and bytes: it is that of zeros, or an error, which leaves
@@ -260,7 +263,7 @@ static void keys_made(void)
     memset(text, 0, sizeof text);
     text_len = 0;
     memset(too_long, 'c', sizeof too_long - 1);
-    CHECK(make_key(2, UINT64_MAX, "\xff", 0) == MINISIGN_BAD_PASSWORD_FLAG);
+    CHECK(make_key(3, UINT64_MAX, "\xff", 0) == MINISIGN_BAD_PASSWORD_FLAG);
     CHECK(make_key(UINT32_MAX, little, "c", room) == MINISIGN_BAD_PASSWORD_FLAG);
     for (size_t i = 0; i < LENGTH(rejected); i++) {
         const uint8_t *comment = bytes_of(rejected[i].comment);
@@ -268,7 +271,8 @@ static void keys_made(void)
         CHECK(make_key(1, UINT64_MAX, rejected[i].comment, 0) == rejected[i].error);
         CHECK(minisign_public_key_text(&of_zeros, comment, strlen(rejected[i].comment), text, 0, &text_len) == rejected[i].error);
     }
-    CHECK(minisign_secret_key_text(&of_zeros, 1, bytes_of("\xff"), 1, &none, 1, bytes_of("\n"), 1, text, 0, &text_len)
+    CHECK(minisign_secret_key_text_with_any_limits(&of_zeros, 1, bytes_of("\xff"), 1, &none, 1, bytes_of("\n"), 1, text, 0,
+                                                   &text_len)
           == MINISIGN_NOT_UTF8);
     CHECK(minisign_secret_key_text(&of_zeros, 0, NULL, 0, &none, 1, bytes_of("\0"), 1, text, sizeof text, &text_len)
           == MINISIGN_UNREADABLE_COMMENT);
@@ -312,12 +316,16 @@ static void rows_bounded(uint64_t p)
     /* (few rows of many parts take long) */
     for (size_t i = 0; i < (p == 1 ? LENGTH(kept) : 1); i++) {
         const uint64_t every = kept[i] > 1 ? kept[i] : 1, held = 1024 / every + (1024 % every != 0);
-        uint64_t words_len = 0, bytes_len = 0;
+        uint64_t words_len = 5, bytes_len = 6;
 
-        minisign_opening_memory(&unopened, kept[i], &words_len, &bytes_len);
+        /* A key that would make too many rows takes no memory, and is rejected without any. */
+        minisign_opening_memory(&unopened, kept[i], rows - 1, &words_len, &bytes_len);
+        CHECK(words_len == 0 && bytes_len == 0);
+        opens("abc", kept[i], rows - 1, 1, 0, MINISIGN_WORK_TOO_HIGH);
+        minisign_opening_memory(&unopened, kept[i], rows, &words_len, &bytes_len);
         CHECK(256 * held <= words_len && words_len <= 256 * (held + 3) && bytes_len == 1024 * p);
         opens("abc", kept[i], rows, words_len - 1, bytes_len, MINISIGN_NO_ROOM);
-        opens("\xff", kept[i], 0, words_len, bytes_len - 1, MINISIGN_NO_ROOM);
+        opens("\xff", kept[i], rows, words_len, bytes_len - 1, MINISIGN_NO_ROOM);
         opens("\xff", kept[i], 0, words_len, bytes_len, MINISIGN_NOT_UTF8);
         opens("abc", kept[i], rows - 1, words_len, bytes_len, MINISIGN_WORK_TOO_HIGH);
         opens("ab", kept[i], rows, words_len, bytes_len, MINISIGN_WRONG_PASSWORD);
@@ -332,7 +340,7 @@ static void no_memory_wanted(void)
     uint64_t words_len = 5, bytes_len = 6;
 
     CHECK(minisign_read_secret_key(bytes_of(SECRET_KEY), strlen(SECRET_KEY), &unopened) == MINISIGN_OK);
-    minisign_opening_memory(&unopened, 1, &words_len, &bytes_len);
+    minisign_opening_memory(&unopened, 1, MINISIGN_ANY_ROWS, &words_len, &bytes_len);
     CHECK(words_len == 0 && bytes_len == 0);
 }
 
@@ -408,7 +416,7 @@ static void nothing_fed(void)
     CHECK(minisign_error_text(MINISIGN_OK, NULL, 0) == strlen("no error"));
 }
 
-/* And where a key is read, opened and signed with, also under the password of no bytes, which is one. */
+/* And where a key is read, opened and signed with, also under the password of no bytes, where that is meant. */
 static void nothing_signed(void)
 {
     static const uint8_t first[64], second[64];
@@ -429,12 +437,100 @@ static void nothing_signed(void)
     CHECK(make_signed_text(&key, first, second, bytes_of(""), 0, bytes_of(""), 0, empty, sizeof empty, &empty_len)
           == MINISIGN_OK);
     CHECK(text_len == empty_len && text_len <= MINISIGN_TEXT_BYTES(0, 0) && memcmp(text, empty, text_len) == 0);
-    CHECK(minisign_secret_key_text(&of_zeros, 1, NULL, 0, &little, 16, NULL, 0, text, sizeof text, &text_len) == MINISIGN_OK);
+    CHECK(minisign_secret_key_text_with_any_limits(&of_zeros, MINISIGN_ANY_PASSWORD, NULL, 0, &little, 16, NULL, 0, text, sizeof text,
+                                                   &text_len)
+          == MINISIGN_OK);
     CHECK(minisign_read_secret_key(text, text_len, &unopened) == MINISIGN_OK);
     opens(NULL, 16, MINISIGN_USUAL_ROWS, 0, 0, MINISIGN_OK);
     opens(NULL, 16, MINISIGN_USUAL_ROWS, LENGTH(words), sizeof parts, MINISIGN_OK);
     CHECK(minisign_open_sealed_key_in_place(&unopened, NULL, 0, 16, MINISIGN_USUAL_ROWS, NULL, 0, NULL, 0, &key)
           == MINISIGN_NO_ROOM);
+}
+
+/* Seals the key of zeros, by the call that rejects a weak sealing. */
+static enum minisign_error seal_well(uint32_t with_password, const char *password, const minisign_sealing *sealing)
+{
+    return minisign_secret_key_text(&of_zeros, with_password, bytes_of(password), strlen(password), sealing, MINISIGN_KEEP_FEW_ROWS,
+                                    bytes_of("c"), 1, text, sizeof text, &text_len);
+}
+
+/* A salt of zeros, a limit below the least one and an empty password are errors, unless the caller says that they are meant. */
+static void weak_sealings(void)
+{
+    static const uint8_t salt[32] = { [31] = 1 };
+    const minisign_sealing usual = minisign_usual_sealing(salt);
+    minisign_sealing least = usual, weak;
+    minisign_secret_key never = { 0 };
+
+    memset(text, 0, sizeof text);
+    text_len = 0;
+    CHECK(memcmp(usual.salt, salt, sizeof salt) == 0 && usual.operations_limit == 33554432 && usual.memory_limit == 1073741824);
+    least.operations_limit = MINISIGN_LEAST_OPERATIONS_LIMIT;
+    least.memory_limit = MINISIGN_LEAST_MEMORY_LIMIT;
+    weak = least;
+    weak.salt[31] = 0;
+    CHECK(seal_well(MINISIGN_PASSWORD, "abc", &weak) == MINISIGN_WEAK_SEALING);
+    weak = least;
+    weak.operations_limit--;
+    CHECK(seal_well(MINISIGN_PASSWORD, "abc", &weak) == MINISIGN_WEAK_SEALING);
+    CHECK(seal_well(MINISIGN_ANY_PASSWORD, "abc", &weak) == MINISIGN_WEAK_SEALING);
+    weak = least;
+    weak.memory_limit--;
+    CHECK(seal_well(MINISIGN_PASSWORD, "abc", &weak) == MINISIGN_WEAK_SEALING);
+    CHECK(seal_well(MINISIGN_PASSWORD, "", &weak) == MINISIGN_EMPTY_PASSWORD);
+    CHECK(seal_well(3, "", &weak) == MINISIGN_BAD_PASSWORD_FLAG);
+    CHECK(minisign_secret_key_text_with_any_limits(&never, MINISIGN_PASSWORD, NULL, 0, &weak, 16, NULL, 0, text, 0, &text_len)
+          == MINISIGN_EMPTY_PASSWORD);
+    CHECK(minisign_secret_key_text(&never, MINISIGN_PASSWORD, bytes_of("a"), 1, &weak, 16, NULL, 0, text, 0, &text_len)
+          == MINISIGN_WEAK_SEALING);
+    CHECK(text_len == 0 && is_zeros(text, sizeof text));
+    CHECK(seal_well(MINISIGN_NO_PASSWORD, "", &weak) == MINISIGN_OK);
+    if (!IS_EMULATED) {
+        CHECK(seal_well(MINISIGN_PASSWORD, "abc", &least) == MINISIGN_OK);
+        CHECK(minisign_read_secret_key(text, text_len, &unopened) == MINISIGN_OK);
+        CHECK(unopened.log2_rows == MINISIGN_LEAST_LOG2_ROWS);
+        opens("abc", 1, MINISIGN_USUAL_ROWS, 0, 0, MINISIGN_OK);
+    }
+}
+
+/* A public key that was not read is an error of each call that takes one, after the errors of the state and before those of the
+ * signature and of the comments. */
+static void public_keys_of_no_text(void)
+{
+    static const minisign_install_options options;
+    static const minisign_signature nothing;
+    const minisign_public_key good = key_of(KEY);
+    const minisign_signature signature = signature_of(SIGNATURE);
+    minisign_signed_parts signed_parts = { .trusted_comment = bytes_of("\n"), .trusted_comment_len = 1 };
+    minisign_state fed = fed_with("abc"), before = fed, never = { 0 };
+    minisign_installation installation, untouched;
+
+    memset(text, 0, sizeof text);
+    text_len = 0;
+    memset(&untouched, 0xaa, sizeof untouched);
+    installation = untouched;
+    for (int bit = -1; bit < 64; bit++) {
+        minisign_public_key bad = good;
+
+        if (bit < 0) {
+            minisign_clear(&bad, sizeof bad);
+            CHECK(is_zeros(&bad, sizeof bad));
+        } else {
+            bad.mark ^= UINT64_C(1) << bit;
+        }
+        CHECK(minisign_ask(&never, &bad, &nothing, NULL, 0, 0, &questions, NULL, 0) == MINISIGN_NOT_BEGUN);
+        CHECK(minisign_ask(&fed, &bad, &nothing, NULL, 0, 0, &questions, NULL, 0) == MINISIGN_PUBLIC_KEY_NOT_READ);
+        CHECK(minisign_ask(&fed, &bad, &signature, bytes_of(SIGNATURE), sizeof SIGNATURE - 1, 0, &questions, message, sizeof message)
+              == MINISIGN_PUBLIC_KEY_NOT_READ);
+        CHECK(minisign_signed_text(&bad, &signed_parts, text, sizeof text, &text_len) == MINISIGN_PUBLIC_KEY_NOT_READ);
+        CHECK(minisign_install_init(&installation, &bad, &good, &options) == MINISIGN_PUBLIC_KEY_NOT_READ);
+        CHECK(minisign_install_init(&installation, &good, &bad, &options) == MINISIGN_PUBLIC_KEY_NOT_READ);
+        CHECK(memcmp(&fed, &before, sizeof fed) == 0 && memcmp(&installation, &untouched, sizeof installation) == 0);
+        CHECK(text_len == 0 && is_zeros(text, sizeof text));
+    }
+    CHECK(minisign_ask(&fed, &good, &nothing, NULL, 0, 0, &questions, NULL, 0) == MINISIGN_SIGNATURE_NOT_READ);
+    CHECK(minisign_signed_text(&good, &signed_parts, text, sizeof text, &text_len) == MINISIGN_BAD_COMMENT);
+    CHECK(minisign_install_init(&installation, &good, &good, &options) == MINISIGN_OK);
 }
 
 /* The numbers themselves, which other languages write out. */
@@ -446,7 +542,7 @@ static void numbers(void)
 
 int main(void)
 {
-    minisign_take_secret_key((const uint8_t[8]) { 0 }, (const uint8_t[64]) { 0 }, &of_zeros);
+    take((const uint8_t[8]) { 0 }, (const uint8_t[64]) { 0 }, &of_zeros);
     least_room();
     other_texts();
     other_places();
@@ -458,6 +554,8 @@ int main(void)
     rows_bounded(1);
     rows_bounded(MOST_PARTS);
     no_memory_wanted();
+    weak_sealings();
+    public_keys_of_no_text();
     nothing_fed();
     nothing_signed();
     numbers();

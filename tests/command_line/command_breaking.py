@@ -22,7 +22,7 @@ STAGE = ".minisign-"
 # The calls that bring a file to the disk, or to its place.
 BRINGING = "fsync linkat rename renameat renameat2"
 # What is said where an allocation failed: the library's words, or the system's of a file.
-OUT_OF_MEMORY = re.compile(rb"out of memory\n|[\w.]+: Cannot allocate memory\n")
+OUT_OF_MEMORY = re.compile(rb"error: (?:[\w.]+: )?out of memory\n|[\w.]+: Cannot allocate memory\n")
 
 
 @dataclass(frozen=True)
@@ -114,7 +114,7 @@ class Breaking(OverTasks, Programs):
 
         expect(self.break_each(task.make, judge, CALLS="memory", ERRNO=errno.ENOMEM), "it asks for no memory")
         expect(len(answers) == 1 or task.targets and answers, f"it answers {answers}")
-        expect((b"out of memory\n" in said) == by_library, f"it said {said}")
+        expect(any(b"out of memory\n" in line for line in said) == by_library, f"it said {said}")
 
     def through_links(self, task):
         """A run over files that are reached by links, of which the last may lead to nothing yet, keeps the links."""
@@ -179,7 +179,7 @@ class Breaking(OverTasks, Programs):
         """Where libsodium cannot be started, a run says so and makes nothing."""
         directory = self.fresh({})
         ran = self.run_broken(directory, ("-GW", "-p", "a.pub", "-s", "a.key"), {"AT": 1, "CALLS": "sodium_init", "ERRNO": errno.EIO})
-        expect((ran.status, ran.said) == (2, b"libsodium could not be started\n") and not os.listdir(directory), ran)
+        expect((ran.status, ran.said) == (2, b"Unable to initialize the Sodium library\n") and not os.listdir(directory), ran)
 
     def cases(self):
         pair, replaced, changed, _, new, over, several = found = tasks(self.keys)

@@ -43,8 +43,8 @@ def run_step(program, preload, directory, step):
     command = ["minisign", *step.arguments]
     if step.at_terminal:
         at = AtTerminal(command, program, directory, environment)
-        for questions, line in enumerate(step.typed.splitlines(True), 1):
-            if not at.read_until(rb"(?:Password(?: \(one more time\))?: [^P]*){%d}$" % questions):
+        for line in step.typed.splitlines(True):
+            if not at.expect(rb"Password(?: \(one more time\))?: "):
                 break
             at.wait_for_hiding()
             at.type(line)
@@ -150,9 +150,9 @@ class Programs(Disturbing):
         return at
 
 
-def expect_question(at, number=1):
-    """The question of this number for a password is shown last, and what is typed is hidden."""
-    expect(at.read_until(rb"(?s)(?:Password.*){%d}: $" % number), f"it never asked: {at.shown!r}")
+def expect_question(at):
+    """The next question for a password is shown, and what is typed is hidden."""
+    expect(at.expect(rb"Password[^:\n]*: $"), f"it never asked: {at.shown!r}")
     wait_until(lambda: not at.shows_typed(), "it shows what is typed")
 
 

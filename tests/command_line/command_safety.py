@@ -93,7 +93,7 @@ class Safety(Programs):
         expect_question(at)
         at.type(b"half\x1a")
         wait_until(at.shows_typed, "the terminal does not show what is typed")
-        expect_question(at, 2)
+        expect_question(at)
         expect_end(at, 0, b"", PASSWORD + b"\n")
         is_signature(read(directory, "data.minisig"))
 
@@ -101,7 +101,7 @@ class Safety(Programs):
     def in_background(self):
         """There it is stopped, and the terminal shows what is typed; in the foreground it asks."""
         at = self.run_by_shell("background", self.directory())
-        expect(at.read_until(rb"stopped by SIGTTOU and it shows"), f"it showed {at.shown!r}")
+        expect(at.expect(rb"stopped by SIGTTOU and it shows"), f"it showed {at.shown!r}")
         expect_question(at)
         expect_end(at, 0, rb"secret key\.\.\. done\r\n\r\n", PASSWORD + b"\n")
 
@@ -137,7 +137,7 @@ class Safety(Programs):
         finder, directory = needles.build_finder(self.room, secrets), self.directory()
         at = self.asked(directory, *NEW_PAIR, LD_PRELOAD=f"{finder} {self.whole.preload}", SEARCH_SAYS=f"{directory}/found")
         at.type(b"a long password\n")
-        expect_question(at, 2)
+        expect_question(at)
         at.type(b"a long p")
         at.process.send_signal(number)
         at.process.wait(SECONDS)
@@ -272,7 +272,7 @@ class Safety(Programs):
         self.ours(directory, "-Sm", "large", "-s", OPEN)
         status, output, said = self.copied(self.program, directory, "large", change)
         expect(status == 1 and before.startswith(output) and len(output) < len(before)
-               and said.endswith(b"\nData changed between verification and output\n"),
+               and said.endswith(b"\nerror: large: Data changed between verification and output\nhint: do not use the output\n"),
                f"it ended with {status}, copied {len(output)} bytes, and said {said[-100:]}")
 
     @case("data that is replaced before it is copied, {0}", ("ours", 1, b""), ("theirs", 0, DATA["more"]), ("ours", 0, DATA["data"], "-l"))

@@ -39,18 +39,20 @@ OWNERS, GROUPS = Around(" in the owner's directory", OWNER, 0o1777), Around(" wh
 REMOVABLE = Around(" where all may remove", ROOT, 0o777)
 OPEN_ONES = (REMOVABLE, Around(" where others may not write", ROOT, 0o1755), Around(" in his own directory", STRANGER, 0o755))
 
-# What is said after the name of the file.
-IN_SHARED = "this is another user's, in a directory where others may write"
-BY_LINK = "another user's link leads there, in a directory where others may write"
-TO_ANOTHER = "this is another user's: no secret key is written there"
+# The error after the name of the file, and the hint.
+OTHER_DIRECTORY = "\nhint: use a directory that only you can write to"
+IN_SHARED = "this belongs to another user, in a directory that others can write to" + OTHER_DIRECTORY
+BY_LINK = "this path has another user's symbolic link, in a directory that others can write to" + OTHER_DIRECTORY
+TO_ANOTHER = "this belongs to another user, so no secret key was written to it\nhint: use a file of your own"
+NOT_PERMITTED = os.strerror(errno.EPERM)
 
 # The rows of docs/DIFFERENCES.md, and a case of each that Minisign's own program does not pass.
 ROWS = {
-    "a stranger's file or pipe": "a signature by 0, over a stranger's file",
-    "a secret key into a pipe or device": "a new secret key by 0, over a stranger's pipe where all may remove",
-    "a stranger's link": "a signature by 0, through a stranger's link to a directory further up",
-    "what comes while a password is typed": "a public key written again, and an own file comes meanwhile",
-    "a key that is swapped while its password is typed": "a key changed by -CW that is swapped meanwhile",
+    "another user's file or pipe": "a signature by 0, over a stranger's file",
+    "a secret key written to a pipe or device": "a new secret key by 0, over a stranger's pipe where all may remove",
+    "another user's symbolic link": "a signature by 0, through a stranger's link to a directory further up",
+    "a file created while the password is typed": "a public key written again, and an own file comes meanwhile",
+    "a key replaced while its password is typed": "a key changed by -CW that is swapped meanwhile",
 }
 
 FILE, PIPE, UNREAD = "file", "pipe", "pipe that nobody reads"
@@ -179,7 +181,8 @@ class Strangers(Programs):
         at = self.asked(directory, flags, "-s", "shared/it", **self.breaking(AT=1, CALLS="write"))
         os.rename(path, path + ".older")
         Standing(FILE, STRANGER).make(path, b"his")
-        expect_answered(at, typed, 2, "shared/it: another user's file stands there now, in place of the key that was read")
+        expect_answered(at, typed, 2, "error: shared/it: another user replaced this file after the key was read\n"
+                                      "hint: check who can write to its directory, then try again\n")
         expect(read(path) == b"his", "his file was changed")
 
     @case("a stranger's {1} in place of root's {0} before each opening", (PIPE, PIPE), (FILE, UNREAD))
@@ -343,7 +346,7 @@ class Strangers(Programs):
             ([secret], [FILE], STRANGER, OPEN_ONES, [ROOT], ROOT),
             ([secret], [PIPE], STRANGER, OPEN_ONES, [ROOT], TO_ANOTHER),
             # (it may be written and not be replaced)
-            ([secret], [FILE], ROOT, [SHARED], [USER], os.strerror(errno.EPERM)),
+            ([secret], [FILE], ROOT, [SHARED], [USER], NOT_PERMITTED),
         ):
             for command, kind, around, user in itertools.product(commands, kinds, places, users):
                 yield (f"{command.name} by {user}, over {WHOSE[whose]} {kind}{around.name}",
@@ -363,7 +366,7 @@ class Strangers(Programs):
             ("a public key written again", (FILE, PIPE), ("-R", "-p", "shared/it", "-s", "own/closed.key"), PASSWORD + b"\n"),
         ):
             for what in kinds:
-                for whose, owner, *ends in (("a stranger's", STRANGER, 2, f"shared/it: {IN_SHARED}"),
+                for whose, owner, *ends in (("a stranger's", STRANGER, 2, f"error: shared/it: {IN_SHARED}"),
                                             ("an own", ROOT, 1, "shared/it already exists.")):
                     yield (f"{name}, and {whose} {what} comes meanwhile",
                            self.made_meanwhile, arguments, typed, Standing(what, owner), *ends)
@@ -403,17 +406,20 @@ def everything(directory):
 
 
 def expect_answered(at, typed, status, said):
-    """With a line typed at each question, of which the first one stands there, it ends so and says this."""
-    for number, line in enumerate(typed, 1):
-        expect_question(at, number)
+    """With a line typed at each question, of which the first one is shown already, it ends so and says this."""
+    for number, line in enumerate(typed):
+        if number > 0:
+            expect_question(at)
         at.type(line)
-    expect_end(at, status, re.escape(said.encode()))
+    # (a terminal ends lines with a carriage return and a line feed)
+    expect_end(at, status, rb"\s+".join(map(re.escape, said.encode().splitlines())))
 
 
 def expect_rejected(ran, came, name, why, directory=None, before=None):
     """It says why, and nothing came out of a pipe. On its output it says at most what it was to do, and asks nothing. In the directory
     all is as it was."""
-    expect((ran.status, ran.said, came) == (2, f"{name}: {why}\n".encode(), b""), ran, came)
+    said = f"{'' if why == NOT_PERMITTED else 'error: '}{name}: {why}\n"
+    expect((ran.status, ran.said, came) == (2, said.encode(), b""), ran, came)
     expect(ran.output in (b"", f"Key encryption for [{name}] is going to be removed.\n".encode()), ran)
     expect(directory is None or everything(directory) == before, "something was made or changed")
 

@@ -149,7 +149,7 @@ class Line:
 
     def may_be_tested_in_another_order(self, directory):
         """Whether more than one thing may be wrong of which each program names another first: a directory is among its names, or a
-        signature of the older kind is rejected (the row on the order of the tests in docs/DIFFERENCES.md)."""
+        signature of the older kind is rejected (the row on the order of the checks in docs/DIFFERENCES.md)."""
         return self.has("-H") or any(os.path.isdir(os.path.join(directory, os.fsdecode(word))) for word in self.arguments[1:])
 
     def run(self, program, directory):

@@ -1,10 +1,11 @@
-"""Checks whether there is a newer update: what they show, and where they cannot be made; and the documents' script and unit."""
+"""Checks whether there is a newer update: what they show, and where they cannot be made; and the unit of systemd in
+docs/INSTALLING.md."""
 
 import os
 import re
 import shutil
 
-from installers import (CHECK, EXPIRED, FAILED, LATER, NEW, NO_DIRECTORY, OLD, OLDER, PAST, PK, PLACE, RECORD, REJECTED, SAME, THERE, error)
+from installers import (CHECK, EXPIRED, FAILED, NEW, NO_DIRECTORY, OLD, OLDER, PAST, PK, PLACE, RECORD, REJECTED, SAME, THERE, error)
 from process import run_program
 import proved
 from running import expect, read
@@ -37,7 +38,7 @@ def shows(directory):
 def tells_of_mode(directory):
     """What is there already keeps its permissions, and where others were asked for this is said."""
     directory.check("new", 0, "--mode", "640")
-    for mode, said in (("640", b""), ("755", b"place stands there already and keeps its permissions: chmod changes them\n")):
+    for mode, said in (("640", b""), ("755", b"warning: place: already installed, so its permissions are unchanged\nhint: use chmod to change them\n")):
         directory.check_words(["--mode", mode, *directory.arguments("new")], THERE, said)
         directory.has_mode(0o640)
 
@@ -70,7 +71,7 @@ def checks_beside_installations(directory):
             directory.check_words(CHECK, 0, environment=directory.preloading(SLOW="5000"))
 
 
-# == What docs/INSTALLING.md has of scripts ==
+# == Blocks of docs/INSTALLING.md ==
 
 def block_of(first):
     """What the document has set in, from this line on."""
@@ -90,25 +91,10 @@ def prepare_documented(directory, *names):
     return {"PATH": f"{directory.path}/bin:{os.environ['PATH']}"}
 
 
-def offer_app(directory, name, data, number, signed=None):
-    """An update as the document names it."""
-    directory.offer(name, data, number, signed, label="version", names="app")
+def offer_app(directory, name, data, number, signed=None, more=""):
+    """An update as the document names it, with more fields in its signed comment."""
+    directory.offer(name, data, number, signed, label="version", names="app", more=more)
     os.replace(directory.at(f"{name}.sig"), directory.at(f"{name}.minisig"))
-
-
-@check_cases.table("the script of the document")
-def runs_script(directory):
-    """Over a directory in place of what curl fetches, it ends well where there is nothing newer and where there is, and with the
-    status of what was rejected otherwise."""
-    environment = prepare_documented(directory, "url")
-    directory.put("update", block_of(b"#!/bin/sh"))
-    directory.put("bin/curl", b'#!/bin/sh\nexec cp "$6" "$5"\n')
-    os.chmod(directory.at("bin/curl"), 0o755)
-    for data, number, signed, status, left in ((OLD, 1, None, 0, OLD), (NEW, 2, None, 0, NEW), (NEW, 2, None, 0, NEW),
-                                               (OLD, 1, None, OLDER, NEW), (LATER, 3, OLD, REJECTED, NEW)):
-        offer_app(directory, "url/app", data, number, signed)
-        ran = run_program(["sh", "update", "url"], directory.path, env=environment)
-        expect((ran.status, ran.output, directory.holds("there/app")) == (status, b"", left), f"of version {number}", ran)
 
 
 @check_cases.table("the unit of the document")

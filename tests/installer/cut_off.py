@@ -200,14 +200,17 @@ def refused_memory(directory):
 
 # == Calls that fail in ways of their own ==
 
+OTHER_MODE = "use --mode to choose another mode"
+
+
 @cut_off_cases.table(
     ("a lock that the system cannot give",
      [((), "flock", 1, errno.ENOLCK, FAILED, error("./.place.lock", "No locks available (os error 37)"))]),
     # A file system that syncs no directories says so, which is no failure; of the update and its record it is one.
     ("a directory that is not synced", [((), "fsync", at, errno.EINVAL, status) for at, status in enumerate((FAILED, FAILED, 0, 0), 1)]),
     ("a mode that is not allowed", [
-        ((), "fchmod", 1, errno.EPERM, FAILED, error("./.place.stage-*", "the mode 751 is not allowed here")),
-        (("--mode", "640"), "fchmod", 1, errno.EPERM, FAILED, error("./.place.stage-*", "the mode 640 is not allowed here")),
+        ((), "fchmod", 1, errno.EPERM, FAILED, error("./.place.stage-*", "the mode 751 is not allowed here", OTHER_MODE)),
+        (("--mode", "640"), "fchmod", 1, errno.EPERM, FAILED, error("./.place.stage-*", "the mode 640 is not allowed here", OTHER_MODE)),
         ((), "fchmod", 1, errno.EIO, FAILED, error("./.place.stage-*", "Input/output error (os error 5)"))]),
     # Of the lock, the update and the record, over a file of another owner: where the system does not allow that the run goes on.
     ("an owner that is not allowed", [((), "fchown", at, errno.EPERM, 0) for at in (1, 2, 3)], True),

@@ -23,12 +23,13 @@ PAST = "\texpires:1700000000"
 
 
 def error(name, text, *more):
-    """How the program says that something is wrong with a file, and more lines after that."""
-    return "".join(f"{line}\n" for line in (f"error: {name}: {text}", *more)).encode()
+    """The error about a file, and the hints after it."""
+    return "".join(f"{line}\n" for line in (f"error: {name}: {text}", *(f"hint: {hint}" for hint in more))).encode()
 
 
-NO_DIRECTORY = error("none", "there is no such directory")
-OTHER_SIGNED = error("new", "Signature verification failed")
+AGAIN, ORDER = "download the file and its signature again", "give PK DATA SIG TARGET in this order"
+NO_DIRECTORY = error("none", "this directory does not exist", "create it first")
+OTHER_SIGNED = error("new", "Signature verification failed", AGAIN)
 
 # What the C library calls the calls that `disturbed_calls.c` tells.
 CALLED = {"write": "write", "read-back": "pread", "permissions": "fchmod", "sync": "fsync", "rename": "renameat"}

@@ -17,7 +17,7 @@ from updates import SIZED, key_words
 
 meanwhile_cases = Cases()
 
-AT_WORK = error(PLACE, "another installation is at work at this target")
+AT_WORK = error(PLACE, "another installation of this file is running", "use --wait SECONDS to wait for it")
 
 
 # == Pipes ==
@@ -176,7 +176,7 @@ def loses_lock(directory, call, at):
         directory.check("later", 0)
 
     ran = directory.while_stopped(at, overtake, CALLS=CALLED[call])
-    expect(ran.came and ran.status == FAILED and b".place.lock: it was removed or replaced while it was locked" in ran.said, ran)
+    expect(ran.came and ran.status == FAILED and b".place.lock: another process removed or replaced this lock file\nhint: run the command again\n" in ran.said, ran)
     expect(directory.state() == (LATER, b"7"), f"the record holds {directory.holds(RECORD)}")
 
 

@@ -13,7 +13,7 @@ owner_cases = Cases()
 
 LAST = b"last" * 1000
 SECRET = b"secret:what root alone may read"
-NOT_OWN = "it is for its owner alone: give it the owner of the target"
+NOT_OWN = "only the owner of this file can open it", "give it the same owner as the installed file"
 
 
 def expect_nobodys(directory):
@@ -63,7 +63,7 @@ def after_next_by_root(directory, data, number, status):
     directory.give(".", PLACE)
     directory.offer("other", data, number)
     for name in (LOCK, RECORD):
-        directory.ends(directory.install("other", **AS_NOBODY), FAILED, error(f"./{name}", NOT_OWN))
+        directory.ends(directory.install("other", **AS_NOBODY), FAILED, error(f"./{name}", *NOT_OWN))
         directory.give(LOCK)
     directory.give(LOCK, to=(0, 0))
     directory.check("other", status)

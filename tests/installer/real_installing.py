@@ -7,9 +7,9 @@ data from a pipe that stands still, a failing allocation. Whatever comes, the ol
 whole, and after a run that was cut off the next one ends with the update there. tests/bindings runs the package for
 Python through most of them.
 
-    tests/installer/real_installing.py [PROGRAM ..]
+    tests/installer/real_installing.py [PROGRAM] [WORD ..]
 
-By default the program is built over the static library of `dist/` (`static_library.py`). It prints a line for each
+WORD selects the cases whose name contains it. By default the program is built over the static library of `dist/` (`static_library.py`). It prints a line for each
 case that failed or was skipped; the last line is `N passed, M failed`.
 
 Needs Python 3.9 or later, make, a C compiler, libsodium with its header, minisign and setfacl. It installs what is
@@ -26,9 +26,11 @@ sys.path.append(os.path.join(HERE, "..", "shared"))
 
 import ending
 import needs
+import selected
 import static_library
 from checking import check_cases
 from cut_off import cut_off_cases
+from downloads import download_cases
 from installers import NAME, PK, PLACE, RealInstaller
 from meanwhile import meanwhile_cases
 from owners import owner_cases
@@ -41,7 +43,7 @@ from words import word_cases
 
 def cases_of(installing):
     """The names of all cases, and what runs each."""
-    for some in (update_cases, owner_cases, meanwhile_cases, cut_off_cases, check_cases, word_cases):
+    for some in (update_cases, owner_cases, meanwhile_cases, cut_off_cases, check_cases, download_cases, word_cases):
         for name, case, *given in some:
             yield name, installing.run_case, case, *given
     yield from permission_cases(installing, lambda path: installing.offered(path).at(PLACE),
@@ -51,8 +53,8 @@ def cases_of(installing):
 def run_all(room):
     """Runs all cases: the failures, and how many there were."""
     os.chmod(room, 0o711)
-    program = sys.argv[1] if len(sys.argv) > 1 else os.path.join(room, "out", NAME)
-    if len(sys.argv) == 1:
+    program = selected.file() or os.path.join(room, "out", NAME)
+    if not selected.file():
         needs.libsodium()
         static_library.run_make(f"OUT={room}/out", program)
     return run_cases(cases_of(Installing(program, RealInstaller(room), tempfile.mkdtemp(dir=room))))

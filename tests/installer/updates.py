@@ -9,8 +9,8 @@ import itertools
 import os
 import time
 
-from installers import (CHECK, EXPIRED, FAILED, FIRST, LATER, LOCK, NEW, OLD, OLDER, OTHER_SIGNED, PAST, PK, PLACE, RECORD, REJECTED,
-                        SAME, STAGE, THERE, UNRECORDED, error)
+from installers import (AGAIN, CHECK, EXPIRED, FAILED, FIRST, LATER, LOCK, NEW, OLD, OLDER, ORDER, OTHER_SIGNED, PAST, PK, PLACE, RECORD,
+                        REJECTED, SAME, STAGE, THERE, UNRECORDED, error)
 from permissions import INHERITED, list_of, make_older
 from running import SECONDS, expect
 from runs import Cases, unfed_pipe
@@ -18,29 +18,31 @@ from runs import Cases, unfed_pipe
 update_cases = Cases()
 
 BY_VERSION = ("--numbering", "version")
-AGED = error("new", "the update is older than what was installed")
-HAS_EXPIRED, IS_LEGACY = error("new.sig", "the update has expired"), error("new.sig", "Legacy signatures are not accepted")
-OTHER_COMMENT = error("new.sig", "Comment signature verification failed")
-OTHER_DATA = error(PLACE, "an update of this number was installed, and other data stands at the target", "--again installs all the same")
-NO_RECORD = error(PLACE, "no number is kept beside the target", "./.place.number is missing: --first installs all the same")
-DAMAGED_RECORD = error(PLACE, "what is kept beside the target is no number", "./.place.number is damaged: --first installs all the same")
-OTHER_NAME = error("new.sig", "the signed comment does not name this file", "place is wanted: --name gives another name")
+LATEST, KEPT = "download the latest update", "./.place.number"
+AGED = error("new", "the update is older than the recorded version", LATEST)
+EXPIRED_AT = error("new.sig", "the update has expired")
+HAS_EXPIRED, IS_LEGACY = EXPIRED_AT + f"hint: {LATEST}\n".encode(), error("new.sig", "Legacy signatures are not accepted")
+OTHER_COMMENT = error("new.sig", "Comment signature verification failed", AGAIN)
+OTHER_DATA = error(PLACE, "this version is already recorded, but the installed file is different", "use --again to install anyway")
+NO_RECORD = error(KEPT, "no version is recorded yet", "use --first for the first installation")
+DAMAGED_RECORD = error(KEPT, "the version record is damaged", "use --first to install anyway")
+OTHER_NAME = (error("new.sig", "the trusted comment does not name the file to install")
+              + b"hint: use --name NAME if the update is signed under another name than place\n")
 KEPT_BY_VERSION, KEPT_BY_TIMESTAMP = (
-    error(PLACE, f"the number that is kept beside the target is a {field}, and no {other}",
-          f"it was installed by {field}: add --numbering {field}")
+    error(KEPT, f"the version record holds a {field}, not a {other}", f"use --numbering {field}")
     for field, other in (("version", "timestamp"), ("timestamp", "version")))
-TOO_LONG = "it is longer than it may be"
+TOO_LONG = ("the data is larger than the limit", "use --most BYTES to accept larger data")
 # What says in a signed comment when an update expires.
 SOON = "\texpires:99999999999"
 # When a record was written, later than any clock shows, and how that is said.
 WRITTEN = 4000000000
-CLOCK_BEHIND = HAS_EXPIRED + error("./.place.number", "it was written at 2096-10-02 07:06:40 UTC, and the clock shows less: set it")
-BAD_EXPIRY = error("new.sig", "the signed comment does not say once, in a number, when it expires")
-NO_EXPIRY = error("new.sig", "the signed comment does not say when it expires")
-NO_TIMESTAMP, NO_VERSION = (error("new.sig", "the signed comment has no such number", remedy) for remedy in (
-    "--numbering version takes the number from its version", "without --numbering version the number is its timestamp"))
-OTHER_SIZE = error("new", "the data has another size than the signed comment says")
-BAD_SIZE = error("new.sig", "the signed comment does not say once, in a number, how long the data is")
+CLOCK_BEHIND = EXPIRED_AT + error(KEPT, "it was written at 2096-10-02 07:06:40 UTC, but the system clock is behind", "set the system clock")
+BAD_EXPIRY = error("new.sig", "the trusted comment has an invalid or repeated field expires:")
+NO_EXPIRY = error("new.sig", "the trusted comment does not say when the update expires")
+NO_TIMESTAMP, NO_VERSION = (error("new.sig", "the trusted comment has no valid version number", hint) for hint in (
+    "use --numbering version if the comment has a field version:", "omit --numbering version if the comment has a field timestamp:"))
+OTHER_SIZE = error("new", "the data does not have the signed size", AGAIN)
+BAD_SIZE = error("new.sig", "the trusted comment has an invalid or repeated field size:")
 SIZED = f"\tsize:{len(NEW)}"
 # Data of several pieces.
 LONG = b"long" * 300000
@@ -242,7 +244,7 @@ JUDGED = (
       for keys in (["own"], ["own", "other"], ["other", "own"], ["own", "twin"], ["twin", "own"])
       for what, status, before in (("", 0, {}), (", there already", THERE, HAS_NEW))),
     ("the keys twin and twin", REJECTED, OTHER_COMMENT, dict(keys=["twin", "twin"])),
-    ("the keys other", REJECTED, error("new.sig", "Signature key id is different from public key"), dict(keys=["other"])),
+    ("the keys other", REJECTED, error("new.sig", "Signature key id is different from public key", "use the public key of the signer"), dict(keys=["other"])),
     # A record that names a key, with the greatest number: only `--first` takes an update of another key over it.
     *(row for what, keys, record, *ended in (
         ("a record of a stolen key", [], kept_by("other"), 0),
@@ -253,7 +255,7 @@ JUDGED = (
       for row in ((what, OLDER, AGED, dict(keys=keys, record=record)),
                   (f"{what}, at a first installation", *ended, dict(options=FIRST, keys=keys, record=record)))),
     # The record.
-    ("a record that is too long", FAILED, error("./.place.number", "it is too long for a record"), dict(record=b"5".rjust(259, b"0"))),
+    ("a record that is too long", FAILED, error(KEPT, "this file is too long for a version record", "remove it and use --first to install anyway"), dict(record=b"5".rjust(259, b"0"))),
     ("a record of too many digits", UNRECORDED, DAMAGED_RECORD, dict(record=b"5".rjust(258, b"0"))),
     *((f"a record of {record}", UNRECORDED, DAMAGED_RECORD, dict(record=record))
       for record in (b"", b"\n", b"six", b"5\n5\n", b"+5", b"timestamp:", b"timestamp:+5", b"timestamp: 5", b"Timestamp:5", b"time:5",
@@ -290,8 +292,8 @@ def rejects_key(directory, key, more):
 
 @update_cases.table(
     ("data without an end, whose size was signed", "new", OTHER_SIZE, dict(more=SIZED)),
-    ("data without an end, and a bound", "new", error("new", TOO_LONG), "--most", "1000000"),
-    ("a key without an end", PK, error(PK, TOO_LONG)),
+    ("data without an end, and a bound", "new", error("new", *TOO_LONG), "--most", "1000000"),
+    ("a key without an end", PK, error(PK, "this file is larger than 1 MiB", ORDER)),
 )
 def endless(directory, name, said, *options, **offered):
     """What has no end is rejected."""
@@ -307,7 +309,7 @@ def bounded(directory, bound, status):
     for at in ("new", "/dev/stdin"):
         directory.put_older()
         ran = directory.run(["--most", bound, PK, at, "new.sig", PLACE], typed=NEW)
-        directory.leaves(ran, status, error(at, TOO_LONG) if status else b"")
+        directory.leaves(ran, status, error(at, *TOO_LONG) if status else b"")
 
 
 @update_cases.table("a place that cannot be read")
@@ -373,9 +375,11 @@ def removes_leftovers(directory):
 
 
 # What is put in the place of a file, and what is said of it.
-IS_LINK = "a link stands there, which is not followed"
-OTHERS = {"pipe": (os.mkfifo, "what stands there is no regular file"), "link": (lambda at: os.symlink("behind", at), IS_LINK),
-          "link to nothing": (lambda at: os.symlink("nothing", at), IS_LINK), "directory": (os.mkdir, "a directory stands there")}
+IS_LINK, LEADS = "this is a symbolic link, which is not followed", "give the path that it leads to"
+AWAY = "remove it or move it away"
+OTHERS = {"pipe": (os.mkfifo, "this is not a regular file", AWAY), "link": (lambda at: os.symlink("behind", at), IS_LINK, LEADS),
+          "link to nothing": (lambda at: os.symlink("nothing", at), IS_LINK, LEADS),
+          "directory": (os.mkdir, "this is a directory", "give the path of a file in it")}
 
 
 @update_cases.table(
@@ -392,7 +396,9 @@ def rejects_made(directory, kind, name, behind, is_kept=False):
     if is_kept:
         directory.put(RECORD, directory.kind.record(NEW, 6))
     directory.replace(name, OTHERS[kind][0])
-    at, said = directory.at(name), error(PLACE if name == PLACE else f"./{name}", OTHERS[kind][1])
+    at, said = directory.at(name), error(f"./{name}", OTHERS[kind][1], AWAY)
+    if name == PLACE:
+        said = error(PLACE, *OTHERS[kind][1:])
     before, names = os.lstat(at), {*os.listdir(directory.path), LOCK}
     if name == RECORD:
         directory.check_words(CHECK, FAILED, said)

@@ -1,16 +1,17 @@
-"""The words that a person gives an installer, and those that it says."""
+"""The command lines of the installer, and its messages."""
 
 import errno
 import os
 
 from at_terminal import AtTerminal
-from installers import CHECK, FAILED, FIRST, LOCK, MISUSED, NAME, NEW, NO_DIRECTORY, OLD, PK, PLACE, RECORD, REJECTED, UNRECORDED, error
+from installers import (CHECK, FAILED, FIRST, LOCK, MISUSED, NAME, NEW, NO_DIRECTORY, OLD, ORDER, PK, PLACE, RECORD, REJECTED, UNRECORDED,
+                        error)
 from running import expect
 from runs import Cases
 
 word_cases = Cases()
 
-USAGE = b"usage: minisign-install [OPTION ..] PK DATA SIG TARGET (--help shows the options)\n"
+USAGE = b"usage: minisign-install [OPTION ..] PK DATA SIG TARGET\n"
 PATHS = (PK, "new", "new.sig", PLACE)
 # A key that has signed nothing here.
 OTHER_KEY = ("--key", "RWQf6LRCGA9i53mlYecO4IzT51TGPpvWucNSCh1CBM0QTaLn73Y7GFO3")
@@ -27,55 +28,60 @@ def says(directory, words, status, said, shown=b""):
 
 
 def misuse(name, words, at, why):
-    """A row of words that ask for nothing; after the line that says why stands the usage."""
-    return name, words, MISUSED, (error(at, why) if at else f"error: {why}\n".encode()) + USAGE
+    """A command line that is rejected with this error, the usage and a hint."""
+    return name, words, MISUSED, (error(at, why) if at else f"{why}\n".encode()) + USAGE + b"hint: use --help to list the options\n"
 
 
-GIVEN, UNPAIRED = "this option was given before", "it does not go with `--check`"
+GIVEN, UNPAIRED = "this option can be given only once", "this option cannot be combined with --check"
+FIELD, OCTAL = "timestamp or version", "three octal digits such as 644"
+SIZE, DURATION = "a number of bytes such as 5000, 100K or 20M", "a number of seconds from 0 to 86400"
+MISSING, UNEXPECTED, NEEDS_VALUE = "error: missing arguments, expected ", "unexpected argument, expected ", "this option needs a value"
 SAYING = (
-    *(misuse(f"{option} {value!r}", [option, value, *PATHS], option, f"bad {what} {value}") for option, what, values in (
-        ("--numbering", "field", ("versions",)), ("--mode", "mode", ("75", "00755", "4755", "758")),
-        ("--most", "size", ("5m", "5MB", "K", "16777216T", "17179869184G", "-1K", "+1000000", " 1000000", str(2 ** 64))),
-        ("--max-size", "size", ("10X",)), ("--wait", "number of seconds", ("1.5", "86401", ""))) for value in values),
-    *(misuse(f"{option} beside other words", [option, *value, *PATHS], option, "there is no such option")
+    *(misuse(f"{option} {value!r}", [option, value, *PATHS], option, f'invalid value "{value}", expected {expected}')
+      for option, expected, values in (
+        ("--numbering", FIELD, ("versions",)), ("--mode", OCTAL, ("75", "00755", "4755", "758")),
+        ("--most", SIZE, ("5m", "5MB", "K", "16777216T", "17179869184G", "-1K", "+1000000", " 1000000", str(2 ** 64))),
+        ("--max-size", SIZE, ("10X",)), ("--wait", DURATION, ("1.5", "86401", ""))) for value in values),
+    *(misuse(f"{option} beside other words", [option, *value, *PATHS], option, "unknown option")
       for option, *value in (("--frist",), ("--num", "version"), ("-h",), ("-f",), ("--name=app",), ("--First",), ("--help",))),
     *(misuse(f"{words[0]} twice", [*words, *PATHS, *words], words[0], GIVEN)
       for words in (FIRST, ("--name", "a"), ("--check",), ("--must-expire",))),
     *(misuse(f"a check with {' '.join(words)}", [*words, "--check", PK, "new.sig", PLACE], words[0], UNPAIRED)
       for words in (("--mode", "755"), ("--wait", "1"), ("--most", "1M"), ("--again",))),
     misuse("a bound by both names", ["--most", "1M", "--max-size", "1M", *PATHS], "--max-size", GIVEN),
-    misuse("no words", [], None, "there are fewer than four paths"),
-    misuse("three paths", PATHS[:3], None, "there are fewer than four paths"),
-    misuse("five paths", [*PATHS, "more"], "more", "there are four paths, and this is a fifth"),
-    misuse("an option after the end of options", ["--", "--first", *PATHS], PLACE, "there are four paths, and this is a fifth"),
-    misuse("an option without its value", [*PATHS, "--mode"], None, "the last option has no value"),
-    misuse("bytes that are not UTF-8", [*PATHS[:3], b"pl\xe4ce"], None, "an argument is not UTF-8"),
-    misuse("a check of four paths", ["--check", *PATHS], PLACE, "there are three paths, and this is a fourth"),
-    misuse("a check of two paths", CHECK[:3], None, "there are fewer than three paths"),
-    misuse("three keys", [*OTHER_KEY * 3, *PATHS[1:]], "--key", "this option was given twice before"),
-    misuse("a key and a file of one", [*OTHER_KEY, *PATHS], PLACE, "there are three paths, and this is a fourth"),
-    misuse("a key without data", [*OTHER_KEY, "new.sig", PLACE], None, "there are fewer than three paths"),
-    misuse("a check with a key and three paths", [*OTHER_KEY, *CHECK], PLACE, "there are two paths, and this is a third"),
-    misuse("a check with a key and one path", ["--check", *OTHER_KEY, PLACE], None, "there are fewer than two paths"),
-    misuse("a key without its value", [*PATHS, "--key"], None, "the last option has no value"),
-    *((what, [*PATHS[:3], place], MISUSED, error(place, "it does not end with the name of a file")) for what, place in (
+    misuse("no words", [], None, MISSING + "PK DATA SIG TARGET"),
+    misuse("three paths", PATHS[:3], None, MISSING + "PK DATA SIG TARGET"),
+    misuse("five paths", [*PATHS, "more"], "more", UNEXPECTED + "PK DATA SIG TARGET"),
+    misuse("an option after the end of options", ["--", "--first", *PATHS], PLACE, UNEXPECTED + "PK DATA SIG TARGET"),
+    misuse("an option without its value", [*PATHS, "--mode"], "--mode", NEEDS_VALUE),
+    misuse("bytes that are not UTF-8", [*PATHS[:3], b"pl\xe4ce"], None, "error: an argument is not UTF-8"),
+    misuse("a check of four paths", ["--check", *PATHS], PLACE, UNEXPECTED + "PK SIG TARGET"),
+    misuse("a check of two paths", CHECK[:3], None, MISSING + "PK SIG TARGET"),
+    misuse("three keys", [*OTHER_KEY * 3, *PATHS[1:]], "--key", "this option can be given only twice"),
+    misuse("a key and a file of one", [*OTHER_KEY, *PATHS], PLACE, UNEXPECTED + "DATA SIG TARGET"),
+    misuse("a key without data", [*OTHER_KEY, "new.sig", PLACE], None, MISSING + "DATA SIG TARGET"),
+    misuse("a check with a key and three paths", [*OTHER_KEY, *CHECK], PLACE, UNEXPECTED + "SIG TARGET"),
+    misuse("a check with a key and one path", ["--check", *OTHER_KEY, PLACE], None, MISSING + "SIG TARGET"),
+    misuse("a key without its value", [*PATHS, "--key"], "--key", NEEDS_VALUE),
+    *((what, [*PATHS[:3], place], MISUSED, error(place, "this path does not end with a file name",
+                                                 "give the path of the file to install, not of its directory")) for what, place in (
         ("a directory as place", "place/"), ("the directory itself as place", "."), ("the directory above as place", ".."))),
     ("a name with a control character", ["none\x1b[31m", *PATHS[1:]], FAILED, error("none\\u{1b}[31m", NO_FILE)),
     *((f"no {what}", [*PATHS[:at], "none", *PATHS[at + 1:]], FAILED, error("none", NO_FILE))
       for at, what in enumerate(("key", "data", "signature"))),
     ("no directory", [*PATHS[:3], "none/place"], FAILED, NO_DIRECTORY),
     ("a place in the root directory", ["--name", PLACE, "--check", PK, "new.sig", "/no-such-place"], UNRECORDED,
-     error("/no-such-place", "no number is kept beside the target", "//.no-such-place.number is missing: --first installs all the same")),
+     error("//.no-such-place.number", "no version is recorded yet", "use --first for the first installation")),
     ("a directory as key", [".", *PATHS[1:]], FAILED, error(".", "Is a directory (os error 21)")),
     ("a key that is no text", ["new.sig", *PATHS[1:]], REJECTED, b"error: new.sig: "),
     ("a signature that is none", [PK, "new", PK, PLACE], REJECTED, b"error: key.pub: "),
-    ("a key that is not UTF-8", ["bytes", *PATHS[1:]], REJECTED, error("bytes", "it is not UTF-8")),
-    ("a signature that is not UTF-8", [PK, "new", "bytes", PLACE], REJECTED, error("bytes", "it is not UTF-8")),
+    ("a key that is not UTF-8", ["bytes", *PATHS[1:]], REJECTED, error("bytes", "this file is not UTF-8", ORDER)),
+    ("a signature that is not UTF-8", [PK, "new", "bytes", PLACE], REJECTED, error("bytes", "this file is not UTF-8", ORDER)),
     ("a key in the other's place", [PK, "new", PK, PLACE], REJECTED,
-     b"\nkey.pub: this is a public key, not a signature\nthe order is PK DATA SIG TARGET\n"),
+     b"\n" + error("key.pub", "this is a public key, not a signature", ORDER)),
     ("a signature in the other's place", ["new.sig", *PATHS[1:]], REJECTED,
-     b"\nnew.sig: this is a signature, not a public key\nthe order is PK DATA SIG TARGET\n"),
-    *((f"help by {word}", [word], 0, b"", USAGE.replace(b" (--help shows the options)", b"")) for word in ("--help", "-h")),
+     b"\n" + error("new.sig", "this is a signature, not a public key", ORDER)),
+    *((f"help by {word}", [word], 0, b"", USAGE) for word in ("--help", "-h")),
     ("the version", ["--version"], 0, b"", b"minisign-install 0.3.0\n"),
 )
 word_cases.table(*SAYING)(says)
@@ -106,7 +112,7 @@ def takes(directory, words, mode=0o751, name=PLACE, names=PLACE):
 @word_cases.table("libsodium that cannot be started")
 def without_libsodium(directory):
     ran = directory.broken(AT=1, CALLS="sodium_init", ERRNO=errno.EIO)
-    expect((ran.status, ran.said) == (FAILED, error(PLACE, "libsodium could not be started")) and directory.holds() == OLD, ran)
+    expect((ran.status, ran.said) == (FAILED, b"error: libsodium could not be initialized\n") and directory.holds() == OLD, ran)
 
 
 @word_cases.table("progress at a terminal")

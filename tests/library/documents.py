@@ -2,8 +2,7 @@
 """Compares the names in the documents with the sources: functions and clauses, the calls that a CALLING.md quotes,
 the errors of docs/FORMATS.md, links, paths, and the old texts of the must-fail edits. It does the same with names and
 paths in the comments of all code, of makefiles and of manual pages. No file may name a directory of one machine, and
-no crate the proofs of another one. The documents have no more bytes than they may, few of their sentences are long,
-and a script runs each block of commands and each example.
+no crate the proofs of another one. A script runs each block of commands and each example.
 
 It prints a line for each name that is missing; the last line is `N passed, M failed`. Needs Python 3.9 or later.
 """
@@ -26,24 +25,17 @@ from wrong_bodies import WrongBody
 
 FORMATS = "docs/FORMATS.md"
 ARCHITECTURE = "docs/ARCHITECTURE.md"
-# What a script makes from the sources, and checks itself. Fewer lines than these has its first part.
-MADE, PAGE_LINES = "docs/TRUSTED.md", 270
+# Generated from the sources, and checked by the script that makes it.
+MADE = "docs/TRUSTED.md"
 CALLS = re.compile(r"crates/([^/]+)/CALLING\.md")
-# How many bytes the documents may have: those that are made, all others together, and README.
-GENERATED = (MADE, "docs/PROMISES.md")
-MADE_BYTES, OTHER_BYTES, README_BYTES = 180_000, 225_000, 8_192
-# In these at most one sentence in twenty has more words than the first number. What has fewer than the second, as a cell of
-# a table with a name or a number, is no sentence.
-PLAIN, MOST_WORDS, LEAST_WORDS = ("README.md", "docs/GUIDE.md", "docs/INSTALLING.md"), 24, 4
-# Where a sentence ends, once quoted texts are a word each.
-SENTENCE_END = re.compile(r"[.!?][\"')*]*\s|\n\s*\n|\|")
 # The documents with commands and examples, and what runs the blocks of each language. A block without one shows what
 # a program says, or lines of a file.
 COMMANDS, PACKAGES = "tests/c/commands.py", "tests/bindings/install_commands.py"
 RUN_BY = {
-    "README.md": {"sh": COMMANDS},
+    "README.md": {"sh": COMMANDS, "c": "tests/c/installed.py"},
     "docs/GUIDE.md": {"sh": "tests/tool/guide_commands.py", "rust": "tests/library/new_repository.py"},
     "docs/INSTALLING.md": {"sh": COMMANDS},
+    "docs/QUESTIONS.md": {"sh": COMMANDS},
     "examples/README.md": {"sh": COMMANDS},
     "examples/rattle/README.md": {"sh": "tests/bindings/rattle.py"},
     "bindings/go/README.md": {"sh": PACKAGES, "go": "tests/bindings/go.py"},
@@ -51,8 +43,8 @@ RUN_BY = {
     "bindings/python/README.md": {"sh": PACKAGES, "python": "tests/bindings/python.py"},
     "bindings/rust/README.md": {"sh": PACKAGES, "toml": PACKAGES, "rust": "tests/bindings/rust.py"},
 }
-# How blocks that are set in begin: the usage, what a check shows, and the unit and the script that
-# tests/installer/checking.py runs.
+# The first lines of the indented blocks: the usage, the output of a check, the unit that tests/installer/checking.py runs, and
+# the script that tests/installer/downloads.py runs.
 SET_IN = {"docs/INSTALLING.md": ["minisign-install [OPTION ..] PK DATA SIG TARGET", "2", "[Service]", "#!/bin/sh"]}
 IN_COMMANDS = re.compile(r"(?<![\w./-])(?:\.ci|bench|c|crates|docs|examples|tests|tools)/[\w./*-]+")
 QUOTED = re.compile(r"`([^`]+)`")
@@ -332,26 +324,6 @@ def check_edit(report, shown):
     report.check(not why_not, shown, why_not)
 
 
-def check_lengths(report, documents):
-    """How many bytes the documents have; and the first part of what is trusted, on which a verdict rests, is one page."""
-    lines = [int(row.split("|")[3]) for row in read(MADE).split("\n") if row.startswith("| 1. ")]
-    report.check(len(lines) == 1 and lines[0] < PAGE_LINES, MADE, f"its first part has {lines} lines")
-    lengths = {document: len(text.encode()) for document, text in documents.items()}
-    made = sum(lengths[document] for document in GENERATED)
-    for what, count, most in (("README.md", lengths["README.md"], README_BYTES), (" and ".join(GENERATED), made, MADE_BYTES),
-                              ("all other documents", sum(lengths.values()) - made, OTHER_BYTES)):
-        report.check(count <= most, what, f"{count:,} bytes, of at most {most:,}")
-
-
-def check_sentences(report, document, text):
-    """Few sentences are long, in the cells of tables too: what is quoted is one word, and a link is its text."""
-    text = re.sub(r"(?m)^(?:#+ |    ).*|<!--.*?-->", "", without_blocks(text))
-    text = re.sub(r"(?m)^(?:- |\d+\. )", "\n", re.sub(r"\]\([^)]*\)", "]", QUOTED.sub("X", text)))
-    sentences = [part.split() for part in SENTENCE_END.split(text) if len(part.split()) >= LEAST_WORDS]
-    long = [" ".join(words) for words in sentences if len(words) > MOST_WORDS]
-    report.check(len(long) * 20 <= len(sentences), document, f"{len(long)} of {len(sentences)} sentences are long", long)
-
-
 def check_run(report, document, text, scripts):
     """Each block of commands or code has a fence and a language that a script looks for, and none is set in instead."""
     fences = {*re.findall(r"(?m)^[ \t>]*(?:```|~~~).*$", text)[::2]} - {"```"}
@@ -361,6 +333,13 @@ def check_run(report, document, text, scripts):
         report.check(os.path.basename(document) in read(script), document, f"{script} does not name it")
     begun = re.findall(r"\n\n(?:    |\t)(.*)", without_blocks(text))
     report.check(begun == SET_IN.get(document, []), document, f"set in are blocks that begin by {begun}")
+
+
+def check_kit(report, readme):
+    """README names the kit that dist/PROVED names, and no other."""
+    proved_by = re.findall(r"(?m)^kit: (.*)$", read("dist/PROVED"))
+    named = re.findall(r"`(rattle-kit-[^`]+)`", readme)
+    report.check(named == proved_by, "README.md", f"it names the kits {named}, and dist/PROVED names {proved_by}")
 
 
 def check_version(report, documents):
@@ -397,12 +376,10 @@ def main():
     check_texts(report, index)
     check_architecture(report)
     check_layers(report, index)
-    check_lengths(report, documents)
-    for document in PLAIN:
-        check_sentences(report, document, documents[document])
     for document, scripts in RUN_BY.items():
         check_run(report, document, documents[document], scripts)
     check_version(report, documents)
+    check_kit(report, documents["README.md"])
     return report.end()
 
 

@@ -1,15 +1,14 @@
 #!/usr/bin/env python3
-"""Compares tests/scripts.txt, the list of what `make -C c check` and the gate run, with the scripts that are there.
+"""Checks that tests/Makefile lists every test script, and that it counts their results.
 
     tests/library/one_list.py
 
-Each script of tests/ and tools/ that counts what it checks is in the list once, and each listed script exists.
-tests/check.py adds up what the scripts say, counts one that ends badly or says nothing as failed, and leaves out what
-needs the kit where there is none. tests/packages.txt, which README tells you to install, names each package that a
-script asks for. `.ci/run` without the kit says one sentence, and starts nothing. It prints a line for each failure;
-the last line is `N passed, M failed`.
+Every script of tests/ and tools/ that prints `N passed, M failed` is in one list of the makefile, and every listed
+script exists. A script that crashes, or prints no such line, counts as failed. tests/packages.txt, which README tells
+you to install, names each package that a script asks for. `.ci/run` without the kit prints one sentence and starts
+nothing. It prints a line for each failure; the last line is `N passed, M failed`.
 
-Needs Python 3.9 or later and bash.
+Needs Python 3.9 or later, bash and make.
 """
 
 import ast
@@ -24,8 +23,9 @@ HERE = os.path.dirname(os.path.realpath(__file__))
 TOP = os.path.dirname(os.path.dirname(HERE))
 sys.path += [os.path.join(TOP, *directory) for directory in (("tests", "shared"), ("tests",), ("tools",))]
 
-import check
 import ending
+import needs
+import regenerate
 from process import run_apart, run_program
 from running import write
 from sources import read
@@ -34,9 +34,7 @@ SECONDS = 60
 COMMAND = "make -C c check"
 # Debian's packages, one a line.
 PACKAGES = "tests/packages.txt"
-# What runs in the gate the scripts that the list marks by `debian`.
-FRESH = "tests/fresh_debian.py"
-# A script of a list that is made up, by its name: its text.
+# Made-up scripts.
 SCRIPTS = {
     "good.py": "print('3 passed, 0 failed')",
     "more.py": "print('a line')\nprint('4 passed, 0 failed')",
@@ -46,68 +44,69 @@ SCRIPTS = {
     "denying.py": "print('1 passed, 2 failed')",
     "proving.py": "print('100 passed, 0 failed')",
     "making.py": "import os\nmade = sum(name.startswith('MAKE') for name in os.environ)\nprint(f'1 passed, {made} failed')\nraise SystemExit(made > 0)",
+    "proved.py": "import os\nsaid = open(os.environ['MINISIGN_RT_CI']).read().split('\\n')\n"
+                 "print(f'{said.count(\"16 passed, 0 failed\")} passed, 0 failed')",
 }
-# A made-up list, what is asked of it, and the last line and the exit status that have to come.
-ASKED = [
-    (["any good.py", "any more.py"], [], "7 passed, 0 failed", 0),
-    (["any good.py", "any failing.py", "any more.py"], [], "9 passed, 1 failed", 1),
-    (["any good.py", "any silent.py"], [], "3 passed, 1 failed", 1),
-    (["any good.py", "any dying.py"], [], "8 passed, 1 failed", 1),
-    (["any good.py", "any denying.py"], [], "4 passed, 2 failed", 1),
-    (["any good.py", "any gone.py"], [], "3 passed, 1 failed", 1),
-    (["any good.py", "gate proving.py"], [], "3 passed, 0 failed", 0),
-    (["any good.py", "gate proving.py"], ["--group", "one"], "103 passed, 0 failed", 0),
-    (["any good.py", "debian more.py"], ["--debian"], "4 passed, 0 failed", 0),
-    (["any good.py", "debian more.py"], [], "7 passed, 0 failed", 0),
-    (["any good.py", "debian more.py"], ["--group", "one"], "3 passed, 0 failed", 0),
-    (["any good.py", "any more.py", "gate proving.py"], ["ROOM/more.py"], "4 passed, 0 failed", 0),
-    (["any good.py"], ["--group", "two"], "0 passed, 0 failed", 1),
-    (["gate proving.py"], [], "0 passed, 0 failed", 1),
-    (["any making.py"], [], "1 passed, 0 failed", 0),
+# The target, the scripts of WITHOUT_KIT, those of OVER_PROOFS, the last line, and whether all passed.
+RUNS = [
+    ("check", "good more", "", "7 passed, 0 failed", True),
+    ("check", "good failing more", "", "9 passed, 1 failed", False),
+    ("check", "good silent", "", "3 passed, 1 failed", False),
+    ("check", "good dying", "", "8 passed, 1 failed", False),
+    ("check", "good denying", "", "4 passed, 2 failed", False),
+    ("check", "good gone", "", "3 passed, 1 failed", False),
+    ("check", "good", "proving", "3 passed, 0 failed", True),
+    ("check", "making", "", "1 passed, 0 failed", True),
+    ("check", "", "proving", "0 passed, 0 failed", False),
+    ("tests/more.py", "good more", "", "4 passed, 0 failed", True),
+    ("tests/failing.py", "good failing", "", "2 passed, 1 failed", False),
+    ("ci", "good failing", "proving", "121 passed, 1 failed", False),
+    ("ci", "good", "proving proved", "120 passed, 0 failed", True),
 ]
+MAKE = ("--no-print-directory", "--output-sync=target", "-s", "-k", "-j3", "-f", "tests/Makefile")
 
 
 def check_list(checks):
-    """What is listed is there, and what is there is listed."""
-    groups = check.groups_of(check.LIST)
-    scripts = [script for group in groups for script in group.scripts]
-    names = [script.words[0] for script in scripts]
-    checks.check(len({group.name for group in groups}) == len(groups), "two groups have the same name")
-    checks.check(all(group.scripts for group in groups), "a group has no script")
+    """What is listed exists, and what exists is listed."""
+    status, said, _ = run_apart([needs.program("make", "make"), *MAKE, "list"], TOP)
+    names = said.split()
+    checks.check(status == 0 and len(names) > 30, f"tests/Makefile lists {names}")
     for name in names:
-        checks.check(os.path.isfile(name) and names.count(name) == 1, f"{name} is listed, and is not there or is listed twice")
-    for words in (script.words for script in scripts):
-        # (a script of tools/ compares what it makes with what stands there where `--check` is said)
-        checks.check(("--check" in words) == words[0].startswith("tools/"), f"{' '.join(words)}: it would make something anew")
-    for name in sorted(glob.glob("tests/*/*.py") + glob.glob("tools/*.py")):
-        # (what is begun by itself and ends by counting what it checked)
+        checks.check(os.path.isfile(name) and names.count(name) == 1, f"{name} is listed, and does not exist or is listed twice")
+    steps = {f"tools/{step.script}" for step in regenerate.STEPS}
+    # (what another generator imports is run by it)
+    imported = {f"tools/{module}.py" for step in steps for module in re.findall(r"(?m)^import (\w+)$", read(step))}
+    made = {name for name in names if name.startswith("tools/")} - (imported - steps)
+    checks.check(steps == made, f"tools/regenerate.py does not run the generators that tests/Makefile lists: {sorted(steps ^ made)}")
+    for name in sorted(glob.glob("tests/*.py") + glob.glob("tests/*/*.py") + glob.glob("tools/*.py")):
+        # A script that is started by itself and counts what it checked.
         if re.search(r"(?m)^if __name__ == \"__main__\":$", read(name)) and " passed, " in read(name):
-            checks.check(name in names, f"{name} is not listed, and should be")
-    checks.check(FRESH in names or all(script.needs != "debian" for script in scripts),
-                 f"nothing in the gate runs what is marked by debian: {FRESH} is not listed")
-    checks.check(check.IN_BROWSERS in names, f"{check.IN_BROWSERS} is not listed")
-
-
-def run_over(room, text, *words):
-    """Runs what is listed in this text: the exit status, the lines that come, and what is said of errors."""
-    command = [sys.executable, check.__file__, "--list", write(room, "list", text.encode()), *words]
-    status, said, errors = run_apart(command, seconds=SECONDS, MAKEFLAGS="s", MAKELEVEL="1")
-    return status, said.splitlines(), errors
+            checks.check(name in names, f"{name} is not listed in tests/Makefile")
 
 
 def check_adding(checks, room):
-    """What a run over a made-up list says."""
+    """Runs the makefile over made-up scripts, and looks at the totals."""
+    os.makedirs(os.path.join(room, "tests"))
+    for name in ("Makefile", "counted.sh"):
+        shutil.copy(os.path.join(TOP, "tests", name), os.path.join(room, "tests", name))
     for name, text in SCRIPTS.items():
-        write(room, name, text.encode())
-    for number, (lines, words, last, status) in enumerate(ASKED):
-        listed = "".join("    {} {room}/{}\n".format(*line.split(), room=room) for line in lines)
-        came, said, _ = run_over(room, f"one:  # a group\n{listed}", *(word.replace("ROOM", room) for word in words))
-        took = [line for line in said if re.fullmatch(r"== \S+: \d+ s, \d+ of the processor", line)]
-        checks.check(len(took) == sum(line.startswith("== ") for line in said) / 2, f"list {number}: a script does not say what it took: {said}")
-        checks.check(said[-1:] == [last] and came == status, f"list {number}: status {came}, it ends with {said[-1:]}")
-    for text in ("any good.py\n", "one:\n    good.py\n", "one:\n    all good.py\n"):
-        came, said, errors = run_over(room, text, "--groups")
-        checks.check(came != 0 and not said and "neither a group nor a script" in errors, f"the list {text!r} is taken")
+        write(os.path.join(room, "tests"), name, text.encode())
+    write(os.path.join(room, "tests"), "fresh_debian.py", b"print('0 passed, 0 failed')")
+    for target, without_kit, over_proofs, last, is_well in RUNS:
+        lists = [f"{name}={' '.join(f'tests/{script}.py' for script in scripts.split())}" for name, scripts in (
+            ("IN_DEBIAN", ""), ("WITHOUT_KIT", without_kit), ("OVER_PROOFS", over_proofs), ("LAST", ""))]
+        words = [needs.program("make", "make"), *MAKE, *lists, f"PYTHON={sys.executable}", "RT_CI=echo 16 passed, 0 failed", target]
+        status, said, _ = run_apart(words, room, seconds=SECONDS, MAKEFLAGS="s", MAKELEVEL="1")
+        if target == "ci":
+            status, total, _ = run_apart(["bash", "tests/counted.sh", "--total", "out/ci"], room)
+            said += total
+        lines = said.splitlines()
+        took = [line for line in lines if re.fullmatch(r"== .*: \d+ s, \d+ of the processor", line)]
+        begun = sum(line.startswith("== ") for line in lines) / 2
+        what = f"make {target}, {without_kit!r}, {over_proofs!r}"
+        checks.check(len(took) == begun, f"{what}: a script does not say what it took: {lines}")
+        counts = [line for line in lines if re.fullmatch(r"\d+ passed, \d+ failed", line)]
+        checks.check(counts[-1:] == [last] and (status == 0) == is_well, f"{what}: status {status}, it ends with {lines[-2:]}")
 
 
 def packages_asked_for(path):
@@ -145,7 +144,7 @@ def check_gate(checks, room):
     os.mkdir(place)
     for name in ("bash", "dirname"):
         os.symlink(shutil.which(name), os.path.join(place, name))
-    for name in ("python3", "apt-get", "nice", "mktemp"):
+    for name in ("python3", "apt-get", "nice", "make", "awk"):
         os.chmod(write(place, name, f"#!{shutil.which('sh')}\necho {name} >> {room}/begun\n".encode()), 0o755)
     ran = run_program(["bash", os.path.join(TOP, ".ci", "run")], None, env={"PATH": place, "CI": "1"}, stderr=subprocess.STDOUT)
     said = ran.output.decode().splitlines()

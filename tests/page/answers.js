@@ -1,5 +1,5 @@
 // What a module of the page answers: each number, all that a signature and the questions hold and the state, for texts that are
-// passed in, and for a signature with another text or another place in it. tests/page/modules.py runs it, with the calls of
+// passed in, and for a signature with another text or another place in it. tests/page/wide_module.py runs it, with the calls of
 // bindings/javascript/calls.js, in Chromium, which takes the module with a memory of 64 bits, too.
 
 function bytesOf(base64) {

@@ -6,7 +6,7 @@ import json
 import os
 import socket
 
-from person import ELSEWHERE, SECONDS, Person
+from person import ELSEWHERE, MIN_CONTRAST, SECONDS, Person
 
 FLAGS = ("--headless=new", "--no-sandbox", "--disable-gpu", "--disable-dev-shm-usage", "--disable-background-networking",
          "--disable-component-update", "--no-first-run", "--force-prefers-reduced-motion", "--window-size=800,1000",
@@ -15,8 +15,6 @@ FLAGS = ("--headless=new", "--no-sandbox", "--disable-gpu", "--disable-dev-shm-u
          f"--host-resolver-rules=MAP {ELSEWHERE} 127.0.0.1")
 # Where the driver takes each command.
 PATHS = {"Navigate": "url", "PerformActions": "actions", "SetTimeouts": "timeouts", "Log": "se/log", "Protocol": "goog/cdp/execute"}
-# Texts that differ from their ground by less than this are hard to read (WCAG 2, level AA).
-MIN_CONTRAST = 4.5
 
 
 class Chromium(Person):
@@ -85,6 +83,11 @@ class Chromium(Person):
     def set_media(self, feature=None, value=None):
         """Has the page think so of the system, by the name of a media feature, or nothing of it."""
         self.command("Emulation.setEmulatedMedia", features=[{"name": feature, "value": value}] if feature else [])
+
+    def print_out(self, is_printed):
+        """Shows the page as it is printed, on a system whose colours are dark, or as it is."""
+        dark = [{"name": "prefers-color-scheme", "value": "dark"}]
+        self.command("Emulation.setEmulatedMedia", media="print" if is_printed else "", features=dark if is_printed else [])
 
     def force_colours(self, is_forced):
         self.set_media(*(("forced-colors", "active") if is_forced else ()))

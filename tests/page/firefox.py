@@ -82,6 +82,10 @@ class Firefox(Person):
         self.see_in_window("forceColours", is_forced)
         self.wait(lambda: self.run("return matchMedia('(forced-colors: active)').matches") == is_forced)
 
+    def print_out(self, is_printed):
+        self.see_in_window("printIn", is_printed)
+        self.wait(lambda: self.run("return matchMedia('print').matches") == is_printed)
+
     def drop(self, place, *paths):
         # (an event with files that another place was given)
         self.see("addPlace", "dropped")

@@ -50,18 +50,19 @@ def check_helps(person):
     line, secret, sig = person.first.line, person.minisign.read("first.key"), person.sign(b"data", trusted="t")
     bare = f"{line}\n".encode()
     person.open()
-    person.says("introduction", "the first words", "signature", ".minisig", "lies where the download lies", "RW", "website")
+    person.says("introduction", "the first words", "signature", ".minisig", "beside the download", "RW", "website")
     person.same(person.text_of("introduction").count(". "), 1, "the first words are two sentences")
     person.check(person.see("isBefore", "introduction", "key-text"), "the first words stand after the first field")
-    for name, data, *words in (("some.file", secret, "secret key"), ("some.file", sig, "is a signature, and not a key"),
-                               ("alone.pub", bare, "stands alone here", f" {line} (alone.pub)")):
+    for name, data, *words in (("some.file", secret, "secret key"), ("some.file", sig, "is a signature, not a key"),
+                               ("cut.pub", b"untrusted comment: x\n" + sig.split(b"\n")[1][:56] + b"\n", "part of a signature"),
+                               ("alone.pub", bare, "only the key", f" {line} (alone.pub)")):
         person.choose_key(person.put(name, data))
         person.says("key-said", f"{words[0]}, as the key's file", name, *words)
     # What is no file is told among the files. (Of the line of a key that stands alone there no key is shown.)
     person.open()
     for part, name, data, words in (
             *(("key-said", name, bare, f"Paste it into the field: ({name})") for name in ("alone.pub", "alone.txt")),
-            *(("files-said", name, data, f"{name} This is of PGP") for name, data in (
+            *(("files-said", name, data, f"{name} This is a PGP key or signature") for name, data in (
                 ("update.zip.asc", PGP_KEY.encode()), ("update.zip.asc", PGP_SIGNATURE.encode()),
                 ("update.zip.sig", PGP_BYTES), ("update.zip.gpg", PGP_BYTES), ("key.ASC", PGP_BYTES))),
             ("files-said", "first.key", secret, "first.key This is a secret key")):
@@ -74,21 +75,25 @@ def check_typed(person):
     """What stands in the key's field and is no key is told for what it is; the key in it is shown where that helps."""
     line, pk = person.first.line, person.first.text.decode()
     secret, sig = person.minisign.read("first.key").decode(), person.sign(b"data", trusted="t").decode()
-    link, pgp = "who made the link chose the key", "of PGP, which this page does not verify"
+    link, pgp = "made the link chose the key", "a PGP key or signature, which this page cannot verify"
     person.open()
     for what, typed, words, is_key_shown in (
             ("a secret key", secret, "secret key", False),
             ("its second line", secret.split("\n")[1], "secret key", False),
-            ("a signature", sig, "is a signature, and not a key", False),
-            ("the line of a signature", sig.split("\n")[1], "is a signature, and not a key", False),
+            ("a signature", sig, "is a signature, not a key", False),
+            ("the first 56 letters of its second line", sig.split("\n")[1][:56], "part of a signature, not a key", False),
+            ("the same as a key's file", f"untrusted comment: x\n{sig.split(chr(10))[1][:56]}\n", "part of a signature, not a key", False),
+            ("another part of its second line", sig.split("\n")[1][:40], "part of a signature, not a key", False),
+            ("a key of another algorithm", f"RWA{line[3:]}", "not a Minisign public key", False),
+            ("the line of a signature", sig.split("\n")[1], "is a signature, not a key", False),
             ("a command line", f"minisign -Vm f -P {line}", "is a command line", True),
             ("the end of one", f"-P {line}", "is a command line", True),
             ("another one", "C:\\minisign.exe -V -p minisign.pub -m f", "is a command line", False),
-            ("words around a key", f"Our key is {line}.", "other words around the key", True),
-            ("a key in quotes", f'"{line}"', "other words around the key", True),
-            ("a key in typographic quotes", f"\u201c{line}\u201d", "or quotes, or characters that show nothing", True),
-            ("something invisible behind a key", f"{line}\u200b", "or quotes, or characters that show nothing", True),
-            ("a key of two lines, and something invisible", pk.rstrip() + "\u2060\n", "characters that show nothing", True),
+            ("words around a key", f"Our key is {line}.", "around the key", True),
+            ("a key in quotes", f'"{line}"', "around the key", True),
+            ("a key in typographic quotes", f"\u201c{line}\u201d", "quotes or invisible characters around the key", True),
+            ("something invisible behind a key", f"{line}\u200b", "quotes or invisible characters around the key", True),
+            ("a key of two lines, and something invisible", pk.rstrip() + "\u2060\n", "invisible characters", True),
             ("a key that was broken", f"{line[:31]}\n{line[31:]}", "broken over several lines", True),
             ("a key with its comment that was broken", f"{pk[:-9]}\n{pk[-9:]}", "broken over several lines", True),
             ("the page's link", f"{person.address}#{line}", link, False),
@@ -130,13 +135,13 @@ def check_pasted(person):
             if not is_file_first:
                 person.choose(path)
             person.only(f"a pasted signature {what}", number=wanted, name="update.zip")
-    # Of the next file, once one has a pasted signature.
+    # Of the next file. The one before has no signature any more (unverified.py).
     for name in ("one", "two"):
         person.choose(person.put(name, name.encode()))
-        person.type_text("signature-text", person.sign(name.encode()).decode())
-    person.expect_each("number", {"update.zip": 0, "one": 0, "two": 0}, "two files with pasted signatures")
-    for text, words in ((person.first.line, "is a public key, and not a signature"), ("signature", "is not the text of a signature"),
-                        (person.minisign.read("first.key").decode(), "is a secret key"), (PGP_SIGNATURE, "of PGP")):
+        person.type_text("signature-text", person.sign(name.encode(), trusted="t").decode())
+    person.expect_each("number", {"update.zip": None, "one": None, "two": 0}, "files with signatures that are pasted one after the other")
+    for text, words in ((person.first.line, "is a public key, not a signature"), ("signature", "is not a signature"),
+                        (person.minisign.read("first.key").decode(), "is a secret key"), (PGP_SIGNATURE, "PGP")):
         person.begin(anew=False)
         person.type_text("signature-text", text)
         person.says("files-said", "no signature that is pasted", words)
@@ -157,7 +162,7 @@ def check_not_started(person):
         person.says("lacking", what, "has not started")
         person.same([*map(person.is_shown, STATES)], [True, False], f"{what}: what is shown")
     for policy, at, is_secure, has in (
-            ("script-src 'unsafe-inline'", 0, True, ["Whoever serves this page lets it run no WebAssembly"]),
+            ("script-src 'unsafe-inline'", 0, True, ["The server of this page forbids WebAssembly"]),
             ("", 1, False, ["was not opened from disk or by https", "Save the page and open it from disk"])):
         what = f"the policy {policy!r}, and by https or from this machine: {is_secure}"
         with served(person.page, Content_Security_Policy=policy) as addresses:

@@ -77,7 +77,7 @@ function empty() {
 // true.
 function work() {
   const rows = allRows();
-  const waiting = rows.filter(row => row.innerText.includes("It waits for those before it.")).length;
+  const waiting = rows.filter(row => row.dataset.verdict === "queued").length;
   const reading = rows.find(row => row.dataset.verdict === "reading");
   return isTaken() && waiting === 0 && !reading || [document.documentElement.dataset.pending, rows.length, waiting, reading?.innerText];
 }
@@ -116,8 +116,24 @@ function isFocusBehind() {
 function bandAt(share) {
   scrollTo(0, share * document.documentElement.scrollHeight);
   const band = document.getElementById("band"), {left, top, width, height} = boxOf(band);
-  return [left, top, width === document.documentElement.clientWidth, height < innerHeight / 3,
+  return [left, top, width === document.documentElement.clientWidth, height <= innerHeight / 4,
     band.contains(document.elementFromPoint(left + width / 2, top + height / 2))];
+}
+
+// Gives each row this verdict, without its details, and shows the band: its share of the window's height, and what is wrong with it.
+function bandWith(verdict) {
+  for (const row of allRows()) {
+    row.dataset.verdict = verdict;
+  }
+  showBand();
+  const band = document.getElementById("band"), [head, step] = band.children, {top, bottom} = boxOf(band);
+  const isWithin = part => boxOf(part).top >= top && boxOf(part).bottom <= bottom, middle = box => (box.top + box.bottom) / 2;
+  return [boxOf(band).height / innerHeight, [
+    [band.scrollHeight <= band.clientHeight, "it is cut"],
+    [isWithin(head) && isWithin(step), "the verdict or the next step is out of view"],
+    [middle(Array.from(head.querySelector("bdi").getClientRects()).pop()) < boxOf(head).bottom, "the first name is out of view"],
+    [document.documentElement.scrollWidth <= document.documentElement.clientWidth, "the page is wider than the window"],
+  ].filter(([isRight]) => !isRight).map(([, words]) => words)];
 }
 
 // What of the look of rows, or of the band, tells a verdict, in lists: its colours, the line beside it, and its words.
@@ -181,8 +197,9 @@ function markup() {
   return [document.title, all("#verdicts :is(img, script, a, iframe, style, b)").length, classes.filter(name => name !== "unseeable")];
 }
 
-// The contrast of each text that is seen to what is behind it (WCAG 2), with the text.
-function contrasts() {
+// The contrast of each text that is seen to what is behind it (WCAG 2), with the text; on paper, on which browsers print no grounds, to
+// white.
+function contrasts(isPrinted = false) {
   const channel = value => value <= 0.04045 ? value / 12.92 : ((value + 0.055) / 1.055) ** 2.4;
   const light = color => {
     const [r, g, b] = color.match(/[\d.]+/g).map(Number);
@@ -190,7 +207,7 @@ function contrasts() {
   };
   const isClear = color => color === "transparent" || /, 0\)$/.test(color);
   const ground = part => {
-    const color = part ? getComputedStyle(part).backgroundColor : "rgb(255, 255, 255)";
+    const color = part && !isPrinted ? getComputedStyle(part).backgroundColor : "rgb(255, 255, 255)";
     return isClear(color) ? ground(part.parentElement) : color;
   };
   const seen = textsBelow(document.body).filter(({data, parentElement: part}) =>
@@ -221,6 +238,13 @@ function middleOf(name) {
 function resizeIn(width, height) {
   gBrowser.selectedBrowser.style.cssText = width === null ? ""
     : `min-width: 0; flex: none; align-self: flex-start; width: ${width}px; height: ${height}px`;
+}
+
+// Shows the page as it is printed, on a system whose colours are dark, or as it is.
+function printIn(isPrinted) {
+  const {browsingContext} = gBrowser.selectedBrowser;
+  browsingContext.mediumOverride = isPrinted ? "print" : "";
+  browsingContext.prefersColorSchemeOverride = isPrinted ? "dark" : "none";
 }
 
 function forceColours(isForced) {
@@ -294,6 +318,25 @@ function waitOnce() {
   };
 }
 
+// Has each file that the page reads wait until letFilesGo is called. (A text waits before the time begins after which it is given up.)
+function holdFiles() {
+  const {bytesOfFile, textOfFile} = window;
+  const held = new Promise(resolve => {
+    window.letFilesGo = () => {
+      Object.assign(window, {bytesOfFile, textOfFile});
+      resolve();
+    };
+  });
+  window.bytesOfFile = async (...of) => {
+    await held;
+    return bytesOfFile(...of);
+  };
+  window.textOfFile = async file => {
+    await held;
+    return textOfFile(file);
+  };
+}
+
 // Has files of this name not be read.
 function breakFiles(name) {
   const real = window.bytesOfFile;
@@ -309,7 +352,7 @@ function verifyMany(count, text, data) {
   window.verified = 0;
   window.showVerdict = (download, verdict, source) => {
     real(download, verdict, source);
-    window.verified += verdict.isGood ? 1 : 0;
+    window.verified += verdict.verdict === "good" ? 1 : 0;
   };
   inTurn(() => takeFiles(files));
 }

@@ -5,9 +5,10 @@ did. What a signed comment says.
 from person import Key
 from texts import lines, record_of, with_line, with_record
 
-WITH_FILES = "The key came with the files: who made the files may have made the key."
-OF_PERSON = "This page cannot know whose key it is. Compare its 56 letters and digits with those that the project publishes."
-OTHER_NAME = "The signer's name of this file is another one: "
+WITH_FILES = "The key came with the files, so whoever made the files may have made the key."
+OF_PERSON = "This page cannot know whose key it is. Compare its 56 letters and digits with the key that the project publishes."
+NAMED = "The signature is for a file named "
+OTHER_FILE = "This may be a different file, or an older one."
 
 
 def under_identifier(own, foreign):
@@ -32,7 +33,7 @@ def check_keys(person):
         person.drop("downloads", *theirs)
         person.only(f"{what}, and another among the files", number=31, cautions=[])
         person.uses(own, what)
-        person.says("files-said", what, begins="minisign.pub came with the files and was not taken: the key above stays")
+        person.says("files-said", what, begins="minisign.pub came with the files and was ignored: the key above is kept")
         person.choose(*person.pair("update.zip", b"update", good))
         person.only(what, number=0, verdict="good", cautions=[], has=[told, f"\n{OF_PERSON}\n"])
         person.same(person.text_of("files-said"), "", f"{what}: what is said of new files")
@@ -82,7 +83,7 @@ def check_field(person):
             person.only(what, verdict="waiting", number=None)
             seen = person.text_of("key-text", "value"), person.text_of("key-said"), person.is_shown("key-whole")
             person.same(seen, (text, said, False), f"{what}: the field")
-            told = "{} came with the files and was not taken: what stands in the field above stays, and is no key."
+            told = "{} came with the files and was ignored: the text in the field above is kept, but it is not a key."
             person.says("files-said", what, *(told.format(name) for name in ("minisign.pub", "other.pub")[:len(given)]))
     # An empty field, of which a person sees nothing, holds no text.
     person.type_key(" \n")
@@ -104,9 +105,9 @@ def check_links(person):
         person.uses(person.first, f"#{part}")
     for part in (f"Verified%20by%20the%20project:%20{first}", f"untrusted%20comment:%20Verified%0A{first}",
                  f"key=Verified%0A{first}", f"{first}%20", f"{first}x", first[:-1], f"key={first}&key={second}",
-                 f"{first}&{second}", f"other={first}", "key=", "%"):
+                 f"{first}&{second}", f"other={first}", "key=", "%", person.sign(b"x").decode().split("\n")[1][:56].replace("+", "%2B")):
         person.open(f"{person.address}#{part}")
-        person.says("key-said", f"#{part}", begins="No public key: the link to this page has something else")
+        person.says("key-said", f"#{part}", begins="No public key: in the link to this page, what follows # is not the 56 letters and digits of a key.")
         seen = person.is_shown("key-whole"), person.text_of("key-text", "value"), "Verified" in person.run("return document.body.innerText")
         person.same(seen, (False, "", False), f"#{part}: a key, and words of the link, are shown")
     what = "an address that changes"
@@ -120,36 +121,47 @@ def check_links(person):
     person.uses(person.second, what)
 
 
-# Files with comments of their signer, whose name of the file is another one, or much the same, or the same or none.
+# Files whose trusted comment has another name than theirs. The name may differ by one suffix of a second download, of at most two digits,
+# and by directories in the signed name. The comment of the last ones has the same name, or none.
 OTHERWISE = {"b.zip": "timestamp:1700000000\tfile:a.zip", "c.zip": "file:\u202ec.zip", "l (1).zip": "file:m.zip", "n.zip": "file:n.zip.exe",
-             "o1.zip": "file:o (1).zip", "p.zip": "file:p.zip/q"}
+             "o1.zip": "file:o (1).zip", "p.zip": "file:p.zip/q", "App (2025).zip": "file:App (2024).zip", "q (2024).zip": "file:q.zip",
+             "r (100).zip": "file:r.zip", "s (1) (2).zip": "file:s.zip", "t(1)(2).tar.gz": "file:t.tar.gz", "u.zip": "file:u (1).zip",
+             "v (1).zip": "file:v (2).zip", "J.ZIP": "file:j.zip", "w-1.zip": "file:w.zip", "x.zip": "file:x.zip\tfile:y.zip",
+             "y (a).zip": "file:y.zip"}
 MUCH_THE_SAME = {"f (1).zip": "file:f.zip", "g(2).tar.gz": "file:g.tar.gz", "h.zip": "file:./h.zip", "i.zip": "file:dist/i.zip",
-                 "J.ZIP": "file:j.zip", "k.zip": "file:C:\\out\\K.zip"}
+                 "k (99).zip": "file:C:\\out\\k.zip", "z (1) (2).zip": "file:z (1).zip", "App (2024) (1).zip": "file:App (2024).zip",
+                 "no end (3)": "file:no end"}
 SAME = {"a.zip": "timestamp:1700000000\tfile:a.zip\thashed", "caf\u00e9": "file:cafe\u0301", "d.zip": "timestamp:17000000000000",
-        "e.zip": "no file:x and timestamp:1"}
+        "e.zip": "no file:x and timestamp:1", "App (2023).zip": "file:App (2023).zip"}
 
 
 def check_comments(person):
-    """What a signed comment says of the name and the time, and a comment whose ends differ."""
+    """A file with another name than the signed one is not verified, but its signer and the comment are told; and a comment whose ends
+    differ."""
     data = b"update"
     person.begin(person.first.line)
     for name, comment in {**OTHERWISE, **MUCH_THE_SAME, **SAME}.items():
         person.choose(*person.signed(name, data, trusted=comment))
     rows = {row.name: row for row in person.settled("comments")}
-    for names, words, lacks in ((OTHERWISE, [OTHER_NAME], []), (MUCH_THE_SAME, ["The signer's name of this file is "], [OTHER_NAME]),
-                                (SAME, [], ["The signer's name of this file is "])):
+    for names, words, lacks in ((OTHERWISE, [NAMED, OTHER_FILE], []), (MUCH_THE_SAME, [NAMED], [OTHER_FILE]), (SAME, [], [NAMED])):
         for name, comment in names.items():
             what = f"{name} with the comment {comment!r}"
-            person.expect(rows[name], what, number=0, has=words, lacks=lacks)
-            cautions = [caution for caution in rows[name].cautions if caution.startswith(OTHER_NAME)]
-            person.same(len(cautions), int(names is OTHERWISE), f"{what}: the warnings of another name")
+            verdict, cautions = ("renamed", 1) if names is OTHERWISE else ("good", 0)
+            person.expect(rows[name], what, number=0, verdict=verdict, has=words, lacks=lacks)
+            person.same(len(rows[name].cautions), cautions, f"{what}: the warnings")
             person.same("it was signed on" in rows[name].text, name in ("a.zip", "b.zip"), f"{what}: the time is told")
-    for name, words in (("a.zip", "signed on 2023-11-14, 22:13 UTC."), ("b.zip", "another one: a.zip."), ("c.zip", "U+202Ec.zip"),
-                        ("i.zip", "file is dist/i.zip.")):
-        person.expect(rows[name], f"the signer's name of {name}, or the time", has=[words])
+    for name, words in (("a.zip", "signed on 2023-11-14, 22:13 UTC."), ("b.zip", f"{NAMED}a.zip."), ("c.zip", "U+202Ec.zip"),
+                        ("i.zip", f"{NAMED}dist/i.zip.")):
+        person.expect(rows[name], f"the signed name of {name}, or the time", has=[words])
+    # Under a key that nobody gave, that is told first.
+    what = "another name, under a key that came with the files"
+    person.begin("", *person.signed("b.zip", data, trusted="file:a.zip"), person.put("minisign.pub", person.first.text), anew=False)
+    person.only(what, verdict="unchecked", number=0, has=[WITH_FILES, f"{NAMED}a.zip. {OTHER_FILE}"])
+    person.type_key(person.first.line)
+    person.only(f"{what}, which is pasted then", verdict="renamed", number=0)
 
     signed = {comment: person.sign(data, trusted=comment) for comment in ("t", "t ", " t", "t\t")}
-    ends, other = "white space at its ends", "Do not use the file"
+    ends, other = "white space at its beginning or end", "Do not use the file"
     for comment, stands, number, why in (
             *((comment, stands, 32, ends) for comment in ("t ", " t", "t\t") for stands in (comment, "t")),
             ("t", "u", 32, other), ("t ", "u ", 32, other), ("t", " t ", 0, "")):

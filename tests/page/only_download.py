@@ -11,7 +11,7 @@ import tempfile
 import urllib.parse
 
 import build
-from keys import OTHER_NAME
+from keys import NAMED, OTHER_FILE
 from minisign_cases import pattern
 from process import run_apart
 from running import read
@@ -22,8 +22,11 @@ TITLE = "Verify a download of <b>Example & \"others\"</b>"
 # What may be asked of a person, or told of keys, where a download alone is wanted.
 ASKED = ("signature-text", "key-text", "key-remove", "of-the-key")
 TOLD = ("publishes", "website", "documentation", "minisign.pub", ".minisig", "paste", "1.", "2.", "3.")
-BY_LINK = "The key came with the link to this page: who made the link chose it."
-OTHER_KEY = "The link to this page names another key, or something else, which is not taken."
+BY_LINK = "The key came with the link to this page, so whoever made the link chose it."
+UNLISTED = ("The signature of this file is not built into this page. It came with the file or with the link. The file "
+            "may be from an older release, or something else that the owner of the key has signed.")
+NOT_OF_RELEASE = "It is not a file of this release either: none of the signatures that are built into this page is for it."
+OTHER_KEY = "The link to this page names another key, or something else, which is ignored."
 ZIP, TAR = "app-1.0.zip", "app-1.0.tar.gz"
 
 
@@ -94,25 +97,31 @@ def check_asked(person, release):
 
 
 def check_names(person, release):
-    """The signature is the one of the file's name, whatever of that is small; a file of another name is tried with each, and told."""
+    """The built-in signature for the file's name is tried, and all if none is for it. A file that has another name than the signed one is
+    not verified."""
     zipped, tarred = release.files[ZIP], release.files[TAR]
     person.open(release.own)
-    for name, data, number, is_mild, other in (
-            (TAR, tarred, 0, False, ""), ("app-1.0 (1).zip", zipped, 0, True, ""), ("APP-1.0.ZIP", zipped, 0, True, ""),
-            ("new.pub", None, 0, False, ""), (ZIP, tarred, 31, False, ""), ("APP-1.0.ZIP", tarred, 31, False, ""),
-            ("download", tarred, 0, False, TAR), ("app-0.9.zip", zipped, 0, False, ZIP), ("download", b"x", None, False, "")):
+    for name, data, verdict, number, signed_name in (
+            (TAR, tarred, "good", 0, ""), ("app-1.0 (1).zip", zipped, "good", 0, ZIP), ("APP-1.0.ZIP", zipped, "renamed", 0, ZIP),
+            ("new.pub", None, "good", 0, ""), (ZIP, tarred, "bad", 31, ""), ("APP-1.0.ZIP", tarred, "bad", 31, ""),
+            ("app-1.0 (100).zip", zipped, "renamed", 0, ZIP), ("app-1.0 (100).zip", tarred, "bad", 31, ""),
+            ("download", tarred, "renamed", 0, TAR), ("app-0.9.zip", zipped, "renamed", 0, ZIP), ("download", b"x", "bad", None, "")):
         what = f"{name} alone, number {number}"
         person.click("clear")
-        row = release.drop(name, data, what, verdict="good" if number == 0 else "bad", number=number,
-                           has=["none of those that the signatures here are of. Do not use the file."] if number is None else [])
-        told = "The signer's name of this file is "
-        person.expect(row, what, **{"has": [told]} if is_mild or other else {"lacks": [told]})
-        warned = [caution.partition(". It may")[0] for caution in row.cautions]
-        person.same(warned, [OTHER_NAME + other] if other else [], f"{what}: the warnings")
+        row = release.drop(name, data, what, verdict=verdict, number=number,
+                           has=["None of the signatures here is for this file. Do not use the file."] if number is None else [])
+        person.expect(row, what, **{"has": [f"{NAMED}{signed_name}."]} if signed_name else {"lacks": [NAMED]})
+        wanted = [f"{NAMED}{signed_name}. {OTHER_FILE}"] if verdict == "renamed" else []
+        person.same(row.cautions, wanted, f"{what}: the warnings")
+    # A signature whose comment has no name is for the file that the project named it after.
+    plain = release.build_own(*(person.put(f"App ({year}).zip.minisig", person.sign(year.encode(), trusted="t")) for year in ("2024", "2025")))
+    for name, data, verdict in (("App (2024).zip", b"2024", "good"), ("App (2025).zip", b"2025", "good"), ("App (2025) (1).zip", b"2025", "good"),
+                                ("App (2025).zip", b"2024", "renamed"), ("download", b"2024", "renamed"), ("App (2025).zip", b"x", "bad")):
+        release.drop(name, data, f"a release without names in comments: {name} with {data}", plain, verdict=verdict)
     # What stands in the way of any verdict is told, and not that no signature fits.
     person.open(release.own)
     person.see("breakFiles", "download")
-    release.drop("download", zipped, "a file of no name here that cannot be read", has=["The file cannot be read"])
+    release.drop("download", zipped, "a file of no name here that cannot be read", has=["The file could not be read"])
     tampered = with_line(release.signatures[ZIP], 2, b"trusted comment: file:other")
     of_tampered = release.build_own(person.put(f"{ZIP}.minisig", tampered), release.paths[1])
     release.drop("download", zipped, "no name here, and a changed comment", of_tampered, number=32, has=["trusted comment is not the one"])
@@ -127,19 +136,47 @@ def check_names(person, release):
 
 
 def check_given(person, release):
-    """A signature that a person gives stands before those of the page, and a key that comes with the files is not taken."""
-    paths, what = person.pair(ZIP, release.files[ZIP], release.sign(ZIP, b"later")), "a key with the file"
-    for together in ([paths], [paths[:1], paths[1:]]):
-        person.open(release.own)
-        for some in together:
-            person.drop("downloads", *some)
-            person.settled("a signature that is given")
-        person.only(f"a signature that is given, in so many drops: {len(together)}", number=31)
+    """The built-in signature is tried before one that is dropped or that the link has. What only such a signature fits is signed by this
+    key, but is not part of this release. A key that comes with the files is not taken."""
+    old, other_key = release.sign(ZIP, b"older"), release.sign(ZIP, b"older", "second")
+    older = {"verdict": "unlisted", "number": 0, "cautions": [UNLISTED]}
+    signature = with_record(old, 1, b"XX" + record_of(old)[2:])
+    for what, name, data, given, wanted in (
+            ("the file of the release with an older signature", ZIP, release.files[ZIP], old, {"verdict": "good", "number": 0}),
+            ("the file of the release with a foreign signature", ZIP, release.files[ZIP], other_key, {"verdict": "good", "number": 0}),
+            ("the file of the release with what is no signature", ZIP, release.files[ZIP], b"x", {"verdict": "good", "number": 0}),
+            ("an older file with its signature", ZIP, b"older", old, older),
+            ("an older file under its own name", "app-0.9.zip", b"older", release.sign("app-0.9.zip", b"older"), older),
+            ("an older file under another name", "app-0.8.zip", b"older", release.sign("app-0.9.zip", b"older"),
+             {**older, "cautions": [UNLISTED, f"{NAMED}app-0.9.zip. {OTHER_FILE}"]}),
+            ("an older file with a legacy signature", ZIP, b"older", person.sign(b"older", trusted=f"file:{ZIP}", legacy=True), older),
+            ("another file, and the older signature", ZIP, b"x", old, {"number": 31, "has": ["not the one that was signed"]}),
+            ("an older file, and a foreign signature", ZIP, b"older", other_key, {"number": 29, "has": ["made with another key"]}),
+            ("an older file, and a signature of an unknown kind", ZIP, b"older", signature, {"number": 28, "has": ["does not know"]}),
+            ("an older file, and another comment", ZIP, b"older", with_line(old, 2, b"trusted comment: x"), {"number": 32}),
+            ("another file of no name here, and a foreign signature", "x.zip", b"x", other_key, {"number": 29, "has": ["another key"]})):
+        for is_together in (True, False):
+            person.open(release.own)
+            paths = person.pair(name, data, given)
+            for some in ([paths] if is_together else [paths[:1], paths[1:]]):
+                person.drop("downloads", *some)
+            row = person.only(f"{what}, together: {is_together}", **{"verdict": "bad", **wanted})
+            is_told = row.verdict == "bad" and row.number != 32
+            person.same(NOT_OF_RELEASE in row.text, is_told, f"{what}, together: {is_together}: that it is not of the release is told")
+    # What the page cannot verify looks no better on the page of a release, unless the project signed so itself.
+    large, large_sig = person.sparse("large", 64 * 1048576 + 1, "-l")
     person.open(release.own)
-    person.drop("downloads", paths[0], person.put("second.pub", person.second.text))
+    person.drop("downloads", large, large_sig)
+    person.only("a large file with a legacy signature", verdict="bad", number=30, has=["legacy format", NOT_OF_RELEASE])
+    person.open(release.build_own(large_sig))
+    person.drop("downloads", large)
+    person.only("a large file with a built-in legacy signature", verdict="unsupported", number=30)
+    what = "a key with the file"
+    person.open(release.own)
+    person.drop("downloads", *person.pair(ZIP, release.files[ZIP], old), person.put("second.pub", person.second.text))
     person.only(what, verdict="good")
     person.uses(person.first, what)
-    person.says("files-said", what, "second.pub came with the files and was not taken: the key below stays, ")
+    person.says("files-said", what, "second.pub came with the files and was ignored: the key below is kept, ")
 
 
 def check_links(person, release):
@@ -163,7 +200,7 @@ def check_links(person, release):
     for typed, verdict, number in ((person.second.line, "bad", 29), (key, "good", 0)):
         person.type_key(typed)
         person.only("a key that is pasted where a link has one", verdict=verdict, number=number, cautions=[])
-    told = [OTHER_NAME + ZIP, f"with the signature {ZIP}.minisig"]
+    told = [f"{NAMED}{ZIP}. {OTHER_FILE}", f"with the signature {ZIP}.minisig"]
     for name, some, wanted in (("app-0.9.zip", data, {"verdict": "unchecked", "number": 0, "has": told}),
                                (ZIP, b"x", {"verdict": "bad", "number": 31, "lacks": told})):
         release.drop(name, some, f"a link, and {name} of {some}", f"{person.address}#key={key}&sig={text}", **wanted)
@@ -178,13 +215,13 @@ def check_links(person, release):
     for wrong in (text[:40], "", "%", "x", base64.b64encode(person.first.text).decode(), escaped[:-230]):
         what = f"sig={wrong:.30}"
         person.open(f"{person.address}#key={key}&sig={wrong}")
-        person.says("files-said", what, "The link to this page has no whole signature after sig=")
+        person.says("files-said", what, "The link to this page has no complete signature after sig=")
         person.check(person.is_shown("signature-text"), f"{what}: no signature is asked for")
         release.drop(ZIP, data, what, has=["Its signature is missing"])
 
 
 def check_links_of_own(person, release):
-    """The project's page takes the signatures of a link, and says that it does not take another key."""
+    """What the signature of a link fits is not part of the release of the page. The page says that it does not take another key."""
     name, key, other = "app-2.0.zip", release.line, person.second.line
     text, by_other = (base64.b64encode(release.sign(name, b"later", by)).decode() for by in ("first", "second"))
     for part, number, is_told in (
@@ -195,8 +232,15 @@ def check_links_of_own(person, release):
         person.open(f"{release.own}#{part}")
         person.says("key-said", what, **{"ends": OTHER_KEY} if is_told else {"lacks": [OTHER_KEY]})
         person.uses(person.first, what)
-        release.drop(name, b"later", what, number=number, verdict="bad" if number else "good")
+        release.drop(name, b"later", what, number=number, verdict="bad" if number else "unlisted")
         release.drop(ZIP, None, f"{what}, and a download whose signature is built in", verdict="good")
+    # An older signature of a file of the release.
+    older = base64.b64encode(release.sign(ZIP, b"older")).decode()
+    for at, data, wanted in ((release.own, b"older", {"verdict": "unlisted", "number": 0, "cautions": [UNLISTED]}),
+                             (release.own, None, {"verdict": "good", "number": 0}),
+                             (release.own, b"x", {"verdict": "bad", "number": 31, "has": [NOT_OF_RELEASE]}),
+                             (release.build_own(), b"older", {"verdict": "good", "number": 0})):
+        release.drop(ZIP, data, f"a link with an older signature, and {data}", f"{at}#sig={older}", **wanted)
 
 
 def check_key_alone(person, release):
@@ -214,7 +258,7 @@ def check_key_alone(person, release):
         person.only(what, has=["Its signature is missing"])
         person.drop("downloads", release.paths[0], person.put("second.pub", person.second.text))
         person.only(what, number=0, verdict="good", cautions=[], has=["which is built into this page"])
-        person.says("files-said", f"{what}, and another one", "was not taken")
+        person.says("files-said", f"{what}, and another one", "was ignored")
     person.click("clear")
     release.drop(ZIP, None, what, verdict="waiting")
     person.type_text("signature-text", release.signatures[ZIP].decode())

@@ -3,11 +3,11 @@
 
     tests/page/page.py [PAGE]
 
-PAGE is by default the one of `dist/`; `tools/dist.py --check` compares that with what `page/build.py` builds. Without a PAGE the
-proved module, for a memory of 64 bits, is built too, if the kit is there. What is tried stands at the head of each module beside
-this. It prints a line for each failure; the last line is `N passed, M failed`.
+PAGE is by default the one of `dist/`; `tools/dist.py --check` compares that with what `page/build.py` builds, and wide_module.py
+compares its module with the proved one. What is tried stands at the head of each module beside this. It prints a line for each
+failure; the last line is `N passed, M failed`.
 
-Needs Python 3.9 or later, chromium, chromium-driver, firefox-esr, binaryen, a C compiler, make, libsodium with its header and minisign
+Needs Python 3.9 or later, chromium, chromium-driver, firefox-esr, binaryen, clang, a C compiler, make, libsodium with its header and minisign
 0.11. It installs what is missing if it may.
 """
 
@@ -25,6 +25,7 @@ import build
 import ending
 import needs
 import page_sources
+import selected
 import static_library
 import verdicts
 from browser import Chromium
@@ -32,8 +33,8 @@ from firefox import Firefox
 from minisign_cases import Minisign
 
 # What is tried in each browser, in this order: what a person sees there. And in Chromium what its own protocol shows besides.
-IN_BOTH = ("verdicts", "keys", "views", "acts", "only_download", "helps", "hostile", "standing")
-IN_CHROMIUM = ("surroundings", "modules")
+IN_BOTH = ("verdicts", "keys", "views", "acts", "unverified", "only_download", "helps", "hostile", "standing")
+IN_CHROMIUM = ("surroundings", "flags")
 
 
 def steps_in(person):
@@ -67,6 +68,8 @@ def run_in(begin):
     person = begin()
     try:
         for what, step in steps_in(person):
+            if not selected.is_selected(f"{person.name}, {what}"):
+                continue
             begun = time.monotonic()
             try:
                 person = run_step(person, step, begin)
@@ -79,10 +82,11 @@ def run_in(begin):
 
 
 def run_all(checks, room):
-    page = os.path.realpath(sys.argv[1]) if len(sys.argv) > 1 else os.path.join(static_library.DIST, "minisign.html")
-    page_sources.check_contracts(checks)
-    page_sources.check_file(checks, page)
-    page_sources.check_sums(checks, page)
+    page = selected.file() or os.path.join(static_library.DIST, "minisign.html")
+    if selected.is_selected("sources"):
+        page_sources.check_contracts(checks)
+        page_sources.check_file(checks, page)
+        page_sources.check_sums(checks, page)
     minisign = Minisign(needs.minisign(), tempfile.mkdtemp(dir=room))
     for name in ("first", "second"):
         minisign.make_pair(name)

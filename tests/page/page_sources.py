@@ -8,8 +8,8 @@ import build
 from process import run_apart
 from running import read
 
-# How many bytes the built page may have with no signature in it, and how many lines its sources that are not this program's.
-MAX_PAGE_BYTES, MAX_LINES = 106_000, 1500
+# The largest size of the built page without built-in signatures.
+MAX_PAGE_BYTES = 130_000
 PROOF = "proved as it was built for 64-bit WebAssembly"
 
 
@@ -41,10 +41,6 @@ def check_file(checks, page):
     for words in (f"Minisign in Rattle {build.version()}, under the MIT License", "Permission is hereby granted"):
         checks.check(words in text, f"the page does not name {words!r}")
     checks.check(len(text.encode()) <= MAX_PAGE_BYTES, f"the page has {len(text.encode())} bytes, and may have {MAX_PAGE_BYTES}")
-    names = [name for name in os.listdir(build.HERE) if name.endswith((".js", ".css")) or name == "page.html"]
-    lengths = {name: build.read(f"page/{name}").count("\n") for name in names}
-    count = sum(lengths.values())
-    checks.check(len(lengths) == 8 and count <= MAX_LINES, f"the page's sources have {count} lines: {lengths}")
 
 
 def sums_on(text):

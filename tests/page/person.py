@@ -19,46 +19,62 @@ SECONDS = 120
 # A name of this machine that browsers do not know as one: what it serves without TLS is not secure for them.
 ELSEWHERE = "page.test"
 IN_PAGE = read(os.path.dirname(os.path.realpath(__file__)), "in_page.js").decode()
-# The head of each row, by what stands in the place of a verdict, the worst first.
+# The heading of a row, by its verdict or its state before one, the worst first.
 STANDS = {"bad": "\u2717 NOT verified", "unchecked": "? Signed, by a key that you have not checked",
-          "stopped": "\u2013 Stopped: nothing is known of this file", "waiting": "\u2026 Not verified yet",
-          "reading": "\u2026 Not verified yet", "good": "\u2713 Verified"}
-# What to do next, by the same; on a project's own page; and where a file is verified under another name than the signer's.
-PASTE = "Before you use the file, get the key from where the project publishes it, and paste it into its field."
-NEXT = {"bad": "Do not use the file: get it, its signature and the key again from the project.", "unchecked": PASTE,
-        "stopped": "Have it verified again, below.", "waiting": "Add what is missing, below.",
+          "unlisted": "! Signed by this key, but not part of this release", "renamed": "! Signed, but under another name",
+          "unsupported": "? This page cannot verify it", "stopped": "\u2013 Stopped before it was verified",
+          "reading": "\u2026 Not verified yet", "queued": "\u2026 Not verified yet", "waiting": "\u2026 Not verified yet",
+          "good": "\u2713 Verified"}
+# The verdicts of a file that a signature fits, and those of them under a key that somebody gave.
+SIGNED, UNDER_GIVEN = ("good", "unchecked", "unlisted", "renamed"), ("good", "unlisted", "renamed")
+# The next step, by the same, and on a project's own page.
+PASTE = "Before you use the file, get the key from where the project publishes it, and paste it into the field for the key."
+NEXT = {"bad": "Do not use the file: get it, its signature and the key again from the project.",
+        "unchecked": "Before you use the file, paste the key that the project publishes.",
+        "unlisted": "Get the file of this release from the project.", "renamed": "Compare the two names, below, before you use the file.",
+        "unsupported": "Verify the file with the program minisign.", "stopped": "Verify it again, below.",
+        "reading": "Wait until it has been read.", "queued": "Wait until it has been read.", "waiting": "Add what is missing, below.",
         "good": "You can use the file, if the key is the project's own."}
 OWN_NEXT = {**NEXT, "bad": "Do not use the file: get it again from the project.",
             "good": "You can use the file, if this page is the project's own."}
-WARNED = "Before you use the file, read the warning below."
+# Texts that differ from their ground by less than this are hard to read (WCAG 2, level AA).
+MIN_CONTRAST = 4.5
+# How many files the band names, and how much of a long name.
+MAX_NAMED, MAX_NAME, NAME_END = 20, 40, 16
 # How the sentence begins that a row has of its key: of one that nobody gave, and beside a good verdict.
-CAME, GIVEN = "The key came with ", ("This page cannot know whose key it is.", "The key is built into this page:")
+CAME, GIVEN = "The key came with ", ("This page cannot know whose key it is.", "The key is built into this page, so ")
 
 # A public key: its text, and the line of 56 letters and digits in it.
 Key = namedtuple("Key", "text line")
 
 
+def shortened(name):
+    """The name of a file as the band has it."""
+    return name if len(name) <= MAX_NAME else f"{name[:MAX_NAME - NAME_END - 1]}\u2026{name[-NAME_END:]}"
+
+
 def band_of(rows, is_own):
-    """What has to stand at the top of the window: the worst verdict, of how many files it is, and what to do next."""
-    verdicts = [row.verdict for row in rows]
-    worst = next((verdict for verdict in STANDS if verdict in verdicts), None)
-    of = f": {verdicts.count(worst)} of {len(rows)} files" if len(rows) > 1 else ""
-    is_warned = worst == "good" and any(row.cautions for row in rows)
-    return worst and [worst, STANDS[worst] + of, WARNED if is_warned else (OWN_NEXT if is_own else NEXT).get(worst)]
+    """What the band must show: the worst verdict, the files that have it, and the next step."""
+    worst = next((verdict for verdict in STANDS if any(row.verdict == verdict for row in rows)), None)
+    names = [shortened(row.name) for row in rows if row.verdict == worst]
+    count = f" ({len(names)} of {len(rows)} files)" if len(rows) > 1 else ""
+    more = f" and {len(names) - MAX_NAMED} more" if len(names) > MAX_NAMED else ""
+    return worst and [worst, f"{STANDS[worst]}{count}: {', '.join(names[:MAX_NAMED])}{more}", (OWN_NEXT if is_own else NEXT)[worst]]
 
 
 def is_right(row):
     """Whether a row says what its verdict is, and of a signature that fits whose key it is. That nobody gave the key is a warning
-    right after the verdict and the name, and where the signature fits with what to do, and with no word of a good verdict.
+    right after the verdict and the name, and where the signature fits with what to do. Only a good verdict says "Verified".
     Nothing is bold but the verdict and the warnings."""
     said = [line for line in row.text.split("\n") if line]
     came = [line for line in said if line.startswith(CAME)]
-    is_good, is_unchecked = row.verdict == "good", row.verdict == "unchecked"
+    is_signed, is_unchecked = row.verdict in SIGNED, row.verdict == "unchecked"
     return (row.head == said[0] == STANDS[row.verdict] and row.bold == [row.head, *row.cautions]
-            and (row.number == 0) == (is_good or is_unchecked) and (row.comment is None or row.number == 0)
-            and sum(line.startswith(GIVEN) and line not in row.cautions for line in said) == is_good
-            and (not came or came == said[2:3] == row.cautions[:1] and not is_good)
-            and (not is_unchecked or PASTE in "".join(came) and "Verified" not in row.text))
+            and (row.number == 0) == is_signed and (row.comment is None or row.number == 0)
+            and sum(line.startswith(GIVEN) and line not in row.cautions for line in said) == (row.verdict in UNDER_GIVEN)
+            and (not came or came == said[2:3] == row.cautions[:1] and row.verdict not in UNDER_GIVEN)
+            and (not is_unchecked or PASTE in "".join(came)) and (row.verdict == "good" or "Verified" not in row.text.replace(row.name, ""))
+            and (row.verdict != "good" or not row.cautions))
 
 
 def has_words(text, has, lacks):
@@ -78,10 +94,13 @@ class Person:
     `order`, which sends a command of the standard for drivers; `run`, which answers what a script does, or, where that is a promise,
     what it comes to; `send`, which chooses files in the field of this name; `drop` and `drop_text`, of files together or a text on a
     part of the page; `resize`, which gives the page so much room, or all of the window; `force_colours`, of the system on the page;
+    `print_out`, which shows the page as it is printed, or as it is;
     and what the command of a process has that shows a page."""
 
     # Whether the browser is Chromium, whose own protocol shows and changes what a page cannot.
     is_chromium = False
+    # Whether acts wait until the page has taken them in.
+    is_waiting = True
     # Keys without a letter, by the standard for drivers of browsers.
     TAB, ENTER, SHIFT = "\ue004", "\ue007", "\ue008"
 
@@ -149,6 +168,18 @@ class Person:
 
     # How it is driven.
 
+    @contextlib.contextmanager
+    def with_held_files(self):
+        """While this goes on, the page waits for each file that it reads, as for one on a slow disk, and acts do not wait for the page."""
+        self.see("holdFiles")
+        self.is_waiting = False
+        try:
+            yield
+        finally:
+            self.is_waiting = True
+            self.run("window.letFilesGo()")
+            self.taken()
+
     def go(self, address):
         self.order("Navigate", url=address)
 
@@ -183,12 +214,15 @@ class Person:
 
     def act(self, what, *arguments):
         """Has a function of in_page.js do something, and waits until the page has taken it in."""
-        if self.run(f"{IN_PAGE}{what}(...arguments); return until(isTaken);", *arguments) is not True:
+        if not self.is_waiting:
+            self.run(f"{IN_PAGE}{what}(...arguments);", *arguments)
+        elif self.run(f"{IN_PAGE}{what}(...arguments); return until(isTaken);", *arguments) is not True:
             self.taken()
 
     def taken(self):
         """Waits until the page has taken in what a person did."""
-        self.wait_seen("isTaken")
+        if self.is_waiting:
+            self.wait_seen("isTaken")
 
     def wait_seen(self, what):
         """Waits until a function of in_page.js answers true, as long as that answers something else than before."""
@@ -215,7 +249,8 @@ class Person:
 
     def choose_key(self, path):
         self.send("key-file", path)
-        self.wait_seen("isKeySaid")
+        if self.is_waiting:
+            self.wait_seen("isKeySaid")
 
     def choose(self, *paths):
         self.send("files", *paths)

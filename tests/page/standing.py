@@ -5,7 +5,7 @@ few, long ones are stopped and begun again and take no memory, and the page says
 import os
 import re
 
-from person import STANDS, told
+from person import MAX_NAMED, STANDS, told
 
 FEW, MANY = 500, 10_000
 # So many times as much of the processor each of many files may take as each of a few. (It is time of the processes that show the
@@ -35,8 +35,8 @@ def check_stops(person):
     def is_broken():
         return person.run("return window.isBroken === true")
 
-    first = person.signed("a", bytes(4_000_000))
-    paths = {"small": person.signed("small", b"b"), "long": person.sparse("long", LONG_BYTES)}
+    first = person.signed("a", bytes(4_000_000), trusted="t")
+    paths = {"small": person.signed("small", b"b", trusted="t"), "long": person.sparse("long", LONG_BYTES)}
     for what, (other, *broken) in STOPS.items():
         person.begin("", *first, *paths[other])
         person.see(*broken)
@@ -53,7 +53,7 @@ def check_hangs(person):
     """A file whose kind cannot be read in some seconds is taken by its name, and holds up nothing that is done after it."""
     person.open()
     person.run("window.kept = window.bytesOfFile; window.bytesOfFile = () => new Promise(() => {});")
-    person.choose(person.put("hanging", b"x"), *person.signed("a", b"a"))
+    person.choose(person.put("hanging", b"x"), *person.signed("a", b"a", trusted="t"))
     person.run("window.bytesOfFile = window.kept;")
     person.type_key(person.first.line)
     person.expect_each("verdict", {"a": "good", "hanging": "waiting"}, "texts whose reading hung")
@@ -69,7 +69,7 @@ def check_changed(person):
         person.put("update.zip", after, path)
         os.utime(path, (1, 1))
         person.type_key(person.first.line)
-        person.only("a file that changed", **{"verdict": "bad", "has": ["it was changed"]} if person.is_chromium else {"number": number})
+        person.only("a file that changed", **{"verdict": "bad", "has": ["it changed while it was read"]} if person.is_chromium else {"number": number})
 
 
 def processor_seconds(person):
@@ -80,7 +80,7 @@ def processor_seconds(person):
 
 def check_many(person):
     """Many files take as long for each as a few, and ten thousand end."""
-    text, took = person.sign(b"x").decode(), []
+    text, took = person.sign(b"x", trusted="t").decode(), []
     for count in (FEW, MANY):
         person.begin(person.first.line)
         before = processor_seconds(person)
@@ -90,14 +90,16 @@ def check_many(person):
     said = f"each of {FEW} and of {MANY} files takes so many seconds of the processor: {took}"
     person.check(took[1] < MOST_TIMES * took[0], said)
     print(f"page: {person.name}, {said}", flush=True)
-    person.same(person.see("band")[1], f"{STANDS['good']}: {MANY} of {MANY} files", "the band of many files")
+    begin = f"{STANDS['good']} ({MANY} of {MANY} files): f0, f1, f2, "
+    band = person.see("band")[1]
+    person.check(band.startswith(begin) and band.endswith(f", f{MAX_NAMED - 1} and {MANY - MAX_NAMED} more"), f"the band of many files: {band}")
 
 
 def check_long(person):
     """A file of 2 GB is stopped by hand; what was stopped looks like nothing else. Begun again it is read in pieces: the memory of
     the page does not grow, and it answers meanwhile."""
     paths = person.sparse("big", BIG_BYTES)
-    person.begin(person.first.line, *paths, *person.signed("small", b"small"))
+    person.begin(person.first.line, *paths, *person.signed("small", b"small", trusted="t"))
     person.wait(lambda: person.run("return (document.querySelector('progress')?.value ?? 0) > 0"))
     share = person.row("big").text
     person.check(re.search(r"[\d.]+ [MG]B of 2\.0 GB read", share), f"the progress is {share!r}")
@@ -108,7 +110,7 @@ def check_long(person):
     person.expect_each("verdict", {"big": "stopped", "small": "good"}, "one that was stopped, and the next")
     person.same(person.focus(), "Verify it again", "where the focus is after a stop")
     log = person.log()
-    person.check(any(line.startswith("Stopped, ") and line.endswith(" big") for line in log), f"a screen reader is told of no stop: {log}")
+    person.check(any(line.startswith("Stopped before it was verified") and line.endswith(" big") for line in log), f"a screen reader is told of no stop: {log}")
     person.click("clear")
     before, sizes = person.memory(), []
 

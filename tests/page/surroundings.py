@@ -37,8 +37,8 @@ def check_lacking(person):
             ("delete globalThis.WebAssembly;", "WebAssembly", "Ed25519"),
             ("crypto.subtle.importKey = async () => { throw new DOMException('no', 'NotSupportedError'); };", "Ed25519", "WebAssembly"),
             ("crypto.subtle.verify = async () => true;", "Ed25519", "WebAssembly"),
-            ("WebAssembly.validate = () => false; crypto.subtle.verify = async () => false;", "WebAssembly, and Ed25519", "does not run"),
-            ("WebAssembly.instantiate = async () => { throw new RangeError('memory'); };", "does not run the proved library", "lacks")):
+            ("WebAssembly.validate = () => false; crypto.subtle.verify = async () => false;", "WebAssembly, and Ed25519", "cannot run"),
+            ("WebAssembly.instantiate = async () => { throw new RangeError('memory'); };", "cannot run the proved library", "lacks")):
         number = person.command("Page.addScriptToEvaluateOnNewDocument", source=script)["identifier"]
         person.open()
         person.says("lacking", f"after {script}", wanted, lacks=[unwanted])
@@ -81,7 +81,7 @@ def check_use(person):
     person.choose(*person.signed("data", b"data", trusted="t"), *person.pair("bad", b"bad", person.sign(b"data", trusted="t")))
     person.settled("the keyboard")
     found = person.nodes()
-    wanted = {("textbox", "Paste its text, or its line of 56 letters and digits", None), ("button", "Clear the list", None),
+    wanted = {("textbox", "Paste the public key file, or its line of 56 letters and digits", None), ("button", "Clear the list", None),
               ("main", "", None), ("heading", "3. The verdicts", 2), ("heading", "Verified data", 3), ("heading", "NOT verified bad", 3)}
     told = {(role, name, properties.get("level")) for role, name, properties in found}
     person.same(wanted - told, set(), "what a screen reader is not told of")
@@ -106,7 +106,7 @@ def check_directories(person):
     person.open()
     for place in ("downloads", "downloads", "key"):
         person.drop(place, os.path.dirname(path))
-        person.same((person.text_of("files-said"), person.rows()), ("A directory cannot be verified: open it, and drop what is in it.", []),
+        person.same((person.text_of("files-said"), person.rows()), ("A directory cannot be verified. Open it and drop the files in it.", []),
                     f"a directory that is dropped on {place}")
     person.drop("downloads", path)
     person.same((person.text_of("files-said"), len(person.rows())), ("", 1), "what is said for the next files")

@@ -2,8 +2,10 @@
 `c/minisign -V`, and those of new keys; each error and its words; several files at once.
 """
 
+import base64
 import os
 import re
+from collections import Counter
 
 import build
 import edges
@@ -16,6 +18,10 @@ from process import run_program
 from texts import lines, turned
 
 TEXTS, TEXTS_IN_FIREFOX = 500, 150
+# The number by which the page rejects a key of another algorithm than "Ed".
+UNKNOWN_ALGORITHM = 28
+# The number of a public key or a signature that strict Ed25519 rejects for its bytes.
+WEAK = 81
 
 
 class Programs:
@@ -33,11 +39,12 @@ class Programs:
             return ran.status == 0 and ran.output.decode().replace("\r", "U+000D").endswith(f"\nTrusted comment: {comment}\n")
         if number == 29:
             return ran.status == 1 and ran.said.startswith(b"Signature key id in ")
-        # A key that reads is looked at before the signature, and by the program a text that is not UTF-8 before both. A second line
-        # may say which text is meant.
-        line, _, more = ran.said.decode().partition("\n")
-        is_line = re.fullmatch(r"([^\n]+\.(pub|minisig): [^\n]+\n)?", more) is not None
-        numbers = [number] if differences.is_utf8(case.sig) else [number, 8]
+        # A key that reads is looked at before the signature, and by the program a text that is not UTF-8 before both. The program's
+        # own errors name the file, and an error and a hint may follow the first line.
+        line, _, more = re.sub(r"\Aerror: [^\n]+\.(?:pub|minisig): ", "", ran.said.decode()).partition("\n")
+        is_line = re.fullmatch(r"(error: [^\n]+\.(pub|minisig): [^\n]+\n)?(hint: [^\n]+\n)?", more) is not None
+        # (of a weak signature the program says what Minisign does over libsodium: which of the two it rejects)
+        numbers = [31, 32] if number == WEAK else [number] if differences.is_utf8(case.sig) else [number, 8]
         return ran.status in (1, 2) and is_line and line in [self.words[each] for each in numbers]
 
 
@@ -54,6 +61,11 @@ def check_texts(person):
         person.act("empty")
         person.choose_key(key)
         rejection = person.see("numberOfKey")
+        if rejection == UNKNOWN_ALGORITHM:
+            # The C program accepts a key of any algorithm (docs/DIFFERENCES.md).
+            algorithm = base64.b64decode(lines(text)[1])[:2]
+            person.check(algorithm != b"Ed", f"{some[0].name}: a key of the algorithm {algorithm} is rejected")
+            continue
         if rejection == 0:
             person.choose(*(path for pair in pairs for path in pair))
             rows = {row.name: row for row in person.settled("texts")}
@@ -69,7 +81,7 @@ def check_made(person):
     """Keys and signatures that are made now, with the key as a file, as text and as a line; and what would fit every file."""
     first, data = person.first, pattern(3_000_001)
     sig, foreign = person.sign(data, trusted="version 2"), person.sign(data, key="second")
-    key_id = lines(first.text)[0].rpartition(b" ")[2].decode().rjust(16, "0")
+    key_id = lines(first.text)[0].rpartition(b" ")[2].decode()
     paths, key_path, anything = person.pair("update.zip", data, sig), person.put("my.pub", first.text), person.put("anything", first.text)
     person.open()
     for how, take, given in (("as text", person.type_key, [first.text.decode()]), ("as a line", person.type_key, [f"  {first.line}\n"]),
@@ -99,7 +111,30 @@ def check_made(person):
     key, text = edges.texts_for_every_file()
     for some in (b"", b"data", data):
         person.begin(key.decode(), *person.pair("data", some, text), anew=False)
-        person.only("a signature that would fit every file", number=31)
+        person.only("a signature that would fit every file", number=WEAK, verdict="bad")
+
+
+def check_vectors(person):
+    """The vectors of Ed25519 have the verdicts of libsodium, over the browser's Ed25519. (A comment that was not signed, 32, says that
+    the vector itself is accepted.)"""
+    by_key, found = {}, Counter()
+    for vector in edges.vectors():
+        by_key.setdefault(vector["A"], []).append(vector)
+    person.open()
+    for some in by_key.values():
+        paths, place = [], person.put("unused", b"")
+        for at, vector in enumerate(some):
+            key, text = edges.legacy_texts(vector)
+            paths += [person.put(f"{at}", bytes.fromhex(vector["msg"]), place), person.put(f"{at}.minisig", text, place)]
+        person.act("empty")
+        person.choose_key(person.put("vectors.pub", key))
+        person.choose(*paths)
+        rows = {row.name: row.number for row in person.settled("vectors")}
+        for at, vector in enumerate(some):
+            wanted = shared_cases.ERRORS[edges.error_of(vector)]
+            person.same(rows.get(str(at)), wanted, f"the vector {vector['name']}")
+            found[wanted] += 1
+    person.same((found[WEAK], found[32], sum(found.values())), (edges.WEAK, edges.ACCEPTED, edges.COUNT), "the vectors")
 
 
 def check_errors(person):
@@ -118,12 +153,12 @@ def check_errors(person):
     for number, words, text in signature_errors(sig, person.sign(data, key="second")):
         person.click("clear")
         person.choose(*person.pair("data", data, text))
-        row = person.only(f"the error {number}", number=number, has=[words, f"In the library's words: {meaning[number]}."])
+        row = person.only(f"the error {number}", number=number, has=[words, f"Message of the library: {meaning[number]}."])
         said[number] = row.why
     person.same(len(set(said.values())), len(said), f"the number of different words: {said}")
     # A legacy signature of more than the page holds.
     person.begin(person.first.line, *person.sparse("large", 64 * 1048576 + 1, "-l"), anew=False)
-    person.only("a large legacy file", number=30, has=["older kind", meaning[30]])
+    person.only("a large legacy file", number=30, verdict="unsupported", has=["legacy format", "program minisign", meaning[30]])
     # What is wrong with a file, and not with its texts.
     path, sig_path = person.signed("data", b"data")
     person.begin("", path, anew=False)
@@ -131,9 +166,9 @@ def check_errors(person):
     os.remove(path)
     person.choose(sig_path)
     person.type_key(person.first.line)
-    person.only("a file that is gone", verdict="bad", has=["cannot be read"])
+    person.only("a file that is gone", verdict="bad", has=["could not be read"])
     person.begin(person.first.line, *person.pair("data", b"data", person.sign(b"data") + b"x" * 65536), anew=False)
-    person.only("a long signature", verdict="bad", has=["longer than a signature"])
+    person.only("a long signature", verdict="bad", has=["too large for a signature"])
 
 
 def check_matched(person):
@@ -147,7 +182,7 @@ def check_matched(person):
             ("a signature alone", [{"a.minisig": a}], {"a": None}, "file itself is missing"),
             ("two of other names", [{"a": b"a", "b.minisig": b}], {"a": 31}, "with the signature b.minisig"),
             ("several together, and one alone", [{"b.minisig": b, "a": b"a", "c": b"c", "a.minisig": a, "b": b"b"}],
-             {"b": 0, "a": 0, "c": None}, "Its signature is missing: choose or drop c.minisig"),
+             {"b": 0, "a": 0, "c": None}, "Its signature is missing. Choose or drop c.minisig"),
             ("a renamed file", [{"renamed": b"a", "a.minisig": a}], {"renamed": 0}),
             ("a renamed file, and then its signature", [two, {"renamed": b"a"}, {"a.minisig": a}], {"b": 0, "renamed": 0}),
             ("a signature, and then its renamed file", [two, {"a.minisig": a}, {"renamed": b"a"}], {"b": 0, "renamed": 0}),

@@ -2,6 +2,7 @@
 the system forces its colours.
 """
 
+from person import MIN_CONTRAST, STANDS
 from texts import lines
 
 # The windows of two telephones, of which the first is small, and of a computer; and a narrow screen.
@@ -63,6 +64,33 @@ def check_band(person):
         for sort in ("line", "words") if is_forced else ("line", "words", "colours"):
             person.same(len({value for look in looks.values() for value in look[sort]}), 3, f"{what}: the {sort} of the verdicts: {looks}")
         person.same(len({look["words"][0][0] for look in looks.values()}), 3, f"{what}: the signs")
+
+
+def check_low_window(person):
+    """With any verdict the band takes at most a quarter of a window, and shows in it the verdict, the first of the files that it names, and
+    the next step. On a page of 1280 by 1024 that is magnified four times the window has 320 by 256."""
+    person.begin(person.first.line, *person.signed("Example-1.0-x86_64.tar.gz", b"x", trusted="t"), *person.signed("b.zip", b"x", trusted="t"))
+    person.settled("a low window")
+    for size in ((320, 256), (640, 360), *WINDOWS):
+        person.resize(*size)
+        for verdict in STANDS:
+            share, wrong = person.see("bandWith", verdict)
+            person.check(share <= 0.25 and not wrong, f"the band that is {verdict} at {size} takes {share:.3f} of the window: {wrong}")
+
+
+def check_printed(person):
+    """On paper, where browsers print no grounds, the words of each verdict can be read, and the band covers nothing."""
+    person.begin(person.first.line, *person.signed("fits", b"x", trusted="t"))
+    person.settled("on paper")
+    for verdict in STANDS:
+        person.see("bandWith", verdict)
+        person.print_out(True)
+        try:
+            position = person.run("return getComputedStyle(document.getElementById('band')).position")
+            faint = [text for contrast, text in person.see("contrasts", True) if contrast < MIN_CONTRAST]
+        finally:
+            person.print_out(False)
+        person.same((position, faint), ("static", []), f"the band that is {verdict}, on paper, and the texts that are hard to read")
 
 
 def check_focus(person):

@@ -6,19 +6,24 @@ Here many edits share one check. Each is written into a copy of its function, wh
 own, with the same contract and a copy of its written proof. So the callers of the function are not proved again. Where
 a search proves the clause that `why:` names as false, the copy ensures this clause alone, and has no written proof: so
 it is rejected for this one. A method of a trait's impl has no second name and is changed where it stands. The crate
-has to be proved as it stands, by `rt ci` where this runs beside it (tests/shared/proved.py), and else by a check of
+has to be proved as it stands, in CI by `rt ci` (tests/shared/proved.py), and else by a check of
 the functions that the edits change. The copies assume that: each other body is a loop without an end, and its proof a
 hole, so that a check tries the wrong bodies alone. An edit that is not rejected beside others is tried once more alone.
 
 An edit passes if the search for a proof of one of the function's own goals ends without one. It fails if the search
 gave up at one of its limits, so that the goal may hold, or if only the function's written proof no longer fits, unless
 a line `by:` says so: both happen to right bodies too. Some limits of a search are limits of time, which come sooner on
-a busy machine: another edit whose search gave up is tried once more alone, when all else of the gate has ended. An
+a busy machine. So an edit whose search gave up is tried once more after all others, and CI runs this script last. An
 edit fails too if the function is proved, if the prover could not tell, and if all that is left is a limit at which it
 stopped in a written proof, or if `why:` names a clause that its function has not. tests/proofs/wrong_bodies.txt says
 how many edits each crate has: other numbers fail too.
 
-usage: wrong_bodies.py [--unchanged] [CRATE[/NAME]..]
+usage: wrong_bodies.py [--all] [--record] [--unchanged] [CRATE[/NAME]..]
+  Without names, it tries the edits of each crate that has changed, or whose lower crates have, since all its edits were
+  rejected (tried_mutants.py).
+  --all          tries the edits of all crates
+  --record       writes the state of the crates whose edits are all rejected into tests/proofs/tried_mutants.txt; edits that
+                 another run on this machine has tried in this state are not tried again
   --unchanged    leaves the changes out, and passes what is proved: so a rejection comes from a change and not from copying
 """
 
@@ -29,15 +34,15 @@ import shutil
 import sys
 import tempfile
 import threading
-import time
 from collections import Counter
 from concurrent.futures import FIRST_COMPLETED, ThreadPoolExecutor, wait
 from contextlib import contextmanager
 
 HERE = os.path.dirname(os.path.realpath(__file__))
-sys.path += [os.path.join(HERE, "..", "shared"), os.path.join(HERE, "..", "..", "tools")]
+sys.path += [HERE, os.path.join(HERE, "..", "shared"), os.path.join(HERE, "..", "..", "tools")]
 
 import proved
+import tried_mutants
 from running import write
 from sources import ROOT, files_below, read, read_source
 
@@ -46,9 +51,6 @@ LIST = "tests/proofs/wrong_bodies.txt"
 HERE_TRIED, KIT_TRIED = "wrong-bodies", "must-fail"
 # What a check of one of these crates takes at the most, in bytes.
 MEMORY = 3_000_000_000
-# How many checks run beside `rt ci`, and what has to be free for the first of them, in bytes; each further one needs
-# MEMORY more.
-BESIDE, FREE = 2, 5_000_000_000
 # What there is to say of a wrong body: it is rejected, rejected in a way that shows nothing, or neither; or, where it was
 # left unchanged, that it is proved.
 REJECTED, GAVE_UP, APART, FAILED, PROVED = ("rejected", "rejected by a search that gave up at a limit",
@@ -214,29 +216,16 @@ def loops(source, changed):
 
 
 class Places:
-    """The places for checks, of which few are there beside `rt ci`."""
+    """Limits how many checks run at once, by the number of processors and by memory."""
 
     def __init__(self):
-        self.checks, self.lock = 0, threading.Lock()
         self.most = max(1, min(len(os.sched_getaffinity(0)), free_memory() // MEMORY))
+        self.free = threading.Semaphore(self.most)
 
     @contextmanager
     def place(self):
-        """Waits until a check may begin: few run beside `rt ci`, and where they leave it its memory."""
-        is_taken = False
-        while not is_taken:
-            with self.lock:
-                is_beside = proved.is_under_way()
-                is_room = not is_beside or free_memory() >= FREE + MEMORY * self.checks
-                is_taken = is_room and self.checks < (BESIDE if is_beside else self.most)
-                self.checks += is_taken
-            if not is_taken:
-                time.sleep(1)
-        try:
+        with self.free:
             yield
-        finally:
-            with self.lock:
-                self.checks -= 1
 
 
 class Trial:
@@ -257,9 +246,8 @@ class Trial:
         return said, {pool.submit(self.try_group, group) for group in ([] if why else groups_of(whole))}
 
     def lacks_proof(self, bodies):
-        """Waits until `rt ci` has proved the crate, or checks the functions that these bodies change as they stand, and what
-        they call, and returns why they are not proved."""
-        proved.wait_for([self.crate])
+        """Returns why the crate is not proved. If `rt ci` has not proved it, or named no function of it, this checks the functions that
+        these bodies change, and what they call."""
         is_proved, said = proved.has([self.crate]), proved.said()
         words = [word for each in sorted({body.function for body in bodies}) for word in ("--only", each)]
         # (of a crate that an earlier run has proved `rt ci` names no function)
@@ -309,7 +297,7 @@ class Trial:
         words = [word for function in sorted(functions) for word in ("--only", function)]
         with self.places.place(), tempfile.TemporaryDirectory(prefix="wrong-bodies-kept-") as kept:
             words += ["--allow-holes", "--incremental", kept]
-            return proved.rattle("check", self.crate, directory, *words, before=("nice", "-n", "10")).stdout
+            return proved.rattle("check", self.crate, directory, *words).stdout
 
     def judged(self, body, said):
         """Judges a body by what a check said of its function: by its line, those above it that belong to it, and the
@@ -373,7 +361,6 @@ def try_all(tasks):
                 gave_up += [verdict.body for verdict in said if verdict.is_unclear]
                 yield from (verdict for verdict in said if not verdict.is_unclear)
     for body in gave_up:
-        proved.wait_for_all_else()
         yield trials[body.crate].tried([body])[0]
 
 
@@ -386,18 +373,27 @@ def wrong_numbers(bodies, names):
 
 
 def main(words):
-    is_unchanged, names = "--unchanged" in words, [word for word in words if word != "--unchanged"]
+    names, flags = [word for word in words if not word.startswith("--")], {word for word in words if word.startswith("--")}
+    if not flags <= {"--all", "--record", "--unchanged"}:
+        raise SystemExit(__doc__)
+    is_unchanged = "--unchanged" in flags
     os.chdir(ROOT)
     bodies = {crate: found for crate in proved.crates() for found in [bodies_of(crate, is_unchanged)] if found}
     found = {name for crate in bodies for name in (crate, *(body.label for body in bodies[crate]))}
     wrong = wrong_numbers(bodies, names) + [f"no wrong body is named {name}" for name in names if name not in found]
-    is_tried = lambda crate, body: body.label in names or not body.is_for_kit and (not names or crate in names)
+    digests, done = tried_mutants.digests(bodies), tried_mutants.recorded()
+    if "--record" in flags:
+        done = {**done, **{crate: told for crate, told in tried_mutants.recorded(tried_mutants.TRIED_HERE).items() if told == digests.get(crate)}}
+    kept = set() if names or {"--all", "--unchanged"} & flags else {crate for crate in bodies if done.get(crate) == digests[crate]}
+    is_tried = lambda crate, body: body.label in names or not body.is_for_kit and (crate in names or not names and crate not in kept)
     tasks = {crate: tried for crate in bodies if (tried := [body for body in bodies[crate] if is_tried(crate, body)])}
-    outcomes, passed = {crate: Counter() for crate in tasks}, 0
+    outcomes, well = {crate: Counter() for crate in tasks}, Counter()
+    for crate in kept:
+        print(f"{crate}: not tried, as nothing has changed since all its wrong bodies were rejected")
     for verdict in try_all(tasks):
         print(verdict.text, flush=True)
         outcomes[verdict.body.crate][verdict.outcome] += 1
-        passed += verdict.is_well
+        well[verdict.body.crate] += verdict.is_well
         if verdict.outcome in (GAVE_UP, APART) and not verdict.is_well:
             wrong.append(f"{verdict.body.label} is {verdict.outcome}: aim it at a smaller function")
     for crate, counted in outcomes.items():
@@ -406,8 +402,15 @@ def main(words):
     for failure in wrong:
         print(f"FAILED: {failure}")
     failed = sum(counted[FAILED] for counted in outcomes.values()) + len(wrong)
+    if not is_unchanged and not wrong:
+        whole = [crate for crate in tasks if well[crate] == len(tasks[crate]) and all(body.is_for_kit or body in tasks[crate] for body in bodies[crate])]
+        rejected = {crate: digests[crate] for crate in (*kept, *whole)}
+        tried_mutants.record(rejected, bodies, tried_mutants.TRIED_HERE)
+        if "--record" in flags:
+            tried_mutants.record(rejected, bodies)
+    passed = sum(well.values()) + len(kept)
     print(f"{passed} passed, {failed} failed")
-    return 1 if failed or not tasks else 0
+    return 1 if failed or not passed else 0
 
 
 if __name__ == "__main__":

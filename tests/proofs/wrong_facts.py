@@ -104,7 +104,6 @@ def try_facts(report, crate):
     facts = Facts(crate)
     if not facts.wrong:
         return
-    proved.wait_for([crate])
     why = proved.supply(proved.crates()[crate].below)
     path = next(os.path.relpath(at, f"crates/{crate}/proofs") for at, _, files in sorted(os.walk(f"crates/{crate}/proofs"))
                 if "Answers.antt" in files)

@@ -80,6 +80,10 @@ BOTH_CHANGED = COMMENT_SIGNATURE[:31] + b"\xf2" + COMMENT_SIGNATURE[32:63] + byt
 MUCH = base64.b64encode(BOTH_CHANGED + bytes(range(151)))
 LETTERS = with_line(PREHASHED_TEXT, 3, ALPHABET)
 
+# The white space of Unicode but for the line feed, which ends a line; and characters that are similar and are no white space.
+WHITE_SPACE = "\t\v\f\r \u0085\u00a0\u1680\u2000\u2001\u2002\u2003\u2004\u2005\u2006\u2007\u2008\u2009\u200a\u2028\u2029\u202f\u205f\u3000"
+NO_WHITE_SPACE = "\x1c\x1d\x1e\x1f\u180e\u200b\ufeff"
+
 ROWS = [row for rows_of in (
     signed("written", moment=0),
     signed("blanks: signed", b"abc", b" t ", moment=0),
@@ -126,6 +130,11 @@ ROWS = [row for rows_of in (
             ("much longer, with padding inside", NOT_BASE64, MUCH[:86] + b"==" + MUCH[88:]),
             ("empty", "CommentSignatureRefused", b""),
             ("blanks", "CommentSignatureRefused", " \u00a0".encode()))))),
+    # Each character of white space is trimmed at both ends of the trusted comment, and no other one is.
+    *(verified(f"white space: U+{ord(letter):04X}", outcome, odd_text(before=letter, end=f"{letter}\n"))
+      for letters, outcome in ((WHITE_SPACE, ACCEPTED), (NO_WHITE_SPACE, NOT_BASE64)) for letter in letters),
+    *(verified(f"no white space: U+{ord(letter):04X} before the comment", "CommentSignatureRefused", odd_text(before=letter))
+      for letter in NO_WHITE_SPACE),
     # What stands after a record in the second line is not read, and is not written again.
     *(both(f"{more} bytes more", ACCEPTED, with_record(PREHASHED_TEXT, 1, PREHASHED_RECORD + bytes(range(more))))
       for more in (1, 60)),

@@ -170,6 +170,10 @@ ROWS = [row for rows in (
     # The copy begins where the source stood.
     *(judged(f"{name}: copied from the place that was reached", ACCEPTED, signature, output=True, legacy=True, front=b"xx")
       for name, signature in (("a signature", PREHASHED_RECORD), ("text", PREHASHED_TEXT), ("text: legacy", LEGACY_TEXT))),
+    # The toy scheme folds messages, so that it does not see zero bytes at the end of one.
+    judged("toy: a zero byte appended to legacy data", ACCEPTED, LEGACY_TEXT, b"abc\0", output=True, legacy=True),
+    judged("toy: a zero byte appended to the trusted comment", ACCEPTED,
+           PREHASHED_TEXT.replace(b"comment: t\n", b"comment: t\0\n"), trusted=b"t\0"),
     # The scheme accepts the signatures of the upstream tool until the table of such is cleared.
     [Row("upstream: a signature is accepted", ask("table_add", signed, UPSTREAM_RECORD[10:], signature), gives())
      for text, message in UPSTREAM_MESSAGES.items() for record, trusted, of_comment in [upstream_parts(text)]

@@ -1,22 +1,28 @@
 """Begins a script of tests in a directory of its own, and ends it with a last line `N passed, M failed`."""
 
 import subprocess
+import sys
 import tempfile
 
 import needs
+import selected
 import static_library
 from checks import Checks
+from running import Failure
 
 
 def check(name, run, *stops):
     """Has a function, which is given the `Checks`, check things in an empty directory, prints what failed, and returns the exit
     status. What is not here, was not built or could not be run is a failure, and so are these exceptions."""
     checks = Checks()
+    selected.choose_among(sys.modules["__main__"])
     with tempfile.TemporaryDirectory(prefix=f"{name}-") as room:
         try:
             run(checks, room)
-        except (needs.Missing, static_library.NotBuilt, OSError, subprocess.SubprocessError, *stops) as why:
+        except (needs.Missing, static_library.NotBuilt, Failure, OSError, subprocess.SubprocessError, *stops) as why:
             checks.check(False, str(why))
+    if selected.words() and not checks.passed and not checks.failures:
+        checks.check(False, f"no case has a name with {' or '.join(selected.words())}")
     return checks.end()
 
 

@@ -21,7 +21,7 @@ from running import write
 KINDS = {"u32": "uint32_t", "u64": "uint64_t", "usize": "size_t", "State": "minisign_state",
          "PublicKeyValue": "minisign_public_key", "SignatureValue": "minisign_signature", "Questions": "minisign_questions",
          "UnopenedKeyValue": "minisign_unopened_key", "SecretKeyValue": "minisign_secret_key", "Sealing": "minisign_sealing",
-         "Installation": "minisign_installation"}
+         "NewKey": "minisign_new_key", "Installation": "minisign_installation", "InstallOptions": "minisign_install_options"}
 # The structs whose fields are the library's alone.
 CLOSED = ("minisign_state", "minisign_installation")
 NUMBERS = {"u8": ctypes.c_uint8, "u32": ctypes.c_uint32, "u64": ctypes.c_uint64}
@@ -56,10 +56,15 @@ def kinds_in_c(kind):
     return [f"{const}{known} *" if lent else known]
 
 
+def parameters_of(parameters):
+    """The parameters of an export, each with its type."""
+    return [parameter for parameter in re.split(r",\s*(?![^\[]*\])", parameters.strip().rstrip(",")) if parameter]
+
+
 def exported(crate):
     """The types in C of the exports of the crate, by their names: those of the parameters, and of the result."""
-    return {name: ([kind for parameter in re.split(r",\s*(?![^\[]*\])", parameters.strip().rstrip(",")) if parameter
-                    for kind in kinds_in_c(parameter.partition(":")[2].strip())], kinds_in_c(result)[0] if result else "void")
+    return {name: ([kind for parameter in parameters_of(parameters) for kind in kinds_in_c(parameter.partition(":")[2].strip())],
+                   kinds_in_c(result)[0] if result else "void")
             for name, parameters, result in EXPORT.findall(crate)}
 
 

@@ -9,8 +9,10 @@ Needs Python 3.9 or later.
 
 import fcntl
 import functools
+import importlib
 import os
 import shutil
+import sys
 import tempfile
 
 from process import run
@@ -18,8 +20,9 @@ from process import run
 SECONDS = 600
 # Scripts that install hold this file: apt-get does not wait for another one that renews the list of packages.
 LOCK = os.path.join(tempfile.gettempdir(), "minisign-installing-packages")
-# Where Debian's packages have their programs, and those that only root has in PATH, as debootstrap.
+# Where Debian's packages have their programs, and those that only root has in PATH, as debootstrap; and modules of Python.
 DEBIAN = "/usr/bin"
+MODULES = "/usr/lib/python3/dist-packages"
 OF_ROOT = "/usr/sbin"
 
 HELLO = "int main(void) { return 0; }\n"
@@ -80,6 +83,25 @@ def need(find, what, *packages):
 def program(name, *packages):
     """The path of a program, with the packages that it is in or needs."""
     return need(lambda: which(name), f"the program {name}", *packages)
+
+
+def imported(name):
+    """A module of this Python, or, if it has none, of Debian's Python; None if it is nowhere. That only goes with modules that
+    are written in Python. The directory is the last one to be looked at, so that it replaces no module of this Python."""
+    if MODULES not in sys.path:
+        sys.path.append(MODULES)
+    importlib.invalidate_caches()
+    try:
+        return importlib.import_module(name)
+    except ImportError:
+        return None
+
+
+@functools.lru_cache(maxsize=None)
+def pexpect():
+    """The module pexpect, with its part for terminals that are open already."""
+    need(lambda: imported("pexpect.fdpexpect"), "Python's pexpect", "python3-pexpect")
+    return imported("pexpect")
 
 
 def compiler_of(source, *flags):

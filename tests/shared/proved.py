@@ -1,9 +1,9 @@
 """The repository's libraries as they stand proved and built, and the kit's prover over them.
 
-The gate runs scripts beside `rt ci`, and names them in SAID the file of what that says: `rt ci` proves each library from
-nothing, and leaves it built for the crates above. No other command of `rt` takes what it built, and each would prove it
-anew; so the prover itself, `rattle`, is called over it, with flags of its `--help`. Where SAID names no file, or
-`rt ci` left nothing, `rt lib` builds the libraries, or finds them built.
+CI runs some scripts after `rt ci`, and SAID names the file with the output of that. `rt ci` proves each library from nothing and
+leaves it built for the crates above. No other command of `rt` uses these builds; each would prove the library again. So the prover
+itself, `rattle`, is called over them, with flags of its `--help`. If SAID names no file, or `rt ci` left nothing, `rt lib` builds the
+libraries or finds them built.
 
 Needs Python 3.9 or later and the kit.
 """
@@ -13,14 +13,10 @@ import graphlib
 import os
 import re
 import subprocess
-import time
 
 ROOT = os.path.dirname(os.path.dirname(os.path.dirname(os.path.realpath(__file__))))
-# The environment's name for the file of what `rt ci` says, beside which scripts run.
+# The environment variable with the path of the output of `rt ci`, after which scripts run.
 SAID = "MINISIGN_RT_CI"
-# The line after that, once `rt ci` has ended, and one once all has ended that runs beside it but the must-fail edits.
-ENDED = "rt ci has ended"
-ALL_ENDED = "all else has ended"
 # What a static library is built for where it is to run in a page.
 WASM = "wasm64-unknown-unknown"
 # The last verdict line of each static library that was built here.
@@ -69,34 +65,17 @@ def take_over(path):
 
 
 def said():
-    """What `rt ci` has said, beside or after which this runs; nothing where there is none."""
+    """Returns the output of `rt ci`, or an empty text if this does not run after it."""
     if finished or not os.environ.get(SAID):
         return "".join(finished)
     with open(os.environ[SAID], encoding="utf-8", errors="replace") as file:
         return file.read()
 
 
-def is_under_way():
-    """Whether `rt ci` runs beside this."""
-    return not finished and bool(os.environ.get(SAID)) and not re.search(rf"(?m)^{ENDED}$", said())
-
-
 def has(names):
     """Whether `rt ci` has proved all of these crates, in this run or, by a kit that keeps them, in an earlier one."""
     words = said()
     return all(re.search(rf"(?m)^rt: {name} (proved$|is kept: )", words) for name in names)
-
-
-def wait_for(names):
-    """Waits until `rt ci` has proved these crates, or has ended."""
-    while is_under_way() and not has(names):
-        time.sleep(1)
-
-
-def wait_for_all_else():
-    """Waits, in the gate, until nothing else runs."""
-    while os.environ.get(SAID) and not said().endswith(f"{ALL_ENDED}\n"):
-        time.sleep(1)
 
 
 def functions_of(crate, words):
@@ -119,8 +98,6 @@ def are_left(libraries):
 
 def supply(libraries):
     """Has the libraries built, and returns what is said if one of them is not proved."""
-    while is_under_way() and not are_left(libraries):
-        time.sleep(1)
     for library in [] if are_left(libraries) else libraries:
         ran = run(["rt", "lib"], f"{ROOT}/crates/{library}")
         if ran.returncode:

@@ -20,6 +20,7 @@ from collections import namedtuple
 from dataclasses import dataclass, field
 
 import needs
+import selected
 from process import told
 
 SECONDS, MAX_CALLS = 30, 500
@@ -168,10 +169,12 @@ def wait_until(holds, otherwise, seconds=SECONDS):
 
 
 def run_cases(cases):
-    """Runs cases one after another, each of which has a name, a function, and what that is given: what failed, and how many were
-    not skipped."""
+    """Runs the selected cases one after another, each of which has a name, a function, and what that is given: what failed, and how
+    many were not skipped."""
     failures, count = [], 0
     for name, run, *given in cases:
+        if not selected.is_selected(name):
+            continue
         try:
             run(*given)
         except Skip as why:

@@ -24,6 +24,7 @@ sys.path.append(os.path.join(HERE, "..", "shared"))
 import ending
 import keygen_runs
 import needs
+import selected
 import sign_runs
 import surviving
 from running import CLOSED, FULL, NOBODY, Case, Runner, run_cases
@@ -96,7 +97,7 @@ def run_all(room):
     # (nobody installs nothing)
     needs.c_compiler(), needs.program("setfacl", "acl")
     failures, count = [], 0
-    for program in sys.argv[1:] or built_programs():
+    for program in [selected.file()] if selected.file() else built_programs():
         place = tempfile.mkdtemp(dir=room)
         copy = shutil.copy(program, os.path.join(place, "program"))
         with contextlib.suppress(OSError):

@@ -130,7 +130,8 @@ func reading(given line) string {
 	if err != nil {
 		return err.Error()
 	}
-	return fmt.Sprintf("%x %x %s", key.KeyId, signature.KeyId, signature.SignatureAlgorithm)
+	ids := fmt.Sprintf("%x %x %s %s", key.KeyId, signature.KeyId, key.KeyIdText(), signature.KeyIdText())
+	return fmt.Sprintf("%s %s", ids, signature.SignatureAlgorithm)
 }
 
 func pages() int {

@@ -82,7 +82,7 @@ var changes = []change{
 		signature.TrustedComment += "\xff"
 	}},
 	{"another signature of the comment", "COMMENT_SIGNATURE_REFUSED", func(key *minisign.PublicKey, signature *minisign.Signature) { signature.GlobalSignature[0] ^= 1 }},
-	{"no signature of the comment", "COMMENT_SIGNATURE_REFUSED", func(key *minisign.PublicKey, signature *minisign.Signature) {
+	{"no signature of the comment", "WEAK_ED25519", func(key *minisign.PublicKey, signature *minisign.Signature) {
 		signature.GlobalSignature = [64]byte{}
 	}},
 }

@@ -1,33 +1,36 @@
-// What stands around the examples of bindings/go/README.md: tests/bindings/go.py puts each in the place of its mark.
+// Runs the examples of bindings/go/README.md that its main does not call: tests/bindings/go.py puts this beside them.
 package main
 
 import (
 	"bytes"
-	"fmt"
-	"io"
-	"log"
 	"os"
+	"strings"
+	"testing"
 
 	"proved/minisign"
 )
 
-func stream(key minisign.PublicKey, signature minisign.Signature, reader io.Reader, progress io.Writer) error {
-	// STREAM
-}
-
-func sign(password []byte) error {
-	// SIGN
-}
-
-func main() {
-	if len(os.Args) > 1 {
-		if err := sign(nil); err != nil {
-			log.Fatal(err)
-		}
-		return
+func TestExamples(t *testing.T) {
+	if err := makeKey([]byte("pass word")); err != nil {
+		t.Fatal(err)
 	}
-	// VERIFY
-	file, _ := os.Open("app")
+	if err := makeKey([]byte("pass word")); !os.IsExist(err) {
+		t.Fatal("a key is written over another one: ", err)
+	}
+	if err := sign([]byte("password")); err != minisign.ErrWrongPassword {
+		t.Fatal(err)
+	}
+	if err := sign([]byte("pass word")); err != nil {
+		t.Fatal(err)
+	}
+	key, noKey := minisign.NewPublicKeyFromFile("new.pub")
+	signature, noSignature := minisign.NewSignatureFromFile("app-3.minisig")
 	var seen bytes.Buffer
-	fmt.Println(signature.TrustedComment, stream(key, signature, file, &seen), seen.Len())
+	err := verifyStream(key, signature, strings.NewReader("version 3"), &seen)
+	if noKey != nil || noSignature != nil || err != nil || seen.String() != "version 3" {
+		t.Fatal(noKey, noSignature, err, seen.String())
+	}
+	if err = verifyStream(key, signature, strings.NewReader("version 4"), &seen); err != minisign.ErrSignatureRefused {
+		t.Fatal(err)
+	}
 }

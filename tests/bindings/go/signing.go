@@ -6,10 +6,12 @@ import (
 	"errors"
 	"fmt"
 	"os"
+	"os/signal"
 	"runtime/debug"
 	"strconv"
 	"strings"
 	"sync"
+	"syscall"
 	"unsafe"
 
 	"proved/minisign"
@@ -132,8 +134,7 @@ func tells(wanted, came interface{}) {
 func shown() {
 	key, err := minisign.GenerateKey()
 	must(err)
-	keyId := key.KeyId()
-	id := fmt.Sprintf("SecretKey(%X)", *(*uint64)(unsafe.Pointer(&keyId)))
+	id := fmt.Sprintf("SecretKey(%s)", key.KeyIdText())
 	for _, verb := range []string{"%v", "%+v", "%#v", "%s", "%q", "%x", "%d"} {
 		for _, value := range []interface{}{key, *key} {
 			tells(id, fmt.Sprintf(verb, value))
@@ -167,7 +168,7 @@ func wrong() {
 	tells("minisign: key is nil", err)
 	for _, password := range [][]byte{nil, {}} {
 		_, err = key.Encode(password, least)
-		tells("minisign: password is empty: EncodeUnsealed makes a key that takes none", err)
+		tells("minisign: password is empty; use EncodeUnsealed for a key without a password", err)
 	}
 	_, err = minisign.DecodeSecretKey(nil, nil, minisign.Work{})
 	tells("MISSING_SECRET_KEY_COMMENT", told(err))
@@ -180,6 +181,17 @@ func wrong() {
 	tells("NOT_BEGUN", told(err))
 	_, err = signer.Sign("c", "u")
 	tells("NOT_BEGUN", told(err))
+}
+
+// ids prints the key IDs of a secret key and of its public key, and the text of that.
+func ids(file string) {
+	key, err := minisign.NewSecretKeyFromFile(file, nil, minisign.Work{})
+	must(err)
+	public, err := key.PublicKey()
+	must(err)
+	text, err := key.EncodePublicKey()
+	must(err)
+	fmt.Printf("%s %s\n%s", key.KeyIdText(), public.KeyIdText(), text)
 }
 
 func pages() int {
@@ -247,6 +259,12 @@ func main() {
 		fmt.Println(told(makePair(words[0], password(words[1:]))))
 	case "sign":
 		fmt.Println(told(sign(words[0], words[1], words[2], words[3], password(words[4:]))))
+	case "ids":
+		ids(words[0])
+	case "write":
+		// (a file that is too long is an error then, as on a full disk, and does not end the program)
+		signal.Ignore(syscall.SIGXFSZ)
+		fmt.Println(told(minisign.WriteNew(words[0], []byte(words[1]))))
 	case "opened":
 		fmt.Println(opened(words[0], password(words[1:])))
 	case "sealed":

@@ -4,7 +4,6 @@
 //     node answers.mjs pieces [legacy]   the same, whose data comes in pieces in each way that there is
 //     node answers.mjs read [legacy]     the same, whose signature is read first: the identifier that it names and whether it is
 //                                        legacy, and what comes of verifying with it
-//     node answers.mjs vectors           whether Ed25519 accepts each case, a key, a message and a signature
 //     node answers.mjs threads           the same cases in four threads: what all of them answer, if it is the same
 //     node answers.mjs growth COUNT      how many bytes more are in memory after so many calls than after a tenth of them
 //     node answers.mjs comment           the same cases: their trusted comments, before there is data
@@ -120,11 +119,6 @@ async function answersInPieces(cases, options) {
   return answers;
 }
 
-async function vectorAnswers(cases) {
-  const {accepts} = await import(new URL("node_modules/minisign-proved/ed25519.js", import.meta.url));
-  return Promise.all(cases.map(([key, message, signature]) => accepts(key, signature, message)));
-}
-
 async function answersInThreads(text) {
   const run = () => new Promise((resolve, reject) => {
     const thread = new Worker(new URL(import.meta.url), {workerData: text});
@@ -156,8 +150,8 @@ async function growth(count, [[key, data, signature], [, other]]) {
 }
 
 // How it begins what it says of arguments of other types.
-const DATA = "data has to be bytes, a Blob, a stream or pieces of bytes, and not";
-const SIGNATURE = "signature has to be a text, as a string or bytes, and not", KEY = "key has to be a text, as a string or bytes, and not";
+const DATA = "data must be bytes, a Blob, a stream or pieces of bytes, not";
+const SIGNATURE = "signature must be a text, as a string or bytes, not", KEY = "key must be a text, as a string or bytes, not";
 
 // Each of these calls rejects with a TypeError that names an argument: what has to come, and what comes.
 async function wrongAnswers([[key, data, signature]]) {
@@ -165,22 +159,22 @@ async function wrongAnswers([[key, data, signature]]) {
   const tried = [
     [`${DATA} string`, verify("text", signature, key)], [`${DATA} number`, verify(7, signature, key)], [`${DATA} null`, verify(null, signature, key)],
     [`${DATA} undefined`, verify(undefined, signature, key)], [`${DATA} object`, verify({}, signature, key)],
-    ["a piece of data has to be bytes, and not string", verify(["text"], signature, key)],
+    ["a piece of data must be bytes, not string", verify(["text"], signature, key)],
     [`${SIGNATURE} number`, verify(data, 7, key)], [`${SIGNATURE} null`, verify(data, null, key)],
     [`${SIGNATURE} object`, verify(data, {keyId: "E7620F1842B4E81F", isLegacy: false}, key)],
-    ["signature has 65536 bytes or more", verify(data, new Uint8Array(65536), key)],
-    [`${KEY} undefined`, verify(data, signature, undefined)], ["key has 65536 bytes or more", verify(data, signature, "x".repeat(65536))],
+    ["signature must have fewer than 65536 bytes", verify(data, new Uint8Array(65536), key)],
+    [`${KEY} undefined`, verify(data, signature, undefined)], ["key must have fewer than 65536 bytes", verify(data, signature, "x".repeat(65536))],
     [`${SIGNATURE} number`, readSignature(7)], [`${SIGNATURE} null`, readSignature(null)], [`${SIGNATURE} undefined`, readSignature(undefined)],
     [`${SIGNATURE} object`, readSignature({})], [`${SIGNATURE} object`, readSignature(read)],
-    ["signature has 65536 bytes or more", readSignature(new Uint8Array(65536))],
+    ["signature must have fewer than 65536 bytes", readSignature(new Uint8Array(65536))],
     [`${KEY} number`, readPublicKey(7)], [`${KEY} null`, readPublicKey(null)], [`${KEY} object`, readPublicKey({})], [`${KEY} object`, readPublicKey(read)],
-    ["options has to be an object, and not null", given(null)], ["options has to be an object, and not number", given(7)],
-    ["options has no allowlegacy", given({allowlegacy: true})], ["options has no toString", given({toString: true})],
-    ["allowLegacy has to be true or false, and not number", given({allowLegacy: 1})],
-    ["allowLegacy has to be true or false, and not string", given({allowLegacy: "no"})],
-    ["progress has to be a function, and not number", given({progress: 7})],
-    ["signal has to be an AbortSignal, and not boolean", given({signal: true})], ["signal has to be an AbortSignal, and not object", given({signal: {aborted: false}})],
-    ["options has no signal", createVerifier(signature, key, {signal})],
+    ["options must be a plain object, not null", given(null)], ["options must be a plain object, not number", given(7)],
+    ["unknown option allowlegacy", given({allowlegacy: true})], ["unknown option toString", given({toString: true})],
+    ["allowLegacy must be true or false, not number", given({allowLegacy: 1})],
+    ["allowLegacy must be true or false, not string", given({allowLegacy: "no"})],
+    ["progress must be a function, not number", given({progress: 7})],
+    ["signal must be an AbortSignal, not boolean", given({signal: true})], ["signal must be an AbortSignal, not object", given({signal: {aborted: false}})],
+    ["unknown option signal", createVerifier(signature, key, {signal})],
   ];
   return Promise.all(tried.map(async ([wanted, promise]) => `TypeError: ${wanted}\t${await promise.then(() => "accepted", String)}`));
 }
@@ -228,7 +222,6 @@ if (isMainThread) {
     cases: () => answersOf(casesOf(text), {allowLegacy: word === "legacy"}),
     pieces: () => answersInPieces(casesOf(text), {allowLegacy: word === "legacy"}),
     read: () => readAnswers(casesOf(text), {allowLegacy: word === "legacy"}),
-    vectors: () => vectorAnswers(casesOf(text)),
     threads: () => answersInThreads(text),
     growth: () => growth(Number(word), casesOf(text)),
     comment: () => Promise.all(casesOf(text).map(([key, data, signature]) => commentOf(data, signature, key))),

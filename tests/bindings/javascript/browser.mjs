@@ -3,7 +3,6 @@
 import {
   clearSecretKey, generateSecretKey, MinisignError, readSecretKey, sign, verify, writePublicKey, writeSecretKey,
 } from "./minisign-proved/index.js";
-import {accepts} from "./minisign-proved/ed25519.js";
 
 const bytesOf = digits => Uint8Array.from(digits.match(/../g) ?? [], pair => parseInt(pair, 16));
 const hexOf = text => Array.from(new TextEncoder().encode(text), byte => byte.toString(16).padStart(2, "0")).join("") || "-";
@@ -68,8 +67,29 @@ async function pair() {
   return [await writeSecretKey(key, "pass word", {lowMemory: true}), await writePublicKey(key)];
 }
 
+// Whether an abort by a timer ends the verification of a long array, after a part of it was read.
+async function isAborted() {
+  const data = new Uint8Array(2 ** 28), key = await generateSecretKey(), controller = new AbortController();
+  const texts = [await sign(new Uint8Array(1), key), await writePublicKey(key)];
+  let read = 0;
+  const options = {signal: controller.signal, progress: bytes => { read = bytes; }};
+  setTimeout(() => controller.abort("gone"), 30);
+  const ended = await verify(data, ...texts, options).catch(why => why);
+  return ended === "gone" && read > 0 && read < data.length;
+}
+
+// The default trusted comment of a file.
+async function commentOfFile() {
+  const key = await generateSecretKey(), file = new File(["data"], "app 1.zip");
+  const {trustedComment} = await verify(file, await sign(file, key), await writePublicKey(key));
+  return trustedComment.replace(/\d+/, "TIME");
+}
+
 async function answersOf({cases, pieces, vectors, sealed}) {
-  const answers = {legacy: [], strict: [], pieces: [], vectors: [], cancelled: await isCancelled(), signs: await signs(sealed), pair: await pair()};
+  const answers = {
+    legacy: [], strict: [], pieces: [], vectors: [], cancelled: await isCancelled(), aborted: await isAborted(), comment: await commentOfFile(),
+    signs: await signs(sealed), pair: await pair(),
+  };
   for (const [key, data, signature] of cases.map(parts => parts.map(bytesOf))) {
     answers.legacy.push(await answerOf(data, signature, key, {allowLegacy: true}));
     answers.strict.push(await answerOf(data, signature, key));
@@ -77,8 +97,8 @@ async function answersOf({cases, pieces, vectors, sealed}) {
   for (const [key, data, signature] of pieces.map(parts => parts.map(bytesOf))) {
     answers.pieces.push(await answerInPieces(data, signature, key));
   }
-  for (const [key, message, signature] of vectors.map(parts => parts.map(bytesOf))) {
-    answers.vectors.push(`${await accepts(key, signature, message)}`);
+  for (const [key, data, signature] of vectors.map(parts => parts.map(bytesOf))) {
+    answers.vectors.push(await answerOf(data, signature, key, {allowLegacy: true}));
   }
   return answers;
 }

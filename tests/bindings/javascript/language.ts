@@ -5,6 +5,7 @@ import {
   writePublicKey, writeSecretKey,
 } from "minisign-proved";
 import type { Data, ErrorCode, SecretKey, Verified } from "minisign-proved";
+import { writeNew } from "minisign-proved/node";
 
 async function* pieces(): AsyncGenerator<Uint8Array> {
   yield new Uint8Array(1);
@@ -35,6 +36,9 @@ export async function signed(data: Data): Promise<string> {
   const signer = await createSigner(key, { trustedComment: "comment", untrustedComment: key.keyId });
   signer.update(new Uint8Array(signer.bytes));
   const signature: string = await sign(data, key, { progress: (bytes: number) => bytes, trustedComment: await signer.end() });
+  await writeNew("minisign.key", text), await writeNew({ href: "file:///key", protocol: "file:" }, new Uint8Array(1));
+  // @ts-expect-error: a number is no path
+  await writeNew(7, text);
   // @ts-expect-error: a key that is not sealed is asked for by null
   await writeSecretKey(made);
   // @ts-expect-error: an option that there is not

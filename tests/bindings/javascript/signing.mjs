@@ -86,29 +86,29 @@ function tried(rows) {
 
 async function wrong() {
   const key = await generateSecretKey(), bytes = new Uint8Array(1), text = await writeSecretKey(key, null);
-  const aKey = "TypeError: secretKey has to be a secret key that was read, and not", anObject = "TypeError: options has to be an object, and not";
-  const someData = "TypeError: data has to be bytes, a Blob, a stream or pieces of bytes, and not", aPiece = "TypeError: a piece of data has to be bytes, and not";
-  const aText = name => `TypeError: ${name} has to be a text, as a string or bytes, and not`, rows = "TypeError: mostRows has to be a number of rows, and not";
+  const aKey = "TypeError: secretKey must be a secret key that was read, not", anObject = "TypeError: options must be a plain object, not";
+  const someData = "TypeError: data must be bytes, a Blob, a stream or pieces of bytes, not", aPiece = "TypeError: a piece of data must be bytes, not";
+  const aText = name => `TypeError: ${name} must be a text, as a string or bytes, not`, rows = "TypeError: mostRows must be a number of rows, not";
   return tried([
     [`${aKey} string`, () => sign(bytes, "a key")], [`${aKey} null`, () => sign(bytes, null)], [`${aKey} object`, () => sign(bytes, {...key})],
     [`${aKey} undefined`, () => createSigner()], [`${aKey} object`, () => writePublicKey({})], [`${aKey} number`, async () => clearSecretKey(7)],
     [`${someData} number`, () => sign(7, key)], [`${someData} string`, () => sign("data", key)], [`${aPiece} string`, () => sign(["data"], key)],
     [`${aPiece} string`, async () => (await createSigner(key)).update("data")],
     [`${anObject} null`, () => sign(bytes, key, null)], [`${anObject} string`, () => readSecretKey(text, "password")],
-    ["TypeError: options has no comment", () => sign(bytes, key, {comment: "c"})],
-    ["TypeError: options has no allowLegacy", () => sign(bytes, key, {allowLegacy: true})],
-    ["TypeError: options has no progress", () => createSigner(key, {progress() {}})],
-    ["TypeError: options has no low", () => writeSecretKey(key, "p", {low: true})],
+    ["TypeError: unknown option comment", () => sign(bytes, key, {comment: "c"})],
+    ["TypeError: unknown option allowLegacy", () => sign(bytes, key, {allowLegacy: true})],
+    ["TypeError: unknown option progress", () => createSigner(key, {progress() {}})],
+    ["TypeError: unknown option low", () => writeSecretKey(key, "p", {low: true})],
     [`${aText("trustedComment")} number`, () => sign(bytes, key, {trustedComment: 7})],
     [`${aText("untrustedComment")} null`, () => sign(bytes, key, {untrustedComment: null})],
     [`${aText("password")} undefined`, () => writeSecretKey(key)], [`${aText("password")} number`, () => writeSecretKey(key, 7)],
     [`${aText("password")} number`, () => readSecretKey(text, {password: 7})], [`${aText("text")} null`, () => readSecretKey(null)],
-    ["TypeError: password is empty: null says that it is not sealed", () => writeSecretKey(key, "")],
-    ["TypeError: lowMemory has to be true or false, and not number", () => writeSecretKey(key, "p", {lowMemory: 1})],
+    ["TypeError: password must not be empty; use null for no password", () => writeSecretKey(key, "")],
+    ["TypeError: lowMemory must be true or false, not number", () => writeSecretKey(key, "p", {lowMemory: 1})],
     [`${rows} string`, () => readSecretKey(text, {mostRows: "2"})], [`${rows} number`, () => readSecretKey(text, {mostRows: 0.5})],
     ["MISSING_SECRET_KEY_COMMENT", () => readSecretKey("")], ["SECRET_KEY_NOT_BASE64", () => readSecretKey("x\ny")],
     ["BAD_COMMENT", () => sign(bytes, key, {trustedComment: "a\nb"})], ["UNREADABLE_COMMENT", () => sign(bytes, key, {untrustedComment: "a\rb"})],
-    ["TypeError: trustedComment has 65536 bytes or more", () => sign(bytes, key, {trustedComment: "x".repeat(65536)})],
+    ["TypeError: trustedComment must have fewer than 65536 bytes", () => sign(bytes, key, {trustedComment: "x".repeat(65536)})],
   ]);
 }
 

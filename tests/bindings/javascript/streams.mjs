@@ -169,6 +169,8 @@ const TRIED = {
     const seen = [], gone = Object.assign(new Error(), {code: "GONE"}), waiting = () => ({
       web: webStream([]), node: {stream: new Readable({read() {}}), noted: {}}, own: {stream: new Endless(), noted: {}},
     });
+    // (the library is loaded, so that the streams are being read when the signal aborts)
+    await ending(verify(data, signature, key));
     for (const when of ["before", "meanwhile"]) {
       for (const [kind, {stream, noted}] of Object.entries(waiting())) {
         const controller = new AbortController(), stop = () => controller.abort(gone);

@@ -1,7 +1,7 @@
 //! What a program that was written for `minisign-verify` answers to the lines on its standard input, and what the calls beside
 //! those do. `tests/bindings/rust.py` says what each word asks.
 
-use minisign_verify::{Ed25519, Error, PublicKey, Reason, SecretKey, Signature, Sodium, Work};
+use minisign_verify::{write_new, Ed25519, Error, PublicKey, Reason, SecretKey, Signature, Sodium, Work};
 use std::error::Error as _;
 use std::{env, fs, io, path::Path, process, thread};
 
@@ -107,7 +107,8 @@ fn verify_in_pieces(case: &[Vec<u8>], len: usize) -> Result<String, Error> {
 /// The key IDs of a key and of a signature, and whether that is over the data itself: all of it before anything is asked.
 fn reading(case: &[Vec<u8>]) -> Result<String, Error> {
     let (key, signature) = texts(case)?;
-    Ok(format!("{} {} {}", hex(key.key_id()), hex(signature.key_id()), signature.is_legacy()))
+    let ids = format!("{} {}", hex(key.key_id()), hex(signature.key_id()));
+    Ok(format!("{ids} {} {} {}", key.key_id_text(), signature.key_id_text(), signature.is_legacy()))
 }
 
 fn answer(verdict: Result<String, Error>) -> String {
@@ -214,8 +215,7 @@ fn shown() {
     let key = SecretKey::generate(&Sodium).unwrap();
     let signature = key.sign(&Sodium, b"data", "c", "u").unwrap();
     let public_key = key.public_key().unwrap();
-    let id = u64::from_le_bytes(*public_key.key_id());
-    assert_eq!(format!("{key:?}"), format!("SecretKey({id:X})"));
+    assert_eq!(format!("{key:?}"), format!("SecretKey({})", public_key.key_id_text()));
     let signer = key.sign_stream(&Sodium);
     let verifier = public_key.verify_stream(&signature).unwrap();
     let shown = [format!("{signer:?}"), format!("{verifier:?}"), format!("{:?}", signer.clone()), format!("{:?}", Sodium.clone())];
@@ -257,6 +257,12 @@ fn main() {
             Err(weak @ Error::WeakLimits) => println!("WEAK_LIMITS{}", if weak.to_string().contains("limits") { "" } else { ", unsaid" }),
             other => println!("{other:?}"),
         },
+        ["write", path, text] => println!("{:?}", write_new(path, text)),
+        ["ids", key] => {
+            let key = SecretKey::from_file(key, None, &Work::USUAL).unwrap();
+            println!("{} {}", key.key_id_text(), key.public_key().unwrap().key_id_text());
+            print!("{}", key.public_key_text().unwrap());
+        }
         ["make", directory] => println!("{:?}", make(directory, None)),
         ["make", directory, password] => println!("{:?}", make(directory, Some(password))),
         ["sign", key, data, to, comment] => println!("{:?}", sign(key, data, to, comment, None)),

@@ -1,0 +1,6 @@
+// A program that only verifies: javascript.py bundles it. Its words are a key, data and a signature in hexadecimal digits.
+
+import {verify} from "minisign-proved";
+
+const [key, data, signature] = process.argv.slice(2).map(digits => Uint8Array.from(Buffer.from(digits, "hex")));
+verify(data, signature, key).then(({trustedComment}) => console.log(trustedComment), why => console.log(why.code));

@@ -1,0 +1,49 @@
+// Uses a secret key, clears it and collects garbage, so that javascript_memory.py can search this process for the seed. It stands in a
+// directory beside `node_modules`.
+//
+//     node --expose-gc heap.mjs read KEY [PASSWORD]    reads the key of a file
+//     node --expose-gc heap.mjs generate               generates one
+//
+// It prints the text of the key without a password, and waits for a line while it holds the key. Then it clears the key. It
+// collects garbage, prints `cleared` and waits for another line, again and again until it is killed.
+
+import {readFileSync} from "node:fs";
+import {createInterface} from "node:readline";
+import {setTimeout as wait} from "node:timers/promises";
+
+import {clearSecretKey, generateSecretKey, readSecretKey, sign, verify, writePublicKey, writeSecretKey} from "minisign-proved";
+
+const SIGNATURES = 40, COLLECTIONS = 4;
+
+const [what, path, password] = process.argv.slice(2);
+const input = createInterface({input: process.stdin})[Symbol.asyncIterator]();
+
+async function use(secretKey) {
+  const data = new Uint8Array(1000), publicKey = await writePublicKey(secretKey);
+  for (let count = 0; count < SIGNATURES; count += 1) {
+    await verify(data, await sign(data, secretKey), publicKey);
+  }
+}
+
+async function collect() {
+  for (let count = 0; count < COLLECTIONS; count += 1) {
+    globalThis.gc();
+    await wait(30);
+  }
+}
+
+async function opened() {
+  const text = what === "generate" ? null : readFileSync(path);
+  return text === null ? generateSecretKey() : readSecretKey(String(text), {password});
+}
+
+const secretKey = await opened();
+await use(secretKey);
+process.stdout.write(`${await writeSecretKey(secretKey, null)}`);
+await input.next();
+clearSecretKey(secretKey);
+for (;;) {
+  await collect();
+  process.stdout.write("cleared\n");
+  await input.next();
+}

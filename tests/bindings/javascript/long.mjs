@@ -1,0 +1,97 @@
+// Checks that long data does not block the event loop, in Node: it stands in a directory beside `node_modules`.
+//
+//     node long.mjs WHAT KEY SIGNATURE    checks this, one of TRIED; the signature is a valid one of other data
+//
+// Each line has the result that is expected, a tabulator, and the result.
+
+import {readFileSync} from "node:fs";
+
+import {createSigner, generateSecretKey, sign, verify, writePublicKey} from "minisign-proved";
+
+const [what, ...paths] = process.argv.slice(2);
+const [key, signature] = paths.map(path => readFileSync(path));
+
+const MIB = 1048576;
+// How long the data is that takes longer than any timer of these checks.
+const LONG = 512 * MIB;
+const GONE = Object.assign(new Error(), {code: "GONE"});
+
+const result = promise => promise.then(() => "accepted", why => why.code ?? why.name);
+
+// The forms of long data that need no waiting of their own.
+const forms = data => ({
+  array: data, buffer: data.buffer, list: [data.subarray(0, LONG / 2), data.subarray(LONG / 2)],
+  pieces: Array.from({length: LONG / MIB}, (_, at) => data.subarray(at * MIB, (at + 1) * MIB)),
+  small: Array.from({length: LONG / 4096}, (_, at) => data.subarray(at * 4096, (at + 1) * 4096)),
+  generator: (async function* () { yield data; })(),
+});
+
+// Runs with a timer that aborts: how it ends, and whether it had read a part of the data then, but not all.
+async function abortedBy(run) {
+  const controller = new AbortController();
+  let read = 0;
+  setTimeout(() => controller.abort(GONE), 20);
+  const ended = await result(run({signal: controller.signal, progress: bytes => { read = bytes; }}));
+  const [atEnd] = [read, await new Promise(resolve => setTimeout(resolve, 50))];
+  return `${ended} ${atEnd > 0 && read < LONG} ${read - atEnd <= MIB}`;
+}
+
+const TRIED = {
+  // An AbortSignal that a timer fires ends the verification of each form, and it reads no further.
+  async verifying() {
+    const lines = [];
+    for (const [form, data] of Object.entries(forms(new Uint8Array(LONG)))) {
+      lines.push([`${form} GONE true true`, `${form} ${await abortedBy(options => verify(data, signature, key, options))}`]);
+    }
+    return lines;
+  },
+  async signing() {
+    const data = new Uint8Array(LONG), secretKey = await generateSecretKey();
+    return [["GONE true true", await abortedBy(options => sign(data, secretKey, options))]];
+  },
+  // Timers fire many times while an array is verified, also where there is no MessageChannel. Without timers it is verified at once.
+  async timers() {
+    const lines = [], data = new Uint8Array(LONG / 8), {setTimeout} = globalThis;
+    for (const missing of ["none", "MessageChannel", "setTimeout"]) {
+      delete globalThis[missing];
+      let times = 0;
+      const timer = setInterval(() => { times += 1; }, 1);
+      const ended = await result(verify(data, signature, key));
+      clearInterval(timer);
+      lines.push([`SIGNATURE_REFUSED ${missing === "setTimeout" ? "few" : "many"}`, `${ended} ${times > 10 ? "many" : "few"}`]);
+    }
+    Object.assign(globalThis, {setTimeout});
+    return lines;
+  },
+  // The signature of a long array is that of its pieces, and progress is reported between.
+  async same() {
+    const data = Uint8Array.from({length: 5 * MIB + 7}, (_, at) => at % 251), secretKey = await generateSecretKey(), seen = [];
+    const options = {trustedComment: "same", untrustedComment: "same"}, signer = await createSigner(secretKey, options);
+    signer.update(data);
+    const whole = await signer.end(), publicKey = await writePublicKey(secretKey);
+    await verify(data, whole, publicKey, {progress: (...told) => seen.push(told)});
+    const wanted = [1, 2, 3, 4, 5].map(count => [count * MIB, data.length]).concat([[data.length, data.length]]);
+    return [[whole, await sign(data, secretKey, options)].map(JSON.stringify), [wanted, seen].map(JSON.stringify)];
+  },
+  // An array whose buffer is detached or shrunk meanwhile is neither verified nor signed, even if only its last piece is missing.
+  async cut() {
+    const secretKey = await generateSecretKey(), lines = [], length = 8 * MIB;
+    const detach = ({buffer}) => structuredClone(buffer, {transfer: [buffer]});
+    const shrink = ({buffer}) => typeof buffer.resize === "function" ? buffer.resize(2 * MIB) : detach({buffer});
+    for (const [how, cutting] of Object.entries({detach, shrink})) {
+      for (const at of [4 * MIB, length - MIB]) {
+        for (const run of [(data, options) => sign(data, secretKey, options), (data, options) => verify(data, signature, key, options)]) {
+          const data = new Uint8Array(new ArrayBuffer(length, {maxByteLength: length}));
+          const ended = run(data, {progress: bytes => bytes === at && cutting(data)});
+          lines.push([`${how} ${at} TypeError`, `${how} ${at} ${await result(ended)}`]);
+        }
+      }
+    }
+    return lines;
+  },
+};
+
+// (the library is loaded)
+await result(verify(new Uint8Array(1), signature, key));
+const lines = await TRIED[what]();
+process.stdout.write(lines.map(line => `${line.join("\t")}\n`).join(""));

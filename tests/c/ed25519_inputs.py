@@ -1,0 +1,199 @@
+#!/usr/bin/env python3
+"""Checks that minisign.h, minisign_stream.h and minisign(3) say which Ed25519 inputs the library rejects, that what they say
+of libsodium and of OpenSSL 3.0 is true, and that the library gives the same verdicts over both.
+
+    tests/c/ed25519_inputs.py
+
+libsodium's crypto_sign_verify_detached is called with points of small order, with points and numbers that are not
+canonically encoded, and with valid signatures. OpenSSL is called by Debian's Python: it accepts 64 zero bytes as a
+signature under a key of 32 zero bytes, which the library reads from 56 letters A. A program in C (verify_over.c) verifies
+the 293 vectors of tests/shared/ed25519_vectors.json over each of the two. OpenSSL by itself accepts some that libsodium
+rejects; over the library both give the verdict of libsodium. It prints a line for each failure; the last line is
+`N passed, M failed`.
+
+Needs make, clang, a C compiler, libsodium and OpenSSL with their headers, and Debian's Python with cryptography, and installs
+what is missing if it may.
+"""
+
+import ctypes
+import os
+import re
+import sys
+
+HERE = os.path.dirname(os.path.realpath(__file__))
+sys.path += [os.path.join(HERE, "..", name) for name in ("shared", os.path.join("..", "tools"))]
+
+import c_header
+import edges
+import ending
+import needs
+import static_library
+from copies import TOP
+from edges import ORDER, P, SMALL
+from process import run
+from running import read
+
+# What each text has to say, as words between which there may be others.
+RULES = ("public key .*?R.* small order", "R that is not canonically encoded", "S .*?that is not below the group order",
+         "OpenSSL 3\\.0, 64 zero bytes are a valid signature of one message in four under a public key of 32 zero bytes",
+         "56 letters A", "crypto_sign_verify_detached of libsodium rejects all three")
+DETAILS = ("small order \\(1, 2, 4 or 8\\)", "y coordinate is not below 2\\^255 - 19", "2\\^252 \\+ 27742317777372353535851937790883648493")
+OF_STREAM = ("need not reject a public key or a point R .*?of small order", "R that is not canonically encoded",
+             "S .*?that is not below the group order", "MINISIGN_WEAK_ED25519")
+TEXTS = {"include/minisign.h": RULES + DETAILS, "include/minisign_stream.h": OF_STREAM, "c/man/minisign.3": RULES + DETAILS}
+
+MESSAGES = [b"%d" % number for number in range(400)]
+# What Debian's Python prints: the version of OpenSSL, and how many of the messages it accepts.
+BY_OPENSSL = """
+from cryptography.exceptions import InvalidSignature
+from cryptography.hazmat.backends.openssl import backend
+from cryptography.hazmat.primitives.asymmetric.ed25519 import Ed25519PublicKey
+key, accepted = Ed25519PublicKey.from_public_bytes(bytes(32)), 0
+for number in range(400):
+    try:
+        key.verify(bytes(64), b"%d" % number)
+        accepted += 1
+    except InvalidSignature:
+        pass
+print(backend.openssl_version_text(), accepted, sep="|")
+"""
+# Reads a bare public key, and prints the error and the key.
+READING = """
+#include <minisign.h>
+#include <stdio.h>
+#include <string.h>
+int main(int count, char **words)
+{
+    minisign_public_key key;
+    memset(&key, 1, sizeof key);
+    printf("%d", count == 2 ? (int) minisign_read_bare_public_key((const uint8_t *) words[1], strlen(words[1]), &key) : -1);
+    for (size_t i = 0; i < 32; i++) {
+        printf(" %d", key.key[i]);
+    }
+    return 0;
+}
+"""
+
+
+def plain(name):
+    """The words of a header or of a manual page."""
+    text = read(TOP, name).decode()
+    text = text.replace("\\-", "-").replace("\\(ha", "^").replace("\\(aq", "'") if name.endswith(".3") else re.sub(r"(?m)^ ?/?\*+/?", "", text)
+    return " ".join(text.split())
+
+
+def check_texts(checks):
+    for name, rules in TEXTS.items():
+        text = plain(name)
+        for rule in rules:
+            checks.check(re.search(rule, text), f"{name} does not say: {rule}")
+
+
+class Sodium:
+    """libsodium, by the calls that the documents name."""
+
+    def __init__(self):
+        needs.libsodium()
+        self.library = ctypes.CDLL("libsodium.so.23")
+        self.library.sodium_init()
+
+    def pair(self):
+        public, secret = (ctypes.create_string_buffer(length) for length in (32, 64))
+        self.library.crypto_sign_seed_keypair(public, secret, bytes(range(32)))
+        return public.raw, secret.raw
+
+    def sign(self, message, secret):
+        signature = ctypes.create_string_buffer(64)
+        self.library.crypto_sign_detached(signature, None, message, ctypes.c_ulonglong(len(message)), secret)
+        return signature.raw
+
+    def accepts(self, signature, message, public):
+        return self.library.crypto_sign_verify_detached(signature, message, ctypes.c_ulonglong(len(message)), public) == 0
+
+
+def encoded(y, sign=0):
+    return (y | sign << 255).to_bytes(32, "little")
+
+
+def check_libsodium(checks):
+    """libsodium rejects what an implementation must reject. (Among 40 messages are some for which two points of small order satisfy
+    the equation.)"""
+    sodium = Sodium()
+    public, secret = sodium.pair()
+    for message in MESSAGES[:20]:
+        signature = sodium.sign(message, secret)
+        checks.check(sodium.accepts(signature, message, public), f"libsodium rejects a valid signature of {message}")
+        larger = int.from_bytes(signature[32:], "little") + ORDER
+        checks.check(not sodium.accepts(signature[:32] + encoded(larger), message, public), f"libsodium accepts S + the order for {message}")
+    points = [encoded(y + more, sign) for y in SMALL for more in (0, P) if y + more < 2**255 for sign in (0, 1)]
+    for point in points:
+        for other in (*points, public):
+            found = [message for message in MESSAGES[:40] if sodium.accepts(other + bytes(32), message, point)
+                     or sodium.accepts(point + bytes(32), message, other)]
+            checks.check(not found, f"libsodium accepts S = 0 under {point.hex()} and {other.hex()}: {found[:3]}")
+
+
+def check_openssl(checks):
+    """OpenSSL 3.0 accepts about one message in four."""
+    python = needs.need(lambda: next((path for path in ("/usr/bin/python3", sys.executable)
+                                      if run([path, "-c", "import cryptography"])[0] == 0), None),
+                        "Python with cryptography", "python3-cryptography")
+    status, said = run([python, "-c", BY_OPENSSL])
+    version, _, accepted = said.strip().partition("|")
+    if checks.check(status == 0, f"OpenSSL: {said[-400:]}") and version.startswith("OpenSSL 3.0"):
+        checks.check(60 <= int(accepted) <= 140, f"{version} accepts {accepted} of {len(MESSAGES)} messages, and not one in four")
+
+
+# A program that needs the header and the library of OpenSSL.
+OPENSSL = "#include <openssl/evp.h>\nint main(void) { return EVP_MD_CTX_new() == NULL; }\n"
+
+
+def openssl(compiler):
+    """Looks for OpenSSL's header and library."""
+    needs.need(lambda: needs.compiles(compiler, OPENSSL, ["-lcrypto"]) or None, "OpenSSL with its header", "libssl-dev")
+
+
+def check_vectors(checks, room, library):
+    """Over OpenSSL and over libsodium the library has the verdicts of libsodium."""
+    compiler, program, vectors = needs.libsodium(), f"{room}/verify_over", edges.vectors()
+    openssl(compiler)
+    command = [compiler, "-O2", "-Wall", "-Wextra", "-Werror", "-I", f"{TOP}/include", f"{TOP}/tests/c/verify_over.c", library,
+               "-lcrypto", "-lsodium", "-pthread", "-o", program]
+    status, said = run(command)
+    if not checks.check((status, said) == (0, ""), f"verify_over.c: {said[-800:]}"):
+        return
+    numbers, lines = {error.name: str(error.number) for error in c_header.both().enums["error"]}, []
+    for vector in vectors:
+        key, signature = edges.legacy_texts(vector)
+        lines.append(f"{key.hex()} {vector['msg'] or '-'} {signature.hex()}\n")
+    for name in ("libsodium", "openssl"):
+        rows = [row.split() for row in checks.ended(name, run([program, name], typed="".join(lines).encode())).splitlines()]
+        checks.check(len(rows) == len(vectors) == edges.COUNT, f"{name}: {len(rows)} verdicts on {len(vectors)} vectors")
+        for vector, (error, _) in zip(vectors, rows):
+            wanted = numbers[edges.error_of(vector)]
+            checks.check(error == wanted, f"{name}, {vector['name']}: the error {error}, and not {wanted}")
+        differing = [vector for vector, (_, alone) in zip(vectors, rows) if (alone == "1") != vector["sodium"]]
+        checks.check(all(map(edges.is_weak, differing)), f"{name} differs from libsodium in {[vector['name'] for vector in differing]}")
+        checks.check(bool(differing) == (name == "openssl"), f"{name} by itself differs from libsodium in {len(differing)} vectors")
+        print(f"ed25519-inputs: by itself {name} accepts {len(differing)} vectors that libsodium rejects")
+
+
+def check_letters(checks, room, library):
+    """56 letters A are read as a key of zeros."""
+    program = f"{room}/reading"
+    command = [needs.c_compiler(), "-I", f"{TOP}/include", "-x", "c", "-", "-x", "none", library, "-pthread", "-o", program]
+    checks.ended("a program that reads a key", run(command, typed=READING.encode()))
+    checks.ended("56 letters A", run([program, "A" * 56]), says="0" + " 0" * 32)
+
+
+def run_all(checks, room):
+    check_texts(checks)
+    check_libsodium(checks)
+    check_openssl(checks)
+    library = static_library.library(f"{room}/out", "C_CALLS=")
+    check_letters(checks, room, library)
+    check_vectors(checks, room, library)
+
+
+if __name__ == "__main__":
+    sys.exit(ending.check("ed25519-inputs", run_all))

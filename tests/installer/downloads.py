@@ -1,0 +1,260 @@
+"""Runs the updater script of docs/INSTALLING.md, as the document shows it, with the real curl against a good server and against
+servers that send too much, too slowly or nothing. All servers listen on the loopback interface."""
+
+import concurrent.futures
+import contextlib
+import fcntl
+import http.server
+import os
+import signal
+import subprocess
+import threading
+import time
+
+import needs
+from checking import block_of, offer_app, prepare_documented
+from installers import LATER, NEW, OLD, OLDER, REJECTED
+from process import Ran
+from running import Failure, expect
+from runs import Cases, Directory
+
+download_cases = Cases()
+
+# The exit status of the script if it could not fetch the signature.
+NOT_FETCHED = 20
+# The script gives up after 30 seconds. The tests kill it after this time.
+SECONDS = 90
+# Bytes that may be on their way in buffers when the receiver stops: those of two sockets and of a pipe.
+BUFFERED = 32 << 20
+# The limits of the script.
+MAX_DATA, MAX_SIGNATURE = 100 << 20, 1 << 20
+SIGNATURE, DATA = "/app.minisig", "/app"
+
+
+class Server(http.server.ThreadingHTTPServer):
+    """Serves the files of a directory, and misbehaves for some paths."""
+
+    daemon_threads = True
+
+    def __init__(self, directory, bad):
+        super().__init__(("127.0.0.1", 0), Handler)
+        self.directory, self.bad, self.sent, self.is_over = directory, bad, 0, threading.Event()
+
+    @property
+    def url(self):
+        return f"http://127.0.0.1:{self.server_port}"
+
+    def handle_error(self, request, client_address):
+        """Ignores connections that the client closed."""
+
+
+class Handler(http.server.BaseHTTPRequestHandler):
+    """Answers a request as the server's table says for its path."""
+
+    protocol_version = "HTTP/1.1"
+
+    def log_message(self, *_):
+        """Logs nothing."""
+
+    def do_GET(self):
+        held = self.server.directory.holds("url" + self.path)
+        self.server.bad.get(self.path, Handler.send_file)(self, held)
+
+    def begin(self, status=200, **headers):
+        self.send_response(status)
+        self.send_header("Connection", "close")
+        for name, value in headers.items():
+            self.send_header(name.replace("_", "-"), value)
+        self.end_headers()
+        self.close_connection = True
+
+    def send(self, data):
+        self.wfile.write(data)
+        self.server.sent += len(data)
+
+    def send_file(self, held):
+        self.begin(Content_Length=len(held))
+        self.send(held)
+
+    def send_without_end(self, _):
+        """Sends zeros until the client closes the connection, without announcing a length."""
+        self.begin(Transfer_Encoding="chunked")
+        while not self.server.is_over.is_set():
+            self.wfile.write(b"10000\r\n")
+            self.send(bytes(1 << 16))
+            self.wfile.write(b"\r\n")
+
+    def announce_too_much(self, held):
+        """Announces more than any client should take, and begins to send it."""
+        self.begin(Content_Length=1 << 40)
+        self.send(held)
+        self.server.is_over.wait(SECONDS)
+
+    def send_slowly(self, held):
+        """Sends a byte each second."""
+        self.begin(Content_Length=len(held))
+        for byte in held:
+            self.send(bytes([byte]))
+            if self.server.is_over.wait(1):
+                return
+
+    def stay_silent(self, _):
+        """Accepts the connection and sends nothing."""
+        self.server.is_over.wait(SECONDS)
+        self.close_connection = True
+
+    def send_nothing(self, _):
+        """Sends an empty file."""
+        self.begin(Content_Length=0)
+
+    def hang_up(self, _):
+        """Closes the connection without an answer."""
+        self.close_connection = True
+
+    def find_nothing(self, _):
+        """Answers that there is no such file, with a page that says so."""
+        page = b"<html>Not found</html>"
+        self.begin(404, Content_Length=len(page))
+        self.send(page)
+
+
+@contextlib.contextmanager
+def serving(directory, bad):
+    """A server for the files in `url` of a directory."""
+    with Server(directory, bad) as server:
+        thread = threading.Thread(target=server.serve_forever, args=(0.05,), daemon=True)
+        thread.start()
+        try:
+            yield server
+        finally:
+            server.is_over.set()
+            server.shutdown()
+            thread.join()
+
+
+def run_script(directory, environment, url):
+    """Runs the script of the document. If it does not end in time, it is killed, and the case fails."""
+    command = ["sh", "update", url]
+    with subprocess.Popen(command, cwd=directory.path, env=environment, stdin=subprocess.DEVNULL, stdout=subprocess.PIPE,
+                          stderr=subprocess.PIPE, start_new_session=True) as script:
+        try:
+            output, errors = script.communicate(timeout=SECONDS)
+        except subprocess.TimeoutExpired as late:
+            os.killpg(script.pid, signal.SIGKILL)
+            raise Failure(f"the script still ran after {SECONDS} seconds") from late
+    return Ran(script.returncode, output, errors)
+
+
+def prepare(directory):
+    """Makes the directory of the document with its script, version 1 of the program, and version 2 on the server."""
+    needs.program("curl", "curl")
+    environment = {**prepare_documented(directory, "url"), "HOME": directory.path}
+    directory.put("update", block_of(b"#!/bin/sh"))
+    offer_app(directory, "url/app", NEW, 2)
+    return environment
+
+
+def ends(directory, ran, status, left):
+    """The script ended with this status and printed nothing on its output, and this program is installed, with no temporary file."""
+    held = directory.holds("there/app")
+    expect((ran.status, ran.output, held) == (status, b"", left), ran, f"expected {status}; the program begins with {held[:9]}")
+    names = sorted(os.listdir(directory.at("there")))
+    expect(names == [".app.lock", ".app.number", "app"], f"the directory of the program has {names}")
+
+
+@download_cases.table("the updater script: a good server")
+def installs_newer_versions(directory):
+    """It ends with status 0 whether there is a newer version or not, and otherwise with the status of the rejected update."""
+    environment = prepare(directory)
+    with serving(directory, {}) as server:
+        for data, number, signed, status, left in ((OLD, 1, None, 0, OLD), (NEW, 2, None, 0, NEW), (NEW, 2, None, 0, NEW),
+                                                   (OLD, 1, None, OLDER, NEW), (LATER, 3, OLD, REJECTED, NEW)):
+            offer_app(directory, "url/app", data, number, signed)
+            ends(directory, run_script(directory, environment, server.url), status, left)
+
+
+@download_cases.table("the updater script: another installation at the same time")
+def waits_for_another_installation(directory):
+    """It waits until the other one has ended."""
+    environment = prepare(directory)
+    with serving(directory, {}) as server, concurrent.futures.ThreadPoolExecutor(1) as pool:
+        with open(directory.at("there/.app.lock"), "ab") as lock:
+            fcntl.flock(lock, fcntl.LOCK_EX)
+            run = pool.submit(run_script, directory, environment, server.url)
+            with contextlib.suppress(concurrent.futures.TimeoutError):
+                expect(False, "it did not wait", run.result(timeout=2))
+        ends(directory, run.result(), 0, NEW)
+
+
+@download_cases.table("the updater script: the program is executable")
+def makes_program_executable(directory):
+    """A program that was removed is installed again, and everybody may run it."""
+    environment = prepare(directory)
+    os.remove(directory.at("there/app"))
+    with serving(directory, {}) as server:
+        ends(directory, run_script(directory, environment, server.url), 0, NEW)
+    directory.has_mode(0o755, "there/app")
+
+
+# What is wrong with the server: what it does with the signature or the data, a field of the signed comment, the exit status, and the
+# number of bytes between which it stops sending, or None.
+BAD_SERVERS = (
+    ("endless data of a signed size", {DATA: Handler.send_without_end}, f"\tsize:{len(NEW)}", REJECTED, (len(NEW), len(NEW))),
+    ("endless data", {DATA: Handler.send_without_end}, "", REJECTED, (MAX_DATA, MAX_DATA)),
+    ("an endless signature", {SIGNATURE: Handler.send_without_end}, "", REJECTED, (MAX_SIGNATURE, MAX_SIGNATURE)),
+    ("a signature that is announced to be long", {SIGNATURE: Handler.announce_too_much}, "", NOT_FETCHED, None),
+    ("slow data", {DATA: Handler.send_slowly}, "", REJECTED, None),
+    ("a slow signature", {SIGNATURE: Handler.send_slowly}, "", REJECTED, None),
+    ("silent when asked for the data", {DATA: Handler.stay_silent}, "", REJECTED, None),
+    ("silent when asked for the signature", {SIGNATURE: Handler.stay_silent}, "", NOT_FETCHED, None),
+    ("empty data", {DATA: Handler.send_nothing}, "", REJECTED, None),
+    ("an empty signature", {SIGNATURE: Handler.send_nothing}, "", NOT_FETCHED, None),
+    ("no answer to the request for the data", {DATA: Handler.hang_up}, "", REJECTED, None),
+    ("no answer to the request for the signature", {SIGNATURE: Handler.hang_up}, "", NOT_FETCHED, None),
+    ("no data", {DATA: Handler.find_nothing}, "", REJECTED, None),
+    ("no signature", {SIGNATURE: Handler.find_nothing}, "", NOT_FETCHED, None),
+)
+
+
+def meets_bad_server(directory, environment, bad, status, sent):
+    """The script ends with this status, and the server stops sending in time. The old program stays, and if the signature could
+    not be fetched also the old signature."""
+    kept = directory.holds("app.minisig")
+    with serving(directory, bad) as server:
+        ran = run_script(directory, environment, server.url)
+        ends(directory, ran, status, OLD)
+        expect(Handler.find_nothing not in bad.values() or b"curl: (22)" in ran.said, ran)
+        if sent:
+            least, most = sent
+            expect(least <= server.sent <= most + BUFFERED, f"the server has sent {server.sent} bytes")
+    expect(status != NOT_FETCHED or directory.holds("app.minisig") == kept, "the signature was replaced")
+
+
+@download_cases.table("the updater script: bad servers")
+def meets_bad_servers(directory):
+    """Each bad server is met by a script in a directory of its own, all at once, as some take half a minute."""
+    with concurrent.futures.ThreadPoolExecutor(len(BAD_SERVERS)) as pool:
+        runs = {}
+        for number, (name, bad, field, *expected) in enumerate(BAD_SERVERS):
+            place = directory.at(f"bad-{number}")
+            os.mkdir(place)
+            one = Directory(place, directory.installing).begin()
+            environment = prepare(one)
+            offer_app(one, "url/app", NEW, 2, more=field)
+            runs[name] = pool.submit(meets_bad_server, one, environment, bad, *expected)
+    failures = [f"{name}: {run.exception()}" for name, run in runs.items() if run.exception()]
+    expect(not failures, *failures)
+
+
+@download_cases.table("the updater script: no server")
+def meets_no_server(directory):
+    """The exit statuses of curl for an unknown host (6) and a refused connection (7) are not those of the script: these numbers
+    are statuses of minisign-install too."""
+    environment = prepare(directory)
+    with serving(directory, {}) as server:
+        refused = server.url
+    # (no name has a part of 64 letters, so that no name server is asked)
+    for url in (refused, f"http://{'x' * 64}.invalid"):
+        begun = time.monotonic()
+        ends(directory, run_script(directory, environment, url), NOT_FETCHED, OLD)
+        expect(time.monotonic() - begun < SECONDS / 2, f"it took {time.monotonic() - begun:.0f} seconds to fail")

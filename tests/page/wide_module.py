@@ -1,0 +1,77 @@
+#!/usr/bin/env python3
+"""Checks that the page's module, which wasm-opt made for a memory of 32 bits, answers as the proved module for 64 bits does.
+
+    tests/page/wide_module.py
+
+The page of `dist/` contains the module for 32 bits, and the kit proves and builds the one for 64. Both answer the same texts in
+Chromium: the corpus with changes, and at least one text for each error of a key or a signature. (tests/bindings/javascript.py compares
+the module for 32 bits with the C program.) The last line is `N passed, M failed`.
+
+Needs Python 3.9 or later, the kit, chromium, chromium-driver, binaryen, and what tests/page/page.py needs to sign. It installs what is
+missing if it may.
+"""
+
+import base64
+import json
+import os
+import sys
+import tempfile
+
+HERE = os.path.dirname(os.path.realpath(__file__))
+sys.path += [os.path.join(HERE, "..", directory) for directory in ("shared", "verdicts", "bindings", os.path.join("..", "page"))]
+
+import build
+import ending
+import needs
+import static_library
+import verdicts
+from browser import Chromium
+from cases import kept_cases, key_errors, signature_errors, typed_key_errors
+from minisign_cases import Case, Minisign, random_cases
+
+RANDOM_TEXTS = 500
+# Error numbers that must occur among the answers.
+NUMBERS = {0, 8, *range(20, 31), 61, 62, 81}
+
+
+def texts(person):
+    """The corpus with changes, and each error of keys and signatures that are made now; with data of more than one block and piece."""
+    kept, one = kept_cases(), Case("", person.first.text, person.sign(b"data", trusted="t"), b"data")
+    lengths = (0, 1, 127, 128, 129, 255, 256, 257, 1048575, 1048576, 1048577)
+    cases = [*kept, *random_cases(kept, RANDOM_TEXTS), *(one.changed("", data=bytes(length)) for length in lengths)]
+    cases += [one.changed(words, pk=text) for _, words, text in (*key_errors(one.pk), *typed_key_errors(one.pk))]
+    cases += [one.changed(words, sig=text) for _, words, text in signature_errors(one.sig, person.sign(one.data, key="second"))]
+    return [{part: base64.b64encode(getattr(case, part)).decode() for part in ("pk", "sig", "data")} for case in cases]
+
+
+def check_modules(person, page):
+    """Compares the answers of the two modules in an empty page."""
+    asked = texts(person)
+    person.check(len(asked) >= RANDOM_TEXTS + 50, f"the modules are asked about {len(asked)} texts")
+    script = build.script_of(f"{build.PACKAGE}/calls.js") + build.script_of("tests/page/answers.js") + """
+      return answersOf(Library, ...arguments).catch(why => [String(why)]);"""
+    person.go("about:blank")
+    narrow, wide = (person.run(script, base64.b64encode(module).decode(), asked)
+                    for module in (build.taken_from(page)[0], build.proved_module()))
+    for answers in (narrow, wide):
+        person.same(len(answers), len(asked) + 1, f"the number of answers, of which the first is {answers[0]:.300}")
+    for at, (ours, theirs) in enumerate(zip(narrow, wide)):
+        person.same(theirs, ours, f"text {at}: the answer of the module for 64 bits, beside that of the module for 32 bits")
+    numbers = {answered.get("asked", answered)["number"] for answer in narrow[1:] for answered in json.loads(answer)[2:]}
+    person.check(NUMBERS <= numbers, f"the error numbers among the answers: {sorted(numbers)}")
+
+
+def run_all(checks, room):
+    page = os.path.join(static_library.DIST, "minisign.html")
+    minisign = Minisign(needs.minisign(), tempfile.mkdtemp(dir=room))
+    for name in ("first", "second"):
+        minisign.make_pair(name)
+    person = Chromium(*needs.chromium(), room).use(page, room, checks, minisign, verdicts.Programs(room))
+    try:
+        check_modules(person, page)
+    finally:
+        person.quit()
+
+
+if __name__ == "__main__":
+    sys.exit(ending.check("wide_module", run_all, RuntimeError, build.NotPossible))

@@ -1,0 +1,358 @@
+#!/usr/bin/env python3
+"""Checks that contracts reject mutants of every function that modifies a struct, and of every function that returns an error.
+
+    tests/proofs/field_mutants.py [--list | --unchanged] [CRATE[/FUNCTION]..]
+
+A field mutant resets one field of a struct behind a `&mut` parameter: numbers and bytes to 0, a bool to false, an Option to
+None. It resets the field when the function begins, at its end, or before one of its early returns; fields of nested structs
+are reset one by one. A success mutant returns success where the function returns an error: in place of one `Err(..)`, or of
+the error that a `?` at the end of a statement passes on.
+
+The prover tries the mutants in groups, as wrong_bodies.py describes. A mutant fails the run if it is proved, because then the
+contract also allows the wrong function. A proved field mutant is left out of the failures if the prover also proves that the
+field of the unchanged function already has this value at that place: it is the same function. A rejection says nothing about
+the contract if the search gave up at a limit, or if only the function's written proof does not fit. These are counted apart.
+So are mutants that do not compile. These have no mutants: methods of traits, functions without `ensures`, and errors of
+functions whose successful result is a struct.
+
+--list prints the mutants and tries none. --unchanged keeps the form of each mutant and leaves the reset or the success out, so
+that all have to be proved: then a rejection comes from the change and not from the form. The run takes hours for all crates, so
+it is made before a release and not in CI. Needs Python 3.9 or later and the kit.
+"""
+
+import os
+import re
+import sys
+import tempfile
+from collections import Counter
+from concurrent.futures import ThreadPoolExecutor
+
+HERE = os.path.dirname(os.path.realpath(__file__))
+sys.path += [HERE, os.path.join(HERE, "..", "shared"), os.path.join(HERE, "..", "..", "tools")]
+
+import proved
+from sources import NAME, ROOT, Reader, files_below
+from wrong_bodies import APART, FAILED, GAVE_UP, REJECTED, WELL, Places, Trial, Verdict, WrongBody, assume, functions_in
+
+# The outcomes that wrong_bodies.py does not have.
+PROVED, SAME, UNFIT = "PROVED", "the same function", "does not compile"
+# How many mutants share a check at most.
+GROUP = 40
+INTEGER = re.compile(r"[iu](?:8|16|32|64|128|size)")
+FIELD = re.compile(r"(?m)^[ \t]*(?P<public>pub(?:\([^)]*\))?\s+)?(?P<name>\w+): (?P<type>[^\n]+?),?$")
+BORROWED = re.compile(r"(?:(?P<name>\w+): )?&(?:'\w+ )?mut (?P<type>\w+)")
+# The values of a successful result, by its type.
+VALUES = {"()": ["()"], "bool": ["true", "false"], "&str": ['""'], "&[u8]": ["&[]"]}
+# An error of the sources, as the prover reports it.
+AT = re.compile(r"(?m)^(?:\./)?(src/[\w/]+\.rt):(\d+)(?::\d+)?: error")
+
+
+class Mutant(WrongBody):
+    """A mutant of one function: the pieces of text that change it, and what it does."""
+
+    def __init__(self, crate, path, item, function, places, does, field=""):
+        self.crate, self.path, self.copied, self.function, self.places = crate, path, item, function, places
+        self.label, self.suffix = f"{crate}/{function}: {does}", ""
+        # The field at the place where it is reset, in the language of clauses, and the value it gets there.
+        self.field = field
+        self.clause = self.named = self.by = self.why_not = ""
+        self.is_for_kit = self.is_unchanged = False
+
+    def probe(self):
+        """Returns the unchanged function with one clause: the field has the value that the mutant gives it."""
+        clause = f"ensures probe {{ {self.field} }}\n"
+        found = Mutant(self.crate, self.path, self.copied, self.function, [(self.copied.body, self.copied.body, clause)], "probe")
+        found.clause = "probe"
+        return found
+
+
+class Structs:
+    """The structs that a crate's functions can see: its own, and those of the crates below it."""
+
+    def __init__(self, crate):
+        self.crate, self.found, self.files = crate, {}, {}
+        for each in (crate, *proved.crates()[crate].below):
+            for file in files_below(f"{ROOT}/crates/{each}/src", ".rt"):
+                path = os.path.relpath(file, f"{ROOT}/crates/{each}")
+                reader = Reader(f"crates/{each}/{path}")
+                source = reader.read()
+                if each == crate:
+                    self.files[path] = (reader, source)
+                for item in source.items:
+                    if item.what in ("struct", "enum"):
+                        self.found.setdefault(item.name, (each, module_of(path), item))
+
+    def fields(self, name, module, before=""):
+        """Yields the fields of a struct that a module may set, nested ones too, with the expressions that reset them."""
+        crate, home, item = self.found.get(name, ("", "", None))
+        if not item or item.what != "struct" or "{" not in item.text or before.count(".") > 3:
+            return
+        for found in FIELD.finditer(item.text[item.text.index("{"):]):
+            public = (found["public"] or "").strip()
+            if public != "pub" and crate != self.crate or not public and f"{module}::".find(f"{home}::") != 0 and home:
+                continue
+            field, kind = f"{before}.{found['name']}", found["type"]
+            value = reset_value(kind)
+            if value:
+                yield field, value, kind
+            else:
+                yield from self.fields(NAME.match(kind)[0] if NAME.match(kind) else "", module, field)
+
+
+def module_of(path):
+    """Returns the module of a source file."""
+    return re.sub(r"^src/|\.rt$", "", path).replace("/", "::").replace("lib", "", path == "src/lib.rt").replace(
+        "main", "", path == "src/main.rt")
+
+
+def reset_value(kind):
+    """Returns the value that resets a field of this type, or nothing if its own fields are reset, or it is left alone."""
+    array = re.fullmatch(r"\[(\w+); (.+)\]", kind)
+    if INTEGER.fullmatch(kind):
+        return "0"
+    if array and INTEGER.fullmatch(array[1]):
+        return f"[0; {array[2]}]"
+    return {"bool": "false"}.get(kind, "None" if kind.startswith("Option<") else "")
+
+
+def result_of(header):
+    """Returns the type that a function returns."""
+    return header.rpartition(") -> ")[2].partition(" where ")[0] if ") -> " in header else "()"
+
+
+def success_values(kind):
+    """Returns expressions of the successful result, if the type is a Result whose value is plain."""
+    found = re.fullmatch(r"(?:std::result::|io::)?Result<(.+)>", kind)
+    if not found:
+        return []
+    depth, value = 0, found[1]
+    for at, sign in enumerate(found[1]):
+        depth += (sign in "<([") - (sign in ">)]")
+        if sign == "," and depth == 0:
+            value = found[1][:at]
+            break
+    value = re.sub(r"&'\w+ ", "&", value)
+    return VALUES.get(value) or [each for each in [reset_value(value)] if each]
+
+
+class Generator:
+    """Makes the mutants of one function."""
+
+    def __init__(self, structs, path, item, is_unchanged):
+        self.structs, self.path, self.item, self.is_unchanged = structs, path, item, is_unchanged
+        self.reader, _ = structs.files[path]
+        self.module, self.result = module_of(path), result_of(item.header)
+        owner = structs.found.get(item.owner)
+        home = owner[1] if item.owner and owner and owner[0] == structs.crate else self.module
+        self.function = "::".join(filter(None, (home, item.owner, item.name)))
+        self.bare = self.reader.bare
+
+    def mutant(self, places, does, field=""):
+        return Mutant(self.structs.crate, self.path, self.item, self.function, places, does, field)
+
+    def all(self):
+        if self.item.trait or not any(clause.kind == "ensures" for clause in self.item.clauses):
+            return
+        for found in BORROWED.finditer(self.item.header[self.item.header.index("("):]):
+            is_self = found["type"] == "self"
+            name = "self" if is_self else found["name"]
+            kind = self.item.owner if is_self or found["type"] == "Self" else found["type"]
+            for field, value, type_ in self.structs.fields(kind, self.module) if name else ():
+                yield from self.resets(name, field, value, type_)
+        yield from self.successes()
+
+    def resets(self, name, field, value, kind):
+        """The mutants that reset one field."""
+        body, end, does = self.item.body + 1, self.item.end - 1, f"{name}{field} = {value}"
+        sets = "" if self.is_unchanged else f"{does};"
+        told = {"0": "0", "false": "false", "None": "None"}.get(value) or f"replicate {kind[1:-1].rpartition('; ')[2]} 0"
+        if not self.sets_first(name, field):
+            yield self.mutant([(body, body, f" {sets}")], f"{does} at entry", f"{name}.old{field} ≡ {told}")
+        after = f"{name}.new{field} ≡ {told}"
+        if self.result == "()":
+            last = self.bare[body:end].rstrip()[-1:]
+            between = "" if last in ("", ";", "}", "{") else ";"
+            yield self.mutant([(end, end, f"{between} {sets}")], f"{does} at the end", after)
+        elif "&" not in self.result:
+            wrapped = [(body, body, f" let returned: {self.result} = {{"), (end, end, f"}}; {sets} returned")]
+            yield self.mutant(wrapped, f"{does} at the end", after)
+        for number, (begin, stop) in enumerate(self.returns(), 1):
+            value = self.reader.text[begin + len("return"):stop].strip()
+            early = (f"{{ let returned: {self.result} = {value}; {sets} return returned }}" if value else f"{{ {sets} return }}")
+            yield self.mutant([(begin, stop, early)], f"{does} before early return {number}", after)
+
+    def sets_first(self, name, field):
+        """Returns true if the function first uses the parameter to set this field, or all of it: then a reset at entry changes
+        nothing."""
+        text = self.bare[self.item.body + 1:self.item.end - 1]
+        first = re.search(rf"(?<![\w.]){name}\b", text)
+        if not first:
+            return False
+        wholes = [field[:at] for at in range(1, len(field) + 1) if field[at:at + 1] in (".", "")]
+        sets = re.match(rf"{name}(?:{'|'.join(map(re.escape, wholes))}) = ([^;]*);", text[first.start():])
+        whole = re.match(rf"{name} = ([^;]*);", text[first.start():]) if text[:first.start()].endswith("*") else None
+        found = sets or whole
+        # (an assignment in a branch is not made on every path)
+        return bool(found) and not re.search(rf"\b{name}\b", found[1]) and "{" not in text[:first.start()]
+
+    def returns(self):
+        """Yields where each early return begins and its expression ends."""
+        for found in re.finditer(r"\breturn\b", self.bare[self.item.body:self.item.end]):
+            begin = self.item.body + found.start()
+            yield begin, self.reader.after(re.compile(r"[(\[{]|(?P<end>[;,})\]])"), begin)
+
+    def successes(self):
+        """The mutants that return success in place of one error."""
+        for value in success_values(self.result):
+            body, end = self.item.body, self.item.end
+            for number, found in enumerate(re.finditer(r"\bErr\(", self.bare[body:end]), 1):
+                begin, stop = body + found.start(), self.reader.closed[body + found.end() - 1]
+                # (followed by one of these it is a pattern)
+                if not re.match(r"\s*(?:=|\||if\b)", self.bare[stop:stop + 80]):
+                    kept = self.reader.text[begin:stop] if self.is_unchanged else f"Ok({value})"
+                    yield self.mutant([(begin, stop, kept)], f"Ok({value}) in place of Err {number}")
+            for number, found in enumerate(re.finditer(r"\?;", self.bare[body:end]), 1):
+                stop = body + found.start()
+                begin = self.statement(stop)
+                let = re.match(r"\s*(let [^=]+= )?", self.reader.text[begin:stop])
+                begin += let.end()
+                tried = self.reader.text[begin:stop]
+                changed = f"{tried}?" if self.is_unchanged else f"match {tried} {{ Ok(given) => given, Err(_) => return Ok({value}) }}"
+                yield self.mutant([(begin, stop + 1, changed)], f"Ok({value}) in place of the error of ? {number}")
+
+    def statement(self, stop):
+        """Returns where the statement begins that goes on to this place."""
+        depth, at = 0, stop - 1
+        while at > self.item.body:
+            sign = self.bare[at]
+            depth += (sign in ")]}") - (sign in "([{")
+            if depth < 0 or depth == 0 and sign == ";" or depth == 0 and sign == "{" or depth == 1 and sign == "}" and (
+                    "\n" in self.bare[at + 1:stop].split("=")[0].split(".")[0]):
+                return at + 1
+            at -= 1
+        return at + 1
+
+
+class FieldTrial(Trial):
+    """The trial of a crate's mutants, in copies of the crate."""
+
+    def try_mutants(self, group):
+        """Tries a group, without those that do not compile and again while it calls what was not known to be proved: what there
+        is to say of each."""
+        said = []
+        while group:
+            known, (text, verdicts, lines) = len(self.proved), self.try_once(group)
+            if "\nonly=" not in f"\n{text}":
+                unfit = {body for path, line in AT.findall(text) for body in lines(path, int(line))}
+                why = proved.first_of(text)
+                if not unfit:
+                    return said + [Verdict(body, FAILED, f"the group did not reach the prover: {why}") for body in group]
+                said += [Verdict(body, UNFIT, why) for body in unfit]
+                group = [body for body in group if body not in unfit]
+                continue
+            again = [verdict.body for verdict in verdicts if verdict.outcome == FAILED and len(self.proved) > known]
+            said += [verdict for verdict in verdicts if verdict.body not in again]
+            group = again
+        return said
+
+    def try_once(self, group):
+        """Checks a copy of the crate with a group: what was said, the verdicts, and which mutants stand at a line of it."""
+        checked = {body.checked for body in group}
+        with tempfile.TemporaryDirectory(prefix="field-mutants-") as room:
+            self.copy_into(room, group)
+            for body in group:
+                body.copy_proof(room)
+            assume(room, self.crate, [each for each in self.proved if each not in checked])
+            text = self.check(room, checked)
+            spans = {path: copies_in(f"{room}/{path}") for path in {body.path for body in group}}
+        self.learn(text)
+        lines = lambda path, line: [body for body in group for name, first, last in spans.get(path, ())
+                                    if body.path == path and name.endswith(body.suffix) and first <= line <= last]
+        return text, [self.verdict(body, text) for body in group], lines
+
+    def learn(self, text):
+        """Takes the functions of the crate that the mutants call as proved: they are in the unchanged crate."""
+        named = re.findall(r"a call of `(\w+)::([^`]+)`, which has no proof", text)
+        self.proved += {name for crate, name in named if crate == self.crate} - {*self.proved}
+
+    def verdict(self, body, text):
+        line = re.search(rf"(?m)^fn {re.escape(f'{self.crate}::{body.checked}')}: (.*)$", text)
+        return Verdict(body, PROVED, line[1]) if line and line[1].startswith(WELL) else self.judged(body, text)
+
+
+def copies_in(file):
+    """The functions of a file with their first and last lines."""
+    reader = Reader(file)
+    return [(item.name, item.line, reader.text.count("\n", 0, item.end) + 1) for item in functions_in(reader.read())]
+
+
+def mutants_of(crate, is_unchanged=False):
+    """The mutants of a crate, or their unchanged forms."""
+    structs, found = Structs(crate), []
+    for path, (_, source) in structs.files.items():
+        for item in functions_in(source):
+            found += Generator(structs, path, item, is_unchanged).all()
+    return found
+
+
+def try_crate(crate, mutants, places, pool, is_unchanged):
+    """Tries the mutants of a crate, and yields what there is to say of each."""
+    trial = FieldTrial(crate, places)
+    why = proved.supply(proved.crates()[crate].below) or trial.lacks_proof(mutants)
+    while unknown := re.search(r"has no function `([^`]+)`", why):
+        # (of a type with parameters, which the prover names otherwise)
+        yield from (Verdict(body, UNFIT, why) for body in mutants if body.function == unknown[1])
+        mutants = [body for body in mutants if body.function != unknown[1]]
+        why = trial.lacks_proof(mutants)
+    if why:
+        yield from (Verdict(body, FAILED, f"not tried: {why}") for body in mutants)
+        return
+    said = in_groups(trial, mutants, pool)
+    doubtful = [verdict for verdict in said if verdict.outcome == PROVED and verdict.body.field and not is_unchanged]
+    probes = {verdict.body: verdict.body.probe() for verdict in doubtful}
+    same = {verdict.body for verdict in in_groups(trial, [*probes.values()], pool) if verdict.outcome == PROVED}
+    for verdict in said:
+        if probes.get(verdict.body) in same:
+            verdict = Verdict(verdict.body, SAME, "the field has this value there in the unchanged function")
+        yield verdict
+
+
+def in_groups(trial, bodies, pool):
+    """Tries bodies in groups, side by side."""
+    for number, body in enumerate(bodies):
+        body.suffix = f"_with_mutant_{number}"
+    groups = [bodies[at::-(-len(bodies) // GROUP)] for at in range(-(-len(bodies) // GROUP))]
+    return [verdict for verdicts in pool.map(trial.try_mutants, groups) for verdict in verdicts]
+
+
+def main(words):
+    names, flags = [word for word in words if not word.startswith("--")], {word for word in words if word.startswith("--")}
+    if not any(flags <= each for each in ({"--list"}, {"--unchanged"})):
+        raise SystemExit(__doc__)
+    is_list, is_unchanged = "--list" in flags, "--unchanged" in flags
+    wanted, bad = (PROVED, REJECTED) if is_unchanged else (REJECTED, PROVED)
+    os.chdir(ROOT)
+    crates = [crate for crate in proved.crates() if not names or any(name.partition("/")[0] == crate for name in names)]
+    places, total = Places(), Counter()
+    with ThreadPoolExecutor(places.most) as pool:
+        for crate in crates:
+            mutants = [body for body in mutants_of(crate, is_unchanged)
+                       if not names or crate in names or f"{crate}/{body.function}" in names]
+            if is_list:
+                print("".join(f"{body.label}\n" for body in mutants), end="")
+                continue
+            outcomes = Counter()
+            for verdict in try_crate(crate, mutants, places, pool, is_unchanged) if mutants else ():
+                outcomes[verdict.outcome] += 1
+                if verdict.outcome != wanted:
+                    print(f"{verdict.body.label}: {verdict.outcome}: {verdict.text.rpartition(f'{verdict.outcome}: ')[2]}", flush=True)
+            print(f"{crate}: {len(mutants)} mutants: " + ", ".join(f"{number} {kind}" for kind, number in outcomes.items()), flush=True)
+            total += outcomes
+    failed = total[bad] + total[FAILED]
+    if not is_list:
+        print(f"{total[wanted]} passed, {failed} failed")
+    return 1 if failed or not is_list and not total[wanted] else 0
+
+
+if __name__ == "__main__":
+    sys.exit(main(sys.argv[1:]))
