@@ -47,6 +47,8 @@ from static_library import hold
 USER, CHECKS, INSTALLER = (os.path.join(HERE, f"python_{name}.py") for name in ("user", "checks", "installing"))
 PACKAGE = "minisign_proved"
 SOURCES = os.path.join(TOP, "bindings", "python")
+# The other cases use the wheel that this one builds.
+ALWAYS = ("check_builds",)
 
 
 @functools.lru_cache(maxsize=None)
