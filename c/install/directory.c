@@ -516,7 +516,7 @@ enum minisign_error take_permissions(struct directory *directory)
 
 enum minisign_error sync_stage(struct directory *directory, const struct stage *stage)
 {
-    return wrote(directory, stage->shown, AGAIN(fsync(stage->fd)) == 0);
+    return wrote(directory, stage->shown, sync_to_disk(stage->fd));
 }
 
 enum minisign_error sync_record(struct directory *directory, const struct stage *stage)
@@ -539,7 +539,7 @@ enum minisign_error rename_stage(struct directory *directory, const struct stage
 enum minisign_error sync_names(struct directory *directory)
 {
     /* (a file system that syncs no directories says so) */
-    return wrote(directory, &directory->itself, AGAIN(fsync(directory->fd)) == 0 || errno == EINVAL);
+    return wrote(directory, &directory->itself, sync_to_disk(directory->fd) || errno == EINVAL);
 }
 
 enum minisign_error remove_stage(struct directory *directory, const struct stage *stage)

@@ -30,7 +30,12 @@ static void clean_and_end(int number)
 bool ends_program(int number)
 {
     return number != SIGKILL && number != SIGSTOP && number != SIGTSTP && number != SIGTTIN && number != SIGTTOU
-           && number != SIGCONT && number != SIGCHLD && number != SIGURG && number != SIGWINCH;
+           && number != SIGCONT && number != SIGCHLD && number != SIGURG && number != SIGWINCH
+#ifdef SIGINFO
+           /* macOS and the BSDs ignore these by default; Ctrl-T sends SIGINFO. */
+           && number != SIGINFO && number != SIGIO
+#endif
+        ;
 }
 
 bool is_crash(int number)

@@ -59,15 +59,19 @@ static bool name_stage(struct replacement *stage)
     return stage->is_named;
 }
 
-/* Whether this stage is in its place. May be called while a signal is handled. */
-static bool is_placed(const struct replacement *stage)
+/* Returns true if the stage now has the name of this place. May be called while a signal is handled. */
+static bool has_name_of(const struct replacement *stage, const struct place *place)
 {
     struct stat own, named;
 
-    return stage->fd < 0
-           || (fstat(stage->fd, &own) == 0
-               && fstatat(stage->place.directory, stage->place.name, &named, AT_SYMLINK_NOFOLLOW) == 0
-               && is_same_file(&own, &named));
+    return fstat(stage->fd, &own) == 0 && fstatat(place->directory, place->name, &named, AT_SYMLINK_NOFOLLOW) == 0
+           && is_same_file(&own, &named);
+}
+
+/* Whether this stage is in its place. May be called while a signal is handled. */
+static bool is_placed(const struct replacement *stage)
+{
+    return stage->fd < 0 || has_name_of(stage, &stage->place);
 }
 
 /* ---- Stages go with the program ---- */
@@ -239,6 +243,7 @@ static void write_replacement(struct replacement *stage, enum kind kind, const u
     mode = is_secret(kind) || stage->place.has_older ? 0600 : 0666;
     remove_unlocked_stages(stage->place.directory);
     need(open_stage(stage, mode), stage->place.file);
+    need(!is_secret(kind) || close_to_others(stage->fd), stage->place.file);
     if (stage->place.has_older && kind != NEW_SECRET_KEY) {
         take_over(stage, kind == UNSEALED_SECRET_KEY || (is_secret(kind) && !knows_access_lists));
     }
@@ -277,7 +282,7 @@ static void sync_stages(void)
 
             /* (one that cannot be synced is not put in its place when the program ends) */
             stage->waits = false;
-            need(fsync(stage->fd) == 0, stage->place.file);
+            need(sync_to_disk(stage->fd), stage->place.file);
             stage->is_synced = true;
             stage->waits = waits;
         }
@@ -307,7 +312,7 @@ static bool write_over(struct replacement *stage)
     }
     fd = stage->place.opened;
     len = fd >= 0 && lseek(stage->fd, 0, SEEK_SET) == 0 ? read_whole(stage->fd, bytes, sizeof bytes) : -1;
-    is_written = len >= 0 && ftruncate(fd, 0) == 0 && write_whole(fd, bytes, (size_t) len) && fsync(fd) == 0;
+    is_written = len >= 0 && ftruncate(fd, 0) == 0 && write_whole(fd, bytes, (size_t) len) && sync_to_disk(fd);
     sodium_memzero(bytes, sizeof bytes);
     return is_written;
 }
@@ -360,9 +365,9 @@ static void keep_name(const struct replacement *stage)
         return;
     }
     /* (a file that had no name has one now) */
-    need(fsync(stage->fd) == 0, stage->place.file);
+    need(sync_to_disk(stage->fd), stage->place.file);
     fd = openat(stage->place.directory, ".", O_RDONLY | O_DIRECTORY | O_CLOEXEC);
-    need(fd < 0 || fsync(fd) == 0 || errno == EINVAL, stage->place.file);
+    need(fd < 0 || sync_to_disk(fd) || errno == EINVAL, stage->place.file);
     close_open(&fd);
 }
 
@@ -430,6 +435,12 @@ const char *put_both_in_place(struct replacement *first, struct replacement *las
         taken = first->place.file;
     } else {
         keep_name(first);
+        /* A file system may take two names for one, such as k.key and k.KEY: then the second file would replace the first. */
+        if (first->fd >= 0 && last->fd >= 0 && has_name_of(first, &last->place)) {
+            undo_stage(first);
+            blame(last->place.file, "the file system takes this for the name of the other key file",
+                  "use -s FILE and -p FILE to name two different files");
+        }
         if (is_put(last, put_stage(last))) {
             first->partner = NULL;
             keep_name(last);
@@ -449,7 +460,7 @@ const char *put_both_in_place(struct replacement *first, struct replacement *las
 static void finish_stages(void)
 {
     for (struct replacement *stage = stages; stage < stages + MAX_STAGES; stage++) {
-        if (stage->waits && ((!stage->is_synced && fsync(stage->fd) != 0) || put_stage(stage) != PUT)) {
+        if (stage->waits && ((!stage->is_synced && !sync_to_disk(stage->fd)) || put_stage(stage) != PUT)) {
             say_at(stage->place.file);
         }
     }

@@ -156,3 +156,28 @@ bool give_permissions(int fd, const struct permissions *older)
     }
     return give_mode(fd, older->mode);
 }
+
+#if defined __APPLE__ && !defined POSIX_ONLY
+
+#include <sys/acl.h>
+
+bool close_to_others(int fd)
+{
+    acl_t empty = acl_init(1);
+    bool is_closed = empty != NULL && (acl_set_fd(fd, empty) == 0 || is_none(errno) || errno == ENOTSUP);
+    int number = errno;
+
+    acl_free(empty);
+    errno = number;
+    return is_closed;
+}
+
+#else
+
+bool close_to_others(int fd)
+{
+    (void) fd;
+    return true;
+}
+
+#endif

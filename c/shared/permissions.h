@@ -51,6 +51,10 @@ bool give_permissions(int fd, const struct permissions *older);
  * fails for another reason. */
 bool give_owner(int fd, uid_t owner, gid_t group, bool *is_given);
 
+/* Removes an access control list of macOS that a new file inherited from its directory. Such a list may let others read a
+ * file of mode 0600. (A POSIX list may not, because it gives no more than the group's bits of the mode.) */
+bool close_to_others(int fd);
+
 /* Gives a new file just this mode, and removes a list that it inherited. */
 bool give_mode(int fd, mode_t mode);
 

@@ -32,10 +32,16 @@ static bool draw_bytes(uint8_t *bytes, size_t len)
 
 #else
 
+#if defined __APPLE__ && !defined POSIX_ONLY
+#define renameat2 renameatx_np
+#define RENAME_NOREPLACE RENAME_EXCL
+#define RENAME_EXCHANGE RENAME_SWAP
+#else
+#define renameat2(from, name, to, other, flags) ((void) (from), (void) (name), (void) (other), errno = ENOSYS, -1)
+#endif
 /* (no directory is opened for writing) */
 #undef O_TMPFILE
 #define O_TMPFILE 0
-#define renameat2(from, name, to, other, flags) ((void) (from), (void) (name), (void) (other), errno = ENOSYS, -1)
 #define sync_file_range(fd, from, bytes, flags) ((void) (fd), (void) (from), (void) (bytes))
 #define draw_bytes(bytes, len) (getentropy(bytes, len) == 0)
 
@@ -127,7 +133,8 @@ bool rename_to_free(int directory, const char *from, const char *to)
     if (renameat2(directory, from, directory, to, RENAME_NOREPLACE) == 0) {
         return true;
     }
-    if (errno != EINVAL && errno != ENOSYS) {
+    /* (Linux and macOS report differently that the file system does not support this) */
+    if (errno != EINVAL && errno != ENOSYS && errno != ENOTSUP) {
         return false;
     }
     if (linkat(directory, from, directory, to, 0) == 0) {
@@ -148,6 +155,26 @@ bool exchange_names(int directory, const char *one, const char *other)
 {
     return renameat2(directory, one, directory, other, RENAME_EXCHANGE) == 0;
 }
+
+#if defined __APPLE__ && !defined POSIX_ONLY
+
+bool sync_to_disk(int fd)
+{
+    if (AGAIN(fcntl(fd, F_FULLFSYNC)) == 0) {
+        return true;
+    }
+    /* The file system does not support F_FULLFSYNC. Any other error means that data may be lost. */
+    return (errno == ENOTSUP || errno == EOPNOTSUPP || errno == EINVAL || errno == ENOTTY) && AGAIN(fsync(fd)) == 0;
+}
+
+#else
+
+bool sync_to_disk(int fd)
+{
+    return AGAIN(fsync(fd)) == 0;
+}
+
+#endif
 
 void begin_sync(int fd, uint64_t from, uint64_t bytes)
 {

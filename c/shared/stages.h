@@ -35,6 +35,10 @@ bool rename_to_free(int directory, const char *from, const char *to);
 /* False, as errno says, if nothing was changed. May be called while a signal is handled. */
 bool exchange_names(int directory, const char *one, const char *other);
 
+/* Writes an open file or directory to the disk. macOS: F_FULLFSYNC, because its fsync() leaves the data in the disk's
+ * cache. On false errno says why. */
+bool sync_to_disk(int fd);
+
 /* Asks the system to begin to sync these bytes, or all after `from` if there are 0, so that fsync takes less time.
  * Linux does. */
 void begin_sync(int fd, uint64_t from, uint64_t bytes);

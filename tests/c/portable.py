@@ -199,13 +199,12 @@ def check_windows(checks, room, answers):
     windows.end()
 
 
-# What stands for headers: with the functions that the library calls, where none of the system are here; and for those of musl that
-# Linux alone has, or has otherwise than macOS.
+# Headers that stand in for others: with the functions that the library calls, for systems whose headers are not here; and for headers
+# of musl that only Linux has.
 HEADERS = {
     "ours": {"stdlib.h": "void *malloc(size_t);\nvoid free(void *);\nvoid abort(void);\n",
              "string.h": "void *memcpy(void *, const void *, size_t);\nvoid *memmove(void *, const void *, size_t);\n"
                          "void *memset(void *, int, size_t);\n"},
-    "macos": {"sys/random.h": "int getentropy(void *, size_t);\n"},
     "linux": {f"sys/{name}.h": "#error this is of Linux alone\n"
               for name in ("inotify", "prctl", "random", "sendfile", "statfs", "syscall", "sysinfo", "vfs", "xattr")}}
 TARGETS = ("x86_64-apple-macos11", "arm64-apple-macos11", "x86_64-unknown-freebsd13", "aarch64-unknown-freebsd13",
@@ -213,8 +212,8 @@ TARGETS = ("x86_64-apple-macos11", "arm64-apple-macos11", "x86_64-unknown-freebs
 
 
 def check_compiled(checks, room, _):
-    """All C compiles for systems of which nothing is here: that of the library, and that of the programs, which takes nothing of Linux
-    alone. And each program is linked with what has the timers of a C library before glibc 2.34."""
+    """The C of the library compiles for systems of which nothing is here, and that of the programs for the BSDs: it uses nothing that
+    only Linux has. (tests/c/macos.py compiles the programs for macOS.) And each program is linked with what has the timers of a C library before glibc 2.34."""
     for place, texts in HEADERS.items():
         os.makedirs(f"{room}/{place}/sys")
         for name, text in texts.items():
@@ -232,8 +231,8 @@ def check_compiled(checks, room, _):
             end = ["-fsyntax-only"] if source == C_CALLS else ["-c", "-o", os.devnull]
             checks.ended(f"{os.path.basename(source)} for {target}", run([*clang, f"--target={target}", *how, *end, source]))
         # (the headers of musl have those of POSIX)
-        if re.match("x86_64-.*(apple|bsd)", target):
-            system = [word for place in [f"{room}/macos"] * ("apple" in target) + places for word in ("-isystem", place)]
+        if re.match("x86_64-.*bsd", target):
+            system = [word for place in places for word in ("-isystem", place)]
             checks.ended(f"the programs for {target}", run([*clang, f"--target={target}", *system, "-I", C, "-fsyntax-only", *sources]))
     said = checks.ended("make -n", run(["make", "-Bn", "-C", C, f"OUT={room}/none", "all"]))
     for name in ("minisign", "minisign-install"):

@@ -1,0 +1,202 @@
+"""Writes headers that stand in for those of macOS, made from Rust's `libc` crate, which describes the system.
+
+Apple's headers cannot be had without macOS, and those of another C library say nothing about macOS: its types have other sizes, and
+some functions of POSIX are missing. Debian's package librust-libc-dev has the types, constants and functions of macOS in Rust, and
+`write` translates those that some C sources use. What ISO C has, and what `libc` lacks, is in BY_HAND and UNCHECKED below.
+"""
+
+import os
+import re
+
+CRATES = "/usr/share/cargo/registry"
+GO = "/usr/share/gocode/src/golang.org/x/sys/unix/zerrors_darwin_amd64.go"
+FILES = ("unix/mod.rs", "unix/bsd/mod.rs", "unix/bsd/apple/mod.rs", "unix/bsd/apple/b64/mod.rs")
+HEADERS = ("dirent", "errno", "fcntl", "inttypes", "poll", "signal", "stdio", "stdlib", "string", "strings", "sys/acl", "sys/file",
+           "sys/random", "sys/resource", "sys/select", "sys/stat", "sys/statvfs", "sys/types", "termios", "time", "unistd", "pthread",
+           "ctype", "sys/time", "sys/mman", "sys/ioctl", "pwd", "grp")
+# The names that C has for types of Rust.
+PLAIN = {"c_int": "int", "c_uint": "unsigned", "c_char": "char", "c_schar": "signed char", "c_uchar": "unsigned char",
+         "c_short": "short", "c_ushort": "unsigned short", "c_long": "long", "c_ulong": "unsigned long", "c_longlong": "long long",
+         "c_ulonglong": "unsigned long long", "c_void": "void", "i8": "signed char", "u8": "unsigned char", "i16": "short",
+         "u16": "unsigned short", "i32": "int", "u32": "unsigned", "i64": "long long", "u64": "unsigned long long", "usize": "size_t",
+         "isize": "long", "size_t": "size_t", "c_double": "double", "c_float": "float", "uintptr_t": "unsigned long",
+         "intptr_t": "long", "ssize_t": "ssize_t", "va_list": "va_list", "()": "void", "!": "_Noreturn void"}
+# What `libc` has in no form that C takes, as ISO C and POSIX have it.
+BY_HAND = """
+#include <stdarg.h>
+#include <stdbool.h>
+#include <stddef.h>
+#include <stdint.h>
+#include <limits.h>
+typedef long ssize_t;
+typedef void (*sighandler_t)(int);
+typedef struct stream FILE;
+typedef struct directory DIR;
+extern FILE *__stdinp, *__stdoutp, *__stderrp;
+#define stdin __stdinp
+#define stdout __stdoutp
+#define stderr __stderrp
+int *__error(void);
+#define errno (*__error())
+#define PRIu64 "llu"
+#define PRIx64 "llx"
+#define PRIX64 "llX"
+#define S_ISREG(mode) (((mode) & S_IFMT) == S_IFREG)
+#define S_ISDIR(mode) (((mode) & S_IFMT) == S_IFDIR)
+#define S_ISLNK(mode) (((mode) & S_IFMT) == S_IFLNK)
+#define S_ISCHR(mode) (((mode) & S_IFMT) == S_IFCHR)
+#define S_ISBLK(mode) (((mode) & S_IFMT) == S_IFBLK)
+#define S_ISFIFO(mode) (((mode) & S_IFMT) == S_IFIFO)
+#define S_ISSOCK(mode) (((mode) & S_IFMT) == S_IFSOCK)
+#define NSIG 32
+#define NAME_MAX 255
+typedef int sig_atomic_t;
+typedef struct fd_set fd_set;
+void FD_ZERO(fd_set *);
+void FD_SET(int, fd_set *);
+int FD_ISSET(int, const fd_set *);
+extern char *optarg;
+extern int optind, opterr, optopt;
+"""
+# Functions that the crate lacks, of ISO C or of macOS's manual pages. Nothing here compares them with Apple's headers.
+UNCHECKED = {"putc": "int putc(int, FILE *);", "putchar": "int putchar(int);",
+             "strftime": "size_t strftime(char *, size_t, const char *, const struct tm *);",
+             "strsep": "char *strsep(char **, const char *);", "vfprintf": "int vfprintf(FILE *, const char *, va_list);",
+             "vsnprintf": "int vsnprintf(char *, size_t, const char *, va_list);",
+             "getentropy": "int getentropy(void *, size_t);",
+             "acl_init": "typedef struct access_list *acl_t; acl_t acl_init(int);",
+             "acl_set_fd": "int acl_set_fd(int, acl_t);", "acl_free": "int acl_free(void *);",
+             "atexit": "int atexit(void (*)(void));", "pthread_create":
+             "int pthread_create(pthread_t *, const struct pthread_attr_t *, void *(*)(void *), void *);"}
+
+
+# What compilers call, and data.
+OF_COMPILERS = ("memcpy", "memmove", "memset", "__bzero", "bzero", "__stack_chk_fail", "__stack_chk_guard", "__stdinp", "__stdoutp",
+                "__stderrp", "__error", "fputc", "fwrite", "puts", "optarg", "optind", "opterr", "optopt", "_DefaultRuneLocale")
+# A library with these symbols, for a linker.
+STUB = """--- !tapi-tbd
+tbd-version: 4
+targets: [ x86_64-macos, arm64-macos ]
+install-name: '/usr/lib/libSystem.B.dylib'
+exports:
+  - targets: [ x86_64-macos, arm64-macos ]
+    symbols: [ dyld_stub_binder, {symbols} ]
+...
+"""
+
+
+class NotKnown(Exception):
+    """The crate has no such form as this translates."""
+
+
+class Crate:
+    """The items of the crate for 64-bit macOS, by their names."""
+
+    def __init__(self, crates, go):
+        place = next((f"{crates}/{name}/src" for name in sorted(os.listdir(crates)) if re.fullmatch(r"libc-\d.*", name)), None)
+        text = "".join(re.sub(r"(?m)//.*$", "", read_text(f"{place}/{name}")) for name in FILES)
+        self.version = os.path.basename(os.path.dirname(place))
+        self.types = dict(re.findall(r"pub type (\w+) =\s*([^;]+);", text))
+        self.constants = {name: (kind, value) for name, kind, value in re.findall(r"pub const (\w+): ([\w:]+) =\s*([^;]+);", text)}
+        self.functions = {name: given for name, *given in re.findall(r"pub fn (\w+)\(([^)]*)\)(?:\s*->\s*([^;{]+))?\s*[;{]", text)}
+        self.structs = dict(re.findall(r"pub struct (\w+) \{([^}]*)\}", text))
+        self.structs["FILE"] = self.structs["DIR"] = ""
+        self.of_go = dict(re.findall(r"(?m)^\t(\w+) +=\s(?:syscall\.\w+\()?(0x[0-9a-f]+)\)?$", read_text(go)))
+        self.made, self.lines = {"struct FILE", "struct DIR", "sighandler_t", "FD_ZERO", "FD_SET", "FD_ISSET"}, []
+        # How many constants were compared with those of Go's package.
+        self.compared = 0
+
+    def type(self, text, name=""):
+        """Returns a declaration of a name, or a type, in C. Adds the types that it needs."""
+        text = text.strip().replace("::", "").replace("extern \"C\" ", "")
+        if found := re.fullmatch(r"\*(const|mut) (.+)", text):
+            # (C has no const after which a pointer follows in these functions)
+            of = self.type(found[2])
+            return f"{'const ' if found[1] == 'const' and not found[2].startswith('*') else ''}{of} *{name}"
+        if found := re.fullmatch(r"\[(.+); ([^;]+)\]", text):
+            return self.type(found[1], f"{name}[{self.value(found[2])}]")
+        if re.match(r"(Option<)?(unsafe )?fn\(|Option<", text):
+            return f"void *{name}"
+        if text in PLAIN:
+            return f"{PLAIN[text]} {name}".rstrip()
+        if text in self.structs:
+            self.struct(text)
+            return f"{'' if text in ('FILE', 'DIR') else 'struct '}{text} {name}".rstrip()
+        if text in self.types or text == "sighandler_t":
+            self.alias(text)
+            return f"{text} {name}".rstrip()
+        raise NotKnown(f"libc's type {text!r}")
+
+    def alias(self, name):
+        if name not in self.made:
+            self.made.add(name)
+            self.lines.append(f"typedef {self.type(self.types[name], name)};")
+
+    def struct(self, name):
+        if f"struct {name}" in self.made:
+            return
+        self.made.add(f"struct {name}")
+        fields = re.findall(r"(?:pub )?(\w+):\s*([^\n]+?),?[ ]*\n", self.structs[name] + "\n")
+        # For a union of two handlers, Rust has the name of the other one. If a field depends on the target, macOS has the last form.
+        fields = {"sa_handler" if field == "sa_sigaction" else field: kind for field, kind in fields}
+        self.lines.append(f"struct {name} {{ {' '.join(self.type(kind, field) + ';' for field, kind in fields.items())} }};")
+
+    def constant(self, name):
+        if name not in self.made:
+            self.made.add(name)
+            kind, value = self.constants.get(name) or ("c_int", self.of_go[name])
+            self.lines.append(f"#define {name} (({self.type(kind)}) ({self.value(value)}))")
+            if name in self.of_go:
+                self.lines.append(f'_Static_assert({name} == {self.of_go[name]}, "{name} of Go");')
+                self.compared += 1
+
+    def value(self, text):
+        """Returns an expression in C. Adds the constants that it uses."""
+        text = re.sub(r"\bas [\w:]+", "", text.replace("::", "").replace("!", "~"))
+        text = re.sub(r"(?<=[0-9a-fA-F])_(?=[0-9a-fA-F])", "", text)
+        for used in re.findall(r"\b[A-Z_]\w*\b", text):
+            self.constant(used)
+        return text.strip()
+
+    def function(self, name):
+        if name not in self.made:
+            self.made.add(name)
+            given, result = self.functions[name]
+            words = [part.strip() for part in given.replace("\n", " ").split(",") if part.strip()]
+            kinds = [word if word == "..." else self.type(word.partition(":")[2]) for word in words]
+            self.lines.append(f"{self.type(result.strip() or '()')} {name}({', '.join(kinds) or 'void'});")
+
+
+def read_text(path):
+    with open(path, encoding="utf-8") as file:
+        return file.read()
+
+
+def write(place, sources, crates=CRATES, go=GO):
+    """Writes the headers into a directory: what these C sources use of the crate, and BY_HAND. Returns how many constants have the same
+    value in Go's package, and the names of the functions that nothing compares with macOS."""
+    crate, unchecked = Crate(crates, go), []
+    code = "".join(re.sub(r'(?s)/\*.*?\*/|"(?:\\.|[^"\\])*"', "", read_text(source)) for source in sources)
+    called, structs = {*re.findall(r"\b([a-z_]\w*)(?:\(|$)", code, re.M)}, {*re.findall(r"\bstruct (\w+)", code)}
+    own = {*re.findall(r"(?m)^ *# *define (\w+)", code), *re.findall(r"[{,]\s*([A-Z_]\w*)", "".join(re.findall(r"\benum \w* ?(\{[^}]*\})", code)))}
+    for word in sorted({*re.findall(r"[A-Za-z_]\w*", code + BY_HAND)} - own):
+        if word in crate.structs and word in {*structs, "fd_set"}:
+            crate.struct(word)
+        if word in UNCHECKED:
+            unchecked.append(word)
+        elif word in crate.functions and word in called:
+            crate.function(word)
+        elif word in crate.constants or word in crate.of_go:
+            crate.constant(word)
+        elif word in crate.types:
+            crate.alias(word)
+    late = [UNCHECKED[word] for word in unchecked]
+    os.makedirs(os.path.join(place, "sys"), exist_ok=True)
+    functions = sorted({*crate.functions, *UNCHECKED} & {*crate.made, *unchecked})
+    with open(os.path.join(place, "libSystem.tbd"), "w", encoding="utf-8") as file:
+        file.write(STUB.format(symbols=", ".join(f"_{name}" for name in (*functions, *OF_COMPILERS))))
+    text = "\n".join(["#ifndef MACOS_H", "#define MACOS_H", BY_HAND, *crate.lines, *late, "#endif", ""])
+    for name in ("macos", *HEADERS):
+        with open(os.path.join(place, f"{name}.h"), "w", encoding="utf-8") as file:
+            file.write(text if name == "macos" else "#include <macos.h>\n")
+    return crate.compared, unchecked
