@@ -183,6 +183,7 @@ impl State {
             → MatchResult result (λ _. IsFedState self.new (m ++ piece.now)) (λ _. ⊥) }
         ensures asked { KeepsAsked self.old self.new }
         ensures begun { OnOk result (IsMarkedFed self.old) }
+        ensures rest { OnOk result (self.new ≡ record self.old { hash = self.new.hash }) }
         ensures refused { IfErr result (λ e. IsNotFed self.old e × (self.new ≡ self.old)) }
     {
         let mut hasher = self.hasher()?;
@@ -202,6 +203,7 @@ impl State {
             (λ _. ⊥) }
         ensures asked { KeepsAsked self.old self.new }
         ensures told { OnOk result (IsMarkedFed self.old × IsMarkedTold self.new) }
+        ensures rest { OnOk result (self.new ≡ record self.old { mark = self.new.mark }) }
         ensures refused { IfErr result
             (λ e. IsNotFed self.old e × (self.new ≡ self.old) × (digest.new ≡ digest.old)) }
     {
