@@ -1,3 +1,4 @@
+mod Decisions
 mod Fields
 mod Happenings
 mod Installs
@@ -7,4 +8,13 @@ mod Obeying
 mod Orders
 mod Reasons
 mod RecordTexts
+mod StepArrivals
+mod StepChecks
+mod StepEnds
+mod StepFacts
+mod StepFiles
+mod StepReasons
+mod StepRecords
+mod StepSafety
+mod StepSyncs
 mod Works

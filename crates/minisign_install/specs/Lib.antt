@@ -1,4 +1,5 @@
 pub mod Comments
+pub mod Decisions
 pub mod Directories
 pub mod Faults
 pub mod Hosted
@@ -10,3 +11,5 @@ pub mod RecordTexts
 pub mod Refusals
 pub mod Runs
 pub mod Sequences
+pub mod Step
+pub mod StepRuns

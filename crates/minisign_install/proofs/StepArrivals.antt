@@ -1,0 +1,290 @@
+-- A good update gets installed.
+use Rattle.std.specs.Prelude.{◌≡◌, ◌<◌, ◌≤◌, ◌+◌, ⊤, ℕ, Bool, true, false, List, [], ◌∷◌, length, Option}
+use Rattle.std.specs.Prelude.{Some, None, Result, IfSome, ◌++◌, ◌||◌, not, is_some, take, if◌then◌else◌}
+use Rattle.std.specs.Prelude.{◌⊎◌, ◌-◌, Ok}
+use Rattle.std.proofs.Common.{refl, sym, inl, inr, zero, suc, append-nil, eq-or-lt_of_le, ap, ◌∙◌, arith}
+use Rattle.std.proofs.Common.{le-leb, lt-ltb, eq-eqb, true≢false, unwrap_or}
+use Rattle.std.proofs.lemmas.Option.{none-some, same_Some}
+use Rattle.minisign.specs.SignatureText.{SignatureTextRecord}
+use Rattle.minisign_external.specs.declared.public_keys.PublicKeyValue.{PublicKeyValue}
+use Rattle.minisign_hash.specs.Blake2b.{blake2b_digest}
+use Rattle.minisign_install.specs.Decisions.{Options, comment_fault, is_below, size_in}
+use Rattle.minisign_install.specs.Faults.{Fault}
+use Rattle.minisign_install.specs.Step.{Event, Done, InUse, Failed, RecordRead, SignatureRead, Answered}
+use Rattle.minisign_install.specs.Step.{PieceRead, PieceCopied, State, begin, step, Operation, after}
+use Rattle.minisign_install.specs.Step.{answer, has_ended, key_of, comment_question, data_question}
+use Rattle.minisign_install.specs.Step as due
+use Rattle.minisign_install.specs.StepRuns.{IsFine, IsGoodUpdate, IsRun, IsTrue, IsTrueEvent, World, count}
+use Rattle.minisign_install.specs.StepRuns.{IsGoodRun, asks, first_signer}
+use Rattle.minisign_install.proofs.StepEnds.{left, step_less}
+
+module _ (w : World) (o : Options) (g : IsGoodUpdate w o) where
+  -- n bytes were copied, and this many of the signed size are left.
+  abbrev Left : ℕ → Option ℕ → Type 0
+  Left n None = ⊤
+  Left n (Some left) = left + n ≡ length w.update
+
+  -- The signature and the key of the update are known.
+  abbrev Knows : State → Type 0
+  Knows s = (s.signature ≡ g.text.signature.signature) × (key_of s.signers ≡ g.key)
+
+  -- The data can be copied.
+  abbrev IsReady : ℕ → State → Type 0
+  IsReady n s = Knows s × Left n s.left × (s.read ≡ []) × (n ≤ length w.update)
+
+  -- What is so if the run is on its way to the installation of the update.
+  abbrev OnTrack : ℕ → Operation → State → Type 0
+  OnTrack n due.Lock s = (s.options ≡ o) × (n ≡ 0)
+  OnTrack n due.ReadRecord s = (s.options ≡ o) × (n ≡ 0)
+  OnTrack n due.ReadSignature s = (s.options ≡ o) × (n ≡ 0) × (s.recorded ≡ g.recorded)
+  OnTrack n due.CheckComment s =
+      (s.options ≡ o) × (n ≡ 0) × (s.recorded ≡ g.recorded) × (s.fault ≡ None) × (s.version ≡ g.version)
+      × (s.signature ≡ g.text.signature.signature) × (s.left ≡ size_in g.text.comments.trusted)
+      × (first_signer w g.text s.signers ≡ Some g.key)
+  OnTrack n due.RemoveLeftovers s = IsReady n s
+  OnTrack n due.CreateFile s = IsReady n s
+  OnTrack n due.CopyData s = IsReady n s
+  OnTrack n due.ReadBack s = Knows s × ((rest : List ℕ) × (s.read ++ rest ≡ w.update))
+  OnTrack n due.CheckData s = Knows s × (s.read ≡ w.update)
+  OnTrack n due.SetPermissions s = ⊤
+  OnTrack n due.SyncFile s = ⊤
+  OnTrack n due.CreateRecord s = ⊤
+  OnTrack n due.WriteRecord s = ⊤
+  OnTrack n due.SyncRecord s = ⊤
+  OnTrack n due.RenameRecord s = ⊤
+  OnTrack n due.SyncRecordName s = ⊤
+  OnTrack n due.RenameFile s = ⊤
+  OnTrack n due.SyncFileName s = ⊤
+  OnTrack n due.Installed s = ⊤
+  OnTrack n op s = ⊥
+
+  -- So it stays after an event that fits.
+  abbrev Stays : ℕ → Operation → Event → State → Type 0
+  Stays n op e s = IfSome (after op e s) (λ t. OnTrack (count n e) t.due t)
+
+  left_at : (n : ℕ) (size : Option ℕ) → n ≡ 0 → ((k : ℕ) → size ≡ Some k → length w.update ≡ k) → Left n size
+  left_at n None none is = tt
+  left_at n (Some k) none is = omega (arith, none, is k refl)
+
+  is_newer : (r : Option ℕ) (v : ℕ) → ((k : ℕ) → r ≡ Some k → k < v)
+      → (not (is_some r) || is_below r (Some v)) ≡ true
+  is_newer None v newer = refl
+  is_newer (Some k) v newer = lt-ltb k v (newer k refl)
+
+  key_found : (signers : List PublicKeyValue)
+      → true ≡ w.accepts (g.text.signature.signature ++ g.text.comments.trusted) (key_of signers)
+      (take 64 g.text.comments.signature) → first_signer w g.text signers ≡ Some g.key
+      → key_of signers ≡ g.key
+  key_found [] accepted is = absurd (none-some g.key is)
+  key_found (v ∷ more) accepted is = same_Some v.key g.key (rw (sym accepted) at is)
+
+  after_record : (n : ℕ) (s : State) (found : Option (List ℕ)) → (s.options ≡ o) × (n ≡ 0) → found ≡ w.found
+      → Stays n due.ReadRecord (RecordRead found) s
+  after_record n s found (is_o, none) is = rw (is_o, is, g.counts) (refl, none, refl)
+
+  after_signature : (n : ℕ) (s : State) (text : Result SignatureTextRecord Fault) (time : Option ℕ)
+      → OnTrack n due.ReadSignature s → IsFine g (SignatureRead text time) → text ≡ w.text
+      → Stays n due.ReadSignature (SignatureRead text time) s
+  after_signature n s text time (is_o, none, recorded) fine is =
+      rw (is_o, is ∙ g.parsed, g.passed, recorded)
+      (refl, none, refl, fine, ap (λ v. unwrap_or v 0) g.numbered, refl, refl, g.signed_comment)
+
+  after_comment : (n : ℕ) (s : State) → OnTrack n due.CheckComment s
+      → IsTrueEvent w n s due.CheckComment (Answered true) → Stays n due.CheckComment (Answered true) s
+  after_comment n s (is_o, none, recorded, fault, version, signature, left, signer) is =
+      let accepted = is g.text g.parsed in
+      let accepts = rw signature at accepted in
+      let newer = is_newer g.recorded.version g.version g.newer in
+      let installs : s.options.check ≡ false = ap (λ (x : Options). x.check) is_o ∙ g.installs in
+      rw (fault, recorded, version, newer, installs) (
+        (signature, key_found s.signers accepts signer),
+        rw left (left_at n (size_in g.text.comments.trusted) none g.sized),
+        refl,
+        omega (arith, none),
+      )
+
+  next_key : (n : ℕ) (s : State) (signers : List PublicKeyValue) → s.due ≡ due.CheckComment
+      → OnTrack n due.CheckComment (record s { signers = signers })
+      → false ≡ w.accepts (g.text.signature.signature ++ g.text.comments.trusted) (key_of signers)
+      (take 64 g.text.comments.signature)
+      → OnTrack n (due.next_key signers s).due (due.next_key signers s)
+  next_key n s [] at (is_o, none, recorded, fault, version, signature, left, signer) rejected =
+      absurd (none-some g.key signer)
+  next_key n s (v ∷ []) at (is_o, none, recorded, fault, version, signature, left, signer) rejected =
+      absurd (none-some g.key (rw (sym rejected) at signer))
+  next_key n s (v ∷ u ∷ more) at (is_o, none, recorded, fault, version, signature, left, signer) rejected =
+      let found = rw (sym rejected) at signer in
+      rw at (is_o, none, recorded, fault, version, signature, left, found)
+
+  after_piece : (n k : ℕ) (s : State) (left : Option ℕ) → s.due ≡ due.CopyData → Knows s → Left n left
+      → s.left ≡ left → s.read ≡ [] → n + k ≤ length w.update
+      → OnTrack (n + k) (due.after_piece k left s).due (due.after_piece k left s)
+  after_piece n k s None at knows is none read more = rw (at, none) (knows, tt, read, more)
+  after_piece n k s (Some left) at knows is none read more =
+      rw (le-leb k left (omega (arith, is, more)), at) (knows, omega (arith, is, more), read, more)
+
+  after_copy : (n : ℕ) (s : State) (left : Option ℕ) → Knows s → Left n left → s.read ≡ []
+      → n ≡ length w.update
+      → OnTrack n (due.after_copy left s).due (due.after_copy left s)
+  after_copy n s None knows is read all = (knows, (w.update, rw read refl))
+  after_copy n s (Some left) knows is read all =
+      rw (eq-eqb left 0 (omega (arith, is, all))) (knows, (w.update, rw read refl))
+
+  check_data : {P : Type 0} (s : State) → Knows s × (s.read ≡ w.update)
+      → false ≡ w.accepts (blake2b_digest 64 s.read) (key_of s.signers) s.signature → P
+  check_data s ((signature, key), read) rejected =
+      absurd (true≢false (sym g.signed_data ∙ sym (rw (read, key, signature) at rejected)))
+
+  keeps : (n : ℕ) (op : Operation) (e : Event) (s : State) → s.due ≡ op → OnTrack n op s → IsFine g e
+      → IsTrueEvent w n s op e → Stays n op e s
+  keeps n op (Failed f) s at on fine is = absurd fine
+  keeps n op InUse s at on fine is = absurd fine
+  keeps n due.Nothing e s at on fine is = absurd on
+  keeps n due.CheckRecord e s at on fine is = absurd on
+  keeps n due.ReadTarget e s at on fine is = absurd on
+  keeps n due.CheckTarget e s at on fine is = absurd on
+  keeps n due.SyncTarget e s at on fine is = absurd on
+  keeps n due.SyncTargetName e s at on fine is = absurd on
+  keeps n due.RemoveFiles e s at on fine is = absurd on
+  keeps n due.WouldInstall e s at on fine is = absurd on
+  keeps n due.AlreadyInstalled e s at on fine is = absurd on
+  keeps n due.Rejected e s at on fine is = absurd on
+  keeps n due.ReadRecord (RecordRead found) s at on fine is = after_record n s found on is
+  keeps n due.ReadSignature (SignatureRead text time) s at on fine is =
+      after_signature n s text time on fine is
+  keeps n due.CheckComment (Answered true) s at on fine is = after_comment n s on is
+  keeps n due.CheckComment (Answered false) s at on fine is =
+      next_key n s s.signers at on (rw on.5 at (is g.text g.parsed))
+  keeps n due.CopyData (PieceCopied k) s at (knows, left, read, more) fine is =
+      after_piece n k s s.left at knows left refl read is.1
+  keeps n due.CopyData Done s at (knows, left, read, more) fine is =
+      after_copy n s s.left knows left read is
+  keeps n due.ReadBack (PieceRead bytes) s at (knows, rest) fine is = rw at (knows, is.1)
+  keeps n due.ReadBack Done s at (knows, rest) fine is = (knows, is)
+  keeps n due.CheckData (Answered true) s at on fine is = tt
+  keeps n due.CheckData (Answered false) s at on fine is = check_data s on is
+  keeps n due.Lock Done s at on fine is = on
+  keeps n due.RemoveLeftovers Done s at on fine is = on
+  keeps n due.CreateFile Done s at on fine is = on
+  keeps n op Done s at on fine is = tt
+  keeps n op e s at on fine is = tt
+
+  moves : (n : ℕ) (e : Event) (s : State) (next : Option State) → is_some next ≡ true
+      → IfSome next (λ t. OnTrack (count n e) t.due t)
+      → OnTrack (count n e) (answer s next).1.due (answer s next).1
+  moves n e s (Some t) fits stays = stays
+  moves n e s None fits stays = absurd (true≢false (sym fits))
+
+  begins : (check : Bool) → OnTrack 0 (if check then due.ReadRecord else due.Lock) (begin o)
+  begins true = (refl, refl)
+  begins false = (refl, refl)
+
+  stays_on : (n : ℕ) (s : State) (events : List Event) (t : State) → OnTrack n s.due s
+      → IsRun (λ n s e. IsTrue w n s e × IsFine g e) n s events t → (m : ℕ) × OnTrack m t.due t
+  stays_on n s [] t on is = (n, rw is on)
+  stays_on n s (e ∷ more) t on (((fits, is), fine), rest) =
+      stays_on (count n e) (step s e).1 more t
+      (moves n e s (after s.due e s) fits (keeps n s.due e s refl on fine is)) rest
+
+  installed : (n : ℕ) (op : Operation) (s : State) → OnTrack n op s → has_ended op ≡ true
+      → op ≡ due.Installed
+  installed n due.Installed s on ended = refl
+  installed n due.WouldInstall s on ended = absurd on
+  installed n due.AlreadyInstalled s on ended = absurd on
+  installed n due.Rejected s on ended = absurd on
+  installed n op s on ended = absurd (true≢false (sym ended))
+
+  -- An answer always fits.
+  fits_comment : (s : State) (accepted : Bool)
+      → is_some (after due.CheckComment (Answered accepted) s) ≡ true
+  fits_comment s true = refl
+  fits_comment s false = refl
+
+  fits_data : (s : State) (accepted : Bool) → is_some (after due.CheckData (Answered accepted) s) ≡ true
+  fits_data s true = refl
+  fits_data s false = refl
+
+  -- The application has an event to report at each operation.
+  abbrev HasNext : ℕ → Operation → State → Type 0
+  HasNext n op s =
+      (e : Event) × (is_some (after op e s) ≡ true) × IsTrueEvent w n s op e × IsFine g e
+
+  next_piece : (n : ℕ) (s : State) → n ≤ length w.update → HasNext n due.CopyData s
+  next_piece n s more = elim (eq-or-lt_of_le more) [
+    | inl all ↦ (Done, refl, all, tt)
+    | inr less ↦ (PieceCopied (length w.update - n), refl, (omega (arith, less), omega (arith, less)), tt)
+  ]
+
+  next_bytes : (n : ℕ) (s : State) (rest : List ℕ) → s.read ++ rest ≡ w.update → HasNext n due.ReadBack s
+  next_bytes n s [] whole = (Done, refl, sym (append-nil s.read) ∙ whole, tt)
+  next_bytes n s (b ∷ rest) whole =
+      (PieceRead (b ∷ rest), refl, (omega arith, ([], append-nil (s.read ++ b ∷ rest) ∙ whole)), tt)
+
+  same_text : (t : SignatureTextRecord) → w.text ≡ Ok t → g.text ≡ t
+  same_text t parsed = let both : Ok g.text ≡ Ok t = sym g.parsed ∙ parsed in cc both
+
+  module _ (time : Option ℕ)
+      (fresh : comment_fault o g.recorded.version time g.text.comments.trusted ≡ None) where
+    has_next : (n : ℕ) (op : Operation) (s : State) → OnTrack n op s
+        → (op ≡ due.Installed) ⊎ HasNext n op s
+    has_next n due.Lock s on = inr (Done, refl, tt, tt)
+    has_next n due.ReadRecord s on = inr (RecordRead w.found, refl, refl, tt)
+    has_next n due.ReadSignature s on = inr (SignatureRead w.text time, refl, refl, fresh)
+    has_next n due.CheckComment s on =
+        inr (
+          Answered (asks w (comment_question s g.text)),
+          fits_comment s _,
+          λ t parsed. ap (λ x. asks w (comment_question s x)) (same_text t parsed),
+          tt,
+        )
+    has_next n due.RemoveLeftovers s on = inr (Done, refl, tt, tt)
+    has_next n due.CreateFile s on = inr (Done, refl, tt, tt)
+    has_next n due.CopyData s (knows, left, read, more) = inr (next_piece n s more)
+    has_next n due.ReadBack s (knows, (rest, whole)) = inr (next_bytes n s rest whole)
+    has_next n due.CheckData s on =
+        inr (Answered (asks w (data_question due.CheckData s)), fits_data s _, refl, tt)
+    has_next n due.SetPermissions s on = inr (Done, refl, tt, tt)
+    has_next n due.SyncFile s on = inr (Done, refl, tt, tt)
+    has_next n due.CreateRecord s on = inr (Done, refl, tt, tt)
+    has_next n due.WriteRecord s on = inr (Done, refl, tt, tt)
+    has_next n due.SyncRecord s on = inr (Done, refl, tt, tt)
+    has_next n due.RenameRecord s on = inr (Done, refl, tt, tt)
+    has_next n due.SyncRecordName s on = inr (Done, refl, tt, tt)
+    has_next n due.RenameFile s on = inr (Done, refl, tt, tt)
+    has_next n due.SyncFileName s on = inr (Done, refl, tt, tt)
+    has_next n due.Installed s on = inl refl
+    has_next n op s on = absurd on
+
+    -- With this many steps left.
+    arrives : (most n : ℕ) (s : State) → left w n s.due s ≤ most → OnTrack n s.due s
+        → (events : List Event) × (t : State)
+        × IsRun (λ n s e. IsTrue w n s e × IsFine g e) n s events t × (t.due ≡ due.Installed)
+    arrives zero n s few on = elim (has_next n s.due s on) [
+      | inl done ↦ ([], s, refl, done)
+      | inr (e, fits, is, fine) ↦ let less = step_less w n e s (fits, is) in absurd (omega
+          (arith, few, less))
+    ]
+    arrives (suc most) n s few on = elim (has_next n s.due s on) [
+      | inl done ↦ ([], s, refl, done)
+      | inr (e, fits, is, fine) ↦
+          let less = step_less w n e s (fits, is) in
+          let (more, t, run, done) = arrives most (count n e) (step s e).1 (omega (arith, few, less))
+          (moves n e s (after s.due e s) fits (keeps n s.due e s refl on fine is)) in
+          (e ∷ more, t, (((fits, is), fine), run), done)
+    ]
+
+-- If nothing fails and the update is good, a run that has ended has installed it.
+pub good_update_gets_installed : (w : World) (o : Options) (g : IsGoodUpdate w o) (events : List Event)
+    (t : State)
+    → IsGoodRun g events t → has_ended t.due ≡ true → t.due ≡ due.Installed
+good_update_gets_installed w o g events t run ended =
+    let (n, on) = stays_on w o g 0 (begin o) events t (begins w o g o.check) run in
+    installed w o g n t.due t on ended
+
+-- There is such a run, if the comment is not rejected at some time.
+pub good_update_has_run : (w : World) (o : Options) (g : IsGoodUpdate w o) (time : Option ℕ)
+    → comment_fault o g.recorded.version time g.text.comments.trusted ≡ None
+    → (events : List Event) × (t : State) × IsGoodRun g events t × (t.due ≡ due.Installed)
+good_update_has_run w o g time fresh =
+    arrives w o g time fresh (left w 0 (begin o).due (begin o)) 0 (begin o) (omega arith)
+    (begins w o g o.check)

@@ -1,0 +1,540 @@
+-- Each error is true, and a run ends well only if that is true.
+use Rattle.std.specs.Prelude.{◌≡◌, ◌≢◌, ◌<◌, ◌≤◌, ◌+◌, ◌-◌, ⊤, ℕ, Bool, true, false, List, [], ◌∷◌, length}
+use Rattle.std.specs.Prelude.{Option, Some, None, Result, Ok, Err, IfSome, ◌++◌, ◌||◌, ◌==◌, nat_le, not}
+use Rattle.std.specs.Prelude.{is_some, if◌then◌else◌, take}
+use Rattle.std.proofs.Common.{refl, inl, inr, sym, ap, ◌∙◌, arith, ltb-false, leb-false, eq-eqb, true≢false}
+use Rattle.std.proofs.Common.{unwrap_or, subst, leb-true}
+use Rattle.std.proofs.lemmas.Option.{none-some, same_Some}
+use Rattle.minisign.specs.SignatureText.{SignatureTextRecord}
+use Rattle.minisign_external.specs.declared.public_keys.PublicKeyValue.{PublicKeyValue}
+use Rattle.minisign_hash.specs.Blake2b.{blake2b_digest}
+use Rattle.minisign_external.specs.declared.state.Refusal.{Refusal}
+use Rattle.minisign_external.specs.declared.state.Refusal.TheVariants.{Refused}
+use Rattle.minisign_install.specs.Decisions.{Options, Recorded, comment_fault, is_below, judge_record}
+use Rattle.minisign_install.specs.Decisions.{judge_keys, judge_text, size_in, version_in}
+use Rattle.minisign_install.specs.Faults.{Fault, InstallFault, Library, OtherSize, SameNumber}
+use Rattle.minisign_install.specs.Step.{Event, Done, InUse, Failed, RecordRead, SignatureRead, Answered}
+use Rattle.minisign_install.specs.Step.{PieceRead, TargetMissing, PieceCopied, State, begin, step}
+use Rattle.minisign_install.specs.Step.{Operation, after, answer, has_files, key_of}
+use Rattle.minisign_install.specs.Step as due
+use Rattle.minisign_install.specs.StepRuns.{IsEnd, IsSameVersion, IsReason, IsRun, IsSigned, IsTrue}
+use Rattle.minisign_install.specs.StepRuns.{IsTrueEvent, World, accepts_digest, count, first_signer, total}
+use Rattle.minisign_install.proofs.StepSafety.{Passed, no_pass, pass, required, text_parsed}
+
+-- The keys that judge_text gives are some.
+abbrev key_count : Passed → ℕ
+key_count (Ok (t, signers)) = length signers
+key_count (Err e) = 0
+
+one_key : (v : PublicKeyValue) (more keys : List PublicKeyValue) (t u : SignatureTextRecord)
+    → pass t (v ∷ more) ≡ pass u keys → 0 < length keys
+one_key v more keys t u is =
+    let same : length (v ∷ more) ≡ length keys = ap key_count is in omega (arith, same)
+
+some_keys : (o : Options) (signers : List PublicKeyValue) (t u : SignatureTextRecord)
+    (keys : List PublicKeyValue) → judge_keys o signers t ≡ Ok (u, keys) → 0 < length keys
+some_keys o [] t u keys is = no_pass _ u keys is
+some_keys o (v ∷ more) t u keys is =
+    one_key v more keys t u (required _ _ _ (u, keys) (required _ _ _ (u, keys) is))
+
+some_signers : (o : Options) (text : Result SignatureTextRecord Fault) (t : SignatureTextRecord)
+    (keys : List PublicKeyValue) → judge_text o text ≡ Ok (t, keys) → 0 < length keys
+some_signers o (Err e) t keys is = no_pass e t keys (required _ _ _ (t, keys) is)
+some_signers o (Ok u) t keys is = some_keys o _ u t keys (required _ _ _ (t, keys) is)
+
+neither : (a b : Bool) → (a || b) ≡ false → (a ≡ false) × (b ≡ false)
+neither true b is = absurd (true≢false is)
+neither false b is = (refl, is)
+
+-- The error of a result.
+abbrev fault_of : Result Unit (Refusal InstallFault) → Option InstallFault
+fault_of (Err (Refused fault)) = Some fault
+fault_of result = None
+
+module _ (w : World) (o : Options) where
+  -- How much of the signed size is left after n bytes.
+  abbrev Left : ℕ → Option ℕ → Option ℕ → Type 0
+  Left n size None = ⊤
+  Left n size (Some left) = size ≡ Some (left + n)
+
+  -- The record and the comment were judged, and the keys before the signers have not signed it.
+  abbrev IsJudged : ℕ → State → Type 0
+  IsJudged n s =
+      (text : SignatureTextRecord) × (keys : List PublicKeyValue) × (time : Option ℕ) × (s.options ≡ o)
+      × (judge_record o w.found ≡ Ok s.recorded) × (w.text ≡ Ok text)
+      × (judge_text o w.text ≡ Ok (text, keys))
+      × (first_signer w text keys ≡ first_signer w text s.signers)
+      × (s.fault ≡ comment_fault o s.recorded.version time text.comments.trusted)
+      × (s.version ≡ unwrap_or (version_in o.numbering text.comments.trusted) 0)
+      × (s.signature ≡ text.signature.signature) × (s.left ≡ size_in text.comments.trusted) × (n ≡ 0)
+      × (0 < length s.signers)
+
+  -- The comment is signed, and not rejected.
+  abbrev IsAccepted : State → Type 0
+  IsAccepted s =
+      (g : IsSigned w o) × (time : Option ℕ) × (s.options ≡ o) × (s.recorded ≡ g.recorded)
+      × (comment_fault o g.recorded.version time g.text.comments.trusted ≡ None)
+      × (s.version ≡ unwrap_or (version_in o.numbering g.text.comments.trusted) 0)
+      × (s.signature ≡ g.text.signature.signature) × (key_of s.signers ≡ g.key)
+
+  -- The update is not newer than the recorded version.
+  abbrev IsNotNewer : State → Type 0
+  IsNotNewer s = (k : ℕ) × (s.recorded.version ≡ Some k) × (s.version ≤ k)
+
+  -- If the digest in the record is not that of the update, this is no roll-back.
+  abbrev IsCompared : (s : State) → IsAccepted s → Type 0
+  IsCompared s known =
+      s.is_recorded ≡ false → (due.is_rolling_back s ≡ false)
+      × ((digest : List ℕ) → s.recorded.digest ≡ Some digest → accepts_digest known.0 digest ≡ false)
+
+  -- What is known at each operation.
+  abbrev Known : ℕ → Operation → State → Type 0
+  Known n due.Lock s = (s.options ≡ o) × (n ≡ 0)
+  Known n due.ReadRecord s = (s.options ≡ o) × (n ≡ 0)
+  Known n due.ReadSignature s = (s.options ≡ o) × (n ≡ 0) × (judge_record o w.found ≡ Ok s.recorded)
+  Known n due.CheckComment s = IsJudged n s
+  Known n due.CheckRecord s =
+      (known : IsAccepted s) × Left n (size_in known.0.text.comments.trusted) s.left × IsNotNewer s
+  Known n due.ReadTarget s =
+      (known : IsAccepted s) × Left n (size_in known.0.text.comments.trusted) s.left × IsNotNewer s
+      × IsCompared s known
+  Known n due.CheckTarget s =
+      (known : IsAccepted s) × Left n (size_in known.0.text.comments.trusted) s.left × IsNotNewer s
+      × IsCompared s known
+  Known n due.SyncTarget s =
+      (known : IsAccepted s)
+      × ((installed : List ℕ) × (accepts_digest known.0 (blake2b_digest 64 installed) ≡ true))
+  Known n due.SyncTargetName s =
+      (known : IsAccepted s)
+      × ((installed : List ℕ) × (accepts_digest known.0 (blake2b_digest 64 installed) ≡ true))
+  Known n due.AlreadyInstalled s =
+      (known : IsAccepted s)
+      × ((installed : List ℕ) × (accepts_digest known.0 (blake2b_digest 64 installed) ≡ true))
+  Known n due.WouldInstall s = IsAccepted s × (o.check ≡ true)
+  Known n due.RemoveLeftovers s =
+      (known : IsAccepted s) × Left n (size_in known.0.text.comments.trusted) s.left
+  Known n due.CreateFile s =
+      (known : IsAccepted s) × Left n (size_in known.0.text.comments.trusted) s.left
+  Known n due.CopyData s =
+      (known : IsAccepted s) × Left n (size_in known.0.text.comments.trusted) s.left
+  Known n due.ReadBack s = IsAccepted s
+  Known n due.CheckData s = IsAccepted s × (s.read ≡ w.update)
+  Known n due.RemoveFiles s = ⊤
+  Known n due.Rejected s = ⊤
+  Known n due.Nothing s = ⊤
+  Known n op s =
+      (known : IsAccepted s) × (accepts_digest known.0 (blake2b_digest 64 w.update) ≡ true)
+
+  -- The event that set this error is a reason for it.
+  abbrev Explains : State → Event → Option InstallFault → Type 0
+  Explains s e error = (fault : InstallFault) → s.error ≡ None → error ≡ Some fault → IsReason w o s e fault
+
+  abbrev Holds : ℕ → State → Event → State → Type 0
+  Holds n s e t = Known n t.due t × Explains s e t.error
+
+  -- The error is unchanged.
+  calm : (s : State) (e : Event) → Explains s e s.error
+  calm s e fault none some = absurd (none-some fault (sym none ∙ some))
+
+  rejected : (n : ℕ) (is : Bool) (t : State) → Known n (if is then due.RemoveFiles else due.Rejected) t
+  rejected n true t = tt
+  rejected n false t = tt
+
+  reject : (n : ℕ) (fault : InstallFault) (s t : State) (e : Event) → IsReason w o s e fault
+      → Holds n s e (due.reject fault t)
+  reject n fault s t e why = (
+    rejected n (has_files t.due) (due.reject fault t),
+    λ other none some. subst (IsReason w o s e) (same_Some fault other some) why,
+  )
+
+  either : (n : ℕ) (is : Bool) (s x y : State) (e : Event) → (is ≡ true → Holds n s e x)
+      → (is ≡ false → Holds n s e y) → Holds n s e (if is then x else y)
+  either n true s x y e one other = one refl
+  either n false s x y e one other = other refl
+
+  to_install : (n : ℕ) (check : Bool) (s : State) (known : IsAccepted s) → check ≡ o.check
+      → Left n (size_in known.0.text.comments.trusted) s.left
+      → Known n (if check then due.WouldInstall else due.RemoveLeftovers) (due.install s)
+  to_install n true s known is sized = (known, sym is)
+  to_install n false s known is sized = (known, sized)
+
+  install : (n : ℕ) (s t : State) (e : Event) (known : IsAccepted t)
+      → Left n (size_in known.0.text.comments.trusted) t.left → t.error ≡ s.error
+      → Holds n s e (due.install t)
+  install n s t e known sized same = (
+    to_install n t.options.check t known (ap (λ (x : Options). x.check) known.2) sized,
+    λ fault none some. calm s e fault none (sym same ∙ some),
+  )
+
+  not_newer : (r : Option ℕ) (v : ℕ) → (not (is_some r) || is_below r (Some v)) ≡ false
+      → (k : ℕ) × (r ≡ Some k) × (v ≤ k)
+  not_newer None v is = absurd (true≢false is)
+  not_newer (Some k) v is = (k, refl, ltb-false k v is)
+
+  compare : (n : ℕ) (s t : State) (e : Event) (known : IsAccepted t)
+      → Left n (size_in known.0.text.comments.trusted) t.left → t.error ≡ s.error
+      → Holds n s e (due.compare t)
+  compare n s t e known sized same =
+      let quiet : Explains s e t.error = λ fault none some. calm s e fault none (sym same ∙ some) in
+      let in_place = install n s t e known sized same in
+      either n (due.is_newer t) s _ _ e (λ is. in_place) (λ old.
+      either n (is_some t.recorded.digest) s _ _ e
+      (λ is. ((known, sized, not_newer t.recorded.version t.version old), quiet)) (λ none.
+      either n (due.is_rolling_back t) s _ _ e (λ is. in_place)
+      (λ is. (
+        (
+          known,
+          sized,
+          not_newer t.recorded.version t.version old,
+          λ not. (is, λ digest some. absurd (true≢false (ap is_some (sym some) ∙ none))),
+        ),
+        quiet,
+      ))))
+
+  after_record : (n : ℕ) (s : State) (found : Option (List ℕ)) (r : Result Recorded InstallFault)
+      → Known n due.ReadRecord s → judge_record o w.found ≡ r
+      → Holds n s (RecordRead found) (due.after_record r s)
+  after_record n s found (Ok recorded) (same, none) counts =
+      ((same, none, counts), calm s (RecordRead found))
+  after_record n s found (Err fault) known counts = reject n fault s s (RecordRead found) (inl counts)
+
+  after_signature : (n : ℕ) (s : State) (text : Result SignatureTextRecord Fault) (r : Passed)
+      (time : Option ℕ) → Known n due.ReadSignature s → judge_text o w.text ≡ r
+      → Holds n s (SignatureRead text time) (due.after_signature r time s)
+  after_signature n s text (Ok (t, keys)) time (same, none, counts) passed = (
+    (
+      t,
+      keys,
+      time,
+      same,
+      counts,
+      text_parsed w o w.text t keys passed,
+      passed,
+      refl,
+      rw same refl,
+      rw same refl,
+      refl,
+      refl,
+      none,
+      some_signers o w.text t keys passed,
+    ),
+    calm s (SignatureRead text time),
+  )
+  after_signature n s text (Err f) time known passed =
+      reject n (Library f) s s (SignatureRead text time) (inr (inl (f, refl, passed)))
+
+  first_is : (t : SignatureTextRecord) (signers : List PublicKeyValue) → 0 < length signers
+      → true ≡ w.accepts (t.signature.signature ++ t.comments.trusted) (key_of signers)
+      (take 64 t.comments.signature) → first_signer w t signers ≡ Some (key_of signers)
+  first_is t [] some accepted = absurd (omega (arith, some))
+  first_is t (v ∷ more) some accepted = rw (sym accepted) refl
+
+  left_at : (n : ℕ) (size left : Option ℕ) → left ≡ size → n ≡ 0 → Left n size left
+  left_at n size None is none = tt
+  left_at n size (Some left) is none = sym is ∙ ap (λ (x : ℕ). Some x) (omega (arith, none))
+
+  by_fault : (n : ℕ) (s : State) (time : Option ℕ) (g : IsSigned w o) (fault : Option InstallFault)
+      → s.options ≡ o → s.recorded ≡ g.recorded
+      → comment_fault o g.recorded.version time g.text.comments.trusted ≡ fault
+      → s.version ≡ unwrap_or (version_in o.numbering g.text.comments.trusted) 0
+      → s.signature ≡ g.text.signature.signature → key_of s.signers ≡ g.key
+      → Left n (size_in g.text.comments.trusted) s.left
+      → Holds n s (Answered true) (due.after_comment fault (record s { is_signed = true }))
+  by_fault n s time g None same recorded none version signature key left =
+      compare n s (record s { is_signed = true }) (Answered true)
+      (g, time, same, recorded, none, version, signature, key) left refl
+  by_fault n s time g (Some fault) same recorded some version signature key left =
+      reject n fault s (record s { is_signed = true }) (Answered true) (inr (inr (inr (inl
+      (g, time, some)))))
+
+  after_comment : (n : ℕ) (s : State) (fault : Option InstallFault) (judged : IsJudged n s)
+      → s.fault ≡ fault → true ≡ w.accepts (s.signature ++ judged.0.comments.trusted) (key_of s.signers)
+      (take 64 judged.0.comments.signature)
+      → Holds n s (Answered true) (due.after_comment fault (record s { is_signed = true }))
+  after_comment n s fault (
+    text,
+    keys,
+    time,
+    same,
+    counts,
+    parsed,
+    passed,
+    signers,
+    is_fault,
+    version,
+    signature,
+    left,
+    none,
+    some,
+  )
+      is accepted =
+      let g : IsSigned w o = record {
+        recorded = s.recorded;
+        counts = counts;
+        text = text;
+        keys = keys;
+        passed = passed;
+        key = key_of s.signers;
+        signer = signers ∙ first_is text s.signers some (rw signature at accepted);
+      } in
+      by_fault n s time g fault same refl (sym is_fault ∙ is) version signature refl
+      (left_at n (size_in text.comments.trusted) s.left left none)
+
+  next_key : (n : ℕ) (s : State) (signers : List PublicKeyValue) → s.due ≡ due.CheckComment
+      → (judged : IsJudged n (record s { signers = signers }))
+      → false ≡ w.accepts (s.signature ++ judged.0.comments.trusted) (key_of signers)
+      (take 64 judged.0.comments.signature)
+      → Holds n s (Answered false) (due.next_key signers s)
+  next_key n s [] at
+      (text, keys, time, same, counts, parsed, passed, first, fault, version, signature, left, none, some)
+      wrong = reject n _ s s (Answered false) (inr (inr (inl (refl, (text, keys, passed, first)))))
+  next_key n s (v ∷ []) at
+      (text, keys, time, same, counts, parsed, passed, first, fault, version, signature, left, none, some)
+      wrong =
+      let wrong_key = rw signature at wrong in
+      reject n _ s s (Answered false)
+      (inr (inr (inl (refl, (text, keys, passed, rw (sym wrong_key) at first)))))
+  next_key n s (v ∷ u ∷ more) at
+      (text, keys, time, same, counts, parsed, passed, first, fault, version, signature, left, none, some)
+      wrong =
+      let wrong_key = rw signature at wrong in (
+        rw at (
+          text,
+          keys,
+          time,
+          same,
+          counts,
+          parsed,
+          passed,
+          rw (sym wrong_key) at first,
+          fault,
+          version,
+          signature,
+          left,
+          none,
+          omega arith,
+        ),
+        calm s (Answered false),
+      )
+
+  -- The answer is about the key and the signature of the update.
+  of_update : (s : State) (known : IsAccepted s) (digest : List ℕ) (accepted : Bool)
+      → accepted ≡ w.accepts digest (key_of s.signers) s.signature → accepts_digest known.0 digest ≡ accepted
+  of_update s (g, time, same, recorded, none, version, signature, key) digest accepted is =
+      sym (rw (key, signature) at is)
+
+  other_digest : (s : State) (digest : List ℕ) (known : IsAccepted s)
+      → false ≡ w.accepts (unwrap_or s.recorded.digest []) (key_of s.signers) s.signature
+      → s.recorded.digest ≡ Some digest → accepts_digest known.0 digest ≡ false
+  other_digest s digest known is some = of_update s known digest false (rw some at is)
+
+  same_number : (r : Option ℕ) (v k : ℕ) → r ≡ Some k → v ≤ k → is_below (Some v) r ≡ false → v ≡ k
+  same_number None v k is older not = absurd (none-some k is)
+  same_number (Some j) v k is older not = omega (arith, same_Some j k is, older, ltb-false v j not)
+
+  same_version : (s : State) (known : IsAccepted s) → IsNotNewer s → IsCompared s known
+      → (s.is_recorded || s.options.again) ≡ false
+      → false ≡ w.accepts (blake2b_digest 64 s.read) (key_of s.signers) s.signature
+      → IsSameVersion known.0
+  same_version s (g, time, same, recorded, none, version, signature, key)
+      (k, is_k, older) compared may_not is =
+      let known : IsAccepted s = (g, time, same, recorded, none, version, signature, key) in
+      let both = neither s.is_recorded s.options.again may_not in
+      let others = compared both.0 in
+      record {
+        not_again = sym (ap (λ (x : Options). x.again) same) ∙ both.1;
+        version = k;
+        recorded = sym (ap (λ (r : Recorded). r.version) recorded) ∙ is_k;
+        offered = sym version ∙ same_number s.recorded.version s.version k is_k older others.0;
+        installed = s.read;
+        other = of_update s known (blake2b_digest 64 s.read) false is;
+        other_digest =
+            λ digest some. others.1 digest (ap (λ (r : Recorded). r.digest) recorded ∙ some);
+      }
+
+  taken : (n k left : ℕ) → nat_le k left ≡ true → left + n ≡ (left - k) + (n + k)
+  taken n k left enough = omega (arith, leb-true k left enough)
+
+  too_long : (n k left : ℕ) → nat_le k left ≡ false → n + k ≤ length w.update → length w.update ≢ left + n
+  too_long n k left more fits same = omega (arith, leb-false k left more, fits, same)
+
+  too_short : (n left : ℕ) → (left == 0) ≡ false → n ≡ length w.update → length w.update ≢ left + n
+  too_short n left some all same =
+      true≢false (sym (eq-eqb left 0 (omega (arith, all, same))) ∙ some)
+
+  after_digest : (n : ℕ) (s : State) (accepted : Bool) → Known n due.CheckRecord s
+      → accepted ≡ w.accepts (unwrap_or s.recorded.digest []) (key_of s.signers) s.signature
+      → Holds n s (Answered accepted) (due.after_digest accepted s)
+  after_digest n s true (known, sized, older) is =
+      ((known, sized, older, λ not. absurd (true≢false not)), calm s (Answered true))
+  after_digest n s false (known, sized, older) is =
+      either n (due.is_rolling_back s) s _ _ (Answered false)
+      (λ back. install n s s (Answered false) known sized refl)
+      (λ not. (
+        (known, sized, older, λ no_digest. (not, λ digest some. other_digest s digest known is some)),
+        calm s (Answered false),
+      ))
+
+  stands : (n : ℕ) (check : Bool) (t : State) (known : IsAccepted t)
+      → ((installed : List ℕ) × (accepts_digest known.0 (blake2b_digest 64 installed) ≡ true))
+      → Known n (if check then due.AlreadyInstalled else due.SyncTarget) t
+  stands n true t known is = (known, is)
+  stands n false t known is = (known, is)
+
+  after_target : (n : ℕ) (s : State) (accepted : Bool) → Known n due.CheckTarget s
+      → accepted ≡ w.accepts (blake2b_digest 64 s.read) (key_of s.signers) s.signature
+      → Holds n s (Answered accepted) (due.after_target accepted s)
+  after_target n s true (known, sized, older, compared) is = (
+    stands n s.options.check (due.after_target true s) known (s.read, of_update s known _ true is),
+    calm s (Answered true),
+  )
+  after_target n s false (known, sized, older, compared) is =
+      either n (s.is_recorded || s.options.again) s _ _ (Answered false)
+      (λ may. install n s s (Answered false) known sized refl)
+      (λ may_not. reject n SameNumber s s (Answered false)
+      (inr (inr (inr (inr (inl (known.0, refl, same_version s known older compared may_not is)))))))
+
+  after_piece : (n k : ℕ) (s : State) (left : Option ℕ) → s.due ≡ due.CopyData → s.left ≡ left
+      → (known : IsAccepted s) → Left n (size_in known.0.text.comments.trusted) left
+      → n + k ≤ length w.update → Holds (n + k) s (PieceCopied k) (due.after_piece k left s)
+  after_piece n k s None at is_left known sized fits =
+      (rw (at, is_left) (known, tt), calm s (PieceCopied k))
+  after_piece n k s (Some left) at is_left known sized fits =
+      either (n + k) (nat_le k left) s _ _ (PieceCopied k)
+      (λ enough. (
+        rw at (known, sized ∙ ap (λ (x : ℕ). Some x) (taken n k left enough)),
+        calm s (PieceCopied k),
+      ))
+      (λ more. reject (n + k) OtherSize s s (PieceCopied k)
+      (inr (inr (inr (inr (inr (inl (known.0, refl, (left + n, sized, too_long n k left more fits)))))))))
+
+  after_copy : (n : ℕ) (s : State) (left : Option ℕ) → (known : IsAccepted s)
+      → Left n (size_in known.0.text.comments.trusted) left → n ≡ length w.update
+      → Holds n s Done (due.after_copy left s)
+  after_copy n s None known sized all = (known, calm s Done)
+  after_copy n s (Some left) known sized all =
+      either n (left == 0) s _ _ Done (λ nothing. (known, calm s Done))
+      (λ some. reject n OtherSize s s Done
+      (inr (inr (inr (inr (inr (inl (known.0, refl, (left + n, sized, too_short n left some all)))))))))
+
+  maybe : (n : ℕ) (is : Bool) (s t : State) (e : Event) → Holds n s e t
+      → IfSome (if is then Some t else None) (Holds n s e)
+  maybe n true s t e holds = holds
+  maybe n false s t e holds = tt
+
+  keeps : (n : ℕ) (op : Operation) (e : Event) (s : State) → s.due ≡ op → Known n op s
+      → IsTrueEvent w n s op e → IfSome (after op e s) (Holds (count n e) s e)
+  keeps n due.Nothing (Failed f) s at known is = tt
+  keeps n due.Installed (Failed f) s at known is = tt
+  keeps n due.AlreadyInstalled (Failed f) s at known is = tt
+  keeps n due.WouldInstall (Failed f) s at known is = tt
+  keeps n due.Rejected (Failed f) s at known is = tt
+  keeps n due.RemoveFiles (Failed f) s at known is =
+      maybe n (due.is_failure f) s (due.go due.Rejected s) (Failed f) (tt, calm s (Failed f))
+  keeps n op (Failed f) s at known is =
+      maybe n (due.is_failure f) s (due.reject (due.failure s.due f) s) (Failed f)
+      (reject n (due.failure s.due f) s s (Failed f) refl)
+  keeps n due.Lock InUse s at known is = reject n _ s s InUse refl
+  keeps n due.ReadRecord (RecordRead found) s at known is =
+      after_record n s found (judge_record s.options found) known (rw (known.0, is) refl)
+  keeps n due.ReadSignature (SignatureRead text time) s at known is =
+      after_signature n s text (judge_text s.options text) time known (rw (known.0, is) refl)
+  keeps n due.CheckComment (Answered true) s at known is = after_comment n s s.fault known refl
+      (is known.0 known.5)
+  keeps n due.CheckComment (Answered false) s at known is = next_key n s s.signers at known
+      (is known.0 known.5)
+  keeps n due.CheckRecord (Answered accepted) s at known is = after_digest n s accepted known is
+  keeps n due.ReadTarget (PieceRead bytes) s at known is = (rw at known, calm s (PieceRead bytes))
+  keeps n due.ReadTarget TargetMissing s at (known, sized, older, compared) is =
+      install n s s TargetMissing known sized refl
+  keeps n due.CheckTarget (Answered accepted) s at known is = after_target n s accepted known is
+  keeps n due.CopyData (PieceCopied k) s at (known, sized) is =
+      after_piece n k s s.left at refl known sized is.1
+  keeps n due.CopyData Done s at (known, sized) is = after_copy n s s.left known sized is
+  keeps n due.ReadBack (PieceRead bytes) s at known is = (rw at known, calm s (PieceRead bytes))
+  keeps n due.ReadBack Done s at known is = ((known, is), calm s Done)
+  keeps n due.CheckData (Answered true) s at (known, whole) is = (
+    (
+      known,
+      ap (λ m. accepts_digest known.0 (blake2b_digest 64 m)) (sym whole)
+          ∙ of_update s known _ true is,
+    ),
+    calm s (Answered true),
+  )
+  keeps n due.CheckData (Answered false) s at (known, whole) is =
+      reject n _ s s (Answered false)
+      (inr (inr (inr (inr (inr (inr (
+        known.0,
+        refl,
+        ap (λ m. accepts_digest known.0 (blake2b_digest 64 m)) (sym whole)
+            ∙ of_update s known _ false is,
+      )))))))
+  keeps n due.RemoveFiles Done s at known is = (tt, calm s Done)
+  keeps n due.Nothing Done s at known is = tt
+  keeps n due.Installed Done s at known is = tt
+  keeps n due.AlreadyInstalled Done s at known is = tt
+  keeps n due.WouldInstall Done s at known is = tt
+  keeps n due.Rejected Done s at known is = tt
+  keeps n due.ReadRecord Done s at known is = tt
+  keeps n due.ReadSignature Done s at known is = tt
+  keeps n due.CheckComment Done s at known is = tt
+  keeps n due.CheckRecord Done s at known is = tt
+  keeps n due.CheckTarget Done s at known is = tt
+  keeps n due.CheckData Done s at known is = tt
+  keeps n op Done s at known is = (known, calm s Done)
+  keeps n op e s at known is = tt
+
+  moves : (n : ℕ) (e : Event) (s : State) (next : Option State) → is_some next ≡ true
+      → IfSome next (Holds (count n e) s e) → Known (count n e) (answer s next).1.due (answer s next).1
+  moves n e s (Some t) fits holds = holds.0
+  moves n e s None fits holds = absurd (true≢false (sym fits))
+
+  known_at : (n : ℕ) (s : State) (events : List Event) (t : State) → Known n s.due s
+      → IsRun (IsTrue w) n s events t → Known (total n events) t.due t
+  known_at n s [] t known is = rw is known
+  known_at n s (e ∷ more) t known ((fits, is), run) =
+      known_at (count n e) (step s e).1 more t
+      (moves n e s (after s.due e s) fits (keeps n s.due e s refl known is)) run
+
+  begins : (check : Bool) → Known 0 (if check then due.ReadRecord else due.Lock) (begin o)
+  begins true = (refl, refl)
+  begins false = (refl, refl)
+
+  ends : (n : ℕ) (op : Operation) (s : State) → Known n op s → IsEnd w o op
+  ends n due.Installed s ((g, time, same, recorded, none, version, signature, key), whole) =
+      (g, time, none, whole)
+  ends n due.AlreadyInstalled s ((g, time, same, recorded, none, version, signature, key), there) =
+      (g, time, none, there)
+  ends n due.WouldInstall s ((g, time, same, recorded, none, version, signature, key), check) =
+      (check, (g, time, none))
+  ends n op s known = tt
+
+  refused : (before now : Option InstallFault) (fault : InstallFault)
+      → due.result_of before now ≡ Err (Refused fault) → (before ≡ None) × (now ≡ Some fault)
+  refused None (Some f) fault is = (refl, ap fault_of is)
+  refused None None fault is = absurd (none-some fault (ap fault_of is))
+  refused (Some f) now fault is = absurd (none-some fault (ap fault_of is))
+
+  explains : (n : ℕ) (s : State) (e : Event) (next : Option State) (fault : InstallFault)
+      → IfSome next (Holds n s e) → (answer s next).0 ≡ Err (Refused fault) → IsReason w o s e fault
+  explains n s e (Some t) fault holds is =
+      let both = refused s.error t.error fault is in holds.1 fault both.0 both.1
+  explains n s e None fault holds is = absurd (none-some fault (ap fault_of is))
+
+  run_knows : (events : List Event) (t : State) → IsRun (IsTrue w) 0 (begin o) events t
+      → Known (total 0 events) t.due t
+  run_knows events t run = known_at 0 (begin o) events t (begins o.check) run
+
+-- An error that a step returns is true of what the run found, or the operation failed, or the lock is in
+-- use.
+pub errors_are_true : (w : World) (o : Options) (events : List Event) (s : State) (e : Event)
+    (fault : InstallFault) → IsRun (IsTrue w) 0 (begin o) events s → IsTrue w (total 0 events) s e
+    → (step s e).0 ≡ Err (Refused fault) → IsReason w o s e fault
+errors_are_true w o events s e fault run (fits, is) refuses =
+    explains w o (count (total 0 events) e) s e (after s.due e s) fault
+    (keeps w o (total 0 events) s.due e s refl (run_knows w o events s run) is) refuses
+
+-- A run that ends well tells the truth.
+pub ends_are_true : (w : World) (o : Options) (events : List Event) (t : State)
+    → IsRun (IsTrue w) 0 (begin o) events t → IsEnd w o t.due
+ends_are_true w o events t run = ends w o (total 0 events) t.due t (run_knows w o events t run)

@@ -1,0 +1,47 @@
+-- The record that a run writes is read by the next run.
+use Rattle.std.specs.Prelude.{◌≡◌, ◌<◌, ◌^◌, ℕ, List, false, length, Some, None, Ok}
+use Rattle.std.proofs.Common.{refl, sym, ◌∙◌}
+use Rattle.std.proofs.lemmas.Option.{none-some}
+use Rattle.minisign_hash.specs.Blake2b.{blake2b_digest}
+use Rattle.minisign_install.specs.Comments.{Numbering}
+use Rattle.minisign_install.specs.Decisions.{Options, judge_record, recorded_version}
+use Rattle.minisign_install.specs.RecordTexts.{HasNoNumber, IsNumberFor, record_digest, record_key}
+use Rattle.minisign_install.specs.Step.{State, new_key, new_record, new_version}
+use Rattle.minisign_install.proofs.Decisions.{number_reads}
+use Rattle.minisign_install.proofs.RecordTexts.{digest_bytes, digest_reads, length_digest, record_reads}
+
+-- A record holds the number that is read.
+pub recorded_reads : (numbering : Numbering) (bytes : List ℕ) (n : ℕ) → IsNumberFor numbering bytes n
+    → recorded_version numbering bytes ≡ Some n
+recorded_reads numbering bytes n is = number_reads _ n is.number
+
+-- A record from which none is read holds none.
+pub none_recorded : (numbering : Numbering) (bytes : List ℕ) → recorded_version numbering bytes ≡ None
+    → HasNoNumber numbering bytes
+none_recorded numbering bytes none n is = none-some n (sym none ∙ recorded_reads numbering bytes n is)
+
+-- The version and the digest that a run records are what the next run reads.
+pub new_version_reads : (s : State) → new_version s < 2 ^ 64 → length (new_key s) ≡ 32
+    → recorded_version s.options.numbering (new_record s) ≡ Some (new_version s)
+new_version_reads s bound whole =
+    recorded_reads s.options.numbering (new_record s) (new_version s)
+    (record_reads s.options.numbering (new_version s) bound (new_key s) (blake2b_digest 64 s.read) whole
+    (length_digest s.read))
+
+pub new_digest_reads : (s : State) → new_version s < 2 ^ 64 → length (new_key s) ≡ 32
+    → record_digest (new_record s) ≡ Some (blake2b_digest 64 s.read)
+new_digest_reads s bound whole =
+    digest_reads s.options.numbering (new_version s) bound (new_key s) (blake2b_digest 64 s.read) whole
+    (length_digest s.read) (digest_bytes s.read)
+
+-- So a run that was cut off after it renamed its record is finished by the next one: the version of the
+-- update is the recorded one, and the digest in the record is that of its data.
+pub next_run_reads : (o : Options) (s : State) → o.first ≡ false → o.new_key ≡ false
+    → o.numbering ≡ s.options.numbering → new_version s < 2 ^ 64 → length (new_key s) ≡ 32
+    → judge_record o (Some (new_record s)) ≡ Ok (record {
+      version = Some (new_version s);
+      key = record_key (new_record s);
+      digest = Some (blake2b_digest 64 s.read);
+    })
+next_run_reads o s not_first not_new same bound whole =
+    rw (same, new_version_reads s bound whole, not_first, not_new, new_digest_reads s bound whole) refl

@@ -1,0 +1,452 @@
+-- Whatever happens, only an update that a given key has signed gets to the target, and its record goes
+-- first.
+use Rattle.std.specs.Prelude.{◌≡◌, ◌≤◌, ⊤, ℕ, Bool, true, false, List, [], ◌∷◌, Option, Some, None, Result}
+use Rattle.std.specs.Prelude.{Ok, Err, IfSome, ◌++◌, ◌||◌, ◌&&◌, ◌==◌, nat_le, nat_lt, not, is_some}
+use Rattle.std.specs.Prelude.{if◌then◌else◌}
+use Rattle.std.proofs.Common.{refl, inl, inr, sym, ap, ◌∙◌, append_assoc, arith, le_of_eq, ltb-false}
+use Rattle.std.proofs.Common.{true≢false, unwrap_or}
+use Rattle.std.proofs.lemmas.Option.{none-some, same_Some}
+use Rattle.minisign.specs.SignatureText.{SignatureTextRecord}
+use Rattle.minisign_external.specs.declared.public_keys.PublicKeyValue.{PublicKeyValue}
+use Rattle.minisign.specs.Texts.{require}
+use Rattle.minisign_base.specs.declared.faults.NamedFault.{NamedFault}
+use Rattle.minisign_install.specs.Decisions.{Options, Recorded, comment_fault, is_below, judge_keys}
+use Rattle.minisign_install.specs.Decisions.{judge_record, judge_text, judge_version, names_other_key}
+use Rattle.minisign_install.specs.Decisions.{nothing_recorded, recorded_version, version_in}
+use Rattle.minisign_install.specs.Faults.{Fault, InstallFault, Library, OtherSize, SameNumber}
+use Rattle.minisign_install.specs.Step.{Event, Done, InUse, Failed, RecordRead, SignatureRead, Answered}
+use Rattle.minisign_install.specs.Step.{PieceRead, TargetMissing, PieceCopied, State, begin, step}
+use Rattle.minisign_install.specs.Step.{Operation, after, answer, comment_question, data_question}
+use Rattle.minisign_install.specs.Step.{has_files, new_record}
+use Rattle.minisign_install.specs.Step as due
+use Rattle.minisign_install.specs.StepRuns.{IsTrueEvent, World, count, Changes, Disk, IsSafe, HasVersion}
+use Rattle.minisign_install.specs.StepRuns.{IsForgotten, IsUpdate, Runs, asks}
+
+pub required : {V : Type 0} (holds : Bool) (fault : NamedFault) (more : Result V Fault) (v : V)
+    → require holds fault more ≡ Ok v → more ≡ Ok v
+required true fault more v is = is
+required false fault more v is = cc is
+
+-- What judge_text gives.
+abbrev pub Passed : Type 0
+Passed = Result (SignatureTextRecord × List PublicKeyValue) Fault
+
+abbrev pub pass : SignatureTextRecord → List PublicKeyValue → Passed
+pass t keys = Ok (t, keys)
+
+abbrev stop : Fault → Passed
+stop e = Err e
+
+pub no_pass : {P : Type 0} (e : Fault) (t : SignatureTextRecord) (keys : List PublicKeyValue)
+    → stop e ≡ pass t keys → P
+no_pass e t keys is = cc is
+
+abbrev text_of : SignatureTextRecord → Passed → SignatureTextRecord
+text_of t (Ok (u, keys)) = u
+text_of t (Err e) = t
+
+one_pass : (t u : SignatureTextRecord) (keys others : List PublicKeyValue) → pass t keys ≡ pass u others
+    → t ≡ u
+one_pass t u keys others is = ap (text_of t) is
+
+-- The version of what was read.
+abbrev version_of : Result Recorded InstallFault → Option ℕ
+version_of (Ok r) = r.version
+version_of (Err e) = None
+
+no_version : (first : Bool) (e : InstallFault) (r : Recorded)
+    → (if first then Ok nothing_recorded else Err e) ≡ Ok r → None ≡ r.version
+no_version true e r is = ap version_of is
+no_version false e r is = ap version_of is
+
+first_given : (first : Bool) (e : InstallFault) (r : Recorded)
+    → (if first then Ok nothing_recorded else Err e) ≡ Ok r → first ≡ true
+first_given true e r is = refl
+first_given false e r is = cc is
+
+counts_or_not : (forgets : Bool) (n k : ℕ) (key digest : Option (List ℕ))
+    → version_of (if forgets then Ok nothing_recorded
+    else Ok (record { version = Some n; key = key; digest = digest })) ≡ Some k
+    → Some n ≡ Some k
+counts_or_not true n k key digest is = absurd (none-some k is)
+counts_or_not false n k key digest is = is
+
+both_given : (given other : Bool) (n : ℕ) (key digest : Option (List ℕ))
+    → version_of (if given && other then Ok nothing_recorded
+    else Ok (record { version = Some n; key = key; digest = digest })) ≡ None
+    → (given ≡ true) × (other ≡ true)
+both_given true true n key digest is = (refl, refl)
+both_given true false n key digest is = absurd (none-some n (sym is))
+both_given false other n key digest is = absurd (none-some n (sym is))
+
+module _ (w : World) (o : Options) where
+  same_text : (signers : List PublicKeyValue) (t u : SignatureTextRecord) (keys : List PublicKeyValue)
+      → judge_keys o signers t ≡ Ok (u, keys) → t ≡ u
+  same_text [] t u keys is = no_pass _ u keys is
+  same_text (v ∷ more) t u keys is =
+      one_pass t u (v ∷ more) keys (required _ _ _ (u, keys) (required _ _ _ (u, keys) is))
+
+  pub text_parsed : (text : Result SignatureTextRecord Fault) (t : SignatureTextRecord)
+      (keys : List PublicKeyValue) → judge_text o text ≡ Ok (t, keys) → text ≡ Ok t
+  text_parsed (Err e) t keys is = no_pass e t keys (required _ _ _ (t, keys) is)
+  text_parsed (Ok u) t keys is =
+      ap (λ x. Ok x) (same_text _ u t keys (required _ _ _ (t, keys) is))
+
+  counted : (bytes : List ℕ) (version : Option ℕ) (r : Recorded) (k : ℕ)
+      → judge_version o bytes version ≡ Ok r → r.version ≡ Some k → version ≡ Some k
+  counted bytes None r k is some = absurd (none-some k (no_version o.first _ r is ∙ some))
+  counted bytes (Some n) r k is some =
+      counts_or_not ((o.first || o.new_key) && names_other_key o bytes) n k _ _
+      (ap version_of is ∙ some)
+
+  has_version : (found : Option (List ℕ)) (r : Recorded) (k : ℕ) → judge_record o found ≡ Ok r
+      → r.version ≡ Some k → HasVersion o found k
+  has_version None r k is some = absurd (none-some k (no_version o.first _ r is ∙ some))
+  has_version (Some bytes) r k is some = (bytes, refl, counted bytes _ r k is some)
+
+  forgets : (bytes : List ℕ) (version : Option ℕ) (r : Recorded)
+      → recorded_version o.numbering bytes ≡ version
+      → judge_version o bytes version ≡ Ok r → r.version ≡ None → IsForgotten o (Some bytes)
+  forgets bytes None r reads is none = inl (first_given o.first _ r is, reads)
+  forgets bytes (Some n) r reads is none =
+      inr (both_given (o.first || o.new_key) (names_other_key o bytes) n _ _ (ap version_of is ∙ none))
+
+  forgotten : (found : Option (List ℕ)) (r : Recorded) → judge_record o found ≡ Ok r
+      → r.version ≡ None → IsForgotten o found
+  forgotten None r is none = first_given o.first _ r is
+  forgotten (Some bytes) r is none = forgets bytes (recorded_version o.numbering bytes) r refl is none
+
+  -- The record was judged, and the comment. fault says why the comment is rejected.
+  abbrev IsJudged : State → Type 0
+  IsJudged s =
+      (text : SignatureTextRecord) × (keys : List PublicKeyValue) × (others : List PublicKeyValue)
+      × (time : Option ℕ) × (s.options ≡ o) × (judge_record o w.found ≡ Ok s.recorded) × (w.text ≡ Ok text)
+      × (judge_text o (Ok text) ≡ Ok (text, keys)) × (others ++ s.signers ≡ keys)
+      × (s.fault ≡ comment_fault o s.recorded.version time text.comments.trusted)
+      × (s.version ≡ unwrap_or (version_in o.numbering text.comments.trusted) 0)
+      × (s.signature ≡ text.signature.signature)
+
+  -- The comment is not rejected, and the first of the signers has signed it.
+  abbrev IsAccepted : State → Type 0
+  IsAccepted s =
+      (judged : IsJudged s) × (s.fault ≡ None) × (asks w (comment_question s judged.0) ≡ true)
+
+  -- The data has been accepted too.
+  abbrev IsWhole : State → Type 0
+  IsWhole s = IsAccepted s × (asks w (data_question due.CheckData s) ≡ true)
+
+  not_below : (r : Option ℕ) (v k : ℕ) → r ≡ Some k
+      → k ≤ (if is_below (Some v) r then unwrap_or r v else v)
+  not_below None v k is = absurd (none-some k is)
+  not_below (Some j) v k is = elim (nat_lt v j) as (λ b. nat_lt v j ≡ b → k ≤ (if b then j else v)) [
+    | true ↦ λ below. le_of_eq (sym (same_Some j k is))
+    | false ↦ λ not. omega (arith, same_Some j k is, ltb-false v j not)
+  ] refl
+
+  update_of : (s : State) → IsWhole s → IsUpdate w o s
+  update_of s (
+    (
+      (text, keys, others, time, same, counts, parsed, passed, given, fault, version, signature),
+      none,
+      comment,
+    ),
+    whole,
+  ) = record {
+    same = same;
+    counts = counts;
+    text = text;
+    parsed = parsed;
+    keys = keys;
+    passed = passed;
+    others = others;
+    given = given;
+    time = time;
+    wanted = sym fault ∙ none;
+    version = version;
+    signature = signature;
+    signed_comment = comment;
+    signed_data = whole;
+    not_older = λ k is. (
+      has_version w.found s.recorded k counts is,
+      not_below s.recorded.version
+          s.version k is,
+    );
+    forgotten = forgotten w.found s.recorded counts;
+  }
+
+  -- What is known at each operation.
+  abbrev Known : Operation → State → Type 0
+  Known due.Lock s = s.options ≡ o
+  Known due.ReadRecord s = s.options ≡ o
+  Known due.ReadSignature s = (s.options ≡ o) × (judge_record o w.found ≡ Ok s.recorded)
+  Known due.CheckComment s = IsJudged s
+  Known due.CheckRecord s = IsAccepted s
+  Known due.ReadTarget s = IsAccepted s
+  Known due.CheckTarget s = IsAccepted s
+  Known due.SyncTarget s = IsAccepted s
+  Known due.SyncTargetName s = IsAccepted s
+  Known due.RemoveLeftovers s = IsAccepted s
+  Known due.CreateFile s = IsAccepted s
+  Known due.CopyData s = IsAccepted s
+  Known due.ReadBack s = IsAccepted s
+  Known due.CheckData s = IsAccepted s
+  Known due.AlreadyInstalled s = IsAccepted s
+  Known due.WouldInstall s = IsAccepted s
+  Known due.RemoveFiles s = ⊤
+  Known due.Rejected s = ⊤
+  Known due.Nothing s = ⊤
+  Known op s = IsWhole s
+
+  module _ (old : Disk) where
+    -- What was changed by then.
+    abbrev Changed : Operation → State → Disk → Type 0
+    Changed due.SyncRecordName s new = (new.target ≡ old.target) × (new.record_bytes ≡ Some (new_record s))
+    Changed due.RenameFile s new = (new.target ≡ old.target) × (new.record_bytes ≡ Some (new_record s))
+    Changed due.SyncFileName s new = (new.target ≡ Some s.read) × (new.record_bytes ≡ Some (new_record s))
+    Changed due.Installed s new = (new.target ≡ Some s.read) × (new.record_bytes ≡ Some (new_record s))
+    Changed due.RemoveFiles s new = IsSafe w o old new
+    Changed due.Rejected s new = IsSafe w o old new
+    Changed op s new = new ≡ old
+
+    abbrev Holds : Operation → State → Disk → Type 0
+    Holds op s new = Known op s × Changed op s new
+
+    safe_at : (op : Operation) (s : State) (new : Disk) → Holds op s new → IsSafe w o old new
+    safe_at due.SyncRecordName s new (known, (target, recorded)) =
+        inr (s, update_of s known, recorded, inl target)
+    safe_at due.RenameFile s new (known, (target, recorded)) =
+        inr (s, update_of s known, recorded, inl target)
+    safe_at due.SyncFileName s new (known, (target, recorded)) =
+        inr (s, update_of s known, recorded, inr target)
+    safe_at due.Installed s new (known, (target, recorded)) =
+        inr (s, update_of s known, recorded, inr target)
+    safe_at due.RemoveFiles s new (known, safe) = safe
+    safe_at due.Rejected s new (known, safe) = safe
+    safe_at op s new (known, same) = inl same
+
+    failed : (op : Operation) (f : NamedFault) (s : State) (mid new : Disk) → Holds op s mid
+        → Changes op s (Failed f) mid new → IsSafe w o old new
+    failed due.RenameRecord f s mid new (known, same) (inl is) = inl (is ∙ same)
+    failed due.RenameRecord f s mid new (known, same) (inr is) =
+        inr (
+          s,
+          update_of s known,
+          ap (λ (d : Disk). d.record_bytes) is,
+          inl (ap (λ (d : Disk). d.target) is ∙ ap (λ (d : Disk). d.target) same),
+        )
+    failed due.RenameFile f s mid new (known, (target, recorded)) (inl is) =
+        inr (s, update_of s known, rw is recorded, inl (rw is target))
+    failed due.RenameFile f s mid new (known, (target, recorded)) (inr is) =
+        inr (s, update_of s known, rw is recorded, inr (ap (λ (d : Disk). d.target) is))
+    failed op f s mid new holds is = rw is (safe_at op s mid holds)
+
+    -- A run that is rejected has changed nothing more.
+    rejected : (is : Bool) (s : State) (new : Disk) → IsSafe w o old new
+        → Holds (if is then due.RemoveFiles else due.Rejected) s new
+    rejected true s new safe = (tt, safe)
+    rejected false s new safe = (tt, safe)
+
+    reject : (fault : InstallFault) (s : State) (new : Disk) → IsSafe w o old new
+        → Holds (due.reject fault s).due (due.reject fault s) new
+    reject fault s new safe = rejected (has_files s.due) (due.reject fault s) new safe
+
+    after_record : (s : State) (new : Disk) (r : Result Recorded InstallFault) → s.options ≡ o → new ≡ old
+        → judge_record o w.found ≡ r → Holds (due.after_record r s).due (due.after_record r s) new
+    after_record s new (Ok recorded) same is counts = ((same, counts), is)
+    after_record s new (Err fault) same is counts = reject fault s new (inl is)
+
+    after_signature : (s : State) (new : Disk) (r : Passed) (time : Option ℕ)
+        → Known due.ReadSignature s → new ≡ old → judge_text o w.text ≡ r
+        → Holds (due.after_signature r time s).due (due.after_signature r time s) new
+    after_signature s new (Ok (t, keys)) time (same, counts) is passed =
+        let parsed = text_parsed w.text t keys passed in
+        let again : judge_text o (Ok t) ≡ Ok (t, keys) = rw parsed at passed in
+        ((t, keys, [], time, same, counts, parsed, again, refl, rw same refl, rw same refl, refl), is)
+    after_signature s new (Err fault) time known is passed = reject (Library fault) s new (inl is)
+
+    -- Whichever of the operations comes next.
+    either : (is : Bool) (s t : State) (new : Disk) → Holds s.due s new → Holds t.due t new
+        → Holds (if is then s else t).due (if is then s else t) new
+    either true s t new one other = one
+    either false s t new one other = other
+
+    to_install : (check : Bool) (s : State) (new : Disk) → IsAccepted s → new ≡ old
+        → Holds (if check then due.WouldInstall else due.RemoveLeftovers) (due.install s) new
+    to_install true s new accepted is = (accepted, is)
+    to_install false s new accepted is = (accepted, is)
+
+    install : (s : State) (new : Disk) → IsAccepted s → new ≡ old
+        → Holds (due.install s).due (due.install s) new
+    install s new accepted is = to_install s.options.check s new accepted is
+
+    compare : (s : State) (new : Disk) → IsAccepted s → new ≡ old
+        → Holds (due.compare s).due (due.compare s) new
+    compare s new accepted is =
+        either (due.is_newer s) _ _ new (install s new accepted is)
+        (either (is_some s.recorded.digest) _ _ new (accepted, is)
+        (either (due.is_rolling_back s) _ _ new (install s new accepted is) (accepted, is)))
+
+    after_comment : (s : State) (new : Disk) (fault : Option InstallFault) → (judged : IsJudged s)
+        → s.fault ≡ fault → asks w (comment_question s judged.0) ≡ true → new ≡ old
+        → Holds (due.after_comment fault (record s { is_signed = true })).due
+        (due.after_comment fault (record s { is_signed = true })) new
+    after_comment s new None judged none comment is =
+        compare (record s { is_signed = true }) new (judged, none, comment) is
+    after_comment s new (Some fault) judged some comment is =
+        reject fault (record s { is_signed = true }) new (inl is)
+
+    next_key : (s : State) (new : Disk) (signers : List PublicKeyValue) → s.due ≡ due.CheckComment
+        → IsJudged (record s { signers = signers }) → new ≡ old
+        → Holds (due.next_key signers s).due (due.next_key signers s) new
+    next_key s new [] at judged is = reject _ s new (inl is)
+    next_key s new (v ∷ []) at judged is = reject _ s new (inl is)
+    next_key s new (v ∷ u ∷ more) at
+        (text, keys, others, time, same, counts, parsed, passed, given, fault, version, signature) is =
+        let now : (others ++ v ∷ []) ++ (u ∷ more) ≡ keys = append_assoc others (v ∷ []) (u ∷ more)
+        ∙ given in
+        rw at (
+          (
+            text,
+            keys,
+            others ++ v ∷ [],
+            time,
+            same,
+            counts,
+            parsed,
+            passed,
+            now,
+            fault,
+            version,
+            signature,
+          ),
+          is,
+        )
+
+    after_digest : (s : State) (new : Disk) (accepted : Bool) → IsAccepted s → new ≡ old
+        → Holds (due.after_digest accepted s).due (due.after_digest accepted s) new
+    after_digest s new accepted known is =
+        either (not accepted && due.is_rolling_back s) _ _ new (install s new known is) (known, is)
+
+    stands : (check : Bool) (s : State) (new : Disk) → IsAccepted s → new ≡ old
+        → Holds (if check then due.AlreadyInstalled else due.SyncTarget) s new
+    stands true s new known is = (known, is)
+    stands false s new known is = (known, is)
+
+    after_target : (s : State) (new : Disk) (accepted : Bool) → IsAccepted s → new ≡ old
+        → Holds (due.after_target accepted s).due (due.after_target accepted s) new
+    after_target s new true known is = stands s.options.check (due.after_target true s) new known is
+    after_target s new false known is =
+        either (s.is_recorded || s.options.again) _ _ new (install s new known is)
+        (reject SameNumber s new (inl is))
+
+    after_piece : (n : ℕ) (s : State) (new : Disk) (left : Option ℕ) → s.due ≡ due.CopyData → IsAccepted s
+        → new ≡ old → Holds (due.after_piece n left s).due (due.after_piece n left s) new
+    after_piece n s new None at known is = rw at (known, is)
+    after_piece n s new (Some left) at known is =
+        either (nat_le n left) _ _ new (rw at (known, is)) (reject OtherSize s new (inl is))
+
+    after_copy : (s : State) (new : Disk) (left : Option ℕ) → IsAccepted s → new ≡ old
+        → Holds (due.after_copy left s).due (due.after_copy left s) new
+    after_copy s new None known is = (known, is)
+    after_copy s new (Some left) known is =
+        either (left == 0) _ _ new (known, is) (reject OtherSize s new (inl is))
+
+    -- Of a failure only the reasons count that an operation can have.
+    maybe : (is : Bool) (t : State) (new : Disk) → Holds t.due t new
+        → IfSome (if is then Some t else None) (λ x. Holds x.due x new)
+    maybe true t new holds = holds
+    maybe false t new holds = tt
+
+    keeps : (n : ℕ) (op : Operation) (e : Event) (s : State) (mid new : Disk) → s.due ≡ op → Holds op s mid
+        → Changes op s e mid new → IsTrueEvent w n s op e
+        → IfSome (after op e s) (λ t. Holds t.due t new)
+    keeps n due.Nothing (Failed f) s mid new at holds change is = tt
+    keeps n due.Installed (Failed f) s mid new at holds change is = tt
+    keeps n due.AlreadyInstalled (Failed f) s mid new at holds change is = tt
+    keeps n due.WouldInstall (Failed f) s mid new at holds change is = tt
+    keeps n due.Rejected (Failed f) s mid new at holds change is = tt
+    keeps n due.RemoveFiles (Failed f) s mid new at holds change is =
+        maybe (due.is_failure f) (due.go due.Rejected s) new
+        (tt, failed due.RemoveFiles f s mid new holds change)
+    keeps n op (Failed f) s mid new at holds change is =
+        maybe (due.is_failure f) (due.reject (due.failure s.due f) s) new
+        (reject (due.failure s.due f) s new (failed op f s mid new holds change))
+    keeps n due.Lock InUse s mid new at (known, same) change is =
+        reject _ s new (inl (change ∙ same))
+    keeps n due.ReadRecord (RecordRead found) s mid new at (known, same) change is =
+        after_record s new (judge_record s.options found) known (change ∙ same) (rw (known, is) refl)
+    keeps n due.ReadSignature (SignatureRead text time) s mid new at (known, same) change is =
+        after_signature s new (judge_text s.options text) time known (change ∙ same) (rw (known.0, is) refl)
+    keeps n due.CheckComment (Answered true) s mid new at (known, same) change is =
+        after_comment s new s.fault known refl (sym (is known.0 known.6)) (change ∙ same)
+    keeps n due.CheckComment (Answered false) s mid new at (known, same) change is =
+        next_key s new s.signers at known (change ∙ same)
+    keeps n due.CheckRecord (Answered accepted) s mid new at (known, same) change is =
+        after_digest s new accepted known (change ∙ same)
+    keeps n due.ReadTarget (PieceRead bytes) s mid new at (known, same) change is = rw at
+        (known, change ∙ same)
+    keeps n due.ReadTarget TargetMissing s mid new at (known, same) change is =
+        install s new known (change ∙ same)
+    keeps n due.CheckTarget (Answered accepted) s mid new at (known, same) change is =
+        after_target s new accepted known (change ∙ same)
+    keeps n due.CopyData (PieceCopied k) s mid new at (known, same) change is =
+        after_piece k s new s.left at known (change ∙ same)
+    keeps n due.CopyData Done s mid new at (known, same) change is = after_copy s new s.left known
+        (change ∙ same)
+    keeps n due.ReadBack (PieceRead bytes) s mid new at (known, same) change is = rw at (
+      known,
+      change
+          ∙ same,
+    )
+    keeps n due.CheckData (Answered true) s mid new at (known, same) change is =
+        ((known, sym is), change ∙ same)
+    keeps n due.CheckData (Answered false) s mid new at (known, same) change is =
+        reject _ s new (inl (change ∙ same))
+    keeps n due.RenameRecord Done s mid new at (known, same) change is = (
+      known,
+      (
+        ap (λ (d : Disk). d.target) change ∙ ap (λ (d : Disk). d.target) same,
+        ap (λ (d : Disk). d.record_bytes) change,
+      ),
+    )
+    keeps n due.RenameFile Done s mid new at (known, (target, recorded)) change is =
+        (known, (ap (λ (d : Disk). d.target) change, ap (λ (d : Disk). d.record_bytes) change ∙ recorded))
+    keeps n due.SyncRecordName Done s mid new at (known, changed) change is = (known, rw change changed)
+    keeps n due.SyncFileName Done s mid new at (known, changed) change is = (known, rw change changed)
+    keeps n due.RemoveFiles Done s mid new at (known, safe) change is = (tt, rw change safe)
+    keeps n due.Nothing Done s mid new at holds change is = tt
+    keeps n due.Installed Done s mid new at holds change is = tt
+    keeps n due.AlreadyInstalled Done s mid new at holds change is = tt
+    keeps n due.WouldInstall Done s mid new at holds change is = tt
+    keeps n due.Rejected Done s mid new at holds change is = tt
+    keeps n due.ReadRecord Done s mid new at holds change is = tt
+    keeps n due.ReadSignature Done s mid new at holds change is = tt
+    keeps n due.CheckComment Done s mid new at holds change is = tt
+    keeps n due.CheckRecord Done s mid new at holds change is = tt
+    keeps n due.CheckTarget Done s mid new at holds change is = tt
+    keeps n due.CheckData Done s mid new at holds change is = tt
+    keeps n op Done s mid new at (known, same) change is = (known, change ∙ same)
+    keeps n op e s mid new at holds change is = tt
+
+    moves : (e : Event) (s : State) (new : Disk) (next : Option State) → is_some next ≡ true
+        → IfSome next (λ t. Holds t.due t new) → Holds (answer s next).1.due (answer s next).1 new
+    moves e s new (Some t) fits holds = holds
+    moves e s new None fits holds = absurd (true≢false (sym fits))
+
+    run_holds : (n : ℕ) (s : State) (mid : Disk) (events : List (Event × Disk)) (t : State) (new : Disk)
+        → Holds s.due s mid → Runs w n s mid events t new → Holds t.due t new
+    run_holds n s mid [] t new holds (is, same) = rw (is, same) holds
+    run_holds n s mid ((e, disk) ∷ more) t new holds ((fits, is), change, rest) =
+        run_holds (count n e) (step s e).1 disk more t new
+        (moves e s disk (after s.due e s) fits (keeps n s.due e s mid disk refl holds change is)) rest
+
+    begins : (check : Bool) → Holds (if check then due.ReadRecord else due.Lock) (begin o) old
+    begins true = (refl, refl)
+    begins false = (refl, refl)
+
+-- Wherever a run is cut off, target and record are as they were, or the record is that of an update that
+-- may be installed, and the target is as it was or has this update.
+pub safe : (w : World) (o : Options) (old new : Disk) (events : List (Event × Disk)) (t : State)
+    → Runs w 0 (begin o) old events t new → IsSafe w o old new
+safe w o old new events t run =
+    safe_at w o old t.due t new (run_holds w o old 0 (begin o) old events t new (begins w o old o.check) run)

@@ -1,0 +1,180 @@
+-- What the record, the signature file and the trusted comment decide, as functions of the options.
+-- Comments and RecordTexts define the fields and the format. proofs/Decisions.antt proves that
+-- comment_fault decides what CommentSays and IsCommentRefused say, and proofs/StepRecords.antt that a
+-- record from which no version is read holds none, and that the record of a run is read as it was
+-- written.
+use Rattle.std.specs.Prelude.{ℕ, Bool, false, not, ◌&&◌, ◌||◌, ◌^◌, nat_lt, if◌then◌else◌, List, [], ◌∷◌}
+use Rattle.std.specs.Prelude.{map, filter, bytes_eq, is_some, Option, Some, None, Result, Ok, Err}
+use Rattle.std.specs.Char.{digit_value}
+use Rattle.std.specs.List.{list_all}
+use Rattle.std.specs.Option.{unwrap_or}
+use Rattle.std.specs.Str.{is_utf8}
+use Rattle.std.specs.Str.Parse.{digits_value}
+use Rattle.minisign.specs.Records.{is_prehashed}
+use Rattle.minisign.specs.SignatureText.{SignatureTextRecord}
+use Rattle.minisign.specs.Texts.{and_then, require}
+use Rattle.minisign_base.specs.declared.faults.NamedFault.TheVariants as named
+use Rattle.minisign_external.specs.Questions.{has_whole_signature}
+use Rattle.minisign_external.specs.declared.public_keys.PublicKeyValue.{PublicKeyValue}
+use Rattle.minisign_install.specs.Comments.{Numbering, expiries, expiry_label, file_label, number_label}
+use Rattle.minisign_install.specs.Comments.{size_label, strip, value_of, values_of}
+use Rattle.minisign_install.specs.Faults.{BadExpiry, BadSize, DamagedRecord, Expired, Fault, InstallFault}
+use Rattle.minisign_install.specs.Faults.{Named, NoExpiry, NoNumber, NoRecord, OlderUpdate, OtherFile}
+use Rattle.minisign_install.specs.RecordTexts.{is_other, kept_by, other_field, record_digest, record_key}
+use Rattle.minisign_install.specs.RecordTexts.{record_text}
+
+-- What the user asked for. keys are the public keys that were given, one or two. file is the name that the
+-- trusted comment must contain. The other fields are the options of the command line.
+pub record Options : Type 0 where
+  pub keys : List PublicKeyValue
+  pub file : List ℕ
+  pub numbering : Numbering
+  pub first : Bool
+  pub again : Bool
+  pub check : Bool
+  pub must_expire : Bool
+  pub new_key : Bool
+  pub roll_back : Bool
+
+-- --first replaces any record, so it must not be combined with --new-key or --roll-back.
+abbrev pub fit_together : Options → Bool
+fit_together o = not (o.first && (o.new_key || o.roll_back))
+
+-- == Numbers ==
+
+-- The text is a number: decimal digits without a sign, below 2^64.
+abbrev pub are_digits : List ℕ → Bool
+are_digits text = list_all (λ c. nat_lt (digit_value c) 10) text
+
+abbrev pub is_number : List ℕ → Bool
+is_number [] = false
+is_number text = are_digits text && nat_lt (digits_value 10 text) (2 ^ 64)
+
+abbrev pub number_in : List ℕ → Option ℕ
+number_in text = if is_number text then Some (digits_value 10 text) else None
+
+-- The same for the text of a field, if the comment has this field.
+abbrev pub number_of : Option (List ℕ) → Option ℕ
+number_of (Some text) = number_in text
+number_of None = None
+
+-- The first number is less than the second, if there are two.
+abbrev pub is_below : Option ℕ → Option ℕ → Bool
+is_below (Some n) (Some m) = nat_lt n m
+is_below n m = false
+
+-- == The record ==
+
+-- What counts of the record. version is None if any version may be installed.
+pub record Recorded : Type 0 where
+  pub version : Option ℕ
+  pub key : Option (List ℕ)
+  pub digest : Option (List ℕ)
+
+abbrev pub nothing_recorded : Recorded
+nothing_recorded = record { version = None; key = None; digest = None }
+
+-- The version number of a record, if it has one for this field. A number without a label counts for both
+-- fields.
+abbrev pub recorded_version : Numbering → List ℕ → Option ℕ
+recorded_version numbering bytes =
+    number_in (unwrap_or (strip (number_label numbering) (record_text bytes)) (record_text bytes))
+
+-- The record names a key that was not given.
+abbrev pub names_other_key : Options → List ℕ → Bool
+names_other_key o bytes = is_other (map (λ v. v.key) o.keys) (record_key bytes)
+
+-- Why a record without a version number for this field is rejected.
+abbrev pub record_fault : Numbering → List ℕ → InstallFault
+record_fault numbering bytes =
+    if is_some (recorded_version (other_field numbering) bytes) then kept_by (other_field numbering)
+    else DamagedRecord
+
+-- A record of another key is ignored with --first and with --new-key. A record without a version number for
+-- this field, and a missing one, are ignored with --first only.
+abbrev pub judge_version : Options → List ℕ → Option ℕ → Result Recorded InstallFault
+judge_version o bytes (Some n) =
+    if (o.first || o.new_key) && names_other_key o bytes then Ok nothing_recorded
+    else Ok (record { version = Some n; key = record_key bytes; digest = record_digest bytes })
+judge_version o bytes None =
+    if o.first then Ok nothing_recorded else Err (record_fault o.numbering bytes)
+
+abbrev pub judge_record : Options → Option (List ℕ) → Result Recorded InstallFault
+judge_record o (Some bytes) = judge_version o bytes (recorded_version o.numbering bytes)
+judge_record o None = if o.first then Ok nothing_recorded else Err NoRecord
+
+-- == The signature file ==
+
+-- The key ID that an error names if no key fits: that of the key that was given last.
+abbrev pub last_key_id : List PublicKeyValue → List ℕ
+last_key_id [] = []
+last_key_id (v ∷ []) = v.key_id
+last_key_id (v ∷ more) = last_key_id more
+
+-- The checks that need no Ed25519. They give the keys that may have signed, or the first check that fails.
+abbrev pub judge_keys : Options → List PublicKeyValue → SignatureTextRecord
+    → Result (SignatureTextRecord × List PublicKeyValue) Fault
+judge_keys o [] t = Err (Named (named.DifferentKeyIds t.signature.keynum (last_key_id o.keys)))
+judge_keys o signers t =
+    require (is_prehashed t.signature) named.LegacyNotAccepted
+    (require (has_whole_signature t.comments) named.CommentSignatureRefused
+    (Ok (t, signers)))
+
+abbrev pub judge_text : Options → Result SignatureTextRecord Fault
+    → Result (SignatureTextRecord × List PublicKeyValue) Fault
+judge_text o text =
+    require (is_utf8 o.file) named.NotUtf8
+    (and_then text (λ t. judge_keys o (filter (λ v. bytes_eq t.signature.keynum v.key_id) o.keys) t))
+
+-- == The trusted comment ==
+
+-- The version number of the update, if the comment has one.
+abbrev pub version_in : Numbering → List ℕ → Option ℕ
+version_in numbering comment = number_of (value_of (number_label numbering) comment)
+
+abbrev pub unless : Bool → InstallFault → Option InstallFault
+unless holds fault = if holds then None else Some fault
+
+abbrev pub is_named : List ℕ → Option (List ℕ) → Bool
+is_named file (Some name) = bytes_eq name file
+is_named file None = false
+
+-- Why the fields `expires:` are rejected at this time, in seconds since the beginning of 1970. None is a
+-- time before 1970, at which every update that expires has expired.
+abbrev pub expiry_fault : Bool → Option ℕ → List (List ℕ) → Option ℕ → Option InstallFault
+expiry_fault must_expire time [] until = if must_expire then Some NoExpiry else None
+expiry_fault must_expire time (once ∷ []) (Some until) = unless (is_below time (Some until)) Expired
+expiry_fault must_expire time fields until = Some BadExpiry
+
+-- The signed size, if the comment has one field `size:`, with a number.
+abbrev pub size_of : List (List ℕ) → Option ℕ
+size_of (digits ∷ []) = number_in digits
+size_of fields = None
+
+abbrev pub size_in : List ℕ → Option ℕ
+size_in comment = size_of (values_of size_label comment)
+
+-- Why the fields `size:` are rejected.
+abbrev pub size_fault : List (List ℕ) → Option InstallFault
+size_fault [] = None
+size_fault fields = unless (is_some (size_of fields)) BadSize
+
+-- The update is older than the recorded version, and --roll-back is not given.
+abbrev pub is_too_old : Options → Option ℕ → Option ℕ → Bool
+is_too_old o recorded version = is_below version recorded && not o.roll_back
+
+abbrev pub first_of : List (Option InstallFault) → Option InstallFault
+first_of [] = None
+first_of (Some fault ∷ more) = Some fault
+first_of (None ∷ more) = first_of more
+
+-- Why a trusted comment is rejected: the first of these checks that fails.
+abbrev pub comment_fault : Options → Option ℕ → Option ℕ → List ℕ → Option InstallFault
+comment_fault o recorded time comment = first_of
+    (unless (is_named o.file (value_of file_label comment)) OtherFile
+    ∷ unless (is_some (version_in o.numbering comment)) NoNumber
+    ∷ expiry_fault o.must_expire time (expiries o.must_expire comment)
+    (number_of (value_of expiry_label comment))
+    ∷ size_fault (values_of size_label comment)
+    ∷ unless (not (is_too_old o recorded (version_in o.numbering comment))) OlderUpdate
+    ∷ [])

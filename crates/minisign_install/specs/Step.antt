@@ -1,0 +1,388 @@
+-- The installer as one function. An application performs the operation that is due, reports what happened
+-- as an event, and continues with the state that `step` returns, until the run has ended.
+--
+-- | Operation due   | What the application does                                | What it reports           |
+-- |-----------------|----------------------------------------------------------|---------------------------|
+-- | Lock            | locks the target, and waits as long as the user allows   | Done, or InUse            |
+-- | ReadRecord      | reads the record                                         | RecordRead                |
+-- | ReadSignature   | reads the signature file and the clock, once             | SignatureRead             |
+-- | CheckComment    | asks Ed25519 about the trusted comment                   | Answered                  |
+-- | CheckRecord     | asks Ed25519 about the digest in the record              | Answered                  |
+-- | ReadTarget      | reads the installed file, piece by piece                 | PieceRead and then Done,  |
+-- |                 |                                                          | or TargetMissing          |
+-- | CheckTarget     | asks Ed25519 about the digest of the installed file      | Answered                  |
+-- | SyncTarget      | syncs the installed file                                 | Done                      |
+-- | SyncTargetName  | syncs the directory                                      | Done                      |
+-- | RemoveLeftovers | removes temporary files of killed runs, if it can        | Done                      |
+-- | CreateFile      | creates a temporary file                                 | Done                      |
+-- | CopyData        | copies the data to the temporary file, piece by piece    | PieceCopied and then Done |
+-- | ReadBack        | reads the temporary file through the same descriptor     | PieceRead and then Done   |
+-- | CheckData       | asks Ed25519 about the digest of what was read back      | Answered                  |
+-- | SetPermissions  | gives the temporary file the permissions of the old file | Done                      |
+-- | SyncFile        | syncs the temporary file                                 | Done                      |
+-- | CreateRecord    | creates a temporary file for the record                  | Done                      |
+-- | WriteRecord     | writes `new_record` to it                                | Done                      |
+-- | SyncRecord      | syncs it                                                 | Done                      |
+-- | RenameRecord    | renames it to the record                                 | Done                      |
+-- | SyncRecordName  | syncs the directory                                      | Done                      |
+-- | RenameFile      | renames the temporary file of the data to the target     | Done                      |
+-- | SyncFileName    | syncs the directory                                      | Done                      |
+-- | RemoveFiles     | removes the temporary files that this run has made and   | Done                      |
+-- |                 | not renamed                                              |                           |
+--
+-- With Installed, AlreadyInstalled, WouldInstall and Rejected the run has ended.
+--
+-- An application reports Failed if an operation fails. The result of a step is Ok, or the error for which
+-- this event ends the run, or NotDue if the event does not fit the operation. After NotDue the state is
+-- unchanged.
+--
+-- To install from a pipe, run a check with the same options first. If it ends with WouldInstall, read the
+-- pipe into an unnamed file, at most `size` bytes if that is known, and install from this file. If it ends
+-- with AlreadyInstalled, install from an empty file: that run syncs the installed file.
+use Rattle.std.specs.Prelude.{ℕ, Bool, true, false, not, ◌&&◌, ◌||◌, ◌==◌, ◌-◌, ◌++◌, nat_le, if◌then◌else◌}
+use Rattle.std.specs.Prelude.{List, [], ◌∷◌, take, is_some, Option, Some, None, Result, Ok, Err}
+use Rattle.std.specs.Option.{unwrap_or}
+use Rattle.minisign.specs.SignatureText.{SignatureTextRecord}
+use Rattle.minisign_base.specs.declared.faults.NamedFault.{NamedFault}
+use Rattle.minisign_base.specs.declared.faults.NamedFault.TheVariants as named
+use Rattle.minisign_external.specs.declared.public_keys.PublicKeyValue.{PublicKeyValue}
+use Rattle.minisign_external.specs.declared.state.Misuse.TheVariants.{NotDue}
+use Rattle.minisign_external.specs.declared.state.Refusal.{Refusal}
+use Rattle.minisign_external.specs.declared.state.Refusal.TheVariants.{Refused, WrongUse}
+use Rattle.minisign_hash.specs.Blake2b.{blake2b_digest}
+use Rattle.minisign_install.specs.Decisions.{Options, Recorded, comment_fault, is_below, judge_record}
+use Rattle.minisign_install.specs.Decisions.{judge_text, nothing_recorded, size_in, version_in}
+use Rattle.minisign_install.specs.Faults.{DirectoryNotSynced, Fault, InstallFault, Library, Named}
+use Rattle.minisign_install.specs.Faults.{OtherSize, SameNumber, TargetInUse}
+use Rattle.minisign_install.specs.RecordTexts.{record_of}
+
+-- == States ==
+
+pub data Operation : Type 0 where
+  Nothing : Operation
+  Lock : Operation
+  ReadRecord : Operation
+  ReadSignature : Operation
+  CheckComment : Operation
+  CheckRecord : Operation
+  ReadTarget : Operation
+  CheckTarget : Operation
+  SyncTarget : Operation
+  SyncTargetName : Operation
+  RemoveLeftovers : Operation
+  CreateFile : Operation
+  CopyData : Operation
+  ReadBack : Operation
+  CheckData : Operation
+  SetPermissions : Operation
+  SyncFile : Operation
+  CreateRecord : Operation
+  WriteRecord : Operation
+  SyncRecord : Operation
+  RenameRecord : Operation
+  SyncRecordName : Operation
+  RenameFile : Operation
+  SyncFileName : Operation
+  RemoveFiles : Operation
+  Installed : Operation
+  AlreadyInstalled : Operation
+  WouldInstall : Operation
+  Rejected : Operation
+
+-- The operations by their numbers, from 0 on. Nothing is due in a state that was never begun.
+abbrev pub operations : List Operation
+operations =
+    Nothing ∷ Lock ∷ ReadRecord ∷ ReadSignature ∷ CheckComment ∷ CheckRecord ∷ ReadTarget ∷ CheckTarget
+    ∷ SyncTarget ∷ SyncTargetName ∷ RemoveLeftovers ∷ CreateFile ∷ CopyData ∷ ReadBack ∷ CheckData
+    ∷ SetPermissions ∷ SyncFile ∷ CreateRecord ∷ WriteRecord ∷ SyncRecord ∷ RenameRecord ∷ SyncRecordName
+    ∷ RenameFile ∷ SyncFileName ∷ RemoveFiles ∷ Installed ∷ AlreadyInstalled ∷ WouldInstall ∷ Rejected ∷ []
+
+-- What the installer knows. After the record was read, recorded says what counts of it. After the signature
+-- file was read, signers are the keys that may have signed, signature is the signature of the data, and the
+-- trusted comment was judged: fault says why it is rejected, version is its version number (0 if it has
+-- none), and size is the signed size. All this counts only once is_signed is true. Then the first of the
+-- signers has signed the comment. is_recorded says if the digest in the record is that of the update. read
+-- are the bytes of the file that is being read. left is how many bytes of the signed size were not copied
+-- yet. error is why the run is rejected.
+pub record State : Type 0 where
+  pub due : Operation
+  pub options : Options
+  pub recorded : Recorded
+  pub signers : List PublicKeyValue
+  pub signature : List ℕ
+  pub fault : Option InstallFault
+  pub version : ℕ
+  pub size : Option ℕ
+  pub is_signed : Bool
+  pub is_recorded : Bool
+  pub read : List ℕ
+  pub left : Option ℕ
+  pub error : Option InstallFault
+
+-- A check takes no lock.
+abbrev pub begin : Options → State
+begin o = record {
+  due = if o.check then ReadRecord else Lock;
+  options = o;
+  recorded = nothing_recorded;
+  signers = [];
+  signature = [];
+  fault = None;
+  version = 0;
+  size = None;
+  is_signed = false;
+  is_recorded = false;
+  read = [];
+  left = None;
+  error = None;
+}
+
+-- == Events ==
+
+-- What the application reports. RecordRead: the bytes of the record, or None if there is none.
+-- SignatureRead: what the signature file parses to, and the time in seconds since the beginning of 1970, or
+-- None for a time before 1970. Answered: whether Ed25519 accepts. PieceRead: the next bytes of the file.
+-- PieceCopied: how many bytes were copied. Failed: out of memory, or an operation of the system failed.
+pub data Event : Type 0 where
+  Done : Event
+  InUse : Event
+  Failed : NamedFault → Event
+  RecordRead : Option (List ℕ) → Event
+  SignatureRead : Result SignatureTextRecord Fault → Option ℕ → Event
+  Answered : Bool → Event
+  TargetMissing : Event
+  PieceRead : List ℕ → Event
+  PieceCopied : ℕ → Event
+
+-- == The questions for Ed25519 ==
+
+-- The question is if the signature of the message is valid under the key.
+pub record Question : Type 0 where
+  pub key : List ℕ
+  pub message : List ℕ
+  pub signature : List ℕ
+
+-- The key that is asked: the first of the signers.
+abbrev pub key_of : List PublicKeyValue → List ℕ
+key_of [] = []
+key_of (v ∷ more) = v.key
+
+-- The question about a trusted comment, which is signed together with the signature of the data.
+abbrev pub comment_question : State → SignatureTextRecord → Question
+comment_question s t = record {
+  key = key_of s.signers;
+  message = s.signature ++ t.comments.trusted;
+  signature = take 64 t.comments.signature;
+}
+
+-- The digest in the record, or that of the file that was read.
+abbrev pub digest_due : Operation → State → List ℕ
+digest_due CheckRecord s = unwrap_or s.recorded.digest []
+digest_due op s = blake2b_digest 64 s.read
+
+-- The question about data, at this operation. A record without a digest is never asked about.
+abbrev pub data_question : Operation → State → Question
+data_question op s =
+    record { key = key_of s.signers; message = digest_due op s; signature = s.signature }
+
+-- == Decisions ==
+
+abbrev pub go : Operation → State → State
+go op s = record s { due = op }
+
+-- This run has made a temporary file that it has not renamed.
+abbrev pub has_files : Operation → Bool
+has_files CopyData = true
+has_files ReadBack = true
+has_files CheckData = true
+has_files SetPermissions = true
+has_files SyncFile = true
+has_files CreateRecord = true
+has_files WriteRecord = true
+has_files SyncRecord = true
+has_files RenameRecord = true
+has_files SyncRecordName = true
+has_files RenameFile = true
+has_files op = false
+
+-- The run is rejected. Its temporary files are removed first.
+abbrev pub reject : InstallFault → State → State
+reject fault s = record s { due = if has_files s.due then RemoveFiles else Rejected; error = Some fault }
+
+-- The error of an operation that failed. If the update is installed and was not synced, a crash may undo it.
+abbrev pub failure : Operation → NamedFault → InstallFault
+failure SyncTarget f = DirectoryNotSynced
+failure SyncTargetName f = DirectoryNotSynced
+failure SyncFileName f = DirectoryNotSynced
+failure op f = Library (Named f)
+
+-- An operation can fail for one of these reasons.
+abbrev pub is_failure : NamedFault → Bool
+is_failure named.OutOfMemory = true
+is_failure named.ReadingFailed = true
+is_failure named.WritingFailed = true
+is_failure named.RandomSourceFailed = true
+is_failure f = false
+
+abbrev pub fail : NamedFault → State → Option State
+fail f s = if is_failure f then Some (reject (failure s.due f) s) else None
+
+-- The update is to be installed. What was read of the installed file is forgotten.
+abbrev pub install : State → State
+install s = record s { due = if s.options.check then WouldInstall else RemoveLeftovers; read = [] }
+
+-- The record was read.
+abbrev pub after_record : Result Recorded InstallFault → State → State
+after_record (Ok recorded) s = record s { due = ReadSignature; recorded = recorded }
+after_record (Err fault) s = reject fault s
+
+-- The signature file was read. Its comment is judged here, and only here.
+abbrev pub after_signature : Result (SignatureTextRecord × List PublicKeyValue) Fault → Option ℕ → State
+    → State
+after_signature (Ok (t, signers)) time s = record s {
+  due = CheckComment;
+  signers = signers;
+  signature = t.signature.signature;
+  fault = comment_fault s.options s.recorded.version time t.comments.trusted;
+  version = unwrap_or (version_in s.options.numbering t.comments.trusted) 0;
+  size = size_in t.comments.trusted;
+  left = size_in t.comments.trusted;
+}
+after_signature (Err fault) time s = reject (Library fault) s
+
+-- The update is newer than the recorded version, or there is none.
+abbrev pub is_newer : State → Bool
+is_newer s = not (is_some s.recorded.version) || is_below s.recorded.version (Some s.version)
+
+-- The update is older than the recorded version. Without --roll-back its comment is rejected.
+abbrev pub is_rolling_back : State → Bool
+is_rolling_back s = is_below (Some s.version) s.recorded.version
+
+-- The installed file need not be read if the update is newer. Otherwise the update may be installed already.
+abbrev pub compare : State → State
+compare s =
+    if is_newer s then install s
+    else if is_some s.recorded.digest then go CheckRecord s
+    else if is_rolling_back s then install s
+    else go ReadTarget s
+
+-- The comment is signed, and is accepted or not.
+abbrev pub after_comment : Option InstallFault → State → State
+after_comment None s = compare s
+after_comment (Some fault) s = reject fault s
+
+-- This key has not signed the comment. The next one is asked, if there is one with this key ID.
+abbrev pub next_key : List PublicKeyValue → State → State
+next_key (v ∷ w ∷ more) s = record s { signers = w ∷ more }
+next_key signers s = reject (Library (Named named.CommentSignatureRefused)) s
+
+-- The digest in the record is that of the update, or not. If not, a roll-back installs.
+abbrev pub after_digest : Bool → State → State
+after_digest accepted s =
+    if not accepted && is_rolling_back s then install s
+    else record s { due = ReadTarget; is_recorded = accepted }
+
+-- The installed file is the update. Other data of the recorded version is replaced if the record is that of
+-- the update, or with --again.
+abbrev pub after_target : Bool → State → State
+after_target true s = go (if s.options.check then AlreadyInstalled else SyncTarget) s
+after_target false s =
+    if s.is_recorded || s.options.again then install s else reject SameNumber s
+
+-- A piece was copied. More than the signed size is never copied.
+abbrev pub after_piece : ℕ → Option ℕ → State → State
+after_piece n None s = s
+after_piece n (Some left) s =
+    if nat_le n left then record s { left = Some (left - n) } else reject OtherSize s
+
+-- All data was copied.
+abbrev pub after_copy : Option ℕ → State → State
+after_copy None s = go ReadBack s
+after_copy (Some left) s = if left == 0 then go ReadBack s else reject OtherSize s
+
+-- == The step ==
+
+-- The operation after one that was done, where nothing is decided.
+abbrev pub next : Operation → Option Operation
+next Lock = Some ReadRecord
+next ReadTarget = Some CheckTarget
+next SyncTarget = Some SyncTargetName
+next SyncTargetName = Some AlreadyInstalled
+next RemoveLeftovers = Some CreateFile
+next CreateFile = Some CopyData
+next ReadBack = Some CheckData
+next SetPermissions = Some SyncFile
+next SyncFile = Some CreateRecord
+next CreateRecord = Some WriteRecord
+next WriteRecord = Some SyncRecord
+next SyncRecord = Some RenameRecord
+next RenameRecord = Some SyncRecordName
+next SyncRecordName = Some RenameFile
+next RenameFile = Some SyncFileName
+next SyncFileName = Some Installed
+next RemoveFiles = Some Rejected
+next op = None
+
+abbrev pub proceed : Option Operation → State → Option State
+proceed (Some op) s = Some (go op s)
+proceed None s = None
+
+-- The state after an event, if the event fits the operation. Whatever happens while files are removed, the
+-- run is rejected for the first error.
+abbrev pub after : Operation → Event → State → Option State
+after Lock InUse s = Some (reject TargetInUse s)
+after ReadRecord (RecordRead found) s = Some (after_record (judge_record s.options found) s)
+after ReadSignature (SignatureRead text time) s = Some (after_signature (judge_text s.options text) time s)
+after CheckComment (Answered true) s = Some (after_comment s.fault (record s { is_signed = true }))
+after CheckComment (Answered false) s = Some (next_key s.signers s)
+after CheckRecord (Answered accepted) s = Some (after_digest accepted s)
+after ReadTarget (PieceRead bytes) s = Some (record s { read = s.read ++ bytes })
+after ReadTarget TargetMissing s = Some (install s)
+after CheckTarget (Answered accepted) s = Some (after_target accepted s)
+after CopyData (PieceCopied n) s = Some (after_piece n s.left s)
+after CopyData Done s = Some (after_copy s.left s)
+after ReadBack (PieceRead bytes) s = Some (record s { read = s.read ++ bytes })
+after CheckData (Answered true) s = Some (go SetPermissions s)
+after CheckData (Answered false) s = Some (reject (Library (Named named.SignatureRefused)) s)
+after RemoveFiles (Failed f) s = if is_failure f then Some (go Rejected s) else None
+after Nothing (Failed f) s = None
+after Installed (Failed f) s = None
+after AlreadyInstalled (Failed f) s = None
+after WouldInstall (Failed f) s = None
+after Rejected (Failed f) s = None
+after op (Failed f) s = fail f s
+after op Done s = proceed (next op) s
+after op e s = None
+
+-- The result of an event that fits: the error for which this event ends the run.
+abbrev pub result_of : Option InstallFault → Option InstallFault → Result Unit (Refusal InstallFault)
+result_of None (Some fault) = Err (Refused fault)
+result_of before now = Ok tt
+
+abbrev pub answer : State → Option State → Result Unit (Refusal InstallFault) × State
+answer s (Some t) = (result_of s.error t.error, t)
+answer s None = (Err (WrongUse NotDue), s)
+
+abbrev pub step : State → Event → Result Unit (Refusal InstallFault) × State
+step s e = answer s (after s.due e s)
+
+-- The run has ended.
+abbrev pub has_ended : Operation → Bool
+has_ended Installed = true
+has_ended AlreadyInstalled = true
+has_ended WouldInstall = true
+has_ended Rejected = true
+has_ended op = false
+
+-- == The new record ==
+
+-- A roll-back keeps the recorded version and its key, so that the newer version is not installed again. The
+-- digest is always that of the data that is installed.
+abbrev pub new_version : State → ℕ
+new_version s = if is_rolling_back s then unwrap_or s.recorded.version s.version else s.version
+
+abbrev pub new_key : State → List ℕ
+new_key s = if is_rolling_back s then unwrap_or s.recorded.key (key_of s.signers) else key_of s.signers
+
+abbrev pub new_record : State → List ℕ
+new_record s = record_of s.options.numbering (new_version s) (new_key s) (blake2b_digest 64 s.read)

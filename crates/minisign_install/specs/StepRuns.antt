@@ -1,0 +1,368 @@
+-- Runs of an application that performs the operation that is due and reports what happened, and what
+-- holds of all of them. The clock may show any time at any event. Other processes may do anything to the
+-- installed file. They leave the record and the temporary files of this run alone while it holds the
+-- lock. proofs/StepSafety, StepReasons, StepArrivals, StepEnds, StepSyncs, StepFiles and StepChecks prove
+-- the laws.
+use Rattle.std.specs.Prelude.{◌≡◌, ◌≢◌, ◌<◌, ◌≤◌, ◌+◌, ◌++◌, ◌⊎◌, ◌||◌, ⊤, ℕ, Bool, true, false}
+use Rattle.std.specs.Prelude.{if◌then◌else◌, List, [], ◌∷◌, length, take, is_some, Option, Some, None}
+use Rattle.std.specs.Prelude.{Result, Ok, Err}
+use Rattle.std.specs.Option.{unwrap_or}
+use Rattle.minisign.specs.Acceptance.{Verifier}
+use Rattle.minisign.specs.SignatureText.{SignatureTextRecord}
+use Rattle.minisign_base.specs.declared.faults.NamedFault.TheVariants as named
+use Rattle.minisign_external.specs.declared.public_keys.PublicKeyValue.{PublicKeyValue}
+use Rattle.minisign_hash.specs.Blake2b.{blake2b_digest}
+use Rattle.minisign_install.specs.Decisions.{Options, Recorded, comment_fault, judge_record, judge_text}
+use Rattle.minisign_install.specs.Decisions.{names_other_key, recorded_version, size_in, version_in}
+use Rattle.minisign_install.specs.Faults.{Fault, InstallFault, Library, Named, OtherSize, SameNumber}
+use Rattle.minisign_install.specs.Faults.{TargetInUse}
+use Rattle.minisign_install.specs.Step.{AlreadyInstalled, Answered, CheckComment, CheckData, CopyData, Done}
+use Rattle.minisign_install.specs.Step.{Event, Failed, InUse, Installed, Operation, PieceCopied, PieceRead}
+use Rattle.minisign_install.specs.Step.{Question, ReadBack, ReadTarget, RecordRead, RenameFile}
+use Rattle.minisign_install.specs.Step.{RenameRecord, SignatureRead, State, WouldInstall, after, begin}
+use Rattle.minisign_install.specs.Step.{comment_question, CheckRecord, CheckTarget, ReadRecord}
+use Rattle.minisign_install.specs.Step.{ReadSignature, RemoveLeftovers, CreateFile, RemoveFiles}
+use Rattle.minisign_install.specs.Step.{CreateRecord, SetPermissions, SyncFile, SyncFileName, SyncRecord}
+use Rattle.minisign_install.specs.Step.{SyncRecordName, SyncTarget, SyncTargetName, WriteRecord}
+use Rattle.minisign_install.specs.Step.{data_question, failure, new_record, new_version, step}
+
+-- What a run finds: what Ed25519 accepts (message, key and signature), the record, what the signature file
+-- parses to, and the data. The installed file never has more than most bytes.
+pub record World : Type 0 where
+  pub accepts : Verifier
+  pub found : Option (List ℕ)
+  pub text : Result SignatureTextRecord Fault
+  pub update : List ℕ
+  pub most : ℕ
+
+abbrev pub asks : World → Question → Bool
+asks w q = w.accepts q.message q.key q.signature
+
+-- The answer is what Ed25519 says to the question at this operation.
+abbrev pub IsAnswer : World → State → Operation → Bool → Type 0
+IsAnswer w s CheckComment accepted =
+    (t : SignatureTextRecord) → w.text ≡ Ok t → accepted ≡ asks w (comment_question s t)
+IsAnswer w s op accepted = accepted ≡ asks w (data_question op s)
+
+-- At this operation the application reports the event only if it is true. n bytes were copied so far. A
+-- piece has a byte or more, and no more than the file has left. Copying ends with the data. The temporary
+-- file holds what was copied.
+abbrev pub IsTrueEvent : World → ℕ → State → Operation → Event → Type 0
+IsTrueEvent w n s op (RecordRead found) = found ≡ w.found
+IsTrueEvent w n s op (SignatureRead text time) = text ≡ w.text
+IsTrueEvent w n s op (Answered accepted) = IsAnswer w s op accepted
+IsTrueEvent w n s ReadTarget (PieceRead bytes) =
+    (0 < length bytes) × (length (s.read ++ bytes) ≤ w.most)
+IsTrueEvent w n s ReadBack (PieceRead bytes) =
+    (0 < length bytes) × ((rest : List ℕ) × ((s.read ++ bytes) ++ rest ≡ w.update))
+IsTrueEvent w n s op (PieceCopied k) = (0 < k) × (n + k ≤ length w.update)
+IsTrueEvent w n s CopyData Done = n ≡ length w.update
+IsTrueEvent w n s ReadBack Done = s.read ≡ w.update
+IsTrueEvent w n s op e = ⊤
+
+-- How many bytes were copied after an event.
+abbrev pub count : ℕ → Event → ℕ
+count n (PieceCopied k) = n + k
+count n e = n
+
+-- The same after several events.
+abbrev pub total : ℕ → List Event → ℕ
+total n [] = n
+total n (e ∷ more) = total (count n e) more
+
+-- The run leads from one state to another by these events, with this relation for each of them. A run may be
+-- cut off anywhere.
+abbrev pub IsRun : (ℕ → State → Event → Type 0) → ℕ → State → List Event → State → Type 0
+IsRun Holds n s [] t = t ≡ s
+IsRun Holds n s (e ∷ more) t = Holds n s e × IsRun Holds (count n e) (step s e).1 more t
+
+-- Each event fits the operation that is due, and is true.
+abbrev pub Fits : State → Event → Type 0
+Fits s e = is_some (after s.due e s) ≡ true
+
+abbrev pub IsTrue : World → ℕ → State → Event → Type 0
+IsTrue w n s e = Fits s e × IsTrueEvent w n s s.due e
+
+-- == A good update ==
+
+-- The key accepts the trusted comment.
+abbrev pub signs_comment : World → SignatureTextRecord → PublicKeyValue → Bool
+signs_comment w t v =
+    w.accepts (t.signature.signature ++ t.comments.trusted) v.key (take 64 t.comments.signature)
+
+-- The first of the keys that accepts it.
+abbrev pub first_signer : World → SignatureTextRecord → List PublicKeyValue → Option (List ℕ)
+first_signer w t [] = None
+first_signer w t (v ∷ more) = if signs_comment w t v then Some v.key else first_signer w t more
+
+-- The update ought to be installed: the record counts, or none is needed; the signature file has passed
+-- the checks without Ed25519, for these keys; one of them has signed the comment, and the data; the
+-- comment has a version number that is greater than the recorded one; and the data has the signed size.
+pub record IsGoodUpdate (w : World) (o : Options) : Type 0 where
+  pub installs : o.check ≡ false
+  pub recorded : Recorded
+  pub counts : judge_record o w.found ≡ Ok recorded
+  pub text : SignatureTextRecord
+  pub parsed : w.text ≡ Ok text
+  pub keys : List PublicKeyValue
+  pub passed : judge_text o (Ok text) ≡ Ok (text, keys)
+  pub key : List ℕ
+  pub signed_comment : first_signer w text keys ≡ Some key
+  pub signed_data : w.accepts (blake2b_digest 64 w.update) key text.signature.signature ≡ true
+  pub version : ℕ
+  pub numbered : version_in o.numbering text.comments.trusted ≡ Some version
+  pub newer : (k : ℕ) → recorded.version ≡ Some k → k < version
+  pub sized : (size : ℕ) → size_in text.comments.trusted ≡ Some size → length w.update ≡ size
+
+-- The event is no failure, and the comment is not rejected at the time that is passed in.
+abbrev pub IsFine : {w : World} {o : Options} → IsGoodUpdate w o → Event → Type 0
+IsFine g (Failed f) = ⊥
+IsFine g InUse = ⊥
+IsFine {o = o} g (SignatureRead text time) =
+    comment_fault o g.recorded.version time g.text.comments.trusted ≡ None
+IsFine g e = ⊤
+
+-- A run without failures, up to here, in which the application finds this world.
+abbrev pub IsGoodRun : {w : World} {o : Options} → IsGoodUpdate w o → List Event → State → Type 0
+IsGoodRun {w = w} {o = o} g = IsRun (λ n s e. IsTrue w n s e × IsFine g e) 0 (begin o)
+
+-- == What a run changes ==
+
+-- What is found at the target and at the record.
+pub record Disk : Type 0 where
+  pub target : Option (List ℕ)
+  pub record_bytes : Option (List ℕ)
+
+-- What an event at this operation says about the disk. A rename that failed may have been done. Nothing else
+-- changes target or record.
+abbrev pub Changes : Operation → State → Event → Disk → Disk → Type 0
+Changes RenameRecord s Done old new = new ≡ record old { record_bytes = Some (new_record s) }
+Changes RenameRecord s (Failed f) old new =
+    (new ≡ old) ⊎ (new ≡ record old { record_bytes = Some (new_record s) })
+Changes RenameFile s Done old new = new ≡ record old { target = Some s.read }
+Changes RenameFile s (Failed f) old new = (new ≡ old) ⊎ (new ≡ record old { target = Some s.read })
+Changes op s e old new = new ≡ old
+
+-- A run, also one with failures, from one state and disk to another, by these events with the disk after
+-- each. It may be cut off anywhere.
+abbrev pub Runs : World → ℕ → State → Disk → List (Event × Disk) → State → Disk → Type 0
+Runs w n s d [] t d' = (t ≡ s) × (d' ≡ d)
+Runs w n s d ((e, mid) ∷ more) t d' =
+    IsTrue w n s e × Changes s.due s e d mid × Runs w (count n e) (step s e).1 mid more t d'
+
+-- No version is compared: there is no record with a version number, and --first was given; or the record
+-- names a key that was not given, and --first or --new-key was given.
+abbrev pub IsForgotten : Options → Option (List ℕ) → Type 0
+IsForgotten o None = o.first ≡ true
+IsForgotten o (Some bytes) =
+    ((o.first ≡ true) × (recorded_version o.numbering bytes ≡ None))
+    ⊎ (((o.first || o.new_key) ≡ true) × (names_other_key o bytes ≡ true))
+
+-- The record has this version number, and it counts.
+abbrev pub HasVersion : Options → Option (List ℕ) → ℕ → Type 0
+HasVersion o found k =
+    (bytes : List ℕ) × (found ≡ Some bytes) × (recorded_version o.numbering bytes ≡ Some k)
+
+-- The update that a run with these options may install: keys are those that have the key ID of the
+-- signature, the first of them that was not excluded has signed the comment and the data, and the comment
+-- is not rejected at the time that was passed in. The version number that is recorded next is not below
+-- the recorded one.
+pub record IsUpdate (w : World) (o : Options) (s : State) : Type 0 where
+  pub same : s.options ≡ o
+  pub counts : judge_record o w.found ≡ Ok s.recorded
+  pub text : SignatureTextRecord
+  pub parsed : w.text ≡ Ok text
+  pub keys : List PublicKeyValue
+  pub passed : judge_text o (Ok text) ≡ Ok (text, keys)
+  pub others : List PublicKeyValue
+  pub given : others ++ s.signers ≡ keys
+  pub time : Option ℕ
+  pub wanted : comment_fault o s.recorded.version time text.comments.trusted ≡ None
+  pub version : s.version ≡ unwrap_or (version_in o.numbering text.comments.trusted) 0
+  pub signature : s.signature ≡ text.signature.signature
+  pub signed_comment : asks w (comment_question s text) ≡ true
+  pub signed_data : asks w (data_question CheckData s) ≡ true
+  pub not_older : (k : ℕ) → s.recorded.version ≡ Some k → HasVersion o w.found k × (k ≤ new_version s)
+  pub forgotten : s.recorded.version ≡ None → IsForgotten o w.found
+
+-- The disk is as it was before the run. Or the record is that of such an update, and the target is as it
+-- was or has the update.
+abbrev pub IsSafe : World → Options → Disk → Disk → Type 0
+IsSafe w o old new =
+    (new ≡ old)
+    ⊎ ((s : State) × IsUpdate w o s × (new.record_bytes ≡ Some (new_record s))
+    × ((new.target ≡ old.target) ⊎ (new.target ≡ Some s.read)))
+
+-- == Reasons ==
+
+-- The record counts, or none is needed, and one of the given keys has signed the comment.
+pub record IsSigned (w : World) (o : Options) : Type 0 where
+  pub recorded : Recorded
+  pub counts : judge_record o w.found ≡ Ok recorded
+  pub text : SignatureTextRecord
+  pub keys : List PublicKeyValue
+  pub passed : judge_text o w.text ≡ Ok (text, keys)
+  pub key : List ℕ
+  pub signer : first_signer w text keys ≡ Some key
+
+-- The data of this digest is signed, or is not.
+abbrev pub accepts_digest : {w : World} {o : Options} → IsSigned w o → List ℕ → Bool
+accepts_digest {w = w} g digest = w.accepts digest g.key g.text.signature.signature
+
+-- The update has the recorded version, --again is not given, and neither the digest in the record nor the
+-- installed file is that of the update.
+pub record IsSameVersion {w : World} {o : Options} (g : IsSigned w o) : Type 0 where
+  pub not_again : o.again ≡ false
+  pub version : ℕ
+  pub recorded : g.recorded.version ≡ Some version
+  pub offered : unwrap_or (version_in o.numbering g.text.comments.trusted) 0 ≡ version
+  pub installed : List ℕ
+  pub other : accepts_digest g (blake2b_digest 64 installed) ≡ false
+  pub other_digest : (digest : List ℕ) → g.recorded.digest ≡ Some digest → accepts_digest g digest ≡ false
+
+-- Why a run is rejected for what it found: the record; the signature file; no given key has signed the
+-- comment; what the signed comment says, at the time that was passed in; the recorded version, and
+-- another file; the size of the data; or the data.
+abbrev pub IsFoundFault : World → Options → InstallFault → Type 0
+IsFoundFault w o fault =
+    (judge_record o w.found ≡ Err fault)
+    ⊎ ((f : Fault) × (fault ≡ Library f) × (judge_text o w.text ≡ Err f))
+    ⊎ ((fault ≡ Library (Named named.CommentSignatureRefused))
+    × ((t : SignatureTextRecord) × (keys : List PublicKeyValue) × (judge_text o w.text ≡ Ok (t, keys))
+    × (first_signer w t keys ≡ None)))
+    ⊎ ((g : IsSigned w o) × (time : Option ℕ)
+    × (comment_fault o g.recorded.version time g.text.comments.trusted ≡ Some fault))
+    ⊎ ((g : IsSigned w o) × (fault ≡ SameNumber) × IsSameVersion g)
+    ⊎ ((g : IsSigned w o) × (fault ≡ OtherSize)
+    × ((size : ℕ) × (size_in g.text.comments.trusted ≡ Some size) × (length w.update ≢ size)))
+    ⊎ ((g : IsSigned w o) × (fault ≡ Library (Named named.SignatureRefused))
+    × (accepts_digest g (blake2b_digest 64 w.update) ≡ false))
+
+-- Why an event in this state ends the run: the operation failed, the lock is in use, or what was found.
+abbrev pub IsReason : World → Options → State → Event → InstallFault → Type 0
+IsReason w o s (Failed f) fault = fault ≡ failure s.due f
+IsReason w o s InUse fault = fault ≡ TargetInUse
+IsReason w o s e fault = IsFoundFault w o fault
+
+-- What the end of a run means. AlreadyInstalled: a file that is signed was read at the target, and its
+-- comment is not rejected. Installed and WouldInstall: the comment is signed and not rejected; Installed:
+-- and so is the data.
+abbrev pub IsEnd : World → Options → Operation → Type 0
+IsEnd w o Installed =
+    (g : IsSigned w o) × (time : Option ℕ)
+    × (comment_fault o g.recorded.version time g.text.comments.trusted ≡ None)
+    × (accepts_digest g (blake2b_digest 64 w.update) ≡ true)
+IsEnd w o AlreadyInstalled =
+    (g : IsSigned w o) × (time : Option ℕ)
+    × (comment_fault o g.recorded.version time g.text.comments.trusted ≡ None)
+    × ((installed : List ℕ) × (accepts_digest g (blake2b_digest 64 installed) ≡ true))
+IsEnd w o WouldInstall =
+    (o.check ≡ true) × ((g : IsSigned w o) × (time : Option ℕ)
+    × (comment_fault o g.recorded.version time g.text.comments.trusted ≡ None))
+IsEnd w o op = ⊤
+
+-- == Checks ==
+
+-- Where an installation goes on, a check ends.
+abbrev pub check_due : Operation → Operation
+check_due RemoveLeftovers = WouldInstall
+check_due SyncTarget = AlreadyInstalled
+check_due op = op
+
+-- The state of a check with the same options.
+abbrev pub as_check : State → State
+as_check s = record s { due = check_due s.due; options = record s.options { check = true } }
+
+-- The operation is one of both, an installation and a check.
+abbrev pub decides : Operation → Bool
+decides ReadRecord = true
+decides ReadSignature = true
+decides CheckComment = true
+decides CheckRecord = true
+decides ReadTarget = true
+decides CheckTarget = true
+decides op = false
+
+-- == What is on the disk ==
+
+-- What was synced since it was changed last: the temporary file of the data, that of the record, the name
+-- of the record, the installed file, and its name.
+pub record OnDisk : Type 0 where
+  pub data_file : Bool
+  pub record_file : Bool
+  pub record_name : Bool
+  pub target_file : Bool
+  pub target_name : Bool
+
+abbrev pub nothing_synced : OnDisk
+nothing_synced = record {
+  data_file = false;
+  record_file = false;
+  record_name = false;
+  target_file = false;
+  target_name = false;
+}
+
+-- What an event at this operation says about it.
+abbrev pub syncs : Operation → Event → OnDisk → OnDisk
+syncs CopyData (PieceCopied k) d = record d { data_file = false }
+syncs SetPermissions Done d = record d { data_file = false }
+syncs SyncFile Done d = record d { data_file = true }
+syncs WriteRecord Done d = record d { record_file = false }
+syncs SyncRecord Done d = record d { record_file = true }
+syncs RenameRecord Done d = record d { record_name = false }
+syncs SyncRecordName Done d = record d { record_name = true }
+syncs RenameFile Done d = record d { target_name = false }
+syncs SyncFileName Done d = record d { target_name = true }
+syncs SyncTarget Done d = record d { target_file = true }
+syncs SyncTargetName Done d = record d { target_name = true }
+syncs op e d = d
+
+-- The same for a run.
+abbrev pub synced_by : State → List Event → OnDisk → OnDisk
+synced_by s [] d = d
+synced_by s (e ∷ more) d = synced_by (step s e).1 more (syncs s.due e d)
+
+-- A file is synced before it is renamed. The name of the record is synced before the target is renamed. A
+-- run ends with Installed or AlreadyInstalled only if the file and its name are synced; a check syncs
+-- nothing.
+abbrev pub IsSynced : Operation → State → OnDisk → Type 0
+IsSynced CreateRecord s d = d.data_file ≡ true
+IsSynced WriteRecord s d = d.data_file ≡ true
+IsSynced SyncRecord s d = d.data_file ≡ true
+IsSynced RenameRecord s d = (d.data_file ≡ true) × (d.record_file ≡ true)
+IsSynced SyncRecordName s d = (d.data_file ≡ true) × (d.record_file ≡ true)
+IsSynced RenameFile s d = (d.data_file ≡ true) × (d.record_file ≡ true) × (d.record_name ≡ true)
+IsSynced SyncFileName s d = (d.data_file ≡ true) × (d.record_file ≡ true) × (d.record_name ≡ true)
+IsSynced Installed s d =
+    (d.data_file ≡ true) × (d.record_file ≡ true) × (d.record_name ≡ true) × (d.target_name ≡ true)
+IsSynced SyncTargetName s d = d.target_file ≡ true
+IsSynced AlreadyInstalled s d =
+    (s.options.check ≡ true) ⊎ ((d.target_file ≡ true) × (d.target_name ≡ true))
+IsSynced op s d = ⊤
+
+-- == Temporary files ==
+
+-- Which temporary files this run has made, and neither renamed nor tried to remove: that of the data, and
+-- that of the record.
+pub record Owned : Type 0 where
+  pub data_file : Bool
+  pub record_file : Bool
+
+abbrev pub nothing_owned : Owned
+nothing_owned = record { data_file = false; record_file = false }
+
+-- What an event at this operation says about them.
+abbrev pub owns : Operation → Event → Owned → Owned
+owns CreateFile Done d = record d { data_file = true }
+owns CreateRecord Done d = record d { record_file = true }
+owns RenameRecord Done d = record d { record_file = false }
+owns RenameFile Done d = record d { data_file = false }
+owns RemoveFiles Done d = nothing_owned
+owns RemoveFiles (Failed f) d = nothing_owned
+owns op e d = d
+
+-- The same for a run.
+abbrev pub owned_by : State → List Event → Owned → Owned
+owned_by s [] d = d
+owned_by s (e ∷ more) d = owned_by (step s e).1 more (owns s.due e d)
