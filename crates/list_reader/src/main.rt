@@ -1,11 +1,12 @@
-//! Looks files up in lists, for tests that compare with other programs. It reads requests from standard input, one
-//! on each line, and prints an answer on a line of its own:
+//! Looks up files in lists, for tests that compare this library with other programs. Reads requests
+//! from standard input, one on each line, and prints one line with the answer to each:
 //!
 //!     LONG LIST NAME DATA
 //!
-//! LONG is `-`, `sha512` or `blake2b`: what 128 digits mean on a line that names no function. The others are bytes,
-//! as hexadecimal digits between brackets, so that no word is empty. The answer is `ok N`, with the number of the
-//! line; `mismatch N`; `bad_name`; `malformed N`; `not_listed`; `twice N`; or `not_utf8`.
+//! LONG is `-`, `sha512` or `blake2b`: what 128 digits mean on a line that does not name its hash
+//! function. LIST, NAME and DATA are hexadecimal digits between brackets, so that no word is empty.
+//! The answer is `ok N`, `mismatch N`, `bad_name`, `malformed N`, `not_listed`, `twice N` or
+//! `not_utf8`. N is the number of a line.
 
 #![tactic(auto)]
 
@@ -15,7 +16,7 @@ use std::alloc::Global;
 use std::io::{self, BufRead, BufReader, BufWriter, Write};
 use std::process::ExitCode;
 
-// What a request comes to.
+// The answer to a request, or the reason why there is none.
 #[derive(Drop)]
 enum Answer {
     Listed(u64),
@@ -39,7 +40,7 @@ fn main(rt: HostRuntime) -> io::Result<ExitCode> {
     Ok(ExitCode::SUCCESS)
 }
 
-// Writes an answer; false if there is none.
+// Writes an answer. Returns false if there is none.
 fn write_answer<W: Write>(answer: &Answer, answers: &mut W) -> io::Result<bool> {
     match answer {
         Answer::Listed(line) => writeln!(answers, "ok {line}")?,
@@ -57,7 +58,7 @@ fn write_answer<W: Write>(answer: &Answer, answers: &mut W) -> io::Result<bool> 
     Ok(true)
 }
 
-// Returns the word with this number.
+// Returns the word with this index, or an empty word.
 fn word(line: &str, number: usize) -> &str {
     match line.split(' ').nth(number) {
         Some(word) => word,
@@ -65,7 +66,7 @@ fn word(line: &str, number: usize) -> &str {
     }
 }
 
-// Returns the bytes of a word.
+// Decodes a word.
 fn bytes_of(alloc: Global, word: &str) -> Result<Vec<u8>, Answer> {
     let Some(rest) = word.strip_prefix("[") else {
         return Err(Answer::BadRequest);
@@ -80,7 +81,6 @@ fn bytes_of(alloc: Global, word: &str) -> Result<Vec<u8>, Answer> {
     }
 }
 
-// Answers a request.
 fn answer_to(alloc: Global, line: &str) -> Answer {
     let long = match word(line, 0) {
         "-" => LongDigest::Rejected,
@@ -94,7 +94,7 @@ fn answer_to(alloc: Global, line: &str) -> Answer {
     }
 }
 
-// Looks the name of a request up, and compares the data.
+// Looks up the name of a request, and compares the data with the digest.
 fn looked_up(alloc: Global, long: LongDigest, line: &str) -> Result<Answer, Answer> {
     let list = bytes_of(alloc, word(line, 1))?;
     let name = bytes_of(alloc, word(line, 2))?;

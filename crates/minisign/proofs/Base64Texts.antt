@@ -1,6 +1,6 @@
--- Base64 read and written: a text is the base64 of one list of bytes at most, and its letters are neither
--- line feeds nor white space; base64 in pieces: all but the last are whole groups of four letters without
--- padding.
+-- Lemmas about base64: a text is the base64 of at most one list of bytes, and its characters are
+-- neither line feeds nor white space. In base64 that is decoded in pieces, all pieces except the
+-- last are whole groups of four characters without padding.
 use Rattle.std.proofs.Common.{◌≡◌, ℕ, zero, suc, ◌%◌, ◌<◌, true, false, List, [], ◌∷◌, length, map, refl}
 use Rattle.std.proofs.Common.{sym, ap, subst, ◌∙◌, arith, Option, None, Some, Ok, Err, ◌+◌, ◌*◌, ◌/◌, ◌≤◌}
 use Rattle.std.proofs.Common.{Bool, ◌++◌, take, drop, is_some, MatchOption, Result, length-append}
@@ -18,13 +18,13 @@ use Rattle.base64.proofs.Decoding.{slice_result_room, or_error_ok}
 use Rattle.base64.specs.declared.decode.DecodeAllocError.TheVariants.{DecodeError as Failed}
 use Rattle.minisign.specs.Texts.{IsBase64Of, base64_of, base64_bytes, is_base64}
 
--- every list of numbers, as bytes
+-- Numbers reduced modulo 256 are bytes.
 pub all_bytes : (xs : List ℕ) → IsBytes (map (λ b. b % 256) xs)
 all_bytes [] i = omega arith
 all_bytes (x ∷ xs) zero = omega arith
 all_bytes (x ∷ xs) (suc i) = all_bytes xs i
 
--- bytes stay as they are
+-- Bytes are unchanged by this.
 bytes_same : (xs : List ℕ) → IsBytes xs → map (λ b. b % 256) xs ≡ xs
 bytes_same [] h = refl
 bytes_same (x ∷ xs) h =
@@ -37,7 +37,7 @@ outcome_bytes : (error : Option DecodeError) (bytes b : List ℕ) → decode_out
 outcome_bytes None bytes b e = cc
 outcome_bytes (Some x) bytes b e = cc
 
--- base64 decodes to what it is the base64 of
+-- Base64 decodes to the bytes that it encodes.
 pub decoded : (s b : List ℕ) → IsBase64Of s b → decode_of standard s ≡ Ok b
 unfolding base64_of
 decoded s b h = ap (decode_of standard) h.encoded ∙ decode_of-encode_of standard b refl h.each
@@ -46,7 +46,7 @@ pub bytes_read : (s b : List ℕ) → IsBase64Of s b → base64_bytes s ≡ b
 unfolding base64_bytes
 bytes_read s b h = ap (map (λ b. b % 256)) (outcome_bytes _ _ b (decoded s b h)) ∙ bytes_same b h.each
 
--- a text is the base64 of one list of bytes at most
+-- A text is the base64 of at most one list of bytes.
 pub one_decoding : (s a b : List ℕ) → IsBase64Of s a → IsBase64Of s b → a ≡ b
 one_decoding s a b first second = sym (bytes_read s a first) ∙ bytes_read s b second
 
@@ -58,7 +58,7 @@ pub reads : (s : List ℕ) → is_base64 s ≡ true → IsBase64Of s (base64_byt
 unfolding is_base64 base64_bytes
 reads s h = record { each = all_bytes _; encoded = (bytes_eq-Decides s _).0 h }
 
--- what does not decode is no base64
+-- A text that does not decode is not base64.
 pub not_read : (s t : List ℕ) (e : DecodeAllocError) (d : DecodeError) → s ≡ t → IsDecodeFailure standard s e
     → e ≡ Failed d → is_base64 t ≡ false
 not_read s t e d same failure is =
@@ -66,7 +66,7 @@ not_read s t e d same failure is =
     false_from_ne_true _
     (λ read. let ok = sym (decoded t _ (reads t read)) ∙ failed in cc ok)
 
--- base64 of bytes that are too few
+-- The base64 of fewer than n bytes is base64, and decodes to fewer than n bytes.
 pub short_of : (text b d : List ℕ) (n : ℕ) → IsBase64Of text b → d ≡ b → length d < n
     → (is_base64 text ≡ true) × (length (base64_bytes text) < n)
 short_of text b d n h same short = (
@@ -74,11 +74,11 @@ short_of text b d n h same short = (
   rw (same ∙ sym (bytes_read text b h)) at short,
 )
 
--- bytes that have a base64
+-- Bytes that some text encodes are also encoded by base64_of.
 pub own_base64 : (t b d : List ℕ) → IsBase64Of t b → b ≡ d → IsBase64Of (base64_of d) d
 own_base64 t b d h same = record { each = rw same at h.each; encoded = refl }
 
--- what decoding into a slice that has room answers
+-- The error of decoding into a slice that is large enough.
 error_of : List ℕ → Option DecodeError
 error_of s =
     decode_error standard.decode_table standard.padding.value standard.config.decode_allow_trailing_bits
@@ -95,7 +95,7 @@ outcome_ok : (x : Option DecodeError) (d b : List ℕ) → decode_outcome x d �
 outcome_ok None d b h = refl
 outcome_ok (Some e) d b h = cc h
 
--- what was decoded is base64
+-- A text that was decoded is base64.
 pub piece_read : (s : List ℕ) (room n : ℕ) (r : Result ℕ DecodeSliceError) → decoded_estimate (length s)
     ≤ room → IsBytes s → IsBytes (decoded_bytes_of standard s)
     → r ≡ decode_slice_of standard s room → r ≡ Ok n → IsBase64Of s (decoded_bytes_of standard s)
@@ -107,7 +107,7 @@ piece_read s _ n r fits each bytes value ok =
     let whole = ap (λ e. decode_outcome e (decoded_bytes_of standard s)) parts.0 in
     (record { each = bytes; encoded = decode_of_strict standard s _ (refl, refl) each whole }, parts.1)
 
--- what was not is none
+-- A text that was not decoded is not base64.
 pub piece_unread : (s : List ℕ) (room : ℕ) (e : DecodeSliceError) (r : Result ℕ DecodeSliceError)
     → decoded_estimate (length s) ≤ room
     → r ≡ decode_slice_of standard s room → r ≡ Err e → is_base64 s ≡ false
@@ -118,7 +118,7 @@ piece_unread s room e r fits value err = false_from_ne_true _ (λ read.
     ∙ ap (λ x. or_error x (Ok (length (decoded_bytes_of standard s)))) none in
     cc no)
 
--- how long base64 is
+-- The base64 of n bytes has 4 * ((n + 2) / 3) characters.
 pub length_base64 : (b : List ℕ) → length (base64_of b) ≡ 4 * ((length b + 2) / 3)
 unfolding base64_of
 length_base64 b =
@@ -136,7 +136,8 @@ back_bytes : (a b : List ℕ) → IsBytes (a ++ b) → IsBytes b
 back_bytes [] b h = h
 back_bytes (x ∷ a) b h = back_bytes a b (λ k. h (suc k))
 
--- whole groups, and base64 after them
+-- The base64 of whole groups of three bytes, followed by the base64 of other bytes, is the base64
+-- of all of them.
 pub joined : (s t a b : List ℕ) → IsBase64Of s a → IsBase64Of t b → length a % 3 ≡ 0
     → IsBase64Of (s ++ t) (a ++ b)
 unfolding base64_of
@@ -149,7 +150,7 @@ split : (a c : List ℕ) → length a % 3 ≡ 0 → base64_of (a ++ c) ≡ base6
 unfolding base64_of
 split a c whole = encode_of-append standard a c whole
 
--- base64 that is cut after whole groups, with some letters after the cut
+-- Base64 that is cut after whole groups, with some characters after the cut.
 pub record IsCut (s t b : List ℕ) : Type 0 where
   pub front : List ℕ
   pub back : List ℕ
@@ -189,7 +190,7 @@ same_truth : (x y : Bool) → (x ≡ true → y ≡ true) → (y ≡ true → x 
 same_truth true y h j = sym (h refl)
 same_truth false y h j = sym (false_from_ne_true y (λ t. let no = j t in cc no))
 
--- a text is base64 where what stands after a piece of whole groups is
+-- A text is base64 if the rest after a piece of whole groups is base64.
 module _ (s t text : List ℕ) (is : text ≡ s ++ t) (groups : length s % 4 ≡ 0) (some : 0 < length t) where
   cut_text : is_base64 text ≡ true → IsCut s t (base64_bytes text)
   cut_text h = cut s t _ (subst (λ x. IsBase64Of x (base64_bytes text)) is (reads text h)) groups some
@@ -200,7 +201,7 @@ module _ (s t text : List ℕ) (is : text ≡ s ++ t) (groups : length s % 4 ≡
       (λ all. let parts = cut_text all in is_read t _ parts.back_read) (λ rest. is_read _ _
       (rw (sym is) at (joined s t a (base64_bytes t) h (reads t rest) (omega (arith, long)))))
 
-  -- and none where the piece is none, or has padding
+  -- It is not base64 if the piece is not base64 or has padding.
   pub piece_refused : is_base64 s ≡ false → is_base64 text ≡ false
   piece_refused none = false_from_ne_true _ (λ all.
       let parts = cut_text all in
@@ -223,7 +224,7 @@ module _ (s t text : List ℕ) (is : text ≡ s ++ t) (groups : length s % 4 ≡
 pub rejoined : (text s t : List ℕ) (n : ℕ) → s ≡ take n text → t ≡ drop n text → text ≡ s ++ t
 rejoined text s t n front back = sym ((λ i. front i ++ back i) ∙ take-append-drop n text)
 
--- whether the last piece was decoded
+-- The last piece is decoded exactly if it is base64.
 pub judged : (t room : List ℕ) (r : Option ℕ)
     → MatchOption r (is_base64 t ≡ false) (λ n. (bytes : List ℕ) × IsBase64Of t bytes × (n ≡ length bytes)
     × (n ≤ length room) × (take n room ≡ bytes))

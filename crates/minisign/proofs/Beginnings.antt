@@ -1,25 +1,25 @@
--- What follows after a rejection, and after one draw and then another.
+-- Lemmas about results after an error, and about random bytes that are taken in two parts.
 use Rattle.std.proofs.Common.{◌≡◌, ℕ, List, ◌++◌, Option, None, Some, Result, Ok, Err, IsErrAnd, IfOk, IfErr}
 use Rattle.std.proofs.Common.{OnErr, append_assoc, ap, sym, ◌∙◌}
 use Rattle.minisign.proofs.Common.{Consumes, ⊤, HasGiven, without_value}
 
--- what holds anyway holds after a rejection
+-- What always holds also holds after an error.
 pub on_err_of : {T E : Type 0} (r : Result T E) (P : Type 0) → P → OnErr r P
 on_err_of (Ok x) P h = tt
 on_err_of (Err e) P h = h
 
--- an error that is passed up
+-- A result that is this error is Err of it.
 pub err_is : {T E : Type 0} (r : Result T E) (e : E) → IsErrAnd r (λ y. y ≡ e) → r ≡ Err e
 err_is (Ok x) e is = absurd is
 err_is (Err y) e is = ap Err is
 
--- what holds of an error holds of the answer that passes it up
+-- What holds for an error holds for the result that passes it on.
 pub passed_up : {T E : Type 0} (r : Result T E) (e : E) (P : E → Type 0) → IsErrAnd r (λ y. y ≡ e) → P e
     → IfErr r P
 passed_up (Ok x) e P _ h = tt
 passed_up (Err y) e P is h = rw (sym is) at h
 
--- what is told of how a call ended, where it gave a value and where it did not
+-- Combines what holds for a value with what holds for the end of the call that returned it.
 pub told_value : {T E : Type 0} (r : Result T E) (P : T → Type 0) (Ends : Result ⊤ E → Type 0)
     (Q : T → Type 0) → IfOk r P → Ends (without_value r)
     → ((v : T) → P v → Ends (Ok tt) → Q v) → IfOk r Q
@@ -32,7 +32,7 @@ pub told_fault : {T E : Type 0} (r : Result T E) (Ends : Result ⊤ E → Type 0
 told_fault (Ok v) Ends Q _ f = tt
 told_fault (Err e) Ends Q ended f = f e ended
 
--- what was given of the front, and then more of it
+-- If bytes were read from the front and then more of them, a prefix was read in total.
 pub given_behind : (old mid new : Option (List ℕ)) (a : List ℕ) → Consumes old mid a → HasGiven mid new
     → HasGiven old new
 given_behind _ _ None a _ _ = tt
@@ -41,7 +41,7 @@ given_behind (Some _) None (Some _) a all _ = absurd all
 given_behind (Some _) (Some _) (Some ys) a all (front, more) =
     (a ++ front, all ∙ ap (λ l. a ++ l) more ∙ sym (append_assoc a front ys))
 
--- what was given was at the front
+-- The bytes that were read were at the front.
 pub consumed : (old now : Option (List ℕ)) (a : List ℕ) → Consumes old now a → HasGiven old now
 consumed _ None a _ = tt
 consumed None (Some _) a _ = tt

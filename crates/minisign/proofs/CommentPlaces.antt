@@ -1,4 +1,4 @@
--- Lines of a text and what stands in them, where they stand in the text.
+-- Lemmas about the lines of a text, and about the positions of their contents in the text.
 use Rattle.std.proofs.Common.{◌≡◌, ◌∙◌, ℕ, ◌+◌, ◌-◌, ◌<◌, ◌≤◌, ◌==◌, Bool, true, false, List, [], ◌∷◌, ◌++◌}
 use Rattle.std.proofs.Common.{length, take, drop, slice_index, ap, sym, subst, arith, eqb, cond, ⊎_elim}
 use Rattle.std.proofs.Common.{take-take, length-take-le, take_all, length-drop, drop-drop}
@@ -16,9 +16,9 @@ use Rattle.minisign.specs.SignatureText.{SignatureTextRecord, trusted_comment_la
 abbrev is_feed : ℕ → Bool
 is_feed b = eqb b 10
 
--- == The first line and what follows it ==
+-- == The first line and the text after it ==
 
--- a line without its carriage return is a front of the line
+-- A line without its carriage return is a prefix of the line.
 strip_front : (l : List ℕ) → (take (length (strip_carriage_return l)) l ≡ strip_carriage_return l)
     × (length (strip_carriage_return l) ≤ length l)
 strip_front l = of (slice_index l (length l - 1) == 13)
@@ -31,13 +31,14 @@ strip_front l = of (slice_index l (length l - 1) == 13)
         (ap (λ k. take k l) n, omega (arith, n))
     of false = (take_all (length l) l (omega arith), omega arith)
 
--- of a text that is all one line
+-- A text without a line feed is its only line.
 only : (w x : List ℕ) (more : List (List ℕ)) (b : Bool) → cond b [] (w ∷ []) ≡ x ∷ more
     → (w ≡ x) × (lines [] ≡ more)
 only w x more true h = cc h
 only w x more false h = let none : ◌≡◌ {A = List (List ℕ)} [] more = cc h in (cc h, none)
 
--- the first line is a front of the text, and the other lines are those of what stands behind its line feed
+-- The first line is a prefix of the text, and the other lines are those of the text after its line
+-- feed.
 pub front_line : (w x : List ℕ) (more : List (List ℕ)) → lines w ≡ x ∷ more → (take (length x) w ≡ x)
     × (lines (behind_line w) ≡ more)
 front_line w x more cut = ⊎_elim some none (cases_lt (position_or_len is_feed w) (length w))
@@ -67,16 +68,16 @@ front_line w x more cut = ⊎_elim some none (cases_lt (position_or_len is_feed 
           ap lines behind ∙ these.1,
         )
 
--- == Where a part stands ==
+-- == Positions ==
 
--- a list without its front is what stands behind as many as the front has
+-- The rest of a list after a prefix begins where the prefix ends.
 pub behind_front : (n : ℕ) (xs s : List ℕ) → s ≡ drop n xs → drop (length xs - length s) xs ≡ s
 behind_front n xs s is = ⊎_elim
     (λ l. ap (λ k. drop k xs) (omega (arith, l, ap length is, length-drop n xs)) ∙ sym is)
     (λ l. let empty = is ∙ drop_all n xs l in drop_all (length xs - length s) xs
     (omega (arith, ap length empty)) ∙ sym empty) (cases_lt n (length xs))
 
--- what stands in the first line of a part of the text stands in the text
+-- What is in the first line of a part of the text is in the text.
 pub placed : (bytes line part text : List ℕ) (at n : ℕ) → StandsAt bytes line at → take (length line) part
     ≡ line → length line ≤ length part → part ≡ drop n text
     → StandsAt bytes text (length text - length part + at)
@@ -101,7 +102,7 @@ placed bytes line part text at n h front fits is =
 
 -- == The trusted comment ==
 
--- the comment of a line with a label, of which white space was taken off
+-- The comment of a line with a label, without white space at its ends.
 pub in_line : (line comment own rest trimmed : List ℕ) (n : ℕ) → line ≡ trusted_comment_label ++ comment
     → line ≡ trusted_comment_label ++ own
     → rest ≡ trim_start own → rest ≡ drop n own → trimmed ≡ trim_end rest
@@ -124,7 +125,8 @@ in_line line comment own rest trimmed n labelled also begun at ended front fits 
       rw same at stands,
     )
 
--- the comment of a text that reads as a signature
+-- The offset and length of the trusted comment in a signature text, from its place in the third
+-- line.
 pub in_text : (text third line : List ℕ) (t : SignatureTextRecord) (start len : ℕ) → SignatureText text t
     → third ≡ behind_line (behind_line text)
     → line ≡ slice_index_or (lines third) 0 [] → length line ≤ length third

@@ -1,16 +1,16 @@
--- What an output holds of data that was copied in part.
+-- Lemmas about what an output received of data that was copied in part.
 use Rattle.std.proofs.Common.{◌≡◌, ℕ, List, [], ◌++◌, Option, None, Some, append-nil, ap, refl, sym, subst}
 use Rattle.std.proofs.Common.{◌∙◌}
 use Rattle.minisign.proofs.Common.{append_known, Appends, Consumes, Keeps, AppendsFront, SameWhereKnown}
 use Rattle.minisign.proofs.Common.{AppendsFront-after, AppendsFront-keeps, AppendsFront-more}
 use Rattle.minisign.specs.Reading.{IsAhead}
 
--- all of a text is a prefix of it
+-- All of a text is a prefix of it.
 pub front_of_all : (a b c : Option (List ℕ)) (bs : List ℕ) → Appends a b bs → Keeps b c → AppendsFront a c bs
 front_of_all a b c bs all kept =
     rw (append-nil bs) at (AppendsFront-after a b c bs [] all (AppendsFront-keeps b c [] kept))
 
--- a prefix of what was read so far is one of all that was ahead
+-- A prefix of the bytes read so far is a prefix of all the unread bytes.
 pub front_of_ahead : (ahead now old new : Option (List ℕ)) (bs : List ℕ) → Consumes ahead now bs
     → AppendsFront old new bs
     → (message : List ℕ) × IsAhead ahead message × AppendsFront old new message
@@ -19,32 +19,33 @@ front_of_ahead (Some _) None _ _ _ read _ = absurd read
 front_of_ahead (Some xs) (Some ys) old new bs read front =
     (xs, refl, rw (sym read) at (AppendsFront-more old new bs ys front))
 
--- before anything was read, nothing taken is a prefix of all that is ahead
+-- Before anything is read, an output that received nothing received a prefix of all the unread
+-- bytes.
 pub front_of_nothing : (ahead old new : Option (List ℕ)) → Keeps old new
     → (message : List ℕ) × IsAhead ahead message × AppendsFront old new message
 front_of_nothing None _ _ kept = ([], tt, AppendsFront-keeps _ _ [] kept)
 front_of_nothing (Some xs) _ _ kept = (xs, refl, AppendsFront-keeps _ _ xs kept)
 
--- what a sink that was not written to keeps
+-- A sink that is not written to is unchanged.
 pub keeps_same : (known : Option (List ℕ)) → Keeps known known
 keeps_same None = tt
 keeps_same (Some _) = refl
 
--- all of a text stays taken
+-- A sink that received bytes and is unchanged after that has received these bytes.
 pub all_kept : (a b c : Option (List ℕ)) (bs : List ℕ) → Appends a b bs → Keeps b c → Appends a c bs
 all_kept None b c _ _ _ = tt
 all_kept (Some x) None c _ all _ = absurd all
 all_kept (Some x) (Some y) None _ _ kept = absurd kept
 all_kept (Some x) (Some y) (Some z) _ all kept = kept ∙ all
 
--- what was given so far, and then more
+-- If a was read so far and b is read next, then a followed by b was read.
 pub given_more : (old new : Option (List ℕ)) (a b : List ℕ) → IsAhead old a → new ≡ append_known old b
     → IsAhead new (a ++ b)
 given_more None _ a b _ more = subst (λ known. IsAhead known (a ++ b)) (sym more) tt
 given_more (Some _) _ a b given more = subst (λ known. IsAhead known (a ++ b)) (sym more)
     (ap (λ (l : List ℕ). l ++ b) given)
 
--- what was given so far, and no more
+-- The bytes that were read are the same if the record of them is unchanged.
 pub given_still : (old new : Option (List ℕ)) (a : List ℕ) → IsAhead old a → SameWhereKnown old new
     → IsAhead new a
 given_still _ None a _ _ = tt

@@ -1,6 +1,6 @@
--- Values of the definitions that are known from outside: examples of RFC 4648, the key and the signature that
--- were published, and a damaged text for each error. A wrong letter or byte does not check. The digest, and
--- what the texts decode to, were given by other programs.
+-- Known values of the definitions: examples of RFC 4648, the published key and signature, and a
+-- damaged text for each error. A wrong character or byte makes the proof fail. The digest and the
+-- decoded bytes come from other programs.
 use Rattle.std.proofs.Common.{◌≡◌, refl, ℕ, true, false, ◌&&◌, ◌||◌, Result, Ok, Err, List, [], ◌∷◌, ◌++◌}
 use Rattle.std.proofs.Common.{codes, drop, take, replicate, bytes_eq}
 use Rattle.std.specs.Str.{trim_start, trim_end, chars}
@@ -21,7 +21,8 @@ use Rattle.minisign.specs.SignatureText.{trusted_comment_label}
 use Rattle.minisign.specs.Acceptance.{Verifier}
 use Rattle.minisign.specs.Headline.{verdict}
 
--- what the facts of readers open, and those of verdicts: who opens these opens all that they open
+-- The definitions that the facts about parsing, and those about verdicts, unfold. To unfold these
+-- names is to unfold all of them.
 unfoldable readers : ℕ
 unfolding read_public_key read_bare_public_key read_signature read_secret_key untrusted_comment_label
     trusted_comment_label base64_of base64_bytes is_base64 encode_symbols groups_bytes scan_steps trim_start
@@ -33,7 +34,7 @@ unfolding readers verdict blake2b_digest state_after padded_block compress work_
     sigma words64_of bytes_of_words64
 verdicts = 0
 
--- == Base64: the examples of RFC 4648, section 10, and all letters in their order ==
+-- == Base64: the examples of RFC 4648, section 10, and all characters in order ==
 
 pub base64_of_nothing : base64_of [] ≡ []
 unfolding readers
@@ -98,7 +99,7 @@ pub key_of_bare_base64 : read_bare_public_key key_line ≡ Ok published_key
 unfolding readers
 key_of_bare_base64 = refl
 
--- a text for each error
+-- A text for each error.
 pub key_without_comment : read_public_key [] ≡ Err (Named named.MissingPublicKeyComment)
 unfolding readers
 key_without_comment = refl
@@ -153,7 +154,7 @@ abbrev comment_signature_line : List ℕ
 comment_signature_line =
     codes "y/rUw2y8/hOUYjZU71eHp/Wo1KZ40fGy2VJEDl34XMJM+TX48Ss/17u3IvIfbVR1FkZZSNCisQbuQY+bHwhEBg=="
 
--- its text: three lines, and a last one that no line feed ends
+-- The text of the signature: three lines, and a last one without a line feed.
 abbrev text_of : List ℕ → List ℕ → List ℕ → List ℕ → List ℕ
 text_of first second third fourth = line first ++ line second ++ line third ++ fourth
 
@@ -195,8 +196,8 @@ pub signature_of_text :
 unfolding readers
 signature_of_text = refl
 
--- where its trusted comment begins; with a carriage return at the end of each line the lines before it are
--- longer, and two spaces before it do not belong to it
+-- The offset of the trusted comment. With a carriage return at the end of each line, the lines
+-- before it are longer. Two spaces before the comment are not part of it.
 pub comment_of_text : comment_offset
     (text_of untrusted_line signature_line trusted_line comment_signature_line) ≡ 172
 unfolding readers comment_offset
@@ -209,7 +210,7 @@ pub comment_behind_spaces :
 unfolding readers comment_offset
 comment_behind_spaces = refl
 
--- a text for each error
+-- A text for each error.
 pub signature_without_first_line : read_signature [] ≡ Err (Named named.MissingUntrustedComment)
 unfolding readers
 signature_without_first_line = refl
@@ -294,8 +295,8 @@ secret_key_of_157_bytes = refl
 
 -- == The verdict on these texts ==
 
--- what Ed25519 has to accept, since the author of Minisign signed it: the signature for the digest of `test`,
--- and the comment signature for the signature and the trusted comment
+-- Ed25519 has to accept these, because the author of Minisign signed them: the signature of the digest
+-- of `test`, and the comment signature of the signature followed by the trusted comment.
 abbrev digest : List ℕ
 digest =
     0xa7 ∷ 0x10 ∷ 0x79 ∷ 0xd4 ∷ 0x28 ∷ 0x53 ∷ 0xde ∷ 0xa2 ∷ 0x6e ∷ 0x45 ∷ 0x30 ∷ 0x04 ∷ 0x33 ∷ 0x86 ∷ 0x70 ∷
@@ -319,7 +320,7 @@ abbrev accepts_both : Verifier
 accepts_both message key signature =
     accepts_signature message key signature || accepts_comment message key signature
 
--- a key and a signature with these lines, and data
+-- The verdict on a key and a signature with these lines, for data.
 abbrev verdict_on : Verifier → List ℕ → List ℕ → List ℕ → Result (List ℕ) Fault
 verdict_on accepts key signature message =
     verdict accepts (line key_comment ++ line key)

@@ -1,4 +1,4 @@
--- Keys that are made of their parts, and their texts; and what the keys that are generated are good for.
+-- Lemmas about keys that are made of their parts, about their texts, and about generated keys.
 use Rattle.std.proofs.Common.{◌≡◌, ◌^◌, ◌<◌, ℕ, List, length, None, Ok, unwrap_or, refl, sym, ap, ◌∙◌, arith}
 use Rattle.std.proofs.Common.{false, ◌⊎◌, ◌+◌, Option, Some, Result, Err, IsOk, IfOk, true, not, inl, inr}
 use Rattle.std.proofs.Common.{subst, w64, true≢false, bytes_eq}
@@ -19,7 +19,7 @@ use Rattle.minisign.proofs.SealingLimits.{sealing_numbers}
 use Rattle.minisign.specs.Texts.{and_then, require}
 use Rattle.minisign.proofs.Openings.{opened_within, sealed_taken, unencrypted_taken, unencrypted_text}
 
--- the limits of a key that is sealed with these
+-- A key that stores these limits has their scrypt parameters.
 pub limits_named : (k : SecretKeyRecord) (operations memory : ℕ) → operations < 2 ^ 64 → memory < 2 ^ 64
     → k.operations_limit ≡ to_le_bytes w64 operations → k.memory_limit ≡ to_le_bytes w64 memory
     → key_limits k ≡ sealing_limits memory operations
@@ -32,7 +32,7 @@ limits_named k operations memory some more same_operations same_memory =
       from_le_bytes-to_le_bytes_8 memory more,
     ) refl
 
--- what a test with no bound says of the limits
+-- A check without a bound returns the parameters unchanged.
 unbounded : (r : Result Numbers Fault) → and_then r (λ v. Ok v) ≡ r
 unbounded (Ok v) = refl
 unbounded (Err e) = refl
@@ -41,12 +41,12 @@ pub work_allowed : (k : SecretKeyRecord) (l : Result Numbers Fault) → key_limi
     → IsOk (allowed_work k None) → IsOk l
 work_allowed k l same h = rw (unbounded (key_limits k) ∙ same) at h
 
--- where the limits are allowed, it is another error
+-- If the limits are allowed, the error is the other one.
 pub other_fault : (l : Result Numbers Fault) (e f : Fault) → IsOk l → e ≡ f → e ≡ unwrap_or (result_err l) f
 other_fault (Ok v) e f _ is = is
 other_fault (Err g) e f ok _ = absurd (true≢false (sym ok))
 
--- why no stream was applied
+-- The error if a key was not encrypted is that of its limits, or else out of memory.
 pub stream_fault : (k : SecretKeyRecord) (l : Result Numbers Fault) (e : Fault) → key_limits k ≡ l
     → ((e ≡ Named OutOfMemory) × IsOk (allowed_work k None)) ⊎ (allowed_work k None ≡ Err e)
     → e ≡ unwrap_or (result_err l) (Named OutOfMemory)
@@ -59,7 +59,7 @@ allowed_limits _ _ (Ok v) same _ =
     ap Ok (sym (sealing_numbers _ _ v same))
 allowed_limits _ _ (Err e) _ ok = absurd (true≢false (sym ok))
 
--- the key that is not to be sealed is none that has to be opened
+-- An unencrypted key is accepted as one that was never encrypted.
 pub unsealed_is_unencrypted : (keynum secret : List ℕ) → unencrypted_key (unsealed_key keynum secret)
     ≡ Ok (unsealed_key keynum secret)
 unfolding unsealed_key
@@ -68,13 +68,13 @@ unsealed_is_unencrypted _ _ = unencrypted_taken _ refl refl
 no_mismatch : (xs : List ℕ) → not (bytes_eq xs xs) ≡ false
 no_mismatch xs = let same : bytes_eq xs xs ≡ true = (bytes_eq-Decides xs xs).1 refl in rw same refl
 
--- a key that is to be sealed counts as opened
+-- A key that is to be encrypted is not encrypted yet: its checksum is the right one.
 pub opened_before : (keynum secret salt : List ℕ) (operations memory : ℕ)
     → is_encrypted (key_to_seal keynum secret salt operations memory) ≡ false
 unfolding key_to_seal unsealed_key
 opened_before keynum secret _ _ _ = no_mismatch (checksum_of (unsealed_key keynum secret))
 
--- the text of a key that is not sealed
+-- The text of an unencrypted key meets IsMadeText.
 pub made_unsealed : (keynum secret comment text : List ℕ) (s : Sealing) (sk : SecretKeyRecord)
     → sk ≡ unsealed_key keynum secret
     → text ≡ secret_key_text (Some comment) sk → (LacksByte 10 comment → read_secret_key text ≡ Ok sk)
@@ -86,7 +86,7 @@ made_unsealed _ _ comment _ s _ same written reads size = record {
   size = size;
 }
 
--- the sealed key opens under its password, and so does each text that reads as it
+-- The encrypted key decrypts under its password, and so does each text that parses to it.
 module _ (keynum secret salt password : List ℕ) (operations memory : ℕ) (some : operations < 2 ^ 64)
     (more : memory < 2 ^ 64) (sk : SecretKeyRecord)
     (sealed : sk ≡ xored_key (key_to_seal keynum secret salt operations memory) password)
@@ -118,7 +118,7 @@ module _ (keynum secret salt password : List ℕ) (operations memory : ℕ) (som
       (λ r. and_then (and_then r sealed_by_scrypt) (λ k. open_sealed k password bound)) read
       ∙ sealed_opens _
 
--- the text of a sealed key
+-- The text of an encrypted key meets IsMadeText.
 pub made_sealed : (keynum secret password comment text : List ℕ) (s : Sealing) (sk : SecretKeyRecord)
     → s.operations_limit < 2 ^ 64 → s.memory_limit < 2 ^ 64
     → sk ≡ xored_key (key_to_seal keynum secret s.salt s.operations_limit s.memory_limit) password
@@ -135,13 +135,13 @@ made_sealed keynum secret password comment text s sk some more sealed opened all
       size = size;
     }
 
--- what three clauses say of the text that was returned
+-- Combines three clauses about the text that was returned.
 pub of_text : {T E A : Type 0} (r : Result T E) (P Q S V : T → Type 0) → IfOk r P → (A → IfOk r Q) → IfOk r S
     → ((t : T) → P t → (A → Q t) → S t → V t) → IfOk r V
 of_text (Ok t) P Q S V p q s f = f t p q s
 of_text (Err e) P Q S V p q s f = tt
 
--- 32 random bytes, and then 8
+-- 32 random bytes and 8 more are a seed and a key ID.
 pub seed_and_keynum : (seed keynum : List ℕ) → IsBytes seed × (length seed ≡ 32)
     → IsBytes keynum × (length keynum ≡ 8) → AreSeedAndKeynum seed keynum
 seed_and_keynum _ _ (seed_bytes, seed_length) (keynum_bytes, keynum_length) =
@@ -152,7 +152,7 @@ seed_and_keynum _ _ (seed_bytes, seed_length) (keynum_bytes, keynum_length) =
       keynum_bytes = keynum_bytes;
     }
 
--- a public key, and an opened secret key of its parts, belong together
+-- A public key and a decrypted secret key of its parts belong together.
 pair_of_parts : (public_of : List ℕ → List ℕ) (seed keynum : List ℕ) (pk : PublicKeyRecord)
     (sk : SecretKeyRecord) → AreSeedAndKeynum seed keynum → pk ≡ public_key_of public_of seed keynum
     → sk.keynum ≡ keynum → sk.secret ≡ secret_of public_of seed → is_encrypted sk ≡ false
@@ -178,17 +178,17 @@ unsealed_pair _ _ keynum pk sk lengths public secret =
     pair_of_parts _ _ _ pk sk lengths public (ap (λ k. k.keynum) secret)
     (ap (λ k. k.secret) secret) (ap (λ k. is_encrypted k) secret)
 
--- the default limits are allowed, and lead to N of 2 ^ 15, r of 8 and p of 1
+-- The default limits are allowed, and give N = 2 ^ 15, r = 8 and p = 1.
 default_limits : sealing_limits 33554432 1048576 ≡ Ok (record { n_log2 = 15; r = 8; p = 1 })
 unfolding limits numbers cost_log2
 default_limits = refl
 
--- so only an allocation can fail
+-- So only an allocation can fail.
 pub only_memory : unwrap_or (result_err (sealing_limits 33554432 1048576)) (Named OutOfMemory)
     ≡ Named OutOfMemory
 only_memory = ap (λ l. unwrap_or (result_err l) (Named OutOfMemory)) default_limits
 
--- a sealed pair opens under its password
+-- An encrypted pair decrypts under its password.
 pub sealed_pair : {Z : Type 0} (public_of : List ℕ → List ℕ) (password : List ℕ) (z : RandomCall Z)
     (pk : PublicKeyRecord) (sk : SecretKeyRecord)
     → IsSealedPair public_of password z pk sk → OpensToPair public_of password pk sk

@@ -1,5 +1,6 @@
--- What the proofs of other crates cite: of a box that is judged, of a verdict on texts that vouch for a
--- message, of verifying without an output, and of a sink that is written to in parts.
+-- The laws that the proofs of other crates use: about a box that is checked, about the verdict on
+-- texts that are valid for a message, about verification without an output, and about a sink that
+-- is written to in parts.
 use Rattle.std.proofs.Common.{◌≡◌, ℕ, Bool, List, sym, ◌∙◌, inl, inr, Ok, Err}
 use Rattle.minisign.proofs.Common.{Fault, Named, OutOfMemory}
 use Rattle.minisign.specs.Acceptance.{Verifier}
@@ -12,7 +13,7 @@ pub use Rattle.minisign.proofs.Passes.{fails_without_output}
 pub use Rattle.minisign_base.proofs.Laws.{AppendsFront-after, AppendsFront-more}
 
 module _ (accepts : Verifier) (pk_text sig_text message : List ℕ) (legacy : Bool) where
-  -- texts that vouch for a message are rejected only where an allocation fails
+  -- Texts that are valid for a message are rejected only if an allocation fails.
   pub only_memory : (e : Fault) → TextsVouchFor accepts pk_text sig_text message legacy
       → IsGivenOrNoMemory {V = List ℕ} (Err e) (verdict accepts pk_text sig_text message legacy)
       → e ≡ Named OutOfMemory
@@ -20,14 +21,14 @@ module _ (accepts : Verifier) (pk_text sig_text message : List ℕ) (legacy : Bo
       cc differ
   only_memory e v (inr memory) = cc memory
 
-  -- and what is accepted is vouched for
+  -- Texts that are accepted are valid for the message.
   pub accepted_vouches : (comment : List ℕ)
       → IsGivenOrNoMemory (Ok comment) (verdict accepts pk_text sig_text message legacy)
       → TextsVouchFor accepts pk_text sig_text message legacy
   accepted_vouches _ given =
       (vouched _ _ _ _ _ _ (read_value _ _ given)).vouched
 
-  -- texts that are rejected do not vouch for the message
+  -- Texts that are rejected are not valid for the message.
   pub refused_unvouched : (e : Fault) → verdict accepts pk_text sig_text message legacy ≡ Err e
       → ¬ (TextsVouchFor accepts pk_text sig_text message legacy)
   refused_unvouched e is v = let differ = sym is ∙ vouching_verdict _ _ _ _ _ v in cc differ

@@ -1,3 +1,4 @@
+-- The lemmas that the proofs of minisign use.
 pub mod Common
 pub mod SealedParts
 pub mod SealingLimits

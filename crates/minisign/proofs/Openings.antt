@@ -1,5 +1,6 @@
--- What a secret key opens to, and when a text gives a key: the functions and the relations agree; how opening
--- ends, whether a password is asked for or passed in; and which key a text gives for signing.
+-- Lemmas about decrypting secret keys, and about the key that a text gives: the functions and the
+-- relations agree; how decryption ends, with a given password or with one that is asked for; and
+-- which key a text gives for signing.
 use Rattle.std.proofs.Common.{◌≡◌, ℕ, Bool, true, false, not, bytes_eq, List, Option, None, refl, sym, ap}
 use Rattle.std.proofs.Common.{◌∙◌, is_ok, true≢false, Result, Ok, Err, IsOk, ◌⊎◌, Some, IfOk, IfErr, inl, inr}
 use Rattle.std.proofs.Common.{[], IfSome, option_map}
@@ -18,12 +19,12 @@ use Rattle.minisign.proofs.ReadTexts.{passed, read_before, same_end, same_value}
 use Rattle.minisign.proofs.SecretKeyTexts.{read_as}
 use Rattle.minisign.specs.Signing.{GivesKey, IsKeyOf}
 
--- what is a value is no error
+-- A value is not an error.
 pub no_fault : {V : Type 0} (r : Result V Fault) → IsOk r → result_err r ≡ None
 no_fault (Ok v) _ = refl
 no_fault (Err e) ok = absurd (true≢false (sym ok))
 
--- a key is taken as sealed by scrypt exactly where it names scrypt
+-- A key is accepted as encrypted with scrypt exactly if it names scrypt.
 sealed_held : (k l : SecretKeyRecord) → sealed_by_scrypt k ≡ Ok l → (k ≡ l) × (k.kdf ≡ scrypt_kdf)
 sealed_held k l h =
     let first = passed _ _ _ l h in
@@ -33,7 +34,7 @@ sealed_held k l h =
 pub sealed_taken : (k : SecretKeyRecord) → k.kdf ≡ scrypt_kdf → sealed_by_scrypt k ≡ Ok k
 sealed_taken k h = rw h refl
 
--- where two tests end well, their value is read
+-- If two checks succeed, the result is their value.
 both_passed : {V : Type 0} (a b : Bool) (e f : NamedFault) (v : V)
     → Ok tt ≡ without_value (require a e (require b f (Ok v))) → require a e (require b f (Ok v)) ≡ Ok v
 both_passed true true e f v h = refl
@@ -48,13 +49,13 @@ pub unencrypted_passed : (k : SecretKeyRecord) → Ok tt ≡ without_value (unen
     → unencrypted_key k ≡ Ok k
 unencrypted_passed k h = both_passed _ _ _ _ k h
 
--- a checksum that is restored
+-- A key that is returned after the checksum test is unchanged, and its checksum matches.
 restored_held : (k v : SecretKeyRecord) → restored_key k ≡ Ok v → (k ≡ v) × (k.checksum ≡ checksum_of k)
 restored_held k v h =
     let (same, is) = passed _ _ _ v h in
     (same_value k v is, (bytes_eq-Decides _ _).0 same)
 
--- a sealed key opens exactly where the conditions hold
+-- An encrypted key decrypts exactly if the conditions hold.
 opening_held : (k v : SecretKeyRecord) (password : List ℕ) (bound : Option ℕ) → open_sealed k password bound
     ≡ Ok v
     → IsOk (allowed_work k bound) × (xored_key k password ≡ v) × (v.checksum ≡ checksum_of v)
@@ -63,7 +64,7 @@ opening_held k v _ _ h =
     let (is, checksum) = restored_held _ v restored in
     (ap is_ok work, is, rw is at checksum)
 
--- and it opens within each bound that its parallelization is within
+-- It decrypts within each bound that its parallelization is within.
 pub opened_within : (k : SecretKeyRecord) (password : List ℕ) (bound : Option ℕ) (v : Numbers)
     → key_limits k ≡ Ok v
     → (xored_key k password).checksum ≡ checksum_of (xored_key k password)
@@ -83,7 +84,7 @@ pub opened_so : (k v : SecretKeyRecord) (password : List ℕ) (bound : Option �
 opened_so k v password _ w is work restored = ap
     (λ r. and_then r (λ _. restored_key (xored_key k password))) work ∙ ap restored_key (sym is) ∙ restored
 
--- the key of a text
+-- The check for a key that is encrypted with scrypt, applied to the key in a text.
 pub sealed_text : (text : List ℕ) (k : SecretKeyRecord) (r : Result SecretKeyRecord Fault)
     → read_secret_key text ≡ Ok k → sealed_by_scrypt k ≡ r → and_then (read_secret_key text) sealed_by_scrypt
     ≡ r
@@ -139,7 +140,7 @@ pub opened_as : (text password : List ℕ) (bound : Option ℕ)
     → IsReading (IsOpened text password bound) (open_key text password bound)
 opened_as _ _ _ = record { value = λ v. (text_opens _ _ _ v, opens_text _ _ _ v) }
 
--- a key is taken as one that was never sealed exactly where it is one
+-- A key is accepted as never encrypted exactly if it was never encrypted.
 pub unencrypted_taken : (k : SecretKeyRecord) → k.kdf ≡ no_kdf → k.checksum ≡ checksum_of k
     → unencrypted_key k ≡ Ok k
 unencrypted_taken k none same =
@@ -185,7 +186,7 @@ unencrypted_as _ = record {
   );
 }
 
--- how taking a key ends that was never sealed
+-- The result for the key in a text is that of read_unencrypted_key.
 module _ (text : List ℕ) (k : SecretKeyRecord) (read : Ok k ≡ read_secret_key text) where
   pub unencrypted_refused : (e : Fault) → Err e ≡ without_value (unencrypted_key k)
       → Err e ≡ read_unencrypted_key text
@@ -194,7 +195,8 @@ module _ (text : List ℕ) (k : SecretKeyRecord) (read : Ok k ≡ read_secret_ke
   pub unencrypted_value : Ok tt ≡ without_value (unencrypted_key k) → Ok k ≡ read_unencrypted_key text
   unencrypted_value h = sym (unencrypted_text _ k _ (sym read) (unencrypted_passed k h))
 
--- a text that no password opens is rejected with the prompt as it was, whether a password is handed in or not
+-- A text that no password decrypts is rejected with the prompt unchanged, whether a password is
+-- given or not.
 pub closed_opening : {R W : Type 0} (p : PromptCall R W) (given : Option (List ℕ)) (text : List ℕ)
     (bound : Option ℕ) (e : Fault)
     → p.new ≡ p.old → and_then (read_secret_key text) sealed_by_scrypt ≡ Err e
@@ -203,7 +205,7 @@ closed_opening p (Some _) _ _ e same refused =
     (same, inl (sym (unopened_text _ _ _ e refused)))
 closed_opening p None _ _ e same refused = inl (refused, same)
 
--- a key that is read, opened with a password that was asked for
+-- Decrypting a parsed key with a typed password meets IsOpening.
 pub asked_opening : {R W : Type 0} (p : PromptCall R W) (text : List ℕ) (bound : Option ℕ)
     (k : SecretKeyRecord) (r : Result SecretKeyRecord Fault)
     → and_then (read_secret_key text) sealed_by_scrypt ≡ Ok k
@@ -216,7 +218,7 @@ asked_opening p _ _ k (Ok v) read (bytes, password, typed, opens, ended) _ =
     (k, bytes, password, read, typed, open_text _ _ _ k read ∙ opens, ended)
 asked_opening p _ _ k (Err e) read _ (bytes, stopped) = inr (k, bytes, read, stopped)
 
--- and with one that was handed in
+-- Decrypting a parsed key with a given password meets IsOpening.
 pub given_opening : {R W : Type 0} (p : PromptCall R W) (password text : List ℕ) (bound : Option ℕ)
     (k : SecretKeyRecord) (r : Result SecretKeyRecord Fault)
     → p.new ≡ p.old → and_then (read_secret_key text) sealed_by_scrypt ≡ Ok k
@@ -226,7 +228,7 @@ given_opening p _ _ _ k r same read (inl is) =
     (same, inl (is ∙ sym (open_text _ _ _ k read)))
 given_opening p _ _ _ k r same read (inr memory) = (same, inr (memory.0, rw read memory.1))
 
--- the headline of an opening
+-- With a given password, decryption has the result of open_key or is out of memory.
 pub headline_of : {R W : Type 0} (p : PromptCall R W) (given : Option (List ℕ)) (text : List ℕ)
     (bound : Option ℕ) (r : Result SecretKeyRecord Fault)
     → IsOpening p given text bound r
@@ -234,7 +236,7 @@ pub headline_of : {R W : Type 0} (p : PromptCall R W) (given : Option (List ℕ)
 headline_of p None _ _ r h = tt
 headline_of p (Some _) _ _ r h = h.1
 
--- whether a text is that of a sealed key
+-- The text is that of an encrypted key.
 is_sealed : (text : List ℕ) (r : Result SecretKeyRecord Fault) → read_secret_key text ≡ r
     → is_sealed_text text ≡ option_map_or wants_password (result_ok r) false
 unfolding is_sealed_text
@@ -242,18 +244,18 @@ is_sealed _ r read = ap (λ x. option_map_or wants_password (result_ok x) false)
 
 module _ {R W : Type 0} (p : PromptCall R W) (given : Option (List ℕ)) (text : List ℕ)
     (r : Result SecretKeyRecord Fault) where
-  -- one that is sealed: it is opened
+  -- If the key names a key derivation, decrypting the text meets GivesKey.
   pub sealed_key : (k : SecretKeyRecord) → read_secret_key text ≡ Ok k → bytes_eq k.kdf no_kdf ≡ false
       → IsOpening p given text None r → GivesKey p given text r
   sealed_key k read other h = inl (is_sealed _ _ read ∙ ap not other, h)
 
-  -- one that never was
+  -- If the key names none, reading it as an unencrypted key meets GivesKey.
   pub unsealed_key : (k : SecretKeyRecord) → read_secret_key text ≡ Ok k → bytes_eq k.kdf no_kdf ≡ true
       → p.new ≡ p.old
       → r ≡ read_unencrypted_key text → GivesKey p given text r
   unsealed_key k read none same h = inr (is_sealed _ _ read ∙ ap not none, same, h)
 
--- a password that is handed in leaves the prompt as it was
+-- A given password leaves the prompt unchanged.
 pub untouched : {P R W : Type 0} (p : PromptCall R W) (bytes : P → List ℕ) (given : Option P) (text : List ℕ)
     (r : Result SecretKeyRecord Fault)
     → GivesKey p (option_map bytes given) text r → IfSome given (λ _. p.new ≡ p.old)
@@ -261,13 +263,13 @@ untouched p _ None _ r h = tt
 untouched p _ (Some _) _ r (inl (_, (same, h))) = same
 untouched p _ (Some _) _ r (inr (_, same, h)) = same
 
--- a text that reads as no key
+-- The error of a text that does not parse as a key meets GivesKey.
 pub unread_key : {R W : Type 0} (p : PromptCall R W) (given : Option (List ℕ)) (text : List ℕ) (e : Fault)
     → p.new ≡ p.old
     → read_secret_key text ≡ Err e → GivesKey p given text (Err e)
 unread_key p _ _ e same read = inr (is_sealed _ _ read, same, sym (unread_unencrypted _ e read))
 
--- with a password it is what the text gives under it
+-- With a password, the result is the key that the text gives under it.
 pub with_password : {Same : Type 0} (password text : List ℕ) (r : Result SecretKeyRecord Fault)
     → ((is_sealed_text text ≡ true) × (Same × IsOpenedOrNoMemory text None r (open_key text password None)))
     ⊎ ((is_sealed_text text ≡ false) × Same × (r ≡ read_unencrypted_key text))
@@ -276,13 +278,13 @@ with_password _ _ r (inl (sealed, (_, inl h))) = rw sealed (inl h)
 with_password _ _ r (inl (sealed, (_, inr memory))) = rw sealed (inr memory)
 with_password _ _ r (inr (plain, _, h)) = rw plain (inl h)
 
--- a key that was given is what the text gives
+-- A key that was returned is the one that the text gives.
 given_value : (text : List ℕ) (key : SecretKeyRecord) (given : Result SecretKeyRecord Fault)
     → IsOpenedOrNoMemory text None (Ok key) given → given ≡ Ok key
 given_value _ _ _ (inl is) = sym is
 given_value text key given (inr memory) = absurd (cc memory.0)
 
--- a key that was given with a prompt or a password is one of the text
+-- A key that was returned, with a prompt or a password, is a key of the text.
 pub key_of_given : {R W : Type 0} (p : PromptCall R W) (given : Option (List ℕ)) (text : List ℕ)
     (key : SecretKeyRecord)
     → GivesKey p given text (Ok key) → IsKeyOf text key

@@ -1,5 +1,6 @@
--- The steps of verifying: where they do not use the status, or the output, they end alike beside any other
--- sink; how the calls that take them make them; and what is read off them.
+-- Lemmas about the stages of verification: stages that do not use the status, or the output, end in
+-- the same way with any other sink; how the calls go through the stages; and what follows from
+-- them.
 use Rattle.std.proofs.Common.{◌≡◌, ◌≢◌, ◌⊎◌, ℕ, Bool, true, false, Vec, List, [], ◌∷◌, ◌++◌, Option, None}
 use Rattle.std.proofs.Common.{Some, IfErr, IfSome, IsSome, OnOk, inl, inr, ⊎_elim, refl, sym, ap, subst, ◌∙◌}
 use Rattle.std.proofs.Common.{Result, Ok, Err, true≢false, ◌&&◌}
@@ -26,7 +27,7 @@ use Rattle.minisign.specs.Texts.{IsGivenOrNoMemory, and_then}
 use Rattle.minisign.proofs.Copies.{all_kept}
 use Rattle.minisign.proofs.Verdicts.{AreSigned, judged_held, judged_or_not}
 
--- the stages do not use the status
+-- The stage does not use the status.
 abbrev IsUnsaid : Stage → Type 0
 IsUnsaid (Report _) = ⊥
 IsUnsaid _ = ⊤
@@ -34,7 +35,7 @@ IsUnsaid _ = ⊤
 abbrev UseNoStatus : List Stage → Type 0
 UseNoStatus stages = AllByRecursion IsUnsaid stages
 
--- the stages do not use the output
+-- The stage does not use the output.
 abbrev IsUncopied : Stage → Type 0
 IsUncopied (Copy _) = ⊥
 IsUncopied (Put _) = ⊥
@@ -46,7 +47,7 @@ UseNoOutput stages = AllByRecursion IsUncopied stages
 
 -- == Steps of a call ==
 
--- steps that end so end so beside other devices, where each step does
+-- Steps end in the same way with other devices, if each step does.
 module _ {Step D F E : Type 0} (Ends : Step → D → D → Result ⊤ E → Type 0)
     (Others : Step → F → F → Result ⊤ E → Type 0) (other : D → F) (Uses : Step → Type 0)
     (one : (step : Step) (old new : D) (answer : Result ⊤ E) → Uses step → Ends step old new answer
@@ -62,7 +63,8 @@ module _ {Step D F E : Type 0} (Ends : Step → D → D → Result ⊤ E → Typ
       inr (other d, one step old d (Ok tt) u done, steps_beside later d new (Err e) us h)
 
 module _ {Step D E : Type 0} (Ends : Step → D → D → Result ⊤ E → Type 0) where
-  -- one of two lists of steps stopped: of the first, or those were done and one of the second did
+  -- One of two lists of steps stopped: either the first one, or the second one after the first one
+  -- succeeded.
   stopped_in : (first second : List Step) (old new : D) (e : E)
       → StepsEnd Ends (first ++ second) old new (Err e)
       → StepsEnd Ends first old new (Err e)
@@ -73,7 +75,7 @@ module _ {Step D E : Type 0} (Ends : Step → D → D → Result ⊤ E → Type 
       ⊎_elim (λ a. inl (inr (d, done, a))) (λ (between, a, b). inr (between, (d, done, a), b))
       (stopped_in first _ d _ e h)
 
-  -- a step was done, and then those after it ended so; or it is the last one
+  -- A step succeeded, and the steps after it ended with this result; or it is the last step.
   pub next_step : (step : Step) (later : List Step) (old between new : D) (answer : Result ⊤ E)
       → Ends step old between (Ok tt) → StepsEnd Ends later between new answer
       → StepsEnd Ends (step ∷ later) old new answer
@@ -89,24 +91,24 @@ module _ {Step D E : Type 0} (Ends : Step → D → D → Result ⊤ E → Type 
       → Ends step old new (Ok tt)
   last_done _ _ _ (d, done, same) = rw (sym same) at done
 
--- == The stages of verifying ==
+-- == The stages of verification ==
 
 module _ {R W O : Type 0} (reader : RereaderCall R) (status : SinkCall W) (out : SinkCall O) where
-  -- how a stage ends between two states of the devices
+  -- The end of a stage that changes the devices from one state to another.
   abbrev pub OneEnds : Stage → Devices R W O → Devices R W O → Result ⊤ Fault → Type 0
   OneEnds stage old new =
       StageEnds (record reader { old = old.reader; new = new.reader })
       (record status { old = old.status; new = new.status })
       (record out { old = old.out; new = new.out }) stage
 
-  -- the devices at the begin and in the end
+  -- The devices at the beginning and at the end.
   abbrev begun : Devices R W O
   begun = record { reader = reader.old; status = status.old; out = out.old }
 
   abbrev ended : Devices R W O
   ended = record { reader = reader.new; status = status.new; out = out.new }
 
--- beside another sink, which stays as it is
+-- A stage that does not use a sink ends in the same way with any other sink that is unchanged.
 module _ {R W O V : Type 0} (sink : SinkOf V) (v : V)
     (reader : RereaderCall R) (status : SinkCall W) (out : SinkCall O) where
   abbrev other_status : Devices R W O → Devices R V O
@@ -155,7 +157,8 @@ module _ {R W O V : Type 0} (sink : SinkOf V) (v : V)
       steps_beside (OneEnds reader status out) (OneEnds reader status (sink_call sink v v)) other_output
       _ one_beside_output _ (begun reader status out) (ended reader status out) answer
 
--- reading uses neither sink, and copying not the status; nor does verifying that says nothing
+-- Reading uses neither sink, and copying does not use the status. Quiet verification does not use
+-- the status either.
 reading_unsaid : (again : Bool) (message : List ℕ) → UseNoStatus (reading_stages again message)
 reading_unsaid true _ = (tt, (tt, tt))
 reading_unsaid false _ = (tt, tt)
@@ -180,7 +183,7 @@ module _ {R W O : Type 0} (accepts : Verifier) (pk : PublicKeyRecord) (x : Signa
   quiet_stages _ false _ _ =
       (tt, (tt, copying_unsaid _ _ _ _))
 
-  -- verifying that says something and copies nothing does not use the output
+  -- Verification that reports and copies nothing does not use the output.
   pub fails_without_output : VerifyingFails accepts pk x (options_of false false legacy) reader status out e
       → VerifyingFails accepts pk x (options_of false false legacy) reader status unused e
   fails_without_output (message, second, h) = (
@@ -190,7 +193,7 @@ module _ {R W O : Type 0} (accepts : Verifier) (pk : PublicKeyRecord) (x : Signa
         ∷ Report (status_lines x) ∷ []) (Err e) (tt, (tt, (tt, tt))) h,
   )
 
-  -- verifying that says nothing does not use the status
+  -- Quiet verification does not use the status.
   pub fails_without_status : (output : Bool)
       → VerifyingFails accepts pk x (options_of true output legacy) reader status out e
       → VerifyingFails accepts pk x (options_of true output legacy) reader unused out e
@@ -200,7 +203,7 @@ module _ {R W O : Type 0} (accepts : Verifier) (pk : PublicKeyRecord) (x : Signa
     beside_status unused.sink tt reader status out _ (Err e) (quiet_stages _ _ _ _) h,
   )
 
-  -- verifying that says and copies nothing uses neither sink
+  -- Quiet verification that copies nothing uses neither sink.
   pub fails_without_sinks : VerifyingFails accepts pk x (options_of true false legacy) reader status out e
       → VerifyingFails accepts pk x (options_of true false legacy) reader unused unused e
   fails_without_sinks h =
@@ -211,7 +214,7 @@ module _ {R W O : Type 0} (accepts : Verifier) (pk : PublicKeyRecord) (x : Signa
             (Err e) (tt, (tt, tt)) stages,
       )
 
--- what is ahead after going back to where this was ahead
+-- After going back to a mark, the bytes that were unread when it was set are unread again.
 what_was_marked : (first behind returned : Option (List ℕ)) (second : List ℕ) → behind ≡ first
     → IfSome behind (λ xs. returned ≡ Some xs) → IsAhead returned second
     → IfSome first (λ xs. second ≡ xs)
@@ -220,13 +223,14 @@ what_was_marked (Some _) _ _ _ marked same given =
     let back = rw marked at same in
     sym (rw back at given)
 
--- where the first bytes are told, and both readings gave these, the second reading gave the message
+-- If the first bytes are known and both readings returned them, the second reading returned the
+-- message.
 both_told : (first : Option (List ℕ)) (message second : List ℕ) → IsSome first
     → IfSome first (λ xs. second ≡ xs) → IsAhead first message → second ≡ message
 both_told None _ _ some _ _ = absurd (true≢false (sym some))
 both_told (Some _) _ _ _ same given = same ∙ given
 
--- the bytes that are judged are those that the signature is over, where it is allowed
+-- The bytes that are checked are those that the signature signs, if it is allowed.
 judged_signed : (bytes : List ℕ) (signed : SignedData) (x : SignatureBoxRecord) (legacy : Bool)
     (message : List ℕ) → bytes ≡ held_bytes signed
     → HoldsSigned signed x legacy message → AreSigned bytes x legacy message
@@ -239,14 +243,14 @@ module _ {R : Type 0} (source : SourceOf R) (steady : R → Type 0) (old mid new
   abbrev between : R → R → RereaderCall R
   between = rereader_call source steady
 
-  -- the place could not be marked
+  -- The place could not be marked.
   pub mark_stops : (again : Bool) (e : Fault)
       → (again ≡ true) × (e ≡ Named GoingBackFailed) × Marks (between old new) (Err tt)
       → (message : List ℕ) × StagesEnd (between old new) unused unused (reading_stages again message) (Err e)
   mark_stops true e (_, is, fails) = ([], inl ((is, fails), refl, refl))
   mark_stops false e (wanted, _, _) = absurd (true≢false (sym wanted))
 
-  -- the data was read from there on, or could not be
+  -- The data was read from there on, or could not be read.
   pub read_ends : (again : Bool) → (again ≡ false → mid ≡ old)
       → (again ≡ true → Marks (between old mid) (Ok tt)) → (message : List ℕ) (answer : Result ⊤ Fault)
       → StageEnds (between mid new) unused unused (Read message) answer
@@ -260,7 +264,8 @@ module _ {R : Type 0} (source : SourceOf R) (steady : R → Type 0) (old mid new
       (unmarked refl)
       (last_step (OneEnds (between old new) unused unused) (Read message) _ _ answer read)
 
--- the data was read to its end without an error, and gave this message; the mark stays, or was set before
+-- The data was read to its end without an error and is this message. The mark is unchanged, or was
+-- set before.
 record FirstPass {R : Type 0} (again : Bool) (reader : RereaderCall R) (message : List ℕ) : Type 0 where
   pub given : IsAhead (reader.source.ahead reader.old) message
   pub end : IsAtEnd (reader.source.ahead reader.new)
@@ -269,7 +274,7 @@ record FirstPass {R : Type 0} (again : Bool) (reader : RereaderCall R) (message 
   pub marked : again ≡ true → IsSteady reader → reader.source.behind reader.new
       ≡ reader.source.ahead reader.old
 
--- what follows of the stages of a call
+-- What follows from the stages of a call.
 module _ {R W O : Type 0} (reader : RereaderCall R) (status : SinkCall W) (out : SinkCall O) where
   first_pass : (again : Bool) (message : List ℕ)
       → StagesEnd reader status out (reading_stages again message) (Ok tt)
@@ -301,7 +306,7 @@ module _ {R W O : Type 0} (reader : RereaderCall R) (status : SinkCall W) (out :
         o,
       )
 
-  -- what was to be said was not
+  -- The status lines were not written.
   say_stops : (quiet : Bool) (x : SignatureBoxRecord) (e : Fault) → reader.new ≡ reader.old
       → out.new ≡ out.old
       → (quiet ≡ false) × (((e ≡ Named OutOfMemory) × (status.new ≡ status.old)) ⊎ IsWritingFault status e)
@@ -311,7 +316,7 @@ module _ {R W O : Type 0} (reader : RereaderCall R) (status : SinkCall W) (out :
   say_stops false x e r o (_, why) front unflushed =
       inl (⊎_elim inl (λ failed. inr ((failed, front), unflushed)) why, r, o)
 
-  -- it was
+  -- The status lines were written.
   say_runs : (quiet : Bool) (x : SignatureBoxRecord) → reader.new ≡ reader.old → out.new ≡ out.old
       → (quiet ≡ true → status.new ≡ status.old) → Takes status (wanted_status quiet x)
       → SinkHasNoNewFault status → IsUnflushed status
@@ -321,13 +326,13 @@ module _ {R W O : Type 0} (reader : RereaderCall R) (status : SinkCall W) (out :
   say_runs false x r o _ said no_new_fault unflushed =
       (ended reader status out, (inr ((said, no_new_fault), unflushed), r, o), refl)
 
--- what is copied of data that was kept
+-- The stages that copy data that was kept.
 pub kept_steps : (output : Bool) (signed : SignedData) (bytes : Vec ℕ _) (second : List ℕ) → output ≡ true
     → signed ≡ Kept bytes
     → Put bytes.items ∷ Flush ∷ [] ≡ held_copy_stages output signed second
 kept_steps _ _ _ _ wanted is = rw (wanted, is) refl
 
--- what copying leaves, from where the data was read
+-- What holds after copying, beginning where the data was read.
 record Copied {R O : Type 0} (accepts : Verifier) (pk : PublicKeyRecord) (x : SignatureBoxRecord)
     (output legacy : Bool) (reader : RereaderCall R) (mid : R) (out : SinkCall O) (message : List ℕ)
     : Type 0 where
@@ -339,12 +344,12 @@ record Copied {R O : Type 0} (accepts : Verifier) (pk : PublicKeyRecord) (x : Si
 
 module _ (accepts : Verifier) (pk : PublicKeyRecord) (x : SignatureBoxRecord) (legacy : Bool)
     (message : List ℕ) (vouches : Vouches accepts pk x message legacy) where
-  -- nothing vouches where a box is neither prehashed nor allowed
+  -- A box that is neither prehashed nor allowed is not valid.
   unallowed : is_prehashed x.signature ≡ false → legacy ≡ false → ⊥
   unallowed kept unwanted = ⊎_elim (λ alike. true≢false (sym ((bytes_eq-Decides _ _).1 alike) ∙ kept))
       (λ wanted. true≢false (sym wanted ∙ unwanted)) vouches.allowed
 
-  -- a box vouches for all that gives the bytes that its signature is over
+  -- A box is valid for all data that gives the same signed bytes.
   vouches_alike : (copy : List ℕ) → signed_bytes x copy ≡ signed_bytes x message
       → Vouches accepts pk x copy legacy
   vouches_alike _ same = record {
@@ -354,7 +359,7 @@ module _ (accepts : Verifier) (pk : PublicKeyRecord) (x : SignatureBoxRecord) (l
     comment_signed = vouches.comment_signed;
   }
 
-  -- what is copied of what is held is what is to be copied
+  -- The stages that copy what was kept are those that verification has.
   copying_is : (second : List ℕ) (output : Bool) (signed : SignedData) → HoldsSigned signed x legacy message
       → held_copy_stages output signed second
       ≡ copying_stages output (is_prehashed x.signature) message second
@@ -363,7 +368,7 @@ module _ (accepts : Verifier) (pk : PublicKeyRecord) (x : SignatureBoxRecord) (l
   copying_is _ true (Kept _) holds = rw (holds.0, holds.1) refl
   copying_is _ true Unkept holds = absurd (unallowed holds.0 holds.1)
 
-  -- what was to be copied is copied
+  -- The data is copied if that was requested.
   module _ {R O : Type 0} (reader : RereaderCall R) (mid : R) (out : SinkCall O) where
     copied : (output : Bool) (signed : SignedData) → HoldsSigned signed x legacy message
         → StagesEnd (record reader { new = mid }) unused unused (reading_stages (is_reread output x) message)
@@ -435,16 +440,16 @@ module _ (accepts : Verifier) (pk : PublicKeyRecord) (x : SignatureBoxRecord) (l
 module _ {R W O : Type 0} (accepts : Verifier) (pk : PublicKeyRecord) (x : SignatureBoxRecord)
     (quiet output legacy : Bool)
     (reader : RereaderCall R) (status : SinkCall W) (out : SinkCall O) where
-  -- how verifying fails, by the state of the three devices in the end
+  -- A failure of verification, by the final state of the three devices.
   abbrev Fails : R → W → O → Fault → Type 0
   Fails r w o e = VerifyingFails accepts pk x (options_of quiet output legacy) (record reader { new = r })
       (record status { new = w }) (record out { new = o }) e
 
-  -- the devices where only the reader was used
+  -- The devices if only the reader was used.
   abbrev at : R → Devices R W O
   at r = record { reader = r; status = status.old; out = out.old }
 
-  -- reading, beside the sinks
+  -- Reading, with both sinks unchanged.
   beside_sinks : (r : R) (message : List ℕ) (answer : Result ⊤ Fault)
       → StagesEnd (record reader { new = r }) unused unused (reading_stages (is_reread output x) message)
       answer
@@ -456,7 +461,7 @@ module _ {R W O : Type 0} (accepts : Verifier) (pk : PublicKeyRecord) (x : Signa
       (beside_status status.sink status.old (record reader { new = r }) unused unused
       _ answer (reading_unsaid _ _) read)
 
-  -- the reading stopped
+  -- Reading stopped.
   pub unread : (e : Fault) → (message : List ℕ) × StagesEnd reader unused unused
       (reading_stages (is_reread output x) message) (Err e)
       → Fails reader.new status.old out.old e
@@ -466,7 +471,7 @@ module _ {R W O : Type 0} (accepts : Verifier) (pk : PublicKeyRecord) (x : Signa
     first_stopped (OneEnds reader status out) _ _ (at reader.old) (at reader.new) e (beside_sinks _ _ _ h),
   )
 
-  -- the data was read, and what is held of it judged
+  -- The data was read, and what is kept of it was checked.
   module _ (mid : R) (signed : SignedData) (held : (message : List ℕ) × HoldsSigned signed x legacy message
       × StagesEnd (record reader { new = mid }) unused unused (reading_stages (is_reread output x) message)
       (Ok tt)) (bytes : List ℕ) (is : bytes ≡ held_bytes signed) where
@@ -481,7 +486,7 @@ module _ {R W O : Type 0} (accepts : Verifier) (pk : PublicKeyRecord) (x : Signa
     abbrev copying : List ℕ → List Stage
     copying second = copying_stages output (is_prehashed x.signature) held.0 second
 
-    -- the stages after the reading
+    -- The stages after reading.
     after_reading : (second : List ℕ) (w : W) (o : O) (r : R) (e : Fault)
         → StepsEnd (OneEnds reader status out)
         (Judge accepts pk x legacy held.0 ∷ (reporting_stages quiet x ++ copying second)) (at mid)
@@ -494,7 +499,7 @@ module _ {R W O : Type 0} (accepts : Verifier) (pk : PublicKeyRecord) (x : Signa
           (beside_sinks _ _ _ held.2) h,
     )
 
-    -- the box is rejected, or an allocation failed
+    -- The box is rejected, or an allocation failed.
     pub unjudged : (e : Fault) → Judged (Err e) → Fails mid status.old out.old e
     unjudged e why = after_reading [] _ _ _ e (inl (judged _ why, refl, refl, refl))
 
@@ -502,14 +507,14 @@ module _ {R W O : Type 0} (accepts : Verifier) (pk : PublicKeyRecord) (x : Signa
       vouches : Vouches accepts pk x held.0 legacy
       vouches = judged_or_not _ pk x _ _ tt (judged _ accepted)
 
-      -- the box was judged, and the stages after it failed
+      -- The box was accepted, and the stages after that failed.
       after_judging : (second : List ℕ) (w : W) (o : O) (r : R) (e : Fault)
           → StepsEnd (OneEnds reader status out) (reporting_stages quiet x ++ copying second) (at mid)
           (record { reader = r; status = w; out = o }) (Err e) → Fails r w o e
       after_judging _ w o r e h = after_reading _ w o r e
           (inr (at mid, (judged _ accepted, refl, refl, refl), h))
 
-      -- the status failed
+      -- The status failed.
       pub unsaid : (e : Fault)
           → (quiet ≡ false) × (((e ≡ Named OutOfMemory) × (status.new ≡ status.old)) ⊎ IsWritingFault status
           e)
@@ -521,7 +526,7 @@ module _ {R W O : Type 0} (accepts : Verifier) (pk : PublicKeyRecord) (x : Signa
           (say_stops (record reader { old = mid; new = mid }) status (record out { new = out.old }) quiet x e
           refl refl why front unflushed))
 
-      -- the copying ended so
+      -- Copying ended with this result.
       pub copying_ends : (quiet ≡ true → status.new ≡ status.old) → Takes status (wanted_status quiet x)
           → SinkHasNoNewFault status → IsUnflushed status → (answer : Result ⊤ Fault)
           → (second : List ℕ) × StagesEnd (record reader { old = mid }) unused out
@@ -561,18 +566,18 @@ module _ {R W O : Type 0} (accepts : Verifier) (pk : PublicKeyRecord) (x : Signa
             (copying_is accepts pk x legacy held.0 vouches second output signed held.1) run))),
       )
 
--- == Why verifying fails ==
+-- == Why verification fails ==
 
--- what the second reading gave is what was ahead at first, of a steady source; and it has another digest than
--- the message
+-- The second reading of a steady source returned the bytes that were unread at first, and has
+-- another digest than the message.
 pub record IsOther {R : Type 0} (reader : RereaderCall R) (message : List ℕ) : Type 0 where
   pub second : List ℕ
   pub same : IsSteady reader → IfSome (reader.source.ahead reader.old) (λ xs. second ≡ xs)
   pub changed : blake2b_digest 64 second ≢ blake2b_digest 64 message
 
--- why verifying fails: an allocation failed; the place could not be marked; the data could not be read; the
--- box is rejected; the status failed; or the copying did, for which the source failed, the output did, or the
--- data is another one
+-- Why verification fails: an allocation failed; the place could not be marked; the data could not
+-- be read; the box is rejected; the status failed; or copying failed, because the source failed,
+-- the output failed or the data changed.
 abbrev pub IsReason : {R W O : Type 0} → Verifier → PublicKeyRecord → SignatureBoxRecord → Bool → Bool → Bool
     → RereaderCall R → SinkCall W → SinkCall O → Fault → Type 0
 IsReason accepts pk x quiet output legacy reader status out e = (e ≡ Named OutOfMemory)
@@ -590,11 +595,11 @@ module _ {R W O : Type 0} (accepts : Verifier) (pk : PublicKeyRecord) (x : Signa
   abbrev Why : Type 0
   Why = IsReason accepts pk x quiet output legacy reader status out e
 
-  -- from this state on, one of these stages stopped
+  -- From this state on, one of these stages stopped.
   abbrev Stops : List Stage → Devices R W O → Type 0
   Stops stages d = StepsEnd (OneEnds reader status out) stages d (ended reader status out) (Err e)
 
-  -- a read failed, of a source that had not failed before
+  -- A read failed, and the source had not failed before.
   read_fault : (r : R) → reader.source.faults r ≡ reader.source.faults reader.old
       → IsReadFault reader.source r reader.new e → Why
   read_fault r _ (inl memory) = inl memory.0
@@ -635,7 +640,7 @@ module _ {R W O : Type 0} (accepts : Verifier) (pk : PublicKeyRecord) (x : Signa
       )))))
   why_unsaid false _ d _ (inr (_, _, h)) = absurd h
 
-  -- what was said leaves the others as they were
+  -- Reporting leaves the other devices unchanged.
   said_only : (wanted : Bool) (d d2 : Devices R W O)
       → StepsEnd (OneEnds reader status out) (reporting_stages wanted x) d d2 (Ok tt)
       → (d2.reader ≡ d.reader) × (d2.out ≡ d.out)

@@ -1,5 +1,5 @@
--- Texts of public keys: the function that reads them and the relation agree, and a written text reads as its
--- key.
+-- Lemmas about public key texts: the function that parses them and the relation agree, and a text
+-- that was written parses to its key.
 use Rattle.std.proofs.Common.{◌≡◌, ◌≢◌, ℕ, ◌≤◌, true, List, [], ◌∷◌, ◌++◌, length, take, drop, codes, refl}
 use Rattle.std.proofs.Common.{sym, ap, subst, ◌∙◌, arith, Ok, Err, leb, eq-eqb, eqb-true, append_assoc}
 use Rattle.std.proofs.Common.{ne_eqb, le-leb, leb-true, length-append, length-take-le, length-drop}
@@ -18,7 +18,7 @@ use Rattle.minisign.proofs.WrittenLines.{shown_graphic, shown_one_line}
 use Rattle.minisign.proofs.ReadTexts.{passed}
 use Rattle.minisign.proofs.RecordFields.{joined_fields, one_public_key}
 
--- bytes that a key is read from
+-- Bytes that begin with a key are long enough.
 long_enough : (bytes : List ℕ) (k : PublicKeyRecord) → ReadsPublicKey bytes k → 42 ≤ length bytes
 long_enough bytes k h =
     omega (
@@ -29,7 +29,7 @@ long_enough bytes k h =
       simp length-append at (ap length h.front.1),
     )
 
--- a text that encodes a key passes the tests of base64 and of the length
+-- A text that encodes a key passes the checks of base64 and of the length.
 encodes_tests : (text : List ℕ) (k : PublicKeyRecord) → Encodes ReadsPublicKey text k
     → (is_base64 text ≡ true) × (leb 42 (length (base64_bytes text)) ≡ true)
 encodes_tests text k h = (
@@ -37,7 +37,7 @@ encodes_tests text k h = (
   le-leb 42 _ (rw (sym (bytes_read text h.bytes h.base64)) at (long_enough h.bytes k h.reads)),
 )
 
--- bytes that are many enough begin with a key
+-- The key at the front of enough bytes.
 unfoldable key_in : List ℕ → PublicKeyRecord
 key_in bytes = record {
   algorithm = take 2 bytes;
@@ -59,7 +59,7 @@ key_in_front bytes l = record {
   );
 }
 
--- a text that encodes a key decodes to it, and to nothing else
+-- A text that encodes a key decodes to it, and to nothing else.
 pub encoded_is_decoded : (fault : NamedFault) (text : List ℕ) (k : PublicKeyRecord)
     → Encodes ReadsPublicKey text k → decoded_key fault text ≡ Ok k
 unfolding key_in
@@ -83,7 +83,7 @@ decoded_is_encoded fault text k h =
           subst (ReadsPublicKey (base64_bytes text)) same (key_in_front _ (leb-true 42 _ long.0));
     }
 
--- a text reads as a key where it is read as this key
+-- A text parses to a key if the relation holds for this key.
 pub text_is_read : (text : List ℕ) (k : PublicKeyRecord) → PublicKeyText text k → read_public_key text ≡ Ok k
 unfolding read_public_key
 text_is_read _ k h = rw (h.cut, eq-eqb _ 56 h.encoded_length) (encoded_is_decoded _ _ k h.key)
@@ -110,12 +110,12 @@ read_text _ k h = read_lines _ _ k refl h
 pub read_as : (text : List ℕ) → IsReading (PublicKeyText text) (read_public_key text)
 read_as _ = record { value = λ k. (read_text _ k, text_is_read _ k) }
 
--- a text is read by its lines
+-- Parsing a text depends only on its lines.
 pub of_lines : (text : List ℕ) (ls : List (List ℕ)) → lines text ≡ ls → read_public_key text ≡ key_in_lines ls
 unfolding read_public_key
 of_lines _ _ cut = ap key_in_lines cut
 
--- the same of bare base64
+-- The same for bare base64.
 pub bare_is_read : (text : List ℕ) (k : PublicKeyRecord) → BarePublicKey text k → read_bare_public_key text
     ≡ Ok k
 unfolding read_bare_public_key
@@ -149,7 +149,7 @@ shown_label : AllShown (untrusted_comment_label ++ public_key_label)
 unfolding untrusted_comment_label public_key_label
 shown_label = shown_codes (codes "untrusted comment: minisign public key: ") refl
 
--- the base64 of a key reads as the key
+-- The base64 of a key parses to the key.
 pub written_base64 : (k : PublicKeyRecord) (text bytes : List ℕ) → IsBase64Of text bytes
     → bytes ≡ public_key_bytes k → ReadsPublicKey bytes k → BarePublicKey text k
 written_base64 k text bytes base64 same reads =
@@ -162,7 +162,7 @@ written_base64 k text bytes base64 same reads =
       key = record { bytes = bytes; base64 = base64; reads = reads };
     }
 
--- the text that is written for a key reads as the key
+-- The text that is written for a key parses to the key.
 module _ (k : PublicKeyRecord) (bare : BarePublicKey (base64_of (public_key_bytes k)) k) where
   pub graphic : AllGraphic (base64_of (public_key_bytes k))
   graphic = graphic_base64 _
@@ -187,7 +187,7 @@ module _ (k : PublicKeyRecord) (bare : BarePublicKey (base64_of (public_key_byte
     key = rw (sym stays) at bare.key;
   })
 
--- the written text, letter by letter
+-- The text that is written, character by character.
 pub spelled_text : (k : PublicKeyRecord) (id b : List ℕ) → id ≡ k.keynum → b ≡ base64_of (public_key_bytes k)
     → codes "untrusted comment: minisign public key: " ++ (key_id_text id ++ (10 ∷ (b ++ 10 ∷ [])))
     ≡ public_key_text k

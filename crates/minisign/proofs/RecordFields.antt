@@ -1,4 +1,4 @@
--- Fields at the front of bytes.
+-- Lemmas about fields at the front of bytes.
 use Rattle.std.proofs.Common.{◌≡◌, ℕ, ◌≤◌, List, [], ◌++◌, length, take, drop, arith, append-nil}
 use Rattle.std.proofs.Common.{append_assoc, sym, ap, ◌∙◌, true, not, inl, inr, bytes_eq, length-append}
 use Rattle.minisign.proofs.Common.{take-append_seam, drop-append_seam, bytes_eq-Decides}
@@ -6,12 +6,12 @@ use Rattle.minisign.specs.Records.{PublicKeyRecord, ReadsPublicKey, SecretKeyRec
 use Rattle.minisign.specs.Records.{SignatureRecord, ReadsSignature, IsKnownAlgorithm, legacy_algorithm}
 use Rattle.minisign.specs.Records.{prehashed_algorithm}
 
--- fields that were taken off one by one, as their concatenation
+-- Fields that were split off one by one give the bytes again when they are joined.
 pub joined_fields : (bytes a b c r s t : List ℕ) → bytes ≡ a ++ r → r ≡ b ++ s → s ≡ c ++ t
     → bytes ≡ a ++ b ++ c ++ t
 joined_fields _ a b c r s t cut_a cut_b cut_c = rw (append_assoc, append_assoc, ← cut_c, ← cut_b) cut_a
 
--- a stored signature begins with its algorithm
+-- A stored signature begins with its algorithm.
 pub stored_algorithm : (bytes : List ℕ) (s : SignatureRecord) → ReadsSignature bytes s
     → take 2 bytes ≡ s.algorithm
 stored_algorithm bytes s reads =
@@ -21,7 +21,7 @@ stored_algorithm bytes s reads =
     let front : take (length s.algorithm) bytes ≡ s.algorithm = rw cut (take-append_seam s.algorithm _) in
     rw reads.algorithm_length at front
 
--- a stored signature has 74 bytes
+-- A stored signature has 74 bytes.
 pub stored_length : (bytes : List ℕ) (s : SignatureRecord) → ReadsSignature bytes s → 74 ≤ length bytes
 stored_length bytes s reads =
     omega (
@@ -32,7 +32,7 @@ stored_length bytes s reads =
       simp length-append at (ap length reads.front.1),
     )
 
--- an algorithm that is neither of the two
+-- An algorithm that is neither of the two is not known.
 pub unknown_algorithm : (a : List ℕ) → true ≡ not (bytes_eq a legacy_algorithm)
     → true ≡ not (bytes_eq a prehashed_algorithm) → ¬ (IsKnownAlgorithm a)
 unknown_algorithm a legacy prehashed (inl e) = let same : bytes_eq a legacy_algorithm ≡ true =
@@ -40,7 +40,7 @@ unknown_algorithm a legacy prehashed (inl e) = let same : bytes_eq a legacy_algo
 unknown_algorithm a legacy prehashed (inr e) = let same : bytes_eq a prehashed_algorithm ≡ true =
     (bytes_eq-Decides a _).1 e in let differs = rw same at prehashed in cc
 
--- two cuts at one place are the same
+-- Two cuts at the same place are equal.
 same_cut : (a b c d : List ℕ) → length a ≡ length b → a ++ c ≡ b ++ d → (a ≡ b) × (c ≡ d)
 same_cut a b c d len same =
     let front = ap (λ n. take n (a ++ c)) len
@@ -52,7 +52,7 @@ same_cut a b c d len same =
           ∙ drop-append_seam b d,
     )
 
--- the same of three fields
+-- The same for three fields.
 same_fields : (a b c x y z r s : List ℕ) → length a ≡ length x → length b ≡ length y → length c ≡ length z
     → a ++ b ++ c ++ r ≡ x ++ y ++ z ++ s → (a ≡ x) × (b ≡ y) × (c ≡ z) × (r ≡ s)
 same_fields a b c x y z r s la lb lc same =
@@ -62,7 +62,7 @@ same_fields a b c x y z r s la lb lc same =
     let third = same_cut c z r s lc second.1 in
     (first.0, second.0, third.0, third.1)
 
--- bytes are read as one public key
+-- Bytes begin with at most one public key.
 pub one_public_key : (bytes : List ℕ) (k l : PublicKeyRecord) → ReadsPublicKey bytes k
     → ReadsPublicKey bytes l → k ≡ l
 one_public_key _ k l read again =
@@ -71,7 +71,7 @@ one_public_key _ k l read again =
     (read.key_length ∙ sym again.key_length) (sym read.front.1 ∙ again.front.1) in
     λ i. record { algorithm = same.0 i; keynum = same.1 i; key = same.2 i }
 
--- bytes are read as one signature
+-- Bytes begin with at most one signature.
 pub one_signature : (bytes : List ℕ) (s t : SignatureRecord) → ReadsSignature bytes s → ReadsSignature bytes t
     → s ≡ t
 one_signature _ s t read again =
@@ -80,7 +80,7 @@ one_signature _ s t read again =
     (read.signature_length ∙ sym again.signature_length) (sym read.front.1 ∙ again.front.1) in
     λ i. record { algorithm = same.0 i; keynum = same.1 i; signature = same.2 i }
 
--- three fields of these lengths, and nothing after them
+-- The same for three fields with nothing after them.
 same_three : (a b c x y z : List ℕ) → length a ≡ length x → length b ≡ length y → length c ≡ length z
     → a ++ b ++ c ≡ x ++ y ++ z → (a ≡ x) × (b ≡ y) × (c ≡ z)
 same_three a b c x y z la lb lc same =
@@ -91,7 +91,7 @@ same_lengths : (a b c x y z : List ℕ) → length a ≡ length x → length b �
     → length (a ++ b ++ c) ≡ length (x ++ y ++ z)
 same_lengths a b c x y z la lb lc = simp length-append (omega (arith, la, lb, lc))
 
--- bytes are read as one secret key
+-- Bytes begin with at most one secret key.
 pub one_secret_key : (bytes : List ℕ) (k l : SecretKeyRecord) → ReadsSecretKey bytes k
     → ReadsSecretKey bytes l → k ≡ l
 one_secret_key _ k l read again =

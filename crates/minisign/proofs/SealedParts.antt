@@ -1,5 +1,5 @@
--- Xor of two lists of bytes; and the last three fields of a secret key, as one list that is xored with a
--- stream.
+-- Lemmas about the xor of two lists of bytes, and about the last three fields of a secret key as
+-- one list that is xored with a stream.
 use Rattle.std.proofs.Common.{◌≡◌, ℕ, List, ◌++◌, length, take, drop, bit_xor, refl, sym, ap, ◌∙◌, arith}
 use Rattle.std.proofs.Common.{append_assoc, length-append, length-drop, take-append-drop, drop-drop}
 use Rattle.std.proofs.Common.{take_all, ◌+◌, ◌<◌, [], ◌∷◌, slice_index, slice_set}
@@ -9,7 +9,7 @@ use Rattle.minisign.specs.Records.{SecretKeyRecord}
 use Rattle.minisign.specs.Sealing.{key_xor, stream_of, xored_key}
 use Rattle.std.specs.Int.Bits.{xor_assoc, xor_self, xor_zero_r}
 
--- one more byte of an xor, in a list whose rest is still as it was
+-- If the first i bytes are xored and then byte number i is, the first i + 1 bytes are xored.
 pub xored_next : (x y out : List ℕ) (i : ℕ) → take i out ≡ take i (zip2 bit_xor x y)
     → slice_index out i ≡ slice_index x i
     → length x ≡ length out → length y ≡ length out → i < length out
@@ -22,7 +22,7 @@ xored_next x y out i done same lx ly lt =
     ∙ sym (get_or-zip2 bit_xor x y i 0 0 0 (omega arith) (omega arith))) t ∷ [])
     ∙ sym (take_more (zip2 bit_xor x y) i 0 (omega arith))
 
--- the halves of an xor
+-- Two concatenations with equally long fronts are xored front with front and rest with rest.
 pub xor_halves : (a b x y : List ℕ) → length a ≡ length x → zip2 bit_xor (a ++ b) (x ++ y) ≡ zip2 bit_xor a x
     ++ zip2 bit_xor b y
 xor_halves [] b [] y _ = refl
@@ -30,7 +30,7 @@ xor_halves [] b (c ∷ x) y len = absurd (omega arith)
 xor_halves (c ∷ a) b [] y len = absurd (omega arith)
 xor_halves (c ∷ a) b (d ∷ x) y len = ap (λ l. bit_xor c d ∷ l) (xor_halves a b x y (omega arith))
 
--- an xor, once more with the same stream
+-- Xoring bytes twice with the same stream gives the bytes again.
 pub xor_twice : (a x : List ℕ) → length a ≡ length x → zip2 bit_xor (zip2 bit_xor a x) x ≡ a
 xor_twice [] x _ = refl
 xor_twice (b ∷ a) [] len = absurd (omega arith)
@@ -38,21 +38,21 @@ xor_twice (b ∷ a) (y ∷ x) len =
     let first = xor_assoc b y y ∙ ap (bit_xor b) (xor_self y) ∙ xor_zero_r b in
     (λ i. first i ∷ xor_twice a x (omega arith) i)
 
--- the fields that are sealed have their lengths
+-- The fields that are encrypted have their lengths.
 pub record HasSealedLengths (k : SecretKeyRecord) : Type 0 where
   pub keynum : length k.keynum ≡ 8
   pub secret : length k.secret ≡ 64
   pub checksum : length k.checksum ≡ 32
 
--- the key with these three fields
+-- The key with these three fields.
 abbrev pub with_fields : SecretKeyRecord → List ℕ → List ℕ → List ℕ → SecretKeyRecord
 with_fields k a b c = record k { keynum = a; secret = b; checksum = c }
 
--- the key with other bytes there
+-- The key with other bytes in these three fields.
 abbrev key_with_part : SecretKeyRecord → List ℕ → SecretKeyRecord
 key_with_part k part = with_fields k (take 8 part) (take 64 (drop 8 part)) (take 32 (drop 72 part))
 
--- a part of three fields, cut again
+-- Three fields that were joined, split again.
 cut_fields : (k : SecretKeyRecord) (a b c : List ℕ) → length a ≡ 8 → length b ≡ 64 → length c ≡ 32
     → key_with_part k (a ++ b ++ c) ≡ with_fields k a b c
 cut_fields k a b c la lb lc =
@@ -68,7 +68,7 @@ cut_fields k a b c la lb lc =
     let third = ap (take 32) last ∙ take_all 32 c (omega (arith, lc)) in
     λ i. with_fields k (first i) (second i) (third i)
 
--- the key xored field by field
+-- Xoring a key with a stream xors each field with its part of the stream.
 pub xored_fields : (k : SecretKeyRecord) (a b c : List ℕ) → HasSealedLengths k → length a ≡ 8 → length b ≡ 64
     → length c ≡ 32
     → key_xor k (a ++ b ++ c) ≡ with_fields k (zip2 bit_xor k.keynum a) (zip2 bit_xor k.secret b)
@@ -84,14 +84,14 @@ xored_fields k a b c len la lb lc =
     (length-zip2 bit_xor k.secret b (len.secret ∙ sym lb) ∙ len.secret)
     (length-zip2 bit_xor k.checksum c (len.checksum ∙ sym lc) ∙ len.checksum)
 
--- a stream cut where the fields are
+-- A stream that is split like the fields gives the stream again when the parts are joined.
 pub cut_stream : (stream : List ℕ) → take 8 stream ++ take 64 (drop 8 stream) ++ drop 64 (drop 8 stream)
     ≡ stream
 cut_stream stream = append_assoc (take 8 stream) _ _
     ∙ ap (λ l. take 8 stream ++ l) (take-append-drop 64 (drop 8 stream))
     ∙ take-append-drop 8 stream
 
--- a part of three fields, cut and joined
+-- The same for 104 bytes, whose last part has exactly 32.
 cut_part : (part : List ℕ) → length part ≡ 104
     → take 8 part ++ take 64 (drop 8 part) ++ take 32 (drop 72 part) ≡ part
 cut_part part long =
@@ -99,7 +99,7 @@ cut_part part long =
     (take_all 32 _ (omega (arith, length-drop 72 part, long)) ∙ sym (drop-drop 64 8 part))
     ∙ cut_stream _
 
--- xoring twice with one stream
+-- Xoring a key twice with the same stream gives the key again.
 xored_twice : (k : SecretKeyRecord) (stream : List ℕ) → HasSealedLengths k → length stream ≡ 104
     → key_xor (key_xor k stream) stream ≡ k
 unfolding key_xor
@@ -112,7 +112,8 @@ xored_twice k stream len whole =
     ∙ ap (key_with_part k) (xor_twice _ _ long)
     ∙ cut_fields k _ _ _ len.keynum len.secret len.checksum
 
--- a key whose fields were xored one by one, each with its part of the stream
+-- A key whose fields were xored one by one, each with its part of the stream, is the key xored with
+-- the stream.
 pub xored_parts : (k self : SecretKeyRecord) (stream a b c x y z : List ℕ) → k ≡ self → HasSealedLengths k
     → length stream ≡ 104
     → a ≡ take 8 stream → b ≡ take 64 (drop 8 stream) → c ≡ drop 64 (drop 8 stream) → length a ≡ 8
@@ -127,13 +128,13 @@ xored_parts k _ stream a b c x y z same len whole ea eb ec la lb lc ex ey ez =
       ap (λ l. key_xor l stream) once ∙ xored_twice k _ len whole ∙ same,
     )
 
--- the stream does not depend on what is sealed
+-- The stream does not depend on the encrypted fields.
 pub same_stream : (k : SecretKeyRecord) (stream password : List ℕ) → stream_of (key_xor k stream) password
     ≡ stream_of k password
 unfolding key_xor stream_of
 same_stream k _ _ = refl
 
--- opening what was sealed under the same password
+-- Decrypting what was encrypted under the same password.
 pub restored_key : (k new : SecretKeyRecord) (stream password : List ℕ) → stream ≡ stream_of k password
     → new ≡ key_xor k stream → key_xor new stream ≡ k
     → xored_key new password ≡ k

@@ -1,4 +1,4 @@
--- The limits of a sealed key.
+-- Lemmas about the limits of an encrypted key.
 use Rattle.std.proofs.Common.{◌≡◌, ℕ, ◌^◌, Bool, true, false, if◌then◌else◌, List, length, take, Result, Ok}
 use Rattle.std.proofs.Common.{Err, sym, ap, ◌∙◌, arith, take_all, w64}
 use Rattle.minisign.proofs.Common.{from_le_bytes, Fault, Numbers, numbers, limits, sealing_limits}
@@ -6,7 +6,7 @@ use Rattle.minisign_kdf.specs.Scrypt.{scrypt}
 use Rattle.minisign.specs.Records.{SecretKeyRecord}
 use Rattle.minisign.specs.Sealing.{key_limits, stream_of}
 
--- two tests passed
+-- If the result of two checks is a value, then both succeeded, and it is the value after them.
 both_passed : (a b : Bool) (v w : Numbers) (e f : Fault) → (if a then Err e else (if b then Ok v else Err f))
     ≡ Ok w → v ≡ w
 both_passed true b v w e f h = absurd (cc)
@@ -26,13 +26,13 @@ pub sealing_numbers : (memlimit opslimit : ℕ) (v : Numbers) → sealing_limits
     → numbers memlimit opslimit ≡ v
 sealing_numbers _ _ v h = limits_numbers 20 _ v (one_passed _ _ v _ h)
 
--- the limits that are allowed are the numbers that they lead to
+-- Limits that are allowed give these parameters.
 pub allowed_numbers : (k : SecretKeyRecord) (v : Numbers) → key_limits k ≡ Ok v
     → numbers (from_le_bytes w64 k.memory_limit) (from_le_bytes w64 k.operations_limit) ≡ v
 unfolding key_limits
 allowed_numbers k v h = sealing_numbers _ _ v h
 
--- the limits of a key, as numbers that were read
+-- The limits of a key, read as numbers.
 pub read_limits : (k : SecretKeyRecord) (memory operations : ℕ) → length k.memory_limit ≡ 8
     → length k.operations_limit ≡ 8
     → memory ≡ from_le_bytes w64 (take 8 k.memory_limit)
@@ -46,7 +46,7 @@ read_limits k memory operations memory_length operations_length read_memory read
     (sym (take_all 8 k.operations_limit (omega (arith, operations_length)))) ∙ sym read_operations in
     λ i. sealing_limits (same_memory i) (same_operations i)
 
--- the stream, as it was derived
+-- The bytes that scrypt derives with the key's salt and parameters are the key's stream.
 pub derived_stream : (k : SecretKeyRecord) (v : Numbers) (password salt out : List ℕ) (len : ℕ)
     → numbers (from_le_bytes w64 k.memory_limit) (from_le_bytes w64 k.operations_limit) ≡ v → salt ≡ k.salt
     → len ≡ 104

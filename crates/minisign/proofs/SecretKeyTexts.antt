@@ -1,5 +1,5 @@
--- Texts of secret keys: the function that reads them and the relation agree; and texts that are read where
--- they lie, of which the front of the decoded bytes tells.
+-- Lemmas about secret key texts: the function that parses them and the relation agree; and parsing
+-- in place, which sees only the front of the decoded bytes.
 use Rattle.std.proofs.Common.{◌≡◌, ℕ, ◌+◌, ◌≤◌, List, [], ◌∷◌, ◌++◌, length, take, drop, refl, sym, ap, ◌∙◌}
 use Rattle.std.proofs.Common.{arith, le-leb, leb-true, drop-drop, length-append, length-take-le, length-drop}
 use Rattle.std.proofs.Common.{take-append-drop, Ok, take-take, ◌<◌, min, Err, append_assoc}
@@ -12,7 +12,7 @@ use Rattle.minisign.proofs.Base64Texts.{bytes_read, is_read, reads}
 use Rattle.minisign.proofs.ReadTexts.{passed, same_value}
 use Rattle.minisign.proofs.RecordFields.{joined_fields, one_secret_key}
 
--- the record of a secret key has 158 bytes, and so has a stored one at least
+-- The record of a secret key has 158 bytes, and bytes that begin with one have at least as many.
 pub record_length : (bytes : List ℕ) (k : SecretKeyRecord) → ReadsSecretKey bytes k
     → length (secret_key_bytes k) ≡ 158
 record_length _ k reads = simp length-append (omega (
@@ -33,7 +33,7 @@ stored_length _ k reads =
     let whole = ap length reads.front.1 ∙ length-append (secret_key_bytes k) _ in
     omega (arith, record_length _ k reads, whole)
 
--- the bytes after the first n: a field, and those after it
+-- The bytes after the first n are a field followed by the bytes after it.
 cut : (n a : ℕ) (bytes : List ℕ) → drop n bytes ≡ take a (drop n bytes) ++ drop (n + a) bytes
 cut n a bytes = sym (take-append-drop a (drop n bytes)) ∙ ap (λ t. take a (drop n bytes) ++ t)
     (drop-drop a n bytes)
@@ -47,7 +47,7 @@ three_fields n a b c bytes = joined_fields _ _ _ _ _ _ _ (cut n a _) (cut (n + a
 field_length : (n a : ℕ) (bytes : List ℕ) → n + a ≤ length bytes → length (take a (drop n bytes)) ≡ a
 field_length n a bytes long = length-take-le a _ (omega (arith, length-drop n bytes))
 
--- bytes that are many enough begin with a key
+-- Enough bytes begin with a key.
 pub key_in_front : (bytes : List ℕ) → 158 ≤ length bytes → ReadsSecretKey bytes (secret_key_of_bytes bytes)
 unfolding secret_key_of_bytes
 key_in_front bytes long = record {
@@ -83,19 +83,19 @@ read_bytes bytes k h =
 pub bytes_read_as : (bytes : List ℕ) → IsReading (ReadsSecretKey bytes) (read_secret_key_bytes bytes)
 bytes_read_as _ = record { value = λ k. (read_bytes _ k, bytes_are_read _ k) }
 
--- a line is read by the bytes that it is the base64 of
+-- A line is parsed as the bytes that it encodes.
 pub line_is_read : (line bytes : List ℕ) → IsBase64Of line bytes
     → require (is_base64 line) SecretKeyNotBase64 (read_secret_key_bytes (base64_bytes line))
     ≡ read_secret_key_bytes bytes
 line_is_read _ _ base64 = rw (is_read _ _ base64, bytes_read _ _ base64) refl
 
--- a text is read by its lines
+-- Parsing a text depends only on its lines.
 pub of_lines : (text : List ℕ) (ls : List (List ℕ)) → lines text ≡ ls
     → read_secret_key text ≡ secret_key_in_lines ls
 unfolding read_secret_key
 of_lines _ _ cut = ap secret_key_in_lines cut
 
--- a text reads as a key where it is read as this key
+-- A text parses to a key if the relation holds for this key.
 pub text_is_read : (text : List ℕ) (k : SecretKeyRecord) → SecretKeyText text k → read_secret_key text ≡ Ok k
 text_is_read _ k h = of_lines _ _ h.cut ∙ line_is_read _ _ h.key.base64
     ∙ bytes_are_read _ k h.key.reads
@@ -125,7 +125,7 @@ read_text _ k h = read_lines _ _ k refl h
 pub read_as : (text : List ℕ) → IsReading (SecretKeyText text) (read_secret_key text)
 read_as _ = record { value = λ k. (read_text _ k, text_is_read _ k) }
 
--- bytes whose front begins with the record of a key begin with it
+-- If a prefix of the bytes begins with the record of a key, so do the bytes.
 longer : (bytes : List ℕ) (n : ℕ) (k : SecretKeyRecord) → ReadsSecretKey (take n bytes) k
     → ReadsSecretKey bytes k
 longer bytes n k h = record {
@@ -147,7 +147,7 @@ longer bytes n k h = record {
 
 module _ (line room bytes : List ℕ) (n : ℕ) (base64 : IsBase64Of line bytes)
     (count : n ≡ min (length bytes) 159) (fits : n ≤ length room) where
-  -- a record at the front is that of the line
+  -- A record at the front is the record of the line.
   pub front_read : take n room ≡ take n bytes → 158 ≤ n
       → require (is_base64 line) SecretKeyNotBase64 (read_secret_key_bytes (base64_bytes line))
       ≡ Ok (secret_key_of_bytes (take 158 room))
@@ -157,7 +157,7 @@ module _ (line room bytes : List ℕ) (n : ℕ) (base64 : IsBase64Of line bytes)
       let reads = longer bytes 158 _ (key_in_front (take 158 bytes) (omega (arith, long))) in
       line_is_read _ _ base64 ∙ bytes_are_read _ _ reads ∙ ap (λ x. Ok (secret_key_of_bytes x)) (sym same)
 
-  -- a front that is too short is all of the bytes
+  -- A front that is too short is all of the bytes.
   pub front_refused : n < 158 → require (is_base64 line) SecretKeyNotBase64
       (read_secret_key_bytes (base64_bytes line)) ≡ Err (Named RecordTooShort)
   front_refused short =

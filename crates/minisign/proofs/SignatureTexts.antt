@@ -1,5 +1,5 @@
--- Texts of signatures: the function that reads them and the relation agree, and a written text reads as its
--- box; and texts that are read where they lie.
+-- Lemmas about signature texts: the function that parses them and the relation agree, a text that
+-- was written parses to its box, and parsing in place gives the same.
 use Rattle.std.proofs.Common.{◌≡◌, ◌≢◌, ◌||◌, Bool, bytes_eq, ℕ, ◌<◌, ◌≤◌, true, false, List, [], ◌∷◌, ◌++◌}
 use Rattle.std.proofs.Common.{length, take, drop, codes, Ok, Err, refl, sym, ap, subst, ◌∙◌, arith, inl, inr}
 use Rattle.std.proofs.Common.{Some, eqb, leb, lit<, append_assoc, take-take, min, MatchResult, None, Result}
@@ -27,7 +27,7 @@ use Rattle.minisign.proofs.RecordFields.{joined_fields, one_signature, stored_al
 use Rattle.minisign.specs.KeyTexts.{decoded_key}
 use Rattle.minisign.proofs.PublicKeyTexts.{encoded_is_decoded}
 
--- a line that begins with a label
+-- A line that begins with a label passes the test for it, and vice versa.
 pub begins : (line label rest : List ℕ) → line ≡ label ++ rest → starts_with eqb line label ≡ true
 begins _ _ rest = (starts_is Decides-eqb _ _ _ refl).1 rest
 
@@ -39,7 +39,7 @@ pub begins_not : (line label : List ℕ) → ((rest : List ℕ) → line ≢ lab
     ≡ false
 begins_not _ _ h = false_from_ne_true _ (λ t. h _ (begins_with _ _ t))
 
--- the algorithms that are known
+-- The known algorithms.
 abbrev is_known_algorithm : List ℕ → Bool
 is_known_algorithm a = bytes_eq a legacy_algorithm || bytes_eq a prehashed_algorithm
 
@@ -53,7 +53,7 @@ is_known a h = elim (or_cases _ _ h) [
   | inr e ↦ inr ((bytes_eq-Decides a _).0 e)
 ]
 
--- what a text that encodes a signature is tested for
+-- A text that encodes a signature passes these checks.
 encodes_tests : (text : List ℕ) (s : SignatureRecord) → Encodes ReadsSignature text s
     → (is_base64 text ≡ true) × (leb 74 (length (base64_bytes text)) ≡ true)
     × (take 2 (base64_bytes text) ≡ s.algorithm)
@@ -64,7 +64,7 @@ encodes_tests _ s h =
       ap (take 2) same ∙ stored_algorithm _ s h.reads,
     )
 
--- the signature in the first 74 bytes
+-- The signature in the first 74 bytes.
 abbrev signature_of_bytes : List ℕ → SignatureRecord
 signature_of_bytes bytes = record {
   algorithm = take 2 bytes;
@@ -73,7 +73,7 @@ signature_of_bytes bytes = record {
       take 64 (drop 8 (drop 2 bytes));
 }
 
--- bytes that are many enough begin with a signature
+-- Enough bytes begin with a signature.
 signature_in_front : (bytes : List ℕ) → 74 ≤ length bytes → ReadsSignature bytes (signature_of_bytes bytes)
 signature_in_front bytes l = record {
   algorithm_length = length-take-le 2 _ (omega arith);
@@ -86,14 +86,14 @@ signature_in_front bytes l = record {
   );
 }
 
--- a signature that is encoded is the one at the front of the decoded bytes
+-- An encoded signature is the one at the front of the decoded bytes.
 decoded_signature : (text : List ℕ) (s : SignatureRecord) → Encodes ReadsSignature text s
     → signature_of_bytes (base64_bytes text) ≡ s
 decoded_signature text s h =
     let reads = rw (sym (bytes_read text h.bytes h.base64)) at h.reads in
     one_signature _ _ s (signature_in_front _ (stored_length _ s reads)) reads
 
--- what is read of four lines
+-- The result of parsing four lines.
 module _ (a b c d : List ℕ) where
   abbrev read : Result SignatureTextRecord Fault
   read = signature_in_lines (a ∷ b ∷ c ∷ d ∷ [])
@@ -145,7 +145,7 @@ module _ (a b c d : List ℕ) where
                     record { untrusted = is_untrusted i; trusted = is_trusted i; signature = is_signed i };
               }))
 
--- a text reads as a signature with comments where it is read as this one
+-- A text parses to a signature with comments if the relation holds for it.
 pub text_is_read : (text : List ℕ) (t : SignatureTextRecord) → SignatureText text t
     → read_signature text ≡ Ok t
 unfolding read_signature
@@ -207,13 +207,13 @@ read_text _ t h = read_lines _ _ t refl h
 pub read_as : (text : List ℕ) → IsReading (SignatureText text) (read_signature text)
 read_as _ = record { value = λ t. (read_text _ t, text_is_read _ t) }
 
--- a text is read by its lines
+-- Parsing a text depends only on its lines.
 pub of_lines : (text : List ℕ) (ls : List (List ℕ)) → lines text ≡ ls
     → read_signature text ≡ signature_in_lines ls
 unfolding read_signature
 of_lines _ _ cut = ap signature_in_lines cut
 
--- the text that is written, letter by letter
+-- The text that is written, character by character.
 pub spelled_text : (s : SignatureRecord) (c : CommentsRecord) (u b t g : List ℕ) → u ≡ c.untrusted
     → b ≡ base64_of (signature_bytes s) → t ≡ c.trusted → g ≡ base64_of c.signature
     → codes "untrusted comment: "
@@ -247,8 +247,8 @@ some_trusted : 0 < length trusted_comment_label
 unfolding trusted_comment_label
 some_trusted = lit< tt
 
--- a written text reads as its signature and comments, but for a carriage return at the end of the untrusted
--- one
+-- A text that was written parses to its signature and comments, except for a carriage return at the
+-- end of the untrusted comment.
 module _ (s : SignatureRecord) (c : CommentsRecord)
     (encodes : Encodes ReadsSignature (base64_of (signature_bytes s)) s)
     (signed : IsBase64Of (base64_of c.signature) c.signature)
@@ -289,18 +289,18 @@ module _ (s : SignatureRecord) (c : CommentsRecord)
     comment_signature = rw (sym (trim_graphic _ graphic_comment)) at signed;
   }))
 
--- nothing goes of comments that are read back as they were written
+-- Comments that are read back as they were written lose nothing.
 pub same_comments : (c : CommentsRecord) → AreReadBack c.untrusted c.trusted → comments_read_back c ≡ c
 same_comments c keeps = ap (λ u. record c { untrusted = u }) (strip_none _ keeps.untrusted_end)
 
--- a record that the front of bytes begins with, the bytes begin with
+-- If a prefix of the bytes begins with a record, so do the bytes.
 longer : (bytes record_bytes rest : List ℕ) (n : ℕ) → take n bytes ≡ record_bytes ++ rest
     → bytes ≡ record_bytes ++ (rest ++ drop n bytes)
 longer bytes record_bytes rest n front =
     sym (take-append-drop n bytes) ∙ ap (λ x. x ++ drop n bytes) front
     ∙ append_assoc record_bytes rest _
 
--- what the front of the decoded bytes is read as
+-- The records at the front of the decoded bytes.
 module _ (text room bytes : List ℕ) (n : ℕ) (base64 : IsBase64Of text bytes)
     (front : take n room ≡ take n bytes) where
   encoded_key : (k : PublicKeyRecord) → ReadsPublicKey (take n room) k → Encodes ReadsPublicKey text k
@@ -334,7 +334,7 @@ module _ (text room bytes : List ℕ) (n : ℕ) (base64 : IsBase64Of text bytes)
     };
   }
 
--- a front that is too short is all of the bytes
+-- A front that is too short is all of the bytes.
 pub short_front : (text room bytes : List ℕ) (n cap m : ℕ) → IsBase64Of text bytes
     → n ≡ min (length bytes) cap → n ≤ length room → m ≤ cap → length (take n room) < m
     → (is_base64 text ≡ true) × (length (base64_bytes text) < m)
@@ -343,7 +343,7 @@ short_front text room bytes n cap m base64 count fits least short =
     let few : length bytes < m = omega (arith, same, count, short) in
     short_of _ _ _ m base64 refl few
 
--- the front of the decoded bytes is read as all of them
+-- The front of the decoded bytes parses like all of them.
 pub front_read : (fault : NamedFault) (text room bytes : List ℕ) (n : ℕ) (r : Result PublicKeyRecord Fault)
     → IsBase64Of text bytes → n ≡ min (length bytes) 42
     → n ≤ length room → take n room ≡ take n bytes → MatchResult r (ReadsPublicKey (take n room))
@@ -355,7 +355,7 @@ front_read fault text room bytes n (Err e) base64 count fits front refused =
     let short = short_front _ _ _ n 42 42 base64 count fits (omega arith) refused.1 in
     rw (short.0, lt-leb 42 _ short.1) (ap Err refused.0)
 
--- the first 64 bytes
+-- The first 64 bytes.
 few_bytes : (bytes : List ℕ) → length bytes < 64 → first_64 bytes ≡ None
 few_bytes bytes few = ap (λ b. cond b (Some (take 64 bytes)) None) (lt-leb 64 _ few)
 
@@ -372,7 +372,7 @@ front_64 bytes room n count fits front =
     ∙ ap Some (take-take 64 n _ (omega (arith, count)))
     ∙ sym (enough_bytes _ enough)) (cases_lt (length bytes) 64)
 
--- the base64 of a signature is longer than the signature
+-- The base64 of a signature is longer than the signature.
 pub long_enough : (text : List ℕ) (s : SignatureRecord) → Encodes ReadsSignature text s → 64 ≤ length text
 long_enough text s h = omega
     (arith, stored_length h.bytes s h.reads, ap length h.base64.encoded, length_base64 h.bytes)

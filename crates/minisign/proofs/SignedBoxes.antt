@@ -1,5 +1,5 @@
--- The box that signing makes, and why it is accepted; and its text, which is written, and read back as a box
--- that vouches for the same.
+-- Lemmas about the box that signing makes and why it is valid, and about its text, which parses to
+-- a box that is valid for the same message.
 use Rattle.std.proofs.Common.{◌≡◌, ℕ, true, false, List, ◌++◌, length, Option, None, Some, inl, refl, sym}
 use Rattle.std.proofs.Common.{◌∙◌, arith, take_all, IsSomeAnd, Result, Ok, Err, IfOk, IfSome, MatchOption}
 use Rattle.std.proofs.Common.{MatchResult, subst, le-leb}
@@ -15,14 +15,14 @@ use Rattle.minisign.specs.Signing.{Signer, ChosenComments, IsGenuine, IsSigned, 
 use Rattle.minisign.proofs.Verdicts.{vouches_judged}
 use Rattle.minisign.specs.SignatureText.{AreOneLine, box_read_back, read_signature_box, signature_text}
 
--- a box of these parts
+-- A box with these parts.
 abbrev pub box_of : List ℕ → List ℕ → ChosenComments → List ℕ → SignatureBoxRecord
 box_of keynum signature chosen global = record {
   signature = record { algorithm = prehashed_algorithm; keynum = keynum; signature = signature };
   comments = Some (record { untrusted = chosen.untrusted; trusted = chosen.trusted; signature = global });
 }
 
--- parts that were made one by one, as the box that signing makes
+-- Parts that were made one by one are those of the box that signing makes.
 pub made_box : (sign : Signer) (sk : SecretKeyRecord) (message : List ℕ) (chosen : ChosenComments)
     (first second keynum signature global : List ℕ)
     → keynum ≡ sk.keynum → signature ≡ sign (blake2b_digest 64 message) sk.secret (Some first)
@@ -31,13 +31,14 @@ pub made_box : (sign : Signer) (sk : SecretKeyRecord) (message : List ℕ) (chos
 made_box _ _ _ _ _ _ _ _ _ same_keynum same_signature same_global =
     rw (same_keynum, same_global, same_signature) refl
 
--- the law of a scheme: what was signed with a seed's secret key is accepted under its public key
+-- The law of a scheme: a signature made with a seed's secret key is accepted under the seed's
+-- public key.
 abbrev pub AcceptsOwn : Verifier → Signer → (List ℕ → List ℕ) → Type 0
 AcceptsOwn accepts sign public_of = (seed m : List ℕ) (z : Option (List ℕ)) → IsBytes seed → length seed ≡ 32
     → IsBytes m → AreRandomBytes z
     → accepts m (public_of seed) (sign m (seed ++ public_of seed) z) ≡ true
 
--- parts that were made with a genuine key are accepted under its public key
+-- Parts that were made with a genuine key are accepted under its public key.
 pub genuine_box : (accepts : Verifier) (sign : Signer) (public_of : List ℕ → List ℕ)
     → AcceptsOwn accepts sign public_of
     → (sk : SecretKeyRecord) (message : List ℕ) (chosen : ChosenComments)
@@ -68,7 +69,7 @@ genuine_box accepts sign public_of own sk message chosen first second keynum sig
       ) comment_accepted;
     })
 
--- a public key that is given and rejects the box that was made is the reason
+-- The error if the given public key rejects the box that was made.
 pub refused_by_given : {R Z : Type 0} (accepts : Verifier) (sign : Signer) (pk : Option PublicKeyRecord)
     (sk : SecretKeyRecord) (message : List ℕ)
     (chosen : ChosenComments) (r : SourceCall R) (z : RandomCall Z) (x : SignatureBoxRecord) (e : Fault)
@@ -84,7 +85,7 @@ refused_by_given _ _ None _ _ _ r z x e _ _ _ refused = absurd refused
 refused_by_given _ _ (Some p) _ message _ r z x e opened read signed (fault, refused) =
     (message, x, fault, opened, read, signed, refused)
 
--- the chosen comments and a comment signature
+-- The chosen comments and a comment signature.
 abbrev pub with_signature : ChosenComments → List ℕ → CommentsRecord
 with_signature chosen global = record {
   untrusted = chosen.untrusted;
@@ -93,7 +94,7 @@ with_signature chosen global = record {
       global;
 }
 
--- what writing answers of a box with comments
+-- The result of writing a box with comments.
 pub written_text : {T : Type 0} (bytes : T → List ℕ) (r : Result T Fault) (x : SignatureBoxRecord)
     (chosen : ChosenComments) (global : List ℕ)
     → x.comments ≡ Some (with_signature chosen global)
@@ -110,7 +111,7 @@ written_text _ (Ok t) x _ _ both written back = (
       (sym both) one),
 )
 
--- the untrusted comment does not matter for what a box vouches for
+-- The untrusted comment does not matter for what a box is valid for.
 pub vouched_back : (accepts : Verifier) (key keynum message : List ℕ) (x : SignatureBoxRecord)
     (chosen : ChosenComments) (global : List ℕ)
     → x.comments ≡ Some (with_signature chosen global)

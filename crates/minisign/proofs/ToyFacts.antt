@@ -1,6 +1,6 @@
--- The definitions on the first run: a key of 42 bytes and a signature of 74, as `verify-raw` takes them, are
--- read as their fields, and the signature is accepted for its message and rejected for another. The bytes
--- were computed by another program, over Python's Blake2b.
+-- The definitions applied to one example: a key of 42 bytes and a signature of 74, as `verify-raw`
+-- reads them, are parsed into their fields, and the signature is accepted for its message and
+-- rejected for another. The bytes were computed by another program, with Python's Blake2b.
 use Rattle.std.proofs.Common.{◌≡◌, ℕ, false, List, [], ◌∷◌, ◌++◌, None, codes, replicate, refl, Ok, Err}
 use Rattle.minisign.proofs.Common.{blake2b_digest, padded_block, compress, iv, mix, round, rounds, sigma}
 use Rattle.minisign.proofs.Common.{state_after, work_vector, Named, SignatureRefused}
@@ -20,7 +20,7 @@ second_half =
     0x0E ∷ 0xA8 ∷ 0xFF ∷ 0xE6 ∷ 0xE9 ∷ 0xF1 ∷ 0x0C ∷ 0xB7 ∷ 0xA8 ∷ 0x6B ∷ 0x67 ∷ 0xD8 ∷ 0x55 ∷ 0xA5 ∷ 0x61
     ∷ 0xA8 ∷ []
 
--- the key of a seed of zeros
+-- The key of a seed of zeros.
 abbrev key : PublicKeyRecord
 key = record { algorithm = codes "Ed"; keynum = key_id; key = replicate 32 0x5A }
 

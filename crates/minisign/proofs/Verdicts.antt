@@ -1,5 +1,5 @@
--- The judge and the verdict are functions, acceptance a record of conditions: they agree. And what a verdict
--- does not depend on.
+-- Lemmas about verdicts: the functions judge and verdict agree with the records of conditions. Also
+-- what a verdict does not depend on.
 use Rattle.std.proofs.Common.{◌≡◌, ◌↔◌, ◌||◌, ℕ, Bool, true, false, List, length, refl, sym, ap, subst, ◌∙◌}
 use Rattle.std.proofs.Common.{inl, inr, ⊎_elim, [], Option, None, Some, take, min, nat_le, arith}
 use Rattle.std.proofs.Common.{Result, Ok, Err, length-take, option_map}
@@ -16,7 +16,7 @@ use Rattle.minisign.specs.Texts.{IsGivenOrNoMemory, IsReading, and_then, map_ok,
 use Rattle.minisign.specs.Verifying.{read_texts}
 use Rattle.minisign.proofs.ReadTexts.{passed, read_before, read_value}
 
--- == What is read one after the other ==
+-- == Parsing in two steps ==
 
 pub mapped_of : {V W : Type 0} (f : V → W) (r : Result V Fault) (w : W) → map_ok f r ≡ Ok w
     → (v : V) × (r ≡ Ok v) × (f v ≡ w)
@@ -27,14 +27,14 @@ pub unmapped : {V W : Type 0} (f : V → W) (r : Result V Fault) (e : Fault) →
 unmapped f (Ok v) e h = cc h
 unmapped f (Err d) e h = cc h
 
--- == The judge ==
+-- == The function judge ==
 
--- these bytes are those that the signature is over, where such a signature is allowed
+-- These bytes are those that the signature signs, if such a signature is allowed.
 abbrev pub AreSigned : List ℕ → SignatureBoxRecord → Bool → List ℕ → Type 0
 AreSigned bytes x legacy message = (is_prehashed x.signature || legacy) ≡ true
     → bytes ≡ signed_bytes x message
 
--- what comes after two tests matters only where both hold
+-- Two results after the same two checks agree if they agree when the second check holds.
 judged_alike : (same allowed : Bool) (other unallowed : NamedFault) (a b : Result ⊤ Fault)
     → (allowed ≡ true → a ≡ b)
     → and_then {V = ⊤} (require same other (require allowed unallowed (Ok tt))) (λ _. a)
@@ -71,12 +71,12 @@ module _ (accepts : Verifier) (pk : PublicKeyRecord) (x : SignatureBoxRecord) (m
   pub judge_decided : (judge accepts pk x message legacy ≡ Ok tt) ↔ Vouches accepts pk x message legacy
   judge_decided = (judged_vouches tt, vouches_judged)
 
-  -- what was judged, memory aside
+  -- A box that was accepted is valid, even if the result may be out of memory.
   pub judged_or_not : (u : ⊤) → IsGivenOrNoMemory (Ok u) (judge accepts pk x message legacy)
       → Vouches accepts pk x message legacy
   judged_or_not u judged = judged_vouches u (read_value u _ judged)
 
-  -- bytes that a signature is over where one is allowed are judged as the message
+  -- To check the bytes that an allowed signature signs is to check the message.
   pub judged_held : (bytes : List ℕ) → AreSigned bytes x legacy message → (r : Result ⊤ Fault)
       → IsGivenOrNoMemory r (and_then (judge_key pk.keynum x.signature legacy)
       (λ _. judge_answers (accepts bytes pk.key x.signature.signature) (accepts_comments accepts pk x)))
@@ -86,13 +86,13 @@ module _ (accepts : Verifier) (pk : PublicKeyRecord) (x : SignatureBoxRecord) (m
       (judged_alike _ _ _ _ _ _ (λ allowed. ap (λ b. judge_answers (accepts b pk.key x.signature.signature)
       (accepts_comments accepts pk x)) (held allowed)))
 
--- a rejection, where less is told of the value
+-- An error is the same if less is known of the value.
 pub kept_refusal : {V W : Type 0} (f : V → W) (e : Fault) (r : Result V Fault) → IsGivenOrNoMemory (Err e) r
     → IsGivenOrNoMemory (Err e) (map_ok f r)
 kept_refusal f e r (inl is) = inl (ap (map_ok f) is)
 kept_refusal f e r (inr memory) = inr (cc memory)
 
--- == What two texts read as ==
+-- == Parsing two texts ==
 
 read_both : (pk_text sig_text : List ℕ) (key : PublicKeyRecord) (box : SignatureBoxRecord)
     → read_public_key pk_text ≡ Ok key → read_signature_box sig_text ≡ Ok box
@@ -112,7 +112,7 @@ both_read _ _ _ _ read =
           ∙ ap (λ both. Ok both.1) same,
     )
 
--- the trusted comment of a text, and of a box
+-- The trusted comment of a text, and of a box.
 abbrev pub trusted_of : SignatureTextRecord → List ℕ
 trusted_of t = t.comments.trusted
 
@@ -125,7 +125,7 @@ module _ (accepts : Verifier) (pk_text sig_text message : List ℕ) (legacy : Bo
   abbrev answer : Result (List ℕ) Fault
   answer = verdict accepts pk_text sig_text message legacy
 
-  -- the verdict where both texts are read
+  -- The verdict if both texts parse.
   pub read_verdict : (key : PublicKeyRecord) (t : SignatureTextRecord) → read_public_key pk_text ≡ Ok key
       → read_signature sig_text ≡ Ok t
       → (r : Result ⊤ Fault) → r ≡ judge accepts key (box_of t) message legacy
@@ -143,7 +143,7 @@ module _ (accepts : Verifier) (pk_text sig_text message : List ℕ) (legacy : Bo
   unfolding verdict
   signature_refused _ e read refused = rw (read, refused) refl
 
-  -- what is left of it where both are read, as a key and a box
+  -- The rest of the verdict if the texts parse to this key and this box.
   abbrev left : PublicKeyRecord × SignatureBoxRecord → Result (List ℕ) Fault
   left both = and_then (judge accepts both.0 both.1 message legacy) (λ _. Ok (comment_of both.1))
 
@@ -155,14 +155,14 @@ module _ (accepts : Verifier) (pk_text sig_text message : List ℕ) (legacy : Bo
   in_parts (Ok _) (Err e) = refl
   in_parts (Err e) s = refl
 
-  -- so it is a function of what both read as
+  -- So the verdict is a function of what both texts parse to.
   of_texts : (r : Result (PublicKeyRecord × SignatureBoxRecord) Fault) → read_texts pk_text sig_text ≡ r
       → answer ≡ and_then r left
   unfolding verdict
   of_texts r read = in_parts (read_public_key pk_text) (read_signature sig_text)
       ∙ ap (λ r. and_then r left) read
 
-  -- a text is rejected, or an allocation failed for one
+  -- A text is rejected, or an allocation for one failed.
   pub text_refused : (e : Fault) → IsGivenOrNoMemory (Err e) (read_texts pk_text sig_text)
       → IsGivenOrNoMemory (Err e) answer
   text_refused e (inl refused) = inl (sym (of_texts _ (sym refused)))
@@ -170,7 +170,7 @@ module _ (accepts : Verifier) (pk_text sig_text message : List ℕ) (legacy : Bo
 
   module _ (key : PublicKeyRecord) (box : SignatureBoxRecord)
       (read : read_texts pk_text sig_text ≡ Ok (key, box)) where
-    -- the box that the texts read as is judged
+    -- The box that the text parses to is checked.
     pub judged_verdict : (r : Result ⊤ Fault) → judge accepts key box message legacy ≡ r
         → answer ≡ and_then r (λ _. Ok (comment_of box))
     judged_verdict r judged = of_texts _ read ∙ ap (λ r. and_then r (λ _. Ok (comment_of box))) judged
@@ -198,7 +198,7 @@ module _ (accepts : Verifier) (pk_text sig_text message : List ℕ) (legacy : Bo
     told_refusal e (inl judged) = inl (sym (judged_verdict _ (sym judged)))
     told_refusal e (inr memory) = inr (cc memory)
 
-  -- the comment that is vouched for
+  -- The verdict on valid texts is the comment of the box.
   pub vouching_verdict : (v : TextsVouchFor accepts pk_text sig_text message legacy)
       → answer ≡ Ok (comment_of v.box)
   vouching_verdict v =
@@ -233,7 +233,7 @@ module _ (accepts : Verifier) (pk_text sig_text message : List ℕ) (legacy : Bo
   pub verdict_decided : IsReading (TextsVouchWith accepts pk_text sig_text message legacy) answer
   verdict_decided = record { value = λ comment. (vouched _, vouched_verdict _) }
 
-  -- the comment of the text is the one that was signed, where the texts vouch for the message
+  -- The comment of the text is the one that was signed, if the texts are valid for the message.
   pub signed_comment : (comment : List ℕ) → TextsVouchFor accepts pk_text sig_text message legacy
       → map_ok trusted_of (read_signature sig_text) ≡ Ok comment
       → TextsVouchWith accepts pk_text sig_text message legacy comment
@@ -246,16 +246,16 @@ module _ (accepts : Verifier) (pk_text sig_text message : List ℕ) (legacy : Bo
         trusted = let told = sym (ap (map_ok trusted_of) signature_read) ∙ said in cc told;
       }
 
--- whether a number is at least 64 shows in its smaller one with 64
+-- If two numbers have the same minimum with 64, either both are at least 64 or neither is.
 at_least : (m n : ℕ) → min 64 n ≡ min 64 m → nat_le 64 n ≡ nat_le 64 m
 at_least m n same = grind (arith, nat_tests)
 
--- whether there are 64 bytes shows in the first 64
+-- If two lists have the same first 64 bytes, either both have at least 64 bytes or neither has.
 long_enough : (a b : List ℕ) → take 64 b ≡ take 64 a → nat_le 64 (length b) ≡ nat_le 64 (length a)
 long_enough a b same = let lengths = sym (length-take 64 b)
     ∙ ap length same ∙ length-take 64 a in at_least _ _ lengths
 
--- what is judged of comments
+-- The parts of comments on which a verdict depends.
 abbrev judged_comment : CommentsRecord → List ℕ × List ℕ
 judged_comment c = (c.trusted, take 64 c.signature)
 

@@ -1,5 +1,5 @@
--- Verifying over devices, where none fails, answers as the judge does; with texts as with what they read as;
--- and the comment that was signed.
+-- Lemmas about verification with devices: if no device fails, the result is that of the function
+-- judge; with texts, it is that of what they parse to; and the comment is the one that was signed.
 use Rattle.std.proofs.Common.{◌≡◌, ℕ, true, List, inl, inr, sym, ap, ◌∙◌, IfErr, IsErrAnd, OnOk}
 use Rattle.std.proofs.Common.{IfSome, ◌⊎◌, ⊎_elim, false, refl, [], Option, None, Some, IfOk, Result, Ok}
 use Rattle.std.proofs.Common.{Err, true≢false, IsSome, Bool}
@@ -21,7 +21,7 @@ use Rattle.minisign.proofs.Verdicts.{both_read, vouches_judged, judged_verdict, 
 use Rattle.minisign.proofs.Verdicts.{trusted_of, vouched_verdict}
 use Rattle.minisign.specs.SignatureText.{read_signature}
 
--- texts that verifying succeeded with vouch for what their key and box vouch for
+-- Texts with which verification succeeded are valid for what their key and box are valid for.
 both_vouch : {R W O : Type 0} {accepts : Verifier} {pk sig : List ℕ} {options : VerifyOptions}
     (reader : RereaderCall R) (status : SinkCall W) (out : SinkCall O) {message : List ℕ} {legacy : Bool}
     (h : VerifyingTextsSucceeds accepts pk sig options reader status out)
@@ -29,7 +29,7 @@ both_vouch : {R W O : Type 0} {accepts : Verifier} {pk sig : List ℕ} {options 
 both_vouch _ _ _ h vouches =
     record { key = h.key; box = h.box; key_read = h.key_read; box_read = h.box_read; vouches = vouches }
 
--- what the output took is vouched for by the texts
+-- The texts are valid for the bytes that the output received.
 pub copy_vouched : {R W O T : Type 0} (accepts : Verifier) (pk sig : List ℕ) (options : VerifyOptions)
     (reader : RereaderCall R) (status : SinkCall W) (out : SinkCall O)
     (r : Result T Fault) → OnOk r (VerifyingTextsSucceeds accepts pk sig options reader status out)
@@ -48,7 +48,7 @@ copy_vouched _ _ _ _ _ _ _ (Err e) h _ = tt
 module _ {R W O : Type 0} (accepts : Verifier) (pk sig : List ℕ) (options : VerifyOptions)
     (reader : RereaderCall R) (status : SinkCall W) (out : SinkCall O)
     (key : PublicKeyRecord) (box : SignatureBoxRecord) (read : read_texts pk sig ≡ Ok (key, box)) where
-  -- verifying succeeds with what the texts read as
+  -- Verification succeeds with what the texts parse to.
   pub succeeds_with : {T : Type 0} (r : Result T Fault)
       → OnOk r (VerifyingSucceeds accepts key box options reader status out)
       → OnOk r (VerifyingTextsSucceeds accepts pk sig options reader status out)
@@ -56,7 +56,7 @@ module _ {R W O : Type 0} (accepts : Verifier) (pk sig : List ℕ) (options : Ve
       record { key = key; box = box; key_read = key_read; box_read = box_read; verified = h }
   succeeds_with (Err e) h = tt
 
-  -- verifying fails with what the texts read as
+  -- Verification fails with what the texts parse to.
   pub fails_with : {T : Type 0} (r : Result T Fault)
       → IfErr r (VerifyingFails accepts key box options reader status out)
       → IfErr r (VerifyingTextsFails accepts pk sig options reader status out)
@@ -88,7 +88,7 @@ module _ {R W O : Type 0} (accepts : Verifier) (key : PublicKeyRecord) (box : Si
         let same = rw told at (other.same (again wanted)) in
         absurd (other.changed (ap (blake2b_digest 64) (same ∙ sym (the_message m _ told given))))
 
-  -- where nothing fails, the answer is the judge's
+  -- If no device fails, the result is that of the function judge.
   pub judged_exactly : (r : Result ⊤ Fault)
       → OnOk r (VerifyingSucceeds accepts key box options reader status out)
       → IfErr r (VerifyingFails accepts key box options reader status out)
@@ -100,7 +100,7 @@ module _ {R W O : Type 0} (accepts : Verifier) (key : PublicKeyRecord) (box : Si
       refused_for message told no_new_fault status_no_new_fault out_no_new_fault again e
       (why_it_fails accepts key box options.quiet options.output options.allow_legacy reader status out e err)
 
-  -- the same where a rejection is passed up
+  -- The same if an error is passed on.
   pub refused_exactly : (r : Result ⊤ Fault) (e : Fault) → IsErrAnd r (λ y. y ≡ e)
       → IfErr r (VerifyingFails accepts key box options reader status out)
       → WhereNothingFails options.output reader status out r
@@ -108,11 +108,11 @@ module _ {R W O : Type 0} (accepts : Verifier) (key : PublicKeyRecord) (box : Si
   refused_exactly (Ok u) e is _ = absurd is
   refused_exactly (Err y) e _ err = judged_exactly (Err y) tt err
 
--- the comment is that of the signature text
+-- The comment is that of the signature text.
 abbrev IsCommentOf : List ℕ → List ℕ → Type 0
 IsCommentOf sig comment = map_ok trusted_of (read_signature sig) ≡ Ok comment
 
--- a sink of which no stage speaks
+-- A sink that no stage uses.
 abbrev pub silent : {O : Type 0} → O → O → SinkCall O
 silent old new = record {
   sink = record { taken = λ _. None; flushed = λ _. None; sink_faults = λ _. 0 };
@@ -120,12 +120,12 @@ silent old new = record {
   new = new;
 }
 
--- some message is ahead, where nothing is known of it
+-- There is a message that may be the unread bytes, whether they are known or not.
 some_ahead : (known : Option (List ℕ)) → (message : List ℕ) × IsAhead known message
 some_ahead None = ([], tt)
 some_ahead (Some xs) = (xs, refl)
 
--- where nothing is said or copied, three reasons are left
+-- If nothing is reported or copied, three reasons are left.
 abbrev IsLeft : {R : Type 0} → Verifier → List ℕ → List ℕ → RereaderCall R → Fault → Type 0
 IsLeft accepts pk sig reader e = (e ≡ Named OutOfMemory)
     ⊎ HasFailed ReadingFailed reader.source.faults reader.old reader.new e
@@ -147,7 +147,7 @@ module _ {R W O : Type 0} (accepts : Verifier) (pk sig : List ℕ) (reader : Rer
     ahead_reason (inr (inr (inr (inr (inr (inl (wanted, _))))))) = absurd (true≢false (sym wanted))
     ahead_reason (inr (inr (inr (inr (inr (inr (wanted, _))))))) = absurd (true≢false (sym wanted))
 
--- the verdict on a file's data
+-- The verdict on a file's data.
 pub file_verdict : {T R : Type 0} (bytes : T → List ℕ) (accepts : Verifier) (pk sig : List ℕ)
     (reader : RereaderCall R) (r : Result T Fault)
     → IfOk r (λ t. (message : List ℕ) × ReadsWhole reader.source reader.old reader.new message
@@ -166,17 +166,17 @@ same_ahead : (known : Option (List ℕ)) (message copy : List ℕ) → IsAhead k
 same_ahead None _ _ _ _ = tt
 same_ahead (Some _) _ _ given same = same refl ∙ sym given
 
--- where nothing but a digest may be signed, the box is prehashed
+-- If legacy signatures are rejected, a valid box is prehashed.
 prehashed : (accepts : Verifier) (key : PublicKeyRecord) (box : SignatureBoxRecord) (message : List ℕ)
     → Vouches accepts key box message false → is_prehashed box.signature ≡ true
 prehashed _ _ box _ vouches =
     ⊎_elim (bytes_eq-Decides box.signature.algorithm prehashed_algorithm).1
     (λ legacy. absurd (true≢false (sym legacy))) vouches.allowed
 
--- what follows for two texts, with nothing to be said
+-- The consequences of quiet verification for two texts.
 module _ {R W O : Type 0} (accepts : Verifier) (pk sig : List ℕ) (reader : RereaderCall R)
     (status : SinkCall W) (out : SinkCall O) where
-  -- what was ahead is vouched for, with the comment
+  -- The texts are valid for the unread data, with the comment.
   pub ahead_vouched : {T : Type 0} (bytes : T → List ℕ) (r : Result T Fault)
       → OnOk r (VerifyingTextsSucceeds accepts pk sig (options_of true false false) reader status out)
       → IfOk r (λ t. IsCommentOf sig (bytes t))
@@ -195,7 +195,7 @@ module _ {R W O : Type 0} (accepts : Verifier) (pk sig : List ℕ) (reader : Rer
   )
   ahead_vouched _ (Err e) _ _ = tt
 
-  -- why it is rejected
+  -- A rejection has one of the three reasons.
   pub ahead_refused : {T : Type 0} (r : Result T Fault)
       → IfErr r (VerifyingTextsFails accepts pk sig (options_of true false false) reader status out)
       → IfErr r (IsLeft accepts pk sig reader)
@@ -208,7 +208,7 @@ module _ {R W O : Type 0} (accepts : Verifier) (pk sig : List ℕ) (reader : Rer
       ahead_reason accepts pk sig reader status out key box e read
       (why_it_fails accepts key box true false false reader status out e h)
 
-  -- at which stage it was rejected: neither sink is used
+  -- The stage at which the data was rejected. Neither sink is used.
   pub reader_refused : {T : Type 0} (r : Result T Fault)
       → IfErr r (VerifyingTextsFails accepts pk sig (options_of true false false) reader status out)
       → IfErr r (VerifyingTextsFails accepts pk sig (options_of true false false) reader unused unused)
@@ -220,7 +220,7 @@ module _ {R W O : Type 0} (accepts : Verifier) (pk sig : List ℕ) (reader : Rer
         fails_without_sinks accepts key box false reader status out e h,
       )))
 
-  -- what was copied is vouched for, with the comment
+  -- The texts are valid for the copy, with the comment.
   pub copied_with : {T : Type 0} (bytes : T → List ℕ) (r : Result T Fault)
       → OnOk r (VerifyingTextsSucceeds accepts pk sig (options_of true true false) reader status out)
       → IfOk r (λ t. IsCommentOf sig (bytes t))
@@ -239,7 +239,7 @@ module _ {R W O : Type 0} (accepts : Verifier) (pk sig : List ℕ) (reader : Rer
       }
   copied_with _ (Err e) _ _ = tt
 
-  -- why nothing, or not all, was copied
+  -- A quiet call that copies does not use the status sink when it fails.
   pub copy_refused : {T : Type 0} (r : Result T Fault)
       → IfErr r (VerifyingTextsFails accepts pk sig (options_of true true false) reader status out)
       → IfErr r (VerifyingTextsFails accepts pk sig (options_of true true false) reader unused out)

@@ -1,4 +1,4 @@
--- Texts of keys that are written and read back, and their sizes.
+-- Lemmas about key texts that are written and read back, and about their sizes.
 use Rattle.std.proofs.Common.{◌≡◌, ℕ, ◌+◌, List, [], ◌∷◌, ◌++◌, length, Some, Ok, refl, ap, sym, ◌∙◌, arith}
 use Rattle.std.proofs.Common.{length-append}
 use Rattle.minisign.proofs.Common.{LacksByte, lines, strip_carriage_return}
@@ -19,7 +19,7 @@ unfolding default_secret_key_comment
 default_lacks = (shown_one_line default_secret_key_comment
     (shown_codes default_secret_key_comment refl)).no_feed
 
--- the lines of a comment without line feed, and of letters
+-- A text of a comment line and a line of graphic characters has these two lines.
 commented_lines : (comment encoded text : List ℕ) → LacksByte 10 comment → IsOneLine encoded
     → text ≡ line (untrusted_comment_label ++ comment) ++ line encoded
     → lines text ≡ (untrusted_comment_label ++ strip_carriage_return comment) ∷ encoded ∷ []
@@ -28,7 +28,7 @@ commented_lines comment _ _ lacks one written =
     ∙ lines_labelled _ _ _ shown_untrusted some_untrusted lacks
     ∙ ap (λ l. (untrusted_comment_label ++ strip_carriage_return comment) ∷ l) (lines_last _ one)
 
--- a comment without line feed, and the base64 of a key, on a line each
+-- A comment without a line feed and the base64 of a secret key, on one line each, parse to the key.
 pub written_secret_key : (comment encoded bytes text : List ℕ) (k : SecretKeyRecord) → LacksByte 10 comment
     → IsBase64Of encoded bytes → ReadsSecretKey bytes k
     → text ≡ line (untrusted_comment_label ++ comment) ++ line encoded → read_secret_key text ≡ Ok k
@@ -38,7 +38,7 @@ written_secret_key _ encoded _ _ k lacks base64 stored written =
     of_lines _ _ (commented_lines _ _ _ lacks one written)
     ∙ line_is_read _ _ base64 ∙ bytes_are_read _ k stored
 
--- a comment without line feed, and the base64 of a public key, on a line each
+-- A comment without a line feed and the base64 of a public key, on one line each, parse to the key.
 pub commented_public_key : (k : PublicKeyRecord) (comment text : List ℕ)
     → BarePublicKey (base64_of (public_key_bytes k)) k → LacksByte 10 comment
     → text ≡ commented_public_key_text comment k → read_public_key text ≡ Ok k
@@ -67,7 +67,7 @@ two_lines a b = length-append (line (untrusted_comment_label ++ a)) (line b)
       label_size,
     )
 
--- the sizes of the texts of keys
+-- The length of the text of a secret key, and that of a public key.
 pub secret_key_size : (comment text : List ℕ) (k : SecretKeyRecord) → ReadsSecretKey (secret_key_bytes k) k
     → text ≡ secret_key_text (Some comment) k
     → length text ≡ length comment + 233

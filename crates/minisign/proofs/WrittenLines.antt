@@ -1,4 +1,5 @@
--- Lines as they are written and read back: first lines, letters that are shown, and lines with labels.
+-- Lemmas about lines that are written and read back: first lines, graphic characters, and lines
+-- with labels.
 use Rattle.std.proofs.Common.{◌≡◌, ◌≢◌, ◌==◌, subst, ℕ, zero, suc, ◌+◌, ◌-◌, ◌<◌, ◌≤◌, Bool, true, false}
 use Rattle.std.proofs.Common.{◌&&◌, List, [], ◌∷◌, ◌++◌, length, take, slice_index, refl, sym, ap, ◌∙◌}
 use Rattle.std.proofs.Common.{arith, eqb, leb, ⊎_elim, ◌^◌, ◌*◌, ◌/◌, ◌%◌, replicate, nat_lt, get_or}
@@ -22,7 +23,7 @@ use Rattle.std.proofs.lemmas.Str.Pattern.{NoCharPasses-char}
 use borrow.Author.Tests.{tests}
 use Rattle.minisign.specs.Texts.{line, base64_of}
 
--- no byte of such a text is a line feed
+-- No byte of such a text is a line feed.
 no_newline : (bs : List ℕ) → NoCharPasses is_newline bs → All (λ b. eqb b 10 ≡ false) bs
 no_newline bs h k d l = ne_eqb _ 10
     (λ z. NoCharPasses-char 10 bs k h (lit< tt) l (get_or_default bs k 0 d l ∙ z))
@@ -41,7 +42,7 @@ pub lines_of_parts-cons : (x : List ℕ) (parts : List (List ℕ)) → 0 < lengt
 lines_of_parts-cons x [] l = absurd (omega arith)
 lines_of_parts-cons x (y ∷ _) l = refl
 
--- the first line of a text, and the lines of what follows it
+-- The lines of a text are its first line followed by the lines of the rest.
 pub lines_first : (w x rest : List ℕ) → 0 < length w → IsFirstLine w x rest → lines w ≡ x ∷ lines rest
 lines_first w x rest some h =
     let n = h.0 in
@@ -61,27 +62,27 @@ lines_first w x rest some h =
     ∙ (λ i. sym (h.4 (omega arith)) i ∷ lines (sym (nil_from_length rest (omega arith)) i)))
     (cases_lt n (length w))
 
--- a line that a line feed ends
+-- A text is split after its first line feed.
 pub lines-cut : (x rest : List ℕ) → All (λ b. eqb b 10 ≡ false) x → lines (x ++ (10 ∷ rest))
     ≡ strip_carriage_return x ∷ lines rest
 lines-cut x rest front =
     ap lines_of_parts (slice_split_at (λ b. eqb b 10) x 10 rest front refl) ∙ lines_of_parts-cons x
     _ (omega (arith, length-slice_split (λ b. eqb b 10) rest))
 
--- a graphic letter of ASCII: neither a line feed nor white space
+-- A graphic ASCII character: neither a line feed nor white space.
 abbrev pub IsGraphic : ℕ → Type 0
 IsGraphic c = IsInRange 33 126 c
 
 abbrev pub AllGraphic : List ℕ → Type 0
 AllGraphic xs = AllByRecursion IsGraphic xs
 
--- what holds of each letter of two texts
+-- If each character of two texts has a property, so has each character of both joined.
 pub each_append : (P : ℕ → Type 0) (xs ys : List ℕ) → AllByRecursion P xs → AllByRecursion P ys
     → AllByRecursion P (xs ++ ys)
 each_append P [] _ h k = k
 each_append P (x ∷ xs) ys h k = (h.0, each_append P xs ys h.1 k)
 
--- and of each letter of one for which a test holds
+-- All characters of a text pass a test.
 abbrev pub all_pass : (ℕ → Bool) → List ℕ → Bool
 all_pass _ [] = true
 all_pass test (c ∷ cs) = test c && all_pass test cs
@@ -93,7 +94,7 @@ each_passes _ P holds (x ∷ xs) h =
     let (first, others) = and_parts _ _ h in
     (holds x first, each_passes _ P holds xs others)
 
--- the 64 letters
+-- The 64 characters of base64.
 abbrev letters : List ℕ
 letters = standard.encode_table
 
@@ -103,7 +104,7 @@ is_graphic c = leb 33 c && leb c 126
 graphic_from : (c : ℕ) → is_graphic c ≡ true → IsGraphic c
 graphic_from c h = grind (arith, common_steps)
 
--- letters that are written out
+-- Characters of a constant text.
 pub graphic_codes : (xs : List ℕ) → all_pass is_graphic xs ≡ true → AllGraphic xs
 graphic_codes = each_passes _ _ graphic_from
 
@@ -143,13 +144,13 @@ graphic_replicate : (n c : ℕ) → IsGraphic c → AllGraphic (replicate n c)
 graphic_replicate zero c h = tt
 graphic_replicate (suc n) c h = (h, graphic_replicate n c h)
 
--- no letter of base64 is a line feed or white space
+-- No character of base64 is a line feed or white space.
 pub graphic_base64 : (m : List ℕ) → IsBytes m → AllGraphic (base64_of m)
 unfolding base64_of
 graphic_base64 m h = each_append _ _ _ (graphic_symbols m h)
     (graphic_replicate _ 61 (omega arith, omega arith))
 
--- so are the digits of a key ID
+-- The digits of a key ID are graphic too.
 graphic_digit : (d : ℕ) → d < 16 → IsGraphic (digit_glyph true d)
 graphic_digit d l = grind (arith, common_steps)
 
@@ -163,7 +164,7 @@ graphic_digits (suc k) n acc h =
       | false ↦ graphic_digits k _ _ (digit, h)
     ]
 
--- as 16 digits are written, with zeros in front
+-- A number that is padded to 16 digits consists of graphic characters.
 graphic_padded : (numeral : List ℕ) → AllGraphic numeral
     → AllGraphic (padded_integral (format_spec 32 0 4 16 (2 ^ 64 - 1)) false [] numeral)
 unfolding padded_integral
@@ -175,7 +176,7 @@ pub graphic_key_id : (id : List ℕ) → AllGraphic (key_id_text id)
 unfolding key_id_text digits
 graphic_key_id id = graphic_padded _ (graphic_digits 64 (from_le_bytes w64 id) [] tt)
 
--- trimming leaves graphic letters as they are
+-- A graphic character is not white space, so trimming leaves graphic characters unchanged.
 dark : (c : ℕ) → IsGraphic c → is_whitespace c ≡ false
 dark c h = grind (arith, common_steps, tests)
 
@@ -211,7 +212,7 @@ trim_graphic xs h =
     let written = encodes-IsAscii xs (all_ascii xs h) in
     rw (spelled xs h, front_stays xs h, written, spelled xs h, back_stays xs h, written) refl
 
--- a line that is one: no line feed in it, and no carriage return at its end
+-- A line: it has no line feed, and no carriage return at its end.
 pub record IsOneLine (x : List ℕ) : Type 0 where
   pub no_feed : (k : ℕ) → k < length x → slice_index x k ≢ 10
   pub no_return : slice_index x (length x - 1) ≢ 13
@@ -219,16 +220,16 @@ pub record IsOneLine (x : List ℕ) : Type 0 where
 no_feeds : (x : List ℕ) → ((k : ℕ) → k < length x → slice_index x k ≢ 10) → All (λ b. eqb b 10 ≡ false) x
 no_feeds x h k d l = ne_eqb _ 10 (λ z. h k l (get_or_default x k 0 d l ∙ z))
 
--- a line, and the lines after it
+-- A line, and the lines after it.
 pub lines_line : (x rest : List ℕ) → IsOneLine x → lines (line x ++ rest) ≡ x ∷ lines rest
 lines_line x rest h = ap lines (append_assoc x (10 ∷ []) rest) ∙ lines-cut x _ (no_feeds x h.no_feed)
     ∙ ap (λ b. b ∷ lines rest) (ap (λ t. cond t (take (length x - 1) x) x) (ne_eqb _ 13 h.no_return))
 
--- the last line
+-- A text of one line has only this line.
 pub lines_last : (x : List ℕ) → IsOneLine x → lines (line x) ≡ x ∷ []
 lines_last x h = ap lines (sym (append-nil (line x))) ∙ lines_line x [] h
 
--- letters from the space on
+-- Characters from the space on.
 abbrev pub AllShown : List ℕ → Type 0
 AllShown xs = AllByRecursion (λ c. 32 ≤ c) xs
 
@@ -248,11 +249,11 @@ shown_one_line (x ∷ xs) h = record {
   no_return = λ e. absurd (omega (arith, e, shown_at (x ∷ xs) (length (x ∷ xs) - 1) h (omega arith)));
 }
 
--- letters that are written out
+-- Characters of a constant text.
 pub shown_codes : (xs : List ℕ) → all_pass (leb 32) xs ≡ true → AllShown xs
 shown_codes = each_passes _ _ (leb-true 32)
 
--- a line that begins with a label, and what stands after it
+-- A line with a label, and the text after it.
 pub labelled : (label x rest : List ℕ) → line (label ++ x) ++ rest ≡ label ++ (x ++ (10 ∷ rest))
 labelled label x rest = append_assoc (label ++ x) (10 ∷ []) rest ∙ append_assoc label x (10 ∷ rest)
 
@@ -262,7 +263,7 @@ last_append xs ys some =
     let at : length (xs ++ ys) - 1 ≡ length xs + (length ys - 1) = omega (arith, length-append xs ys) in
     ap (λ n. slice_index (xs ++ ys) n) at ∙ get_or-append-add xs _ _ _
 
--- no line feed stands in a line with a label before it
+-- A line with a label has no line feed.
 labelled_no_feed : (label x : List ℕ) → AllShown label → LacksByte 10 x → (k : ℕ) → k < length (label ++ x)
     → slice_index (label ++ x) k ≢ 10
 labelled_no_feed label x shown lacks k l e = ⊎_elim
@@ -270,7 +271,7 @@ labelled_no_feed label x shown lacks k l e = ⊎_elim
     (λ behind. lacks (k - length label) (omega (arith, l, length-append label x))
     (sym (get_or-append_right _ x k 0 behind) ∙ e)) (cases_lt k (length label))
 
--- a line is one with a label before it
+-- A line with a label before it is still a line.
 pub labelled_one_line : (label x : List ℕ) → AllShown label → 0 < length label → LacksByte 10 x
     → slice_index x (length x - 1) ≢ 13 → IsOneLine (label ++ x)
 labelled_one_line label x shown some lacks end = record {
@@ -285,7 +286,7 @@ labelled_one_line label x shown some lacks end = record {
         absurd (omega (arith, at, shown_at label (length label - 1) shown (omega arith)))
     last_of (y ∷ ys) lacks end e = end (sym (last_append label (y ∷ ys) (omega arith)) ∙ e)
 
--- a line that begins with a label: the carriage return at its end is that of what stands after the label
+-- A line with a label: a carriage return at its end is one of the text after the label.
 label_ends : (label : List ℕ) → AllShown label → 0 < length label
     → slice_index (label ++ []) (length (label ++ []) - 1) ≢ 13
 label_ends label shown some = (labelled_one_line _ [] shown some (λ k l. absurd (omega arith))
@@ -310,7 +311,7 @@ strip_labelled label (y ∷ ys) shown some =
         (length (y ∷ ys) - 1)
     step false = refl
 
--- such a line with no line feed in it, and the lines after it
+-- A line with a label and without a line feed, and the lines after it.
 pub lines_labelled : (label x rest : List ℕ) → AllShown label → 0 < length label → LacksByte 10 x
     → lines (line (label ++ x) ++ rest) ≡ (label ++ strip_carriage_return x) ∷ lines rest
 lines_labelled label x rest shown some lacks =
@@ -318,11 +319,11 @@ lines_labelled label x rest shown some lacks =
     (no_feeds _ (labelled_no_feed _ x shown lacks))
     ∙ ap (λ b. b ∷ lines rest) (strip_labelled _ x shown some)
 
--- nothing goes of a text that does not end in one
+-- A text that does not end in a carriage return loses nothing.
 pub strip_none : (x : List ℕ) → slice_index x (length x - 1) ≢ 13 → strip_carriage_return x ≡ x
 strip_none x other = ap (λ t. cond t (take (length x - 1) x) x) (ne_eqb _ 13 other)
 
--- a text that is trimmed does not end with a carriage return
+-- A trimmed text does not end in a carriage return.
 last_of_letter : (c : ℕ) → is_whitespace c ≡ false
     → slice_index (encode_utf8 c) (length (encode_utf8 c) - 1) ≢ 13
 last_of_letter c dark e =

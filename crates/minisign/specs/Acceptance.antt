@@ -11,15 +11,17 @@ use Rattle.minisign.specs.Records.{PublicKeyRecord, SignatureRecord, SignatureBo
 use Rattle.minisign.specs.Records.{prehashed_algorithm}
 use Rattle.minisign_base.specs.declared.faults.NamedFault.TheVariants as named
 
--- What a scheme accepts: true for a message, a public key and a signature that fit each other.
+-- A signature scheme's check: true if it accepts the signature of the message under the public key.
+-- The arguments are message, public key and signature.
 abbrev pub Verifier : Type 0
 Verifier = List ℕ → List ℕ → List ℕ → Bool
 
--- The options with these three flags.
+-- The options with the flags quiet, output and allow_legacy.
 abbrev pub options_of : Bool → Bool → Bool → VerifyOptions
 options_of quiet output legacy = record { quiet = quiet; output = output; allow_legacy = legacy }
 
--- What the signature signs: the Blake2b digest of the message, which has 64 bytes, or the message itself.
+-- The bytes that the signature signs: the 64-byte Blake2b digest of the message (prehashed), or the
+-- message itself (legacy).
 abbrev pub signed_bytes : SignatureBoxRecord → List ℕ → List ℕ
 signed_bytes x message = if is_prehashed x.signature then blake2b_digest 64 message else message
 
@@ -29,8 +31,8 @@ abbrev pub accepts_comments : Verifier → PublicKeyRecord → SignatureBoxRecor
 accepts_comments accepts pk x = option_map_or (λ c. nat_le 64 (length c.signature)
     && accepts (x.signature.signature ++ c.trusted) pk.key (take 64 c.signature)) x.comments true
 
--- The box is valid for the message under the public key. legacy says if a legacy signature, which signs the
--- message itself, is allowed.
+-- The signature box is valid for the message under the public key. legacy is true if a legacy
+-- signature is allowed, which signs the message itself.
 pub record Vouches (accepts : Verifier) (pk : PublicKeyRecord) (x : SignatureBoxRecord) (message : List ℕ)
     (legacy : Bool) : Type 0 where
   pub same_key : x.signature.keynum ≡ pk.keynum
@@ -38,36 +40,38 @@ pub record Vouches (accepts : Verifier) (pk : PublicKeyRecord) (x : SignatureBox
   pub signed : IsTrue (accepts (signed_bytes x message) pk.key x.signature.signature)
   pub comment_signed : IsTrue (accepts_comments accepts pk x)
 
--- The checks that need only a key ID and a signature, in this order: the signature has this key ID, and it
--- is prehashed or legacy signatures are allowed.
+-- The checks that need no signature scheme, in this order: the signature has this key ID, and it is
+-- prehashed or legacy signatures are allowed.
 abbrev pub judge_key : List ℕ → SignatureRecord → Bool → Result ⊤ Fault
 judge_key key_id s legacy =
     require (bytes_eq s.keynum key_id) (named.DifferentKeyIds s.keynum key_id)
     (require (is_prehashed s || legacy) named.LegacyNotAccepted
     (Ok tt))
 
--- The checks of the scheme's two answers, in this order: the signature, and the comment signature.
+-- The checks of the scheme's two results, in this order: for the signature, and for the comment
+-- signature.
 abbrev pub judge_answers : Bool → Bool → Result ⊤ Fault
 judge_answers signature comments =
     require signature named.SignatureRefused
     (require comments named.CommentSignatureRefused
     (Ok tt))
 
--- Succeeds if the box is valid for the message under the key. Otherwise gives the first check that fails.
+-- All checks of a signature box, in order: success if the box is valid for the message under the
+-- public key, and otherwise the first check that fails.
 abbrev pub judge : Verifier → PublicKeyRecord → SignatureBoxRecord → List ℕ → Bool → Result ⊤ Fault
 judge accepts pk x message legacy =
     and_then (judge_key pk.keynum x.signature legacy) (λ _.
     judge_answers (accepts (signed_bytes x message) pk.key x.signature.signature)
     (accepts_comments accepts pk x))
 
--- The box is valid for the message under every public key that has these 32 bytes and this key ID.
+-- The box is valid for the message under every public key with these 32 key bytes and this key ID.
 abbrev pub VouchesUnderEachKey : Verifier → List ℕ → List ℕ → List ℕ → SignatureBoxRecord → Type 0
 VouchesUnderEachKey accepts key keynum message x =
     (pk : PublicKeyRecord) (legacy : Bool) → pk.key ≡ key → pk.keynum ≡ keynum
     → judge accepts pk x message legacy ≡ Ok tt
 
--- All parts of a key and a box except the key's algorithm, the untrusted comment, and the comment signature
--- after its first 64 bytes.
+-- The parts of a public key and a box that a verdict depends on. The key's algorithm, the untrusted
+-- comment, and the bytes of the comment signature after the 64th are not among them.
 abbrev pub judged_parts : PublicKeyRecord → SignatureBoxRecord
     → List ℕ × List ℕ × SignatureRecord × Option (List ℕ × List ℕ)
 judged_parts pk x =
@@ -79,7 +83,7 @@ verified_text = codes "Signature and comment signature verified"
 unfoldable pub trusted_comment_text : List ℕ
 trusted_comment_text = codes "Trusted comment: "
 
--- The status lines for a box that was accepted.
+-- The status lines for a valid box.
 abbrev pub status_lines : SignatureBoxRecord → List ℕ
 status_lines x = line verified_text
     ++ option_map_or (λ c. line (trusted_comment_text ++ c.trusted)) x.comments []

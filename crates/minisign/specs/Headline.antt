@@ -1,5 +1,6 @@
--- What a caller of the verifying calls may rely on. docs/TRUSTED.md explains the notation, such as x.now,
--- and that a key or a box of the code stands here for its record or its text.
+-- The headlines of verification: what a caller of the verifying calls may rely on. docs/TRUSTED.md
+-- explains the notation, such as x.now, and that a key or a box of the code stands for its record
+-- or its text here.
 use Rattle.std.specs.Prelude.{◌≡◌, ℕ, Bool, true, List, Some, Ok, IfSome, Result, false}
 use Rattle.minisign_base.specs.Fault.{Fault}
 use Rattle.minisign_base.specs.DeviceCalls.{IsFlushed, IsSteady, RereaderCall, SinkFails, SinkCall}
@@ -12,9 +13,10 @@ use Rattle.minisign.specs.Texts.{IsGivenOrNoMemory, and_then}
 use Rattle.minisign.specs.declared.options.VerifyOptions.{VerifyOptions}
 use Rattle.minisign.specs.Verifying.{ReadsTwice}
 
--- The verdict on two texts and a message: the trusted comment, which was signed with the message, or the
--- first check that fails, first of the public key text, then of the signature text, then of the signature
--- itself. legacy says if a legacy signature, which signs the message itself, is allowed.
+-- The verdict on two texts and a message: the trusted comment if the signature is valid, and
+-- otherwise the first check that fails. The public key text is parsed first, then the signature
+-- text, and then the signature is checked. legacy is true if a legacy signature is allowed, which
+-- signs the message itself.
 unfoldable pub verdict : Verifier → List ℕ → List ℕ → List ℕ → Bool → Result (List ℕ) Fault
 verdict accepts pk_text sig_text message legacy =
     and_then (read_public_key pk_text) (λ key.
@@ -22,8 +24,8 @@ verdict accepts pk_text sig_text message legacy =
     and_then (judge accepts key (box_of signed) message legacy) (λ _.
     Ok signed.comments.trusted)))
 
--- The texts are valid for the message: one parses to a public key, the other to a signature box that is
--- valid for the message under this key.
+-- The texts are valid for the message: pk_text parses to a public key, and sig_text to a signature
+-- box that is valid for the message under this key.
 pub record TextsVouchFor (accepts : Verifier) (pk_text sig_text message : List ℕ) (legacy : Bool)
     : Type 0 where
   pub key : PublicKeyRecord
@@ -32,7 +34,7 @@ pub record TextsVouchFor (accepts : Verifier) (pk_text sig_text message : List �
   pub box_read : read_signature_box sig_text ≡ Ok box
   pub vouches : Vouches accepts key box message legacy
 
--- The texts are valid for the message, and this is the comment that was signed with it.
+-- The texts are valid for the message, and comment is the trusted comment, which is signed with it.
 pub record TextsVouchWith (accepts : Verifier) (pk_text sig_text message : List ℕ) (legacy : Bool)
     (comment : List ℕ) : Type 0 where
   pub vouched : TextsVouchFor accepts pk_text sig_text message legacy
@@ -40,8 +42,8 @@ pub record TextsVouchWith (accepts : Verifier) (pk_text sig_text message : List 
   pub both : vouched.box.comments ≡ Some comments
   pub trusted : comments.trusted ≡ comment
 
--- If the data is known, no device fails and, when the data is copied, the source is steady, then the answer
--- is out of memory or what a function gives for the data.
+-- If the data is known, no device fails and, if the data is copied, the source is steady, then the
+-- result is out of memory or what the function of_data gives for the data.
 abbrev pub WhereNothingFails : {R W O V : Type 0} → Bool → RereaderCall R → SinkCall W → SinkCall O
     → Result V Fault → (List ℕ → Result V Fault) → Type 0
 WhereNothingFails output reader status out answer of_data =
@@ -49,14 +51,15 @@ WhereNothingFails output reader status out answer of_data =
     → ¬ (SourceFails reader) → ¬ (SinkFails status) → ¬ (SinkFails out)
     → (output ≡ true → IsSteady reader) → IsGivenOrNoMemory answer (of_data message)
 
--- This holds for the verdict on two texts, with options.
+-- WhereNothingFails for the verdict on two texts, with these options.
 abbrev pub IsVerdictWhereNothingFails : {R W O : Type 0} → Verifier → List ℕ → List ℕ → VerifyOptions
     → RereaderCall R → SinkCall W → SinkCall O → Result (List ℕ) Fault → Type 0
 IsVerdictWhereNothingFails accepts pk_text sig_text options reader status out answer =
     WhereNothingFails options.output reader status out answer
     (λ message. verdict accepts pk_text sig_text message options.allow_legacy)
 
--- The texts are valid for the bytes that the output took and flushed, as far as these are known.
+-- The texts are valid for the bytes that the output received and flushed, as far as these are
+-- known.
 pub record CopyIsVouchedFor {O : Type 0} (accepts : Verifier) (pk_text sig_text : List ℕ) (legacy : Bool)
     (out : SinkCall O) : Type 0 where
   pub copy : List ℕ
@@ -64,9 +67,9 @@ pub record CopyIsVouchedFor {O : Type 0} (accepts : Verifier) (pk_text sig_text 
   pub flushed : IsFlushed out
   pub vouched : TextsVouchFor accepts pk_text sig_text copy legacy
 
--- The texts are valid, with this comment, for the bytes that the output took and flushed. A second reading
--- gave these bytes, and they have the digest of the first reading. If the source is steady and its bytes
--- are known, they are the bytes that were ahead.
+-- The texts are valid, with this trusted comment, for the bytes that the output received and
+-- flushed. These bytes come from a second reading, and have the digest of the first. If the source
+-- is steady and its bytes are known, they are the bytes that were unread before the call.
 pub record CopyIsVouchedWith {R O : Type 0} (accepts : Verifier) (pk_text sig_text : List ℕ)
     (reader : RereaderCall R)
     (out : SinkCall O) (comment : List ℕ) : Type 0 where

@@ -1,5 +1,5 @@
--- Texts of public and secret keys: what a text parses to, the key or the first check that fails; the same
--- as a relation; and the text that is written for a key.
+-- The key files: the functions that parse a text to a key or give the first check that fails, the
+-- same grammars as relations, and the text that is written for a key.
 use Rattle.std.specs.Prelude.{◌≡◌, ◌==◌, ℕ, List, [], ◌∷◌, ◌++◌, length, take, drop, nat_le, Result, Ok, Err}
 use Rattle.std.specs.Prelude.{codes, Option, unwrap_or}
 use Rattle.std.specs.Str.{trim}
@@ -15,7 +15,7 @@ use Rattle.minisign_base.specs.declared.faults.NamedFault.TheVariants as named
 
 -- == Public keys ==
 
--- The key in the first 42 bytes of what a text decodes to.
+-- The public key in the first 42 decoded bytes: algorithm (2), key ID (8), key bytes (32).
 abbrev pub decoded_key : NamedFault → List ℕ → Result PublicKeyRecord Fault
 decoded_key not_base64 text =
     let bytes = base64_bytes text in
@@ -36,17 +36,19 @@ key_in_lines (comment ∷ encoded ∷ later) =
     require (length encoded == 56) named.PublicKeyLineLength
     (decoded_key named.PublicKeyLineNotBase64 (trim encoded))
 
--- What a public key text parses to.
+-- The public key in a text, or the first check that fails.
 unfoldable pub read_public_key : List ℕ → Result PublicKeyRecord Fault
 read_public_key text = key_in_lines (lines text)
 
--- What the bare base64 of a key parses to: trimmed it has 56 bytes, and untrimmed it is base64.
+-- The public key in bare base64, or the first check that fails. The text without white space at its
+-- ends has 56 bytes, but the whole text must be base64.
 unfoldable pub read_bare_public_key : List ℕ → Result PublicKeyRecord Fault
 read_bare_public_key text =
     require (length (trim text) == 56) named.BarePublicKeyLength
     (decoded_key named.BarePublicKeyNotBase64 text)
 
--- The text parses to the public key, which its second line of 56 bytes, trimmed, encodes.
+-- The grammar of public key files as a relation: the second line has 56 bytes and, trimmed, is the
+-- base64 of the key.
 pub record PublicKeyText (text : List ℕ) (k : PublicKeyRecord) : Type 0 where
   pub comment : List ℕ
   pub encoded : List ℕ
@@ -55,7 +57,8 @@ pub record PublicKeyText (text : List ℕ) (k : PublicKeyRecord) : Type 0 where
   pub encoded_length : length encoded ≡ 56
   pub key : Encodes ReadsPublicKey (trim encoded) k
 
--- The bare base64 parses to the public key: it encodes the key, and trimmed it has 56 bytes.
+-- The grammar of bare public keys as a relation: the text is the base64 of the key, and trimmed it
+-- has 56 bytes.
 pub record BarePublicKey (text : List ℕ) (k : PublicKeyRecord) : Type 0 where
   pub trimmed_length : length (trim text) ≡ 56
   pub key : Encodes ReadsPublicKey text k
@@ -63,18 +66,19 @@ pub record BarePublicKey (text : List ℕ) (k : PublicKeyRecord) : Type 0 where
 unfoldable pub public_key_label : List ℕ
 public_key_label = codes "minisign public key: "
 
--- The text of a key with a given comment: a line with the comment, and a line with the record in base64.
+-- The text of a public key with this comment: the comment line, and the base64 of the 42 bytes.
 abbrev pub commented_public_key_text : List ℕ → PublicKeyRecord → List ℕ
 commented_public_key_text comment k = line (untrusted_comment_label ++ comment)
     ++ line (base64_of (public_key_bytes k))
 
--- The text that is written for a key, with a comment that names its key ID.
+-- The text of a public key with the comment that names its key ID.
 abbrev pub public_key_text : PublicKeyRecord → List ℕ
 public_key_text k = commented_public_key_text (public_key_label ++ key_id_text k.keynum) k
 
 -- == Secret keys ==
 
--- The key whose fields are these bytes, one after the other.
+-- The secret key in the first 158 bytes: algorithm (2), key derivation (2), checksum algorithm (2),
+-- salt (32), operations limit (8), memory limit (8), key ID (8), secret bytes (64), checksum (32).
 unfoldable pub secret_key_of_bytes : List ℕ → SecretKeyRecord
 secret_key_of_bytes bytes = record {
   algorithm = take 2 bytes;
@@ -88,24 +92,24 @@ secret_key_of_bytes bytes = record {
   checksum = take 32 (drop 126 bytes);
 }
 
--- The key in the first 158 bytes.
+-- The secret key at the beginning of the bytes, or an error if there are fewer than 158.
 abbrev pub read_secret_key_bytes : List ℕ → Result SecretKeyRecord Fault
 read_secret_key_bytes bytes = require (nat_le 158 (length bytes)) named.RecordTooShort
     (Ok (secret_key_of_bytes bytes))
 
--- The first line may be anything. The second line, untrimmed, is the base64 of the key. Later lines are
--- ignored.
+-- The first line may be anything. The second line, not trimmed, is the base64 of the key. Later
+-- lines are ignored.
 abbrev pub secret_key_in_lines : List (List ℕ) → Result SecretKeyRecord Fault
 secret_key_in_lines [] = Err (Named named.MissingSecretKeyComment)
 secret_key_in_lines (comment ∷ []) = Err (Named named.MissingEncodedSecretKey)
 secret_key_in_lines (comment ∷ encoded ∷ later) =
     require (is_base64 encoded) named.SecretKeyNotBase64 (read_secret_key_bytes (base64_bytes encoded))
 
--- What a secret key text parses to.
+-- The secret key in a text, encrypted or not, or the first check that fails.
 unfoldable pub read_secret_key : List ℕ → Result SecretKeyRecord Fault
 read_secret_key text = secret_key_in_lines (lines text)
 
--- The text parses to the key, which its second line encodes.
+-- The grammar of secret key files as a relation: the second line is the base64 of the key.
 pub record SecretKeyText (text : List ℕ) (k : SecretKeyRecord) : Type 0 where
   pub comment : List ℕ
   pub encoded : List ℕ
@@ -116,7 +120,7 @@ pub record SecretKeyText (text : List ℕ) (k : SecretKeyRecord) : Type 0 where
 unfoldable pub default_secret_key_comment : List ℕ
 default_secret_key_comment = codes "rsign encrypted secret key"
 
--- The text that is written for a key, with the given comment or the default one.
+-- The text of a secret key with the given comment or the default one.
 unfoldable pub secret_key_text : Option (List ℕ) → SecretKeyRecord → List ℕ
 secret_key_text comment k = line (untrusted_comment_label ++ unwrap_or comment default_secret_key_comment)
     ++ line (base64_of (secret_key_bytes k))

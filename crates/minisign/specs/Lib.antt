@@ -1,3 +1,4 @@
+-- The definitions that the contracts of minisign use.
 pub mod Records
 pub mod Texts
 pub mod Reading

@@ -1,4 +1,4 @@
--- What reading data to its end and copying it lead to, and why no text is read from a source or a file.
+-- Reading data to its end, copying data, and the errors of reading a text from a source or a file.
 use Rattle.std.specs.Prelude.{◌≡◌, ◌⊎◌, ⊤, ℕ, List, Option, IfSome, Result, IfErr, OnOk, OnErr, IsErrAnd}
 use Rattle.std.specs.Prelude.{IsUtf8}
 use Rattle.std.specs.Io.KnownBytes.{IsAtEnd}
@@ -10,32 +10,35 @@ use Rattle.minisign_base.specs.declared.faults.NamedFault.{NamedFault}
 use Rattle.minisign_base.specs.declared.faults.NamedFault.TheVariants.{OutOfMemory, ReadingFailed, NotUtf8}
 use Rattle.minisign_base.specs.Members.{SourceOf}
 
--- These were the bytes ahead, or the bytes returned, as far as they are known.
+-- The known bytes, if any, are these bytes. Used for the unread bytes of a source, and for the
+-- bytes that it returned.
 abbrev pub IsAhead : Option (List ℕ) → List ℕ → Type 0
 IsAhead ahead bytes = IfSome ahead (λ xs. xs ≡ bytes)
 
--- The source was read to its end without an error and gave this message. Its mark is unchanged.
+-- The source was read to its end without an error, and the bytes read are the message. The mark is
+-- unchanged.
 pub record ReadsWhole {R : Type 0} (source : SourceOf R) (old new : R) (message : List ℕ) : Type 0 where
   pub given : IsAhead (source.ahead old) message
   pub end : IsAtEnd (source.ahead new)
   pub mark : source.behind new ≡ source.behind old
   pub no_new_fault : source.faults new ≡ source.faults old
 
--- A device failed, which has this error: its error count rose.
+-- A device failed: its error count rose, and e is the error that says so.
 pub record HasFailed {D : Type 0} (error : NamedFault) (faults : D → ℕ) (old new : D) (e : Fault)
     : Type 0 where
   pub fault : e ≡ Named error
   pub rose : Rose (faults old) (faults new)
 
--- An allocation failed, and the source did not; or the source failed.
+-- The data was not read to its end: either an allocation failed, and the source did not; or the
+-- source failed.
 abbrev pub IsReadFault : {R : Type 0} → SourceOf R → R → R → Fault → Type 0
 IsReadFault source old new e =
     ((e ≡ Named OutOfMemory) × (source.faults new ≡ source.faults old))
     ⊎ HasFailed ReadingFailed source.faults old new e
 
--- All that is ahead is read and written to the output, which flushes nothing; or an allocation fails before
--- anything is read; or a device fails, and the output holds a prefix of what was ahead and of what was
--- read.
+-- All unread data is read and written to the output, without a flush. On an error, either an
+-- allocation failed before anything was read, or a device failed. The output then holds a prefix of
+-- the data, and of what was read.
 pub record Copies {R O : Type 0} (reader : RereaderCall R) (out : SinkCall O) (second : List ℕ)
     (answer : Result ⊤ Fault) : Type 0 where
   pub read : OnOk answer (ReadsWhole reader.source reader.old reader.new second)
@@ -54,16 +57,16 @@ pub record Copies {R O : Type 0} (reader : RereaderCall R) (out : SinkCall O) (s
   pub marked : reader.source.is_marked reader.new ≡ reader.source.is_marked reader.old
   pub unflushed : IsUnflushed out
 
--- Why a source gave no text: it was not read to its end, or what it gave is not UTF-8.
+-- The errors if the data of a source is no text: it could not be read to its end, or it is not UTF-8.
 abbrev pub IsTextFault : {R : Type 0} → SourceOf R → R → R → Fault → Type 0
 IsTextFault source old new e = IsReadFault source old new e
     ⊎ ((bytes : List ℕ) × ReadsWhole source old new bytes × ¬ (IsUtf8 bytes) × (e ≡ Named NotUtf8))
 
--- The errors of a file that gives no text. Nothing says when each one occurs.
+-- The errors of reading a text file. No contract says when each one occurs.
 abbrev pub IsTextFileFault : Fault → Type 0
 IsTextFileFault e = (e ≡ Named OutOfMemory) ⊎ (e ≡ Named ReadingFailed) ⊎ (e ≡ Named NotUtf8)
 
--- The result of reading a file: what some text parses to, or an error of the file. Nothing says that it is
--- the text of this file.
+-- The result of reading and parsing a file: what some text parses to, or an error of the file.
+-- Nothing says that this text is the contents of the file.
 abbrev pub IsReadFromFile : {V : Type 0} → (List ℕ → Result V Fault) → Result V Fault → Type 0
 IsReadFromFile read r = ((text : List ℕ) × (r ≡ read text)) ⊎ IsErrAnd r IsTextFileFault

@@ -1,9 +1,10 @@
--- The records that keys and signatures are stored as: fields of fixed lengths, one after the other.
+-- The records in which keys and signatures are stored: fields of fixed lengths, one after the
+-- other.
 use Rattle.std.specs.Prelude.{◌≡◌, ℕ, Bool, List, ◌++◌, length, drop, Option, ◌⊎◌, codes, bytes_eq, false}
 use Rattle.std.specs.Prelude.{flat_map}
 use Rattle.std.specs.Fmt.{digits}
 
--- A public key: 2 bytes of algorithm, 8 of key ID, 32 of key.
+-- A public key: the algorithm (2 bytes), the key ID (8) and the key bytes (32).
 pub record PublicKeyRecord : Type 0 where
   pub algorithm : List ℕ
   pub keynum : List ℕ
@@ -13,14 +14,14 @@ pub record PublicKeyRecord : Type 0 where
 abbrev pub public_key_bytes : PublicKeyRecord → List ℕ
 public_key_bytes k = k.algorithm ++ k.keynum ++ k.key
 
--- The bytes begin with the record of the key. The bytes after it are ignored.
+-- The bytes begin with the record of this public key. Later bytes are ignored.
 pub record ReadsPublicKey (bytes : List ℕ) (k : PublicKeyRecord) : Type 0 where
   pub algorithm_length : length k.algorithm ≡ 2
   pub keynum_length : length k.keynum ≡ 8
   pub key_length : length k.key ≡ 32
   pub front : (rest : List ℕ) × (bytes ≡ public_key_bytes k ++ rest)
 
--- A signature: 2 bytes of algorithm, 8 of key ID, 64 of signature.
+-- A signature: the algorithm (2 bytes), the key ID (8) and the Ed25519 signature (64).
 pub record SignatureRecord : Type 0 where
   pub algorithm : List ℕ
   pub keynum : List ℕ
@@ -30,7 +31,7 @@ pub record SignatureRecord : Type 0 where
 abbrev pub signature_bytes : SignatureRecord → List ℕ
 signature_bytes s = s.algorithm ++ s.keynum ++ s.signature
 
--- The bytes begin with the record of the signature.
+-- The bytes begin with the record of this signature. Later bytes are ignored.
 pub record ReadsSignature (bytes : List ℕ) (s : SignatureRecord) : Type 0 where
   pub algorithm_length : length s.algorithm ≡ 2
   pub keynum_length : length s.keynum ≡ 8
@@ -45,7 +46,7 @@ legacy_algorithm = codes "Ed"
 abbrev pub prehashed_algorithm : List ℕ
 prehashed_algorithm = codes "ED"
 
--- A prehashed signature.
+-- The record of a prehashed signature.
 abbrev pub prehashed_signature : List ℕ → List ℕ → SignatureRecord
 prehashed_signature keynum signature =
     record { algorithm = prehashed_algorithm; keynum = keynum; signature = signature }
@@ -57,8 +58,9 @@ IsKnownAlgorithm a = (a ≡ legacy_algorithm) ⊎ (a ≡ prehashed_algorithm)
 abbrev pub is_prehashed : SignatureRecord → Bool
 is_prehashed s = bytes_eq s.algorithm prehashed_algorithm
 
--- An untrusted comment, which is not signed; a trusted comment, which is; and the comment signature, which
--- signs the box's signature followed by the trusted comment, of any length.
+-- The comments of a signature box: the untrusted comment, which is not signed; the trusted comment;
+-- and the comment signature, which signs the signature of the data followed by the trusted comment,
+-- and may have any length.
 pub record CommentsRecord : Type 0 where
   pub untrusted : List ℕ
   pub trusted : List ℕ
@@ -69,8 +71,9 @@ pub record SignatureBoxRecord : Type 0 where
   pub signature : SignatureRecord
   pub comments : Option CommentsRecord
 
--- A secret key: 2 bytes of algorithm, 2 of key derivation, 2 of checksum algorithm, 32 of salt, 8 of
--- operations limit, 8 of memory limit (both little endian), 8 of key ID, 64 of secret, 32 of checksum.
+-- A secret key: the algorithm (2 bytes), the key derivation (2), the checksum algorithm (2), the
+-- salt (32), the operations limit and the memory limit (8 each, little endian), the key ID (8), the
+-- secret bytes (64) and the checksum (32).
 pub record SecretKeyRecord : Type 0 where
   pub algorithm : List ℕ
   pub kdf : List ℕ
@@ -82,13 +85,14 @@ pub record SecretKeyRecord : Type 0 where
   pub secret : List ℕ
   pub checksum : List ℕ
 
--- The 158 bytes of a secret key. The last three fields, 104 bytes, are those that are encrypted.
+-- The 158 bytes of a secret key. In an encrypted key, the last three fields, 104 bytes, are
+-- encrypted.
 abbrev pub secret_key_bytes : SecretKeyRecord → List ℕ
 secret_key_bytes k = (k.algorithm ++ k.kdf ++ k.checksum_algorithm)
     ++ (k.salt ++ k.operations_limit ++ k.memory_limit)
     ++ (k.keynum ++ k.secret ++ k.checksum)
 
--- The bytes begin with the record of the key.
+-- The bytes begin with the record of this secret key. Later bytes are ignored.
 pub record ReadsSecretKey (bytes : List ℕ) (k : SecretKeyRecord) : Type 0 where
   pub algorithm_length : length k.algorithm ≡ 2
   pub kdf_length : length k.kdf ≡ 2
@@ -101,10 +105,10 @@ pub record ReadsSecretKey (bytes : List ℕ) (k : SecretKeyRecord) : Type 0 wher
   pub checksum_length : length k.checksum ≡ 32
   pub front : (rest : List ℕ) × (bytes ≡ secret_key_bytes k ++ rest)
 
--- The public key of a secret key: its algorithm, its key ID and the last 32 bytes of its secret.
+-- The public key of a secret key: its algorithm, its key ID and the last 32 of its secret bytes.
 abbrev pub own_public_key : SecretKeyRecord → PublicKeyRecord
 own_public_key k = record { algorithm = k.algorithm; keynum = k.keynum; key = drop 32 k.secret }
 
--- How secret bytes are shown: each in lowercase hexadecimal without leading zeros.
+-- The debug output of secret bytes: each byte in lowercase hexadecimal without leading zeros.
 abbrev pub secret_text : List ℕ → List ℕ
 secret_text bytes = flat_map (digits 16 false) bytes

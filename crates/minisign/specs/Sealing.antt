@@ -1,6 +1,6 @@
--- The checksum of a secret key, whether a key is still encrypted, and encryption and decryption: the last
--- 104 bytes of the record are xored with a stream of scrypt (RFC 7914, section 6). Also how decrypting the
--- key of a text ends.
+-- Encryption of secret keys: the checksum, the test whether a key is still encrypted, and the xor
+-- of the last 104 bytes of the record with a stream of scrypt (RFC 7914, section 6). Also the
+-- results of decrypting the key in a text.
 use Rattle.std.specs.Prelude.{ℕ, ◌*◌, ◌^◌, Bool, true, not, ◌&&◌, nat_lt, List, [], ◌∷◌, ◌++◌, take, drop}
 use Rattle.std.specs.Prelude.{Option, None, Result, Ok, bit_xor, bytes_eq, codes, if◌then◌else◌, ◌≡◌, ◌⊎◌}
 use Rattle.std.specs.Prelude.{Some, Err, false, IsOk}
@@ -22,14 +22,14 @@ use Rattle.minisign_base.specs.Prompts.{Allocate, ConversationEnds, Say, Step, T
 use Rattle.minisign_base.specs.Passwords.{password_of, typed_password}
 use Rattle.minisign.specs.KeyTexts.{read_secret_key, SecretKeyText}
 
--- The key derivation of a key that was never encrypted, and that of an encrypted key: scrypt.
+-- The key derivations: none, for a key that was never encrypted, and scrypt.
 abbrev pub no_kdf : List ℕ
 no_kdf = 0 ∷ 0 ∷ []
 
 abbrev pub scrypt_kdf : List ℕ
 scrypt_kdf = codes "Sc"
 
--- The checksum of the other fields: Blake2b with 32 bytes.
+-- The checksum: the 32-byte Blake2b digest of the algorithm, the key ID and the secret bytes.
 abbrev pub checksum_of : SecretKeyRecord → List ℕ
 checksum_of k = blake2b_digest 32 (k.algorithm ++ k.keynum ++ k.secret)
 
@@ -37,7 +37,7 @@ checksum_of k = blake2b_digest 32 (k.algorithm ++ k.keynum ++ k.secret)
 abbrev pub wants_password : SecretKeyRecord → Bool
 wants_password k = not (bytes_eq k.kdf no_kdf)
 
--- The key names a key derivation and its checksum does not match, so it counts as encrypted.
+-- The key is encrypted: it names a key derivation, and its checksum does not match.
 abbrev pub is_encrypted : SecretKeyRecord → Bool
 is_encrypted k = wants_password k && not (bytes_eq k.checksum (checksum_of k))
 
@@ -48,21 +48,24 @@ key_xor k stream =
     let part = zip2 bit_xor (k.keynum ++ k.secret ++ k.checksum) stream in
     record k { keynum = take 8 part; secret = take 64 (drop 8 part); checksum = take 32 (drop 72 part) }
 
--- The scrypt parameters that the key's limits give, if encryption and decryption allow them.
+-- The scrypt parameters for the key's limits, or the error if the limits are too high or scrypt
+-- rejects the parameters.
 unfoldable pub key_limits : SecretKeyRecord → Result Numbers Fault
 key_limits k = sealing_limits (from_le_bytes w64 k.memory_limit) (from_le_bytes w64 k.operations_limit)
 
--- The stream: 104 bytes that scrypt derives from the password and the key's salt.
+-- The stream for a password: 104 bytes of scrypt output for the password, the key's salt and its
+-- limits.
 unfoldable pub stream_of : SecretKeyRecord → List ℕ → List ℕ
 stream_of k password =
     let v = numbers (from_le_bytes w64 k.memory_limit) (from_le_bytes w64 k.operations_limit) in
     scrypt password k.salt (2 ^ v.n_log2) v.r v.p 104
 
--- The key xored with the stream. This decrypts an encrypted key and encrypts a decrypted one.
+-- The key xored with the stream for a password. This decrypts an encrypted key and encrypts a
+-- decrypted one.
 abbrev pub xored_key : SecretKeyRecord → List ℕ → SecretKeyRecord
 xored_key k password = key_xor k (stream_of k password)
 
--- A parallelization is within the bound, if there is one.
+-- The parallelization is at most the bound, if there is one.
 abbrev pub is_within : Option ℕ → ℕ → Bool
 is_within bound p = option_map_or (λ max_p. not (nat_lt max_p p)) bound true
 
@@ -70,12 +73,13 @@ is_within bound p = option_map_or (λ max_p. not (nat_lt max_p p)) bound true
 abbrev pub allowed_work : SecretKeyRecord → Option ℕ → Result Numbers Fault
 allowed_work k bound = and_then (key_limits k) (λ v. require (is_within bound v.p) named.WorkTooHigh (Ok v))
 
--- The scrypt parameters, if the limits are allowed and at most so many rows are computed, N for each part.
+-- The scrypt parameters, if the limits are allowed and at most this many rows are computed, N for
+-- each of the p parts.
 abbrev pub allowed_rows : SecretKeyRecord → ℕ → Result Numbers Fault
 allowed_rows k most =
     and_then (key_limits k) (λ v. require (not (nat_lt most (2 ^ v.n_log2 * v.p))) named.WorkTooHigh (Ok v))
 
--- A decrypted key, if its checksum matches.
+-- The key, if its checksum matches after decryption.
 abbrev pub restored_key : SecretKeyRecord → Result SecretKeyRecord Fault
 restored_key k = require (bytes_eq k.checksum (checksum_of k)) named.WrongPassword (Ok k)
 
@@ -85,7 +89,8 @@ sealed_by_scrypt k =
     require (wants_password k) named.KeyNotEncrypted
     (require (bytes_eq k.kdf scrypt_kdf) named.UnsupportedEncryptionAlgorithm (Ok k))
 
--- A key that is encrypted with scrypt, decrypted under a password, within the bound.
+-- Decryption: the key, which is encrypted with scrypt, decrypted under the password, if its work is
+-- within the bound.
 abbrev pub open_sealed : SecretKeyRecord → List ℕ → Option ℕ → Result SecretKeyRecord Fault
 open_sealed k password bound = and_then (allowed_work k bound) (λ _. restored_key (xored_key k password))
 
@@ -95,23 +100,25 @@ unencrypted_key k =
     require (bytes_eq k.kdf no_kdf) named.KeyMightBeEncrypted
     (require (bytes_eq k.checksum (checksum_of k)) named.CorruptedKey (Ok k))
 
--- What decrypting the key takes, by its parameters: zeros if the key needs no password or its limits are
--- rejected.
+-- A property of the scrypt parameters with which the key is decrypted, such as the work; zeros if
+-- the key needs no password or its limits are rejected.
 abbrev pub taken_by_opening : (Numbers → ℕ × ℕ) → SecretKeyRecord → ℕ × ℕ
 taken_by_opening of k =
     option_map_or of (if wants_password k then result_ok (key_limits k) else None) (0, 0)
 
--- The work of decrypting the key: scrypt's N, as its logarithm to base 2, and its p.
+-- The work of decrypting the key: the base-2 logarithm of scrypt's N, and p.
 abbrev pub opening_work : SecretKeyRecord → ℕ × ℕ
 opening_work k = taken_by_opening (λ v. (v.n_log2, v.p)) k
 
--- The memory for decrypting the key in place with every k-th row kept: words of 32 bits, and bytes.
+-- The memory for decrypting the key in place with every k-th row kept: the number of 32-bit words,
+-- and the number of bytes.
 abbrev pub opening_memory : SecretKeyRecord → ℕ → ℕ × ℕ
 opening_memory key k = taken_by_opening (λ v. (wanted_words v k, wanted_bytes v)) key
 
--- == Opening the text of a key ==
+-- == Decrypting the key in a text ==
 
--- The prompt, the text before the derivation, and the line after it.
+-- The texts of the prompt: the prompt itself, the text before the derivation, and the line after
+-- it.
 unfoldable pub asking_text : List ℕ
 asking_text = codes "Password: "
 
@@ -121,36 +128,38 @@ deriving_text = codes "Deriving a key from the password and decrypting the secre
 unfoldable pub done_text : List ℕ
 done_text = codes "done" ++ 10 ∷ []
 
--- The key that a text parses to, if it is encrypted with scrypt.
+-- The key in a text, if it is encrypted with scrypt.
 abbrev pub read_sealed_key : List ℕ → Result SecretKeyRecord Fault
 read_sealed_key text = and_then (read_secret_key text) sealed_by_scrypt
 
--- What a text decrypts to under a password, within a bound on the parallelization, if there is one.
+-- The key in a text, decrypted under the password, or the first check that fails. The bound on the
+-- parallelization may be absent.
 unfoldable pub open_key : List ℕ → List ℕ → Option ℕ → Result SecretKeyRecord Fault
 open_key text password bound = and_then (read_sealed_key text) (λ k. open_sealed k password bound)
 
--- The key that a text parses to, if it was never encrypted.
+-- The key in a text, if it was never encrypted and its checksum matches.
 unfoldable pub read_unencrypted_key : List ℕ → Result SecretKeyRecord Fault
 read_unencrypted_key text = and_then (read_secret_key text) unencrypted_key
 
--- The text parses to a key that needs a password.
+-- The text parses to a key that names a key derivation, so it needs a password.
 unfoldable pub is_sealed_text : List ℕ → Bool
 is_sealed_text text = option_map_or wants_password (result_ok (read_secret_key text)) false
 
--- What a text gives under a password: a key that was never encrypted, unchanged, or any other key,
+-- The key that a text gives under a password: unchanged if it was never encrypted, and otherwise
 -- decrypted.
 abbrev pub key_with_password : List ℕ → List ℕ → Result SecretKeyRecord Fault
 key_with_password text password = if is_sealed_text text then open_key text password None else
     read_unencrypted_key text
 
--- The text decrypts under the password to this key, within each bound that its parallelization is within,
--- and never to a different key.
+-- The text decrypts under the password to this key, and never to a different one, within each bound
+-- that the parallelization p is within.
 abbrev pub OpensTo : List ℕ → List ℕ → ℕ → SecretKeyRecord → Type 0
 OpensTo text password p key =
     (bound : Option ℕ) → open_key text password bound ≡ require (is_within bound p) named.WorkTooHigh (Ok key)
 
--- The text parses to an encrypted key whose limits are allowed and within the bound, the stream under the
--- password restores its checksum, and this is the decrypted key.
+-- Decryption as a relation: the text parses to a key that is encrypted with scrypt, its limits are
+-- allowed and within the bound, and xoring it with the stream for the password gives this key,
+-- whose checksum matches.
 pub record IsOpened (text password : List ℕ) (bound : Option ℕ) (opened : SecretKeyRecord) : Type 0 where
   pub sealed : SecretKeyRecord
   pub read : SecretKeyText text sealed
@@ -165,28 +174,29 @@ pub record IsUnencryptedText (text : List ℕ) (k : SecretKeyRecord) : Type 0 wh
   pub kdf : k.kdf ≡ no_kdf
   pub checksum : k.checksum ≡ checksum_of k
 
--- The prompt reports the derivation, which the limits and the bound must allow; then it reports that the
--- derivation is done, and the checksum must match.
+-- The steps of decrypting a key: the prompt reports the derivation, the limits and the bound must
+-- allow it, the prompt reports that it is done, and the checksum must match.
 abbrev pub telling_steps : SecretKeyRecord → List ℕ → Option ℕ → List Step
 telling_steps k password bound = Say deriving_text ∷ Test (result_err (allowed_work k bound)) ∷ Allocate
     ∷ Say done_text ∷ Test (result_err (restored_key (xored_key k password))) ∷ []
 
--- An encrypted key is decrypted with the password that is typed in these bytes.
+-- The steps of decrypting an encrypted key with the password that is typed in these bytes.
 abbrev pub opening_steps : SecretKeyRecord → Option ℕ → List ℕ → List Step
 opening_steps k bound bytes = asking_steps asking_text bytes ++ telling_steps k (typed_password bytes) bound
 
--- The answer is what the text gives; or out of memory, if its key is encrypted with scrypt, with limits
--- that are allowed and within the bound.
+-- The result is the given one; or it is out of memory, which is possible only if the key in the
+-- text is encrypted with scrypt and its limits are allowed and within the bound.
 abbrev pub IsOpenedOrNoMemory : List ℕ → Option ℕ → Result SecretKeyRecord Fault
     → Result SecretKeyRecord Fault → Type 0
 IsOpenedOrNoMemory text bound answer given = (answer ≡ given)
     ⊎ ((answer ≡ Err (Named named.OutOfMemory))
     × IsOk (and_then (read_sealed_key text) (λ k. allowed_work k bound)))
 
--- How decrypting the key of a text ends, within a bound. With a given password nothing is asked, and the
--- answer is what the text decrypts to, or out of memory. Without one, a password is asked for if the text
--- parses to an encrypted key: the key is decrypted with what was typed, or the error is the one at which
--- the conversation stopped. A text that parses to no such key is rejected with nothing asked.
+-- The result of decrypting the key in a text, within a bound. With a given password, the prompt is
+-- unchanged, and the result is that of open_key or out of memory. Without one, a text without a key
+-- that is encrypted with scrypt is rejected, with the prompt unchanged. Otherwise the prompt asks
+-- for a password, and the key is decrypted with what was typed, or the error is the one at which
+-- the conversation stopped.
 abbrev pub IsOpening : {R W : Type 0} → PromptCall R W → Option (List ℕ) → List ℕ → Option ℕ
     → Result SecretKeyRecord Fault → Type 0
 IsOpening p (Some password) text bound answer = (p.new ≡ p.old)

@@ -1,6 +1,6 @@
--- Texts of signatures: what a text parses to, the signature with its comments or the first check that
--- fails; the same as a relation; the text that is written for a box; and the place of the trusted comment
--- in a text.
+-- Signature files: the function that parses a text to a signature with its comments or gives the
+-- first check that fails, the same grammar as a relation, the text that is written for a box, and
+-- the position of the trusted comment in a text.
 use Rattle.std.specs.Prelude.{◌≡◌, ◌≢◌, ◌||◌, ◌-◌, ℕ, List, [], ◌∷◌, ◌++◌, length, take, drop, slice_index}
 use Rattle.std.specs.Prelude.{nat_eq, nat_le, slice_index_or, bytes_eq, Some, Result, Ok, Err, codes}
 use Rattle.std.specs.Prelude.{if◌then◌else◌, Option, None, option_map, ◌≤◌, ◌+◌, ◌==◌}
@@ -20,18 +20,19 @@ trusted_comment_label = codes "trusted comment: "
 
 -- == Reading ==
 
--- The contents of a signature text: a signature and its comments.
+-- A parsed signature text: the signature and its comments.
 pub record SignatureTextRecord : Type 0 where
   pub signature : SignatureRecord
   pub comments : CommentsRecord
 
--- The box with these contents.
+-- The signature box with this signature and these comments.
 abbrev pub box_of : SignatureTextRecord → SignatureBoxRecord
 box_of t = record { signature = t.signature; comments = Some t.comments }
 
--- A signature text has four lines, and later lines are ignored. The first and the third line are a label
--- and a comment; the trusted comment is trimmed. The second and the fourth line, trimmed, are base64. The
--- bytes of the second begin with the 74 of a signature with a known algorithm.
+-- A signature text has four lines; later lines are ignored. The first and the third line are a
+-- label and a comment; the trusted comment is trimmed. The second and the fourth line, trimmed, are
+-- base64. The bytes of the second line begin with the 74 bytes of a signature with a known
+-- algorithm.
 abbrev pub signature_in_lines : List (List ℕ) → Result SignatureTextRecord Fault
 signature_in_lines [] = Err (Named named.MissingUntrustedComment)
 signature_in_lines (first ∷ []) = Err (Named named.MissingSignature)
@@ -60,25 +61,27 @@ signature_in_lines (first ∷ second ∷ third ∷ fourth ∷ later) =
       };
     })))))))
 
--- What a signature text parses to.
+-- The signature and its comments in a text, or the first check that fails.
 unfoldable pub read_signature : List ℕ → Result SignatureTextRecord Fault
 read_signature text = signature_in_lines (lines text)
 
--- The signature box that a text parses to.
+-- The signature box in a text, or the first check that fails.
 abbrev pub read_signature_box : List ℕ → Result SignatureBoxRecord Fault
 read_signature_box text = map_ok box_of (read_signature text)
 
 -- == The grammar as a relation ==
 
--- A signature, an untrusted comment, a trusted comment, and the comment signature.
+-- A parsed signature text from its parts: the signature, the untrusted comment, the trusted comment
+-- and the comment signature.
 abbrev pub with_comments : SignatureRecord → List ℕ → List ℕ → List ℕ → SignatureTextRecord
 with_comments s untrusted trusted signature = record {
   signature = s;
   comments = record { untrusted = untrusted; trusted = trusted; signature = signature };
 }
 
--- The text parses to the signature with its comments: two lines of a label and a comment, each followed by
--- a line of base64. All lines but the first are trimmed.
+-- The grammar of signature files as a relation: a label and the untrusted comment, the base64 of
+-- the signature, a label and the trusted comment, and the base64 of the comment signature, each in
+-- one line. The base64 and the trusted comment are trimmed.
 pub record SignatureText (text : List ℕ) (t : SignatureTextRecord) : Type 0 where
   pub first : List ℕ
   pub second : List ℕ
@@ -95,43 +98,44 @@ pub record SignatureText (text : List ℕ) (t : SignatureTextRecord) : Type 0 wh
 
 -- == Writing ==
 
--- The text that is written for a signature with comments.
+-- The text of a signature with comments: four lines, each ended by a line feed.
 abbrev pub signature_text : SignatureRecord → CommentsRecord → List ℕ
 signature_text s c = line (untrusted_comment_label ++ c.untrusted) ++ (line (base64_of (signature_bytes s))
     ++ (line (trusted_comment_label ++ c.trusted) ++ line (base64_of c.signature)))
 
--- Each comment fits in one line, and the trusted comment is trimmed.
+-- Neither comment has a line feed, and the trusted comment is trimmed.
 pub record AreOneLine (untrusted trusted : List ℕ) : Type 0 where
   pub untrusted_one_line : LacksByte 10 untrusted
   pub trusted_one_line : LacksByte 10 trusted
   pub trusted_trimmed : trim trusted ≡ trusted
 
--- How a box with such comments is read back: one carriage return at the end of the untrusted comment is
--- dropped.
+-- The comments, and the box, as they are read back if AreOneLine holds: one carriage return at the
+-- end of the untrusted comment is dropped.
 abbrev pub comments_read_back : CommentsRecord → CommentsRecord
 comments_read_back c = record c { untrusted = strip_carriage_return c.untrusted }
 
 abbrev pub box_read_back : SignatureBoxRecord → SignatureBoxRecord
 box_read_back x = record x { comments = option_map comments_read_back x.comments }
 
--- The comments are read back as they were written: in addition, the untrusted comment does not end in a
--- carriage return.
+-- The comments are read back exactly as they were written: AreOneLine holds, and the untrusted
+-- comment does not end in a carriage return.
 pub record AreReadBack (untrusted trusted : List ℕ) : Type 0 where
   pub one_line : AreOneLine untrusted trusted
   pub untrusted_end : slice_index untrusted (length untrusted - 1) ≢ 13
 
--- The first 64 bytes, if there are that many.
+-- The first 64 bytes, or none if there are fewer.
 abbrev pub first_64 : List ℕ → Option (List ℕ)
 first_64 bytes = if nat_le 64 (length bytes) then Some (take 64 bytes) else None
 
--- A signature, its comments, and the first 64 bytes of the comment signature, if it has that many.
+-- A signature text parsed in place: the signature, its comments, and the first 64 bytes of the
+-- comment signature, or none if it is shorter.
 pub record SignatureViewRecord : Type 0 where
   pub signature : SignatureRecord
   pub untrusted : List ℕ
   pub trusted : List ℕ
   pub comment_signature : Option (List ℕ)
 
--- The view of the contents of a text.
+-- The view of a parsed signature text.
 abbrev pub view_of : SignatureTextRecord → SignatureViewRecord
 view_of t = record {
   signature = t.signature;
@@ -140,7 +144,7 @@ view_of t = record {
   comment_signature = first_64 t.comments.signature;
 }
 
--- == The place of the trusted comment ==
+-- == The position of the trusted comment ==
 
 -- The text after its first line feed.
 abbrev pub behind_line : List ℕ → List ℕ

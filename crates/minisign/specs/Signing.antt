@@ -1,4 +1,4 @@
--- The signature box that signing makes, and its text; and signing with the text of a secret key.
+-- Signing: the signature box that is made, its text, and signing with the text of a secret key.
 use Rattle.std.specs.Prelude.{◌≡◌, ℕ, true, false, List, ◌++◌, length, Option, Some, ◌⊎◌, IsSomeAnd, codes}
 use Rattle.std.specs.Prelude.{option_copied, unwrap_or, decimal, None, Result, Ok, Err}
 use Rattle.std.specs.Io.KnownBytes.{Consumes}
@@ -18,23 +18,24 @@ use Rattle.minisign.specs.SignatureText.{AreOneLine, AreReadBack, box_of, read_s
 use Rattle.minisign.specs.SignatureText.{signature_text}
 use Rattle.minisign_base.specs.declared.faults.NamedFault.TheVariants as named
 
--- What a scheme signs: a message, with a secret key of 64 bytes and 64 random bytes or none.
+-- A signature scheme's signing function. The arguments are the message, the 64 secret bytes, and 64
+-- random bytes or none.
 abbrev pub Signer : Type 0
 Signer = List ℕ → List ℕ → Option (List ℕ) → List ℕ
 
 unfoldable pub default_untrusted_comment : List ℕ
 default_untrusted_comment = codes "signature from rsign secret key"
 
--- The default trusted comment: the time in decimal.
+-- The default trusted comment: "timestamp:" and the time in decimal.
 unfoldable pub default_trusted_comment : ℕ → List ℕ
 default_trusted_comment moment = codes "timestamp:" ++ decimal moment
 
--- The two comments of a box.
+-- The trusted and the untrusted comment of a signature box.
 pub record ChosenComments : Type 0 where
   pub trusted : List ℕ
   pub untrusted : List ℕ
 
--- The record of these two comments.
+-- These two comments as a record.
 abbrev pub comments_of : List ℕ → List ℕ → ChosenComments
 comments_of trusted untrusted = record { trusted = trusted; untrusted = untrusted }
 
@@ -44,8 +45,8 @@ given_comments trusted untrusted moment = comments_of
     (unwrap_or (option_copied trusted) (default_trusted_comment moment))
     (unwrap_or (option_copied untrusted) default_untrusted_comment)
 
--- The box that signing makes for the message: a signature of its digest with the first random bytes, and a
--- signature of that signature followed by the trusted comment with the second.
+-- The signature box that signing makes: a signature of the message's digest with the random bytes
+-- z1, and a signature of that signature followed by the trusted comment with the random bytes z2.
 abbrev pub signed_box : Signer → SecretKeyRecord → List ℕ → ChosenComments → List ℕ → List ℕ
     → SignatureBoxRecord
 signed_box sign sk message chosen z1 z2 =
@@ -62,7 +63,8 @@ module _ {Z : Type 0} (z : RandomCall Z) where
   abbrev pub RandomHasNoNewFault : Type 0
   RandomHasNoNewFault = z.random.random_faults z.new ≡ z.random.random_faults z.old
 
--- The box is the one that signing makes with bytes of the random source, 64 for each signature.
+-- The signature box that signing makes with the next 128 bytes of the random source, 64 for each of
+-- the two signatures.
 pub record IsSigned {Z : Type 0} (sign : Signer) (sk : SecretKeyRecord) (message : List ℕ)
     (chosen : ChosenComments)
     (z : RandomCall Z) (x : SignatureBoxRecord) : Type 0 where
@@ -73,19 +75,20 @@ pub record IsSigned {Z : Type 0} (sign : Signer) (sk : SecretKeyRecord) (message
   pub drawn : HasDrawn z (first ++ second)
   pub box : x ≡ signed_box sign sk message chosen first second
 
--- A decrypted key whose secret is a seed and the seed's public key.
+-- The key is genuine: it is decrypted, and its secret bytes are a seed of 32 bytes and the seed's
+-- public key.
 pub record IsGenuine (public_of : List ℕ → List ℕ) (sk : SecretKeyRecord) (seed : List ℕ) : Type 0 where
   pub seed_length : length seed ≡ 32
   pub seed_bytes : IsBytes seed
   pub secret : sk.secret ≡ seed ++ public_of seed
   pub opened : is_encrypted sk ≡ false
 
--- The chosen comments are read back as they were written.
+-- The comments are read back exactly as they were written.
 abbrev pub AreChosenReadBack : ChosenComments → Type 0
 AreChosenReadBack chosen = AreReadBack chosen.untrusted chosen.trusted
 
--- Signing with a decrypted key fails: an allocation fails, and no source does; the data source fails, with
--- no random bytes taken; or all the data was read, and the random source fails.
+-- Signing with a decrypted key fails: an allocation fails, and neither source does; the data source
+-- fails, with no random bytes taken; or the random source fails, after all the data was read.
 abbrev pub OpenedSigningFails : {R Z : Type 0} → SourceCall R → RandomCall Z → Fault → Type 0
 OpenedSigningFails r z e =
     (((e ≡ Named named.OutOfMemory) × RandomHasNoNewFault z)
@@ -94,8 +97,9 @@ OpenedSigningFails r z e =
     ⊎ ((message : List ℕ) × ReadsWhole r.source r.old r.new message
     × HasFailed named.RandomSourceFailed z.random.random_faults z.old z.new e)
 
--- Signing fails: the key is encrypted, with nothing read from either source; signing with the decrypted key
--- fails; or the given public key does not accept the comment signature of the box that was made.
+-- Signing fails: the key is encrypted, with nothing read from either source; signing with the
+-- decrypted key fails; or the given public key does not accept the comment signature of the box
+-- that was made.
 abbrev pub SigningFails : {S R Z : Type 0} → SchemeOf S → S → Option PublicKeyRecord → SecretKeyRecord
     → ChosenComments → SourceCall R → RandomCall Z → Fault → Type 0
 SigningFails s scheme pk sk chosen r z e =
@@ -106,8 +110,9 @@ SigningFails s scheme pk sk chosen r z e =
     × ReadsWhole r.source r.old r.new message × IsSigned (s.signature_of scheme) sk message chosen z made
     × (accepts_comments (s.accepts scheme) p made ≡ false))
 
--- Signing bytes fails: the key is encrypted, with no random bytes taken; or it is decrypted, and an
--- allocation fails while the random source does not, or the random source fails.
+-- Signing data in memory fails: the key is encrypted, with no random bytes taken; or the key is
+-- decrypted, and either an allocation fails while the random source does not, or the random source
+-- fails.
 abbrev pub BytesSigningFails : {Z : Type 0} → SecretKeyRecord → RandomCall Z → Fault → Type 0
 BytesSigningFails sk z e =
     ((e ≡ Named named.EncryptedKeyRefused) × (is_encrypted sk ≡ true) × (z.new ≡ z.old))
@@ -117,8 +122,9 @@ BytesSigningFails sk z e =
 
 -- == Boxes and texts ==
 
--- Signing with a genuine key: if neither comment has a line feed and the trusted one is trimmed, the text
--- parses to a box that is valid for the message under every public key of the seed and the key ID.
+-- The headline of signing: with a genuine key, if neither comment has a line feed and the trusted
+-- comment is trimmed, the signature text parses to a box that is valid for the message under every
+-- public key with the seed's key bytes and this key ID.
 abbrev pub SigningHeadline : Verifier → (List ℕ → List ℕ) → SecretKeyRecord → List ℕ → ChosenComments → List ℕ
     → Type 0
 SigningHeadline accepts public_of sk message chosen text =
@@ -130,21 +136,22 @@ SigningHeadline accepts public_of sk message chosen text =
 abbrev pub IsKeyOf : List ℕ → SecretKeyRecord → Type 0
 IsKeyOf text key = (password : List ℕ) × (key_with_password text password ≡ Ok key)
 
--- The headline of signing with the text of a secret key: for the data that was ahead, and a key of the
--- text.
+-- The headline of signing with the text of a secret key, for the unread data and for a key that the
+-- text gives under some password.
 abbrev pub TextSigningHeadline : Verifier → (List ℕ → List ℕ) → List ℕ → Option (List ℕ) → ChosenComments
     → List ℕ → Type 0
 TextSigningHeadline accepts public_of sk_text ahead chosen text = (sk : SecretKeyRecord) × (message : List ℕ)
     × IsAhead ahead message × IsKeyOf sk_text sk × SigningHeadline accepts public_of sk message chosen text
 
--- The key that a text gives for signing. If the key needs a password, the result is that of decrypting it.
--- Otherwise it is a key that was never encrypted, or the reason why there is none, with nothing asked.
+-- The key that a text gives for signing, or an error. If the key needs a password, it is decrypted.
+-- Otherwise it is a key that was never encrypted, or the first check that fails, with the prompt
+-- unchanged.
 abbrev pub GivesKey : {R W : Type 0} → PromptCall R W → Option (List ℕ) → List ℕ
     → Result SecretKeyRecord Fault → Type 0
 GivesKey p password text answer = ((is_sealed_text text ≡ true) × IsOpening p password text None answer)
     ⊎ ((is_sealed_text text ≡ false) × (p.new ≡ p.old) × (answer ≡ read_unencrypted_key text))
 
--- The text of the box that signing makes for the message with bytes of the random source.
+-- The text of the signature box that signing makes for the message with bytes of the random source.
 pub record IsSignedText {Z : Type 0} (sign : Signer) (sk : SecretKeyRecord) (message : List ℕ)
     (chosen : ChosenComments) (z : RandomCall Z) (text : List ℕ) : Type 0 where
   pub box : SignatureBoxRecord
@@ -154,38 +161,38 @@ pub record IsSignedText {Z : Type 0} (sign : Signer) (sk : SecretKeyRecord) (mes
   pub written : text ≡ signature_text box.signature comments
 
 module _ {S Z : Type 0} (s : SchemeOf S) (scheme : S) (sk : SecretKeyRecord) where
-  -- The box is signed with the key, and if the key is genuine, the box is valid under its own public key.
+  -- The box is signed with the key. If the key is genuine, the box is valid under the key's own
+  -- public key.
   abbrev pub HasSignedBox : List ℕ → ChosenComments → RandomCall Z → SignatureBoxRecord → Type 0
   HasSignedBox message chosen z x = IsSigned (s.signature_of scheme) sk message chosen z x
       × ((seed : List ℕ) → IsGenuine (s.public_of scheme) sk seed
       → VouchesUnderEachKey (s.accepts scheme) (s.public_of scheme seed) sk.keynum message x)
 
-  -- All the data was read, and the box is signed for it in this way.
+  -- All the data was read, and HasSignedBox holds for it.
   abbrev pub HasSignedData : {R : Type 0} → SourceCall R → ChosenComments → RandomCall Z → SignatureBoxRecord
       → Type 0
   HasSignedData r chosen z x = (message : List ℕ) × ReadsWhole r.source r.old r.new message
       × HasSignedBox message chosen z x
 
-  -- The text is that of a box that is signed with the key, and if the key is genuine, the text parses to a
-  -- box that is valid.
+  -- The text is that of a box that is signed with the key, and SigningHeadline holds for it.
   abbrev pub HasSignedText : List ℕ → ChosenComments → RandomCall Z → List ℕ → Type 0
   HasSignedText message chosen z text = IsSignedText (s.signature_of scheme) sk message chosen z text
       × SigningHeadline (s.accepts scheme) (s.public_of scheme) sk message chosen text
 
-  -- All the data was read, and the text is that of a box that is signed for it in this way.
+  -- All the data was read, and HasSignedText holds for it.
   abbrev pub HasSignedDataText : {R : Type 0} → SourceCall R → ChosenComments → RandomCall Z → List ℕ → Type 0
   HasSignedDataText r chosen z text = (message : List ℕ) × ReadsWhole r.source r.old r.new message
       × HasSignedText message chosen z text
 
--- The text of a secret key gave a key, and this is the text of a box that is signed for the data with it.
+-- The text of a secret key gave a key, and HasSignedDataText holds with this key.
 abbrev pub HasSignedWithText : {S P Q R Z : Type 0} → SchemeOf S → S → PromptCall P Q → Option (List ℕ)
     → List ℕ
     → SourceCall R → ChosenComments → RandomCall Z → List ℕ → Type 0
 HasSignedWithText s scheme p password sk_text r chosen z text = (sk : SecretKeyRecord)
     × GivesKey p password sk_text (Ok sk) × HasSignedDataText s scheme sk r chosen z text
 
--- Signing with a text fails: it gives no key, with nothing read from either source, or signing with its key
--- fails.
+-- Signing with the text of a secret key fails: the text gives no key, with nothing read from either
+-- source, or signing with its key fails.
 abbrev pub TextSigningFails : {P Q R Z : Type 0} → PromptCall P Q → Option (List ℕ) → List ℕ → SourceCall R
     → RandomCall Z → Fault → Type 0
 TextSigningFails p password text r z e =

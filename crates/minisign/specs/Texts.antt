@@ -1,5 +1,5 @@
--- What the texts of keys and signatures are made of: lines, base64 by RFC 4648 section 4, and checks in an
--- order.
+-- The parts of key and signature files: lines, base64 (RFC 4648, section 4), and checks that are
+-- made in order.
 use Rattle.std.specs.Prelude.{◌≡◌, ◌↔◌, ◌⊎◌, ℕ, ◌%◌, Bool, if◌then◌else◌, bytes_eq, map, List, Result, Ok}
 use Rattle.std.specs.Prelude.{Err, codes, [], ◌∷◌, ◌++◌}
 use Rattle.minisign_base.specs.Fault.{Fault, Named}
@@ -12,7 +12,7 @@ use Rattle.base64.specs.GeneralPurpose.{encode_of, decoded_bytes_of, IsBytes}
 abbrev pub line : List ℕ → List ℕ
 line text = text ++ 10 ∷ []
 
--- The base64 of bytes, padded.
+-- The base64 of bytes, with padding.
 unfoldable pub base64_of : List ℕ → List ℕ
 base64_of bytes = encode_of standard bytes
 
@@ -21,7 +21,7 @@ pub record IsBase64Of (text bytes : List ℕ) : Type 0 where
   pub each : IsBytes bytes
   pub encoded : text ≡ base64_of bytes
 
--- The text is the base64 of bytes that begin with a record.
+-- The text is the base64 of bytes that begin with the record of v.
 pub record Encodes {V : Type 0} (Reads : List ℕ → V → Type 0) (text : List ℕ) (v : V) : Type 0 where
   pub bytes : List ℕ
   pub base64 : IsBase64Of text bytes
@@ -31,33 +31,34 @@ pub record Encodes {V : Type 0} (Reads : List ℕ → V → Type 0) (text : List
 unfoldable pub base64_bytes : List ℕ → List ℕ
 base64_bytes text = map (λ b. b % 256) (decoded_bytes_of standard text)
 
--- The text is the base64 of the bytes that it decodes to.
+-- The text is base64: encoding the bytes that it decodes to gives the text again. So only the
+-- canonical encoding is accepted.
 unfoldable pub is_base64 : List ℕ → Bool
 is_base64 text = bytes_eq text (base64_of (base64_bytes text))
 
--- Parsing goes on if a check succeeds, and otherwise ends with the error.
+-- Goes on if the check holds, and otherwise gives the error.
 abbrev pub require : {V : Type 0} → Bool → NamedFault → Result V Fault → Result V Fault
 require holds fault more = if holds then more else Err (Named fault)
 
--- Parsing goes on with the value that was parsed, or ends with the error if there is one.
+-- Goes on with the value, or passes on the error.
 abbrev pub and_then : {V W : Type 0} → Result V Fault → (V → Result W Fault) → Result W Fault
 and_then (Ok v) more = more v
 and_then (Err e) more = Err e
 
--- The parsed value, mapped by a function.
+-- Applies a function to the value, or passes on the error.
 abbrev pub map_ok : {V W : Type 0} → (V → W) → Result V Fault → Result W Fault
 map_ok f (Ok v) = Ok (f v)
 map_ok f (Err e) = Err e
 
--- The answer is the given one or out of memory.
+-- The answer is the given result or out of memory.
 abbrev pub IsGivenOrNoMemory : {V : Type 0} → Result V Fault → Result V Fault → Type 0
 IsGivenOrNoMemory answer given = (answer ≡ given) ⊎ (answer ≡ Err (Named OutOfMemory))
 
--- A value is read exactly if the relation holds for this value. So the relation holds for one value at
--- most, and for none if there is an error.
+-- The function agrees with the relation: its result is a value exactly if the relation holds for
+-- the value. So the relation holds for at most one value, and for none if there is an error.
 pub record IsReading {V E : Type 0} (reads : V → Type 0) (read : Result V E) : Type 0 where
   pub value : (v : V) → (read ≡ Ok v) ↔ reads v
 
--- How the first line of a text begins.
+-- The label at the beginning of the first line.
 unfoldable pub untrusted_comment_label : List ℕ
 untrusted_comment_label = codes "untrusted comment: "

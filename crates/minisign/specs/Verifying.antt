@@ -1,6 +1,6 @@
--- How verification ends, with a key and a box or with two texts: its stages, and how each one ends; what
--- holds on success; and that it otherwise failed at one stage. The devices are the source of the data, the
--- status and the output.
+-- The outcome of verification with a public key and a signature box, or with two texts: its stages
+-- and the end of each one, success, and failure at one of the stages. The devices are the source of
+-- the data, the status sink and the output sink.
 use Rattle.std.specs.Prelude.{◌≡◌, ◌≢◌, ◌⊎◌, ⊤, ℕ, Bool, true, false, ◌&&◌, List, [], ◌∷◌, ◌++◌, Result, Ok}
 use Rattle.std.specs.Prelude.{Err, MatchResult, IsErrAnd, if◌then◌else◌, IsSome}
 use Rattle.minisign_hash.specs.Blake2b.{blake2b_digest}
@@ -21,10 +21,11 @@ use Rattle.minisign.specs.KeyTexts.{read_public_key}
 use Rattle.minisign.specs.SignatureText.{read_signature_box}
 use Rattle.minisign_base.specs.declared.faults.NamedFault.TheVariants as named
 
--- The stages. Mark marks the place. Read reads the data to its end, which gives these bytes. Judge checks
--- the box for this message. Report writes a text to the status. Return goes back to the mark. Copy reads
--- the data again and writes it to the output. Compare compares the digest of the copy with this one. Put
--- writes these bytes to the output. Flush flushes it.
+-- The stages of verification. Mark marks the current place. Read reads the data to its end, which
+-- gives these bytes. Judge checks the box for this message. Report writes a text to the status
+-- sink. Return goes back to the mark. Copy reads the data again, which gives these bytes, and
+-- writes it to the output. Compare compares a digest with the digest of these bytes. Put writes
+-- these bytes to the output. Flush flushes the output.
 pub data Stage : Type 0 where
   Mark : Stage
   Read : List ℕ → Stage
@@ -36,7 +37,7 @@ pub data Stage : Type 0 where
   Put : List ℕ → Stage
   Flush : Stage
 
--- The devices at one time.
+-- The devices at one point in time.
 pub record Devices (R W O : Type 0) : Type 0 where
   pub reader : R
   pub status : W
@@ -53,7 +54,7 @@ module _ {R W O : Type 0} (reader : RereaderCall R) (status : SinkCall W) (out :
   abbrev pub Uncopied : Type 0
   Uncopied = out.new ≡ out.old
 
-  -- How a stage ends.
+  -- The end of a stage: its result and its effect on the devices.
   abbrev pub StageEnds : Stage → Result ⊤ Fault → Type 0
   StageEnds Mark answer = EndsWith (Marks reader (Ok tt)) named.GoingBackFailed (Marks reader (Err tt)) answer
       × Unsaid × Uncopied
@@ -83,7 +84,7 @@ module _ {R W O : Type 0} (reader : RereaderCall R) (status : SinkCall W) (out :
       × Unread × Unsaid
 
 module _ {R W O : Type 0} (reader : RereaderCall R) (status : SinkCall W) (out : SinkCall O) where
-  -- How these stages end, one after another: all succeeded; or one failed, and none after it was begun.
+  -- These stages run in order: all succeed, or one fails and no later stage starts.
   abbrev pub StagesEnd : List Stage → Result ⊤ Fault → Type 0
   StagesEnd stages answer =
       StepsEnd
@@ -93,31 +94,33 @@ module _ {R W O : Type 0} (reader : RereaderCall R) (status : SinkCall W) (out :
       stages (record { reader = reader.old; status = status.old; out = out.old })
       (record { reader = reader.new; status = status.new; out = out.new }) answer
 
--- The data is read, after its place is marked if it will be read again.
+-- The stages that read the data. The place is marked first if the data will be read again.
 abbrev pub reading_stages : Bool → List ℕ → List Stage
 reading_stages true message = Mark ∷ Read message ∷ []
 reading_stages false message = Read message ∷ []
 
--- The status lines of a valid box are written, unless quiet is set.
+-- The stage that writes the status lines of a valid box, unless quiet is set.
 abbrev pub reporting_stages : Bool → SignatureBoxRecord → List Stage
 reporting_stages true x = []
 reporting_stages false x = Report (status_lines x) ∷ []
 
--- A second reading is copied, and must have this digest.
+-- The stages that copy a second reading, which must have this digest.
 abbrev pub second_copy_stages : List ℕ → List ℕ → List Stage
 second_copy_stages digest second = Return ∷ Copy second ∷ Compare digest second ∷ Flush ∷ []
 
--- If the data is to be copied, it is read again for a prehashed signature, and was kept for a legacy one.
+-- The stages that copy the data, if it is to be copied: from a second reading for a prehashed
+-- signature, and from memory for a legacy one.
 abbrev pub copying_stages : Bool → Bool → List ℕ → List ℕ → List Stage
 copying_stages false hashed message second = []
 copying_stages true true message second = second_copy_stages (blake2b_digest 64 message) second
 copying_stages true false message second = Put message ∷ Flush ∷ []
 
--- The data is read again: it is copied, and its signature is prehashed.
+-- The data is read again: it is to be copied, and the signature is prehashed.
 abbrev pub is_reread : Bool → SignatureBoxRecord → Bool
 is_reread output x = output && is_prehashed x.signature
 
--- Verification: the data is read, the box is checked, the status lines are written, and the data is copied.
+-- All stages of verification: the data is read, the box is checked, the status lines are written,
+-- and the data is copied.
 abbrev pub verifying_stages : Verifier → PublicKeyRecord → SignatureBoxRecord → VerifyOptions → List ℕ
     → List ℕ
     → List Stage
@@ -127,14 +130,14 @@ verifying_stages accepts pk x options message second = reading_stages (is_reread
     (reporting_stages options.quiet x
     ++ copying_stages options.output (is_prehashed x.signature) message second))
 
--- The bytes that are held.
+-- The bytes that are kept in memory after reading.
 abbrev pub held_bytes : SignedData → List ℕ
 held_bytes (Digest digest) = digest
 held_bytes (Kept bytes) = bytes.items
 held_bytes Unkept = []
 
--- What is held of a message: its digest for a prehashed signature, and the message itself for a legacy one
--- if that is allowed.
+-- The data that is kept of a message: its digest for a prehashed signature, the message itself for a
+-- legacy signature that is allowed, and nothing for one that is not allowed.
 abbrev pub HoldsSigned : SignedData → SignatureBoxRecord → Bool → List ℕ → Type 0
 HoldsSigned (Digest digest) x legacy message = (is_prehashed x.signature ≡ true)
     × (digest ≡ blake2b_digest 64 message)
@@ -142,26 +145,27 @@ HoldsSigned (Kept bytes) x legacy message =
     (is_prehashed x.signature ≡ false) × (bytes.items ≡ message) × (legacy ≡ true)
 HoldsSigned Unkept x legacy message = (is_prehashed x.signature ≡ false) × (legacy ≡ false)
 
--- How data that was read is copied.
+-- The stages that copy the data, from what was kept of it.
 abbrev pub held_copy_stages : Bool → SignedData → List ℕ → List Stage
 held_copy_stages false signed second = []
 held_copy_stages true (Digest digest) second = second_copy_stages digest second
 held_copy_stages true (Kept bytes) second = Put bytes.items ∷ Flush ∷ []
 held_copy_stages true Unkept second = []
 
--- What the status has to receive for a valid box.
+-- The bytes that the status sink must receive for a valid box.
 abbrev pub wanted_status : Bool → SignatureBoxRecord → List ℕ
 wanted_status quiet x = if quiet then [] else status_lines x
 
--- The data was read to its end, which gave the message, and from its mark to its end again, which gave the
--- copy. Both have the same digest.
+-- The data was read to its end, which gave the message, and again from the mark to its end, which
+-- gave the copy. Both have the same digest.
 abbrev pub ReadsTwice : {R O : Type 0} → RereaderCall R → SinkCall O → List ℕ → List ℕ → Type 0
 ReadsTwice reader out message copy = StagesEnd reader unused out
     (reading_stages true message ++ second_copy_stages (blake2b_digest 64 message) copy) (Ok tt)
 
--- The output took and flushed a copy for which the box is valid, as it is for the message. If the signature
--- is prehashed, a second reading gave the copy, with the digest of the first. If it is a legacy signature,
--- or the source is steady and its bytes are known, the copy is the message.
+-- The output received and flushed a copy for which the box is valid, with the same signed bytes as
+-- the message. If the signature is prehashed, the copy comes from a second reading with the digest
+-- of the first. If it is a legacy signature, or the source is steady and its bytes are known, the
+-- copy is the message.
 pub record HasCopy {R O : Type 0} (accepts : Verifier) (pk : PublicKeyRecord) (x : SignatureBoxRecord)
     (legacy : Bool)
     (reader : RereaderCall R) (out : SinkCall O) (message : List ℕ) : Type 0 where
@@ -199,7 +203,8 @@ abbrev pub VerifyingFails : {R W O : Type 0} → Verifier → PublicKeyRecord �
 VerifyingFails accepts pk x options reader status out e = (message : List ℕ) × (second : List ℕ)
     × StagesEnd reader status out (verifying_stages accepts pk x options message second) (Err e)
 
--- What two texts parse to, the public key's first; or the first check that fails.
+-- The public key and the signature box in two texts, or the first check that fails. The public key
+-- is parsed first.
 abbrev pub read_texts : List ℕ → List ℕ → Result (PublicKeyRecord × SignatureBoxRecord) Fault
 read_texts pk_text sig_text =
     and_then (read_public_key pk_text) (λ key. map_ok (λ box. (key, box)) (read_signature_box sig_text))

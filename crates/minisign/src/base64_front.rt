@@ -1,4 +1,4 @@
-//! Base64 decoding without allocating: the bytes at the front are kept, and the whole text is checked.
+//! Decodes base64 without allocating: keeps the first bytes and checks the whole text.
 
 ghost use Rattle.std.specs.Prelude.{◌≡◌, ◌+◌, ◌*◌, ◌/◌, ◌%◌, ◌≤◌, List, ℕ, false, length, min, take};
 ghost use Rattle.std.specs.Prelude.{MatchOption};
@@ -6,13 +6,13 @@ ghost use Rattle.minisign.specs.Texts.{IsBase64Of, is_base64};
 
 use base64::engine::general_purpose::STANDARD;
 
-// How many letters are judged at a time, and how many bytes they are the base64 of.
+// The piece size of `is_base64`: 64 characters, which decode to 48 bytes.
 const PIECE_LETTERS: usize = 64;
 
 const PIECE_BYTES: usize = 48;
 
-// Decodes base64 into `room`: returns how many bytes of what the text is the base64 of stand at its front,
-// all of them or as many as there is room for; nothing where the text is not base64.
+// Decodes base64 into `room` and returns the number of bytes written: all of them, or as many as
+// fit. Returns `None` if any part of the text is not base64.
 pub(crate) fn decode_front(text: &[u8], room: &mut [u8]) -> Option<usize>
     requires { length room.old % 3 ≡ 0 }
     ensures { MatchOption result (is_base64 text.now ≡ false) (λ n. (bytes : List ℕ)
@@ -33,7 +33,7 @@ pub(crate) fn decode_front(text: &[u8], room: &mut [u8]) -> Option<usize>
     if is_base64(rest) { Some(count) } else { None }
 }
 
-// Whether a text is base64.
+// Decodes in pieces of fixed size, so that nothing is allocated.
 pub(crate) fn is_base64(text: &[u8]) -> bool
     ensures { result ≡ is_base64 text.now }
 {
@@ -52,7 +52,8 @@ pub(crate) fn is_base64(text: &[u8]) -> bool
     decode_piece(rest, &mut room).is_some()
 }
 
-// Decodes base64 that there is room for: returns how many bytes; nothing where the text is not base64.
+// Decodes base64 that fits into `room` and returns the number of bytes, or `None` if the text is
+// not base64.
 fn decode_piece(text: &[u8], room: &mut [u8]) -> Option<usize>
     requires { (length text.now + 3) / 4 * 3 ≤ length room.old }
     ensures { MatchOption result (is_base64 text.now ≡ false)

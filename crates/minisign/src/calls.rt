@@ -1,4 +1,5 @@
-//! Calls that verify data with two texts and return the trusted comment.
+//! Calls that verify data with a public key text and a signature text, and return the trusted
+//! comment.
 
 ghost use Rattle.std.specs.Prelude.{◌≡◌, ◌≤◌, ◌⊎◌, ℕ, List, Ok, Err, true, false, length, string_bytes, IfOk};
 ghost use Rattle.std.specs.Prelude.{IfErr, OnOk};
@@ -31,9 +32,9 @@ use std::alloc::Global;
 use std::fs;
 use std::rt::Files;
 
-/// Verifies that `sig_text` is a valid signature of all the data ahead of `data_reader` under the public
-/// key in `pk_text`, and returns the trusted comment, which was signed with the data. Does what
-/// `verify_texts` does, with named options in place of three flags.
+/// Verifies that `sig_text` is a valid signature of all the unread data of `data_reader` under the
+/// public key in `pk_text`, and returns the trusted comment, which was signed with the data. Does
+/// what `verify_texts` does, with named options in place of three flags.
 ///
 /// Errors and their order are those of `verify_texts`. Memory for the trusted comment is allocated before
 /// anything is read, reported or copied.
@@ -71,8 +72,8 @@ pub fn verify_with<S: Scheme, R: Rereader, W: Sink, O: Sink>(
     ensures quiet { options.quiet ≡ true → status.new ≡ status.old }
     ensures out { options.output ≡ false → out.new ≡ out.old }
 
-    // Without `output`, the bytes still ahead of `data_reader` are a suffix of those that were ahead before
-    // the call, whatever the result.
+    // Without `output`, the unread bytes of `data_reader` are a suffix of those before the call,
+    // whatever the result.
     ensures given { options.output ≡ false → HasGiven (R.ahead data_reader.old) (R.ahead data_reader.new) }
 {
     let (pk, signature_box, comment) = read_with_comment(alloc, pk_text, sig_text)?;
@@ -91,7 +92,7 @@ pub fn verify_with<S: Scheme, R: Rereader, W: Sink, O: Sink>(
     Ok(comment)
 }
 
-// The key and the box that the texts read as, the key first, and the trusted comment of the box.
+// Parses the public key, then the signature, and returns both with the signature's trusted comment.
 fn read_with_comment(
     alloc: Global,
     pk_text: &str,
@@ -211,9 +212,10 @@ pub fn verify_file<F: Files, S: Scheme>(
     }
 }
 
-/// Verifies that `sig_text` is a valid signature of all the data ahead of `data_reader` under the public
-/// key in `pk_text`, and returns the trusted comment, which was signed with the data. The data is read in
-/// pieces of 64 KiB, so memory use does not grow with its size, and it is not copied.
+/// Verifies that `sig_text` is a valid signature of all the unread data of `data_reader` under the
+/// public key in `pk_text`, and returns the trusted comment, which was signed with the data. The
+/// data is read in pieces of 64 KiB, so memory use does not grow with its size, and it is not
+/// copied.
 ///
 /// Errors come in this order: a text, as for `verify_bytes`; data that cannot be read, `ReadingFailed`,
 /// only if `data_reader` failed; then the checks of the signature, as for `verify_bytes`. An allocation may
@@ -236,8 +238,9 @@ pub fn verify_reader<S: Scheme, R: Rereader>(
         (options_of true false false) (rereader_call R.Source R.steady data_reader.old data_reader.new) unused
         unused (map_ok string_bytes result) }
 
-    // On success, all the data that was ahead was read to its end without an error, and the texts are valid
-    // for it with the comment that is returned. This holds even if the source's bytes are not known.
+    // On success, all the unread data was read to its end without an error, and the texts are valid
+    // for it with the comment that is returned. This holds even if the source's bytes are not
+    // known.
     ensures vouched { IfOk result
         (λ t. (message : List ℕ) × ReadsWhole R.Source data_reader.old data_reader.new message
         × TextsVouchWith (S.accepts scheme.now) pk_text.now sig_text.now message false (string_bytes t)) }
@@ -255,8 +258,7 @@ pub fn verify_reader<S: Scheme, R: Rereader>(
         (VerifyingTextsFails (S.accepts scheme.now) pk_text.now sig_text.now (options_of true false false)
         (rereader_call R.Source R.steady data_reader.old data_reader.new) unused unused) }
 
-    // The bytes still ahead of `data_reader` are a suffix of those that were ahead before the call,
-    // whatever the result.
+    // The unread bytes of `data_reader` are a suffix of those before the call, whatever the result.
     ensures given { HasGiven (R.ahead data_reader.old) (R.ahead data_reader.new) }
 {
     let silent = VerifyOptions::SILENT;
@@ -272,7 +274,7 @@ pub fn verify_reader<S: Scheme, R: Rereader>(
     )
 }
 
-// Verifies what a file gives, of which no byte is known.
+// Verifies the contents of an opened file. The contract says nothing about the file's bytes.
 fn verify_opened_file<S: Scheme, R: Rereader>(
     alloc: Global,
     scheme: &S,
@@ -287,9 +289,9 @@ fn verify_opened_file<S: Scheme, R: Rereader>(
     verify_reader(alloc, scheme, pk_text, sig_text, data_reader)
 }
 
-/// Verifies that `sig_text` is a valid signature of all the data ahead of `data_reader` under the public
-/// key in `pk_text`, copies the data to `out`, and returns the trusted comment, which was signed with the
-/// data.
+/// Verifies that `sig_text` is a valid signature of all the unread data of `data_reader` under the
+/// public key in `pk_text`, copies the data to `out`, and returns the trusted comment, which was
+/// signed with the data.
 ///
 /// The data is read twice in pieces of 64 KiB, so memory use does not grow with its size. Nothing is copied
 /// before the signature has been verified. Errors come in this order: a text; for a prehashed signature, a
@@ -318,8 +320,9 @@ pub fn copy_verified<S: Scheme, R: Rereader, O: Sink>(
         (sink_call O.Sink out.old out.new) (map_ok string_bytes result) }
 
     // On success, the texts are valid, with the comment that is returned, for the bytes that `out`
-    // received, and these were flushed. They are what a second reading returned, and have the digest of the
-    // first. If the source is steady and its bytes are known, they are the bytes that were ahead.
+    // received, and these were flushed. They are what a second reading returned, and have the
+    // digest of the first. If the source is steady and its bytes are known, they are the bytes that
+    // were unread before the call.
     ensures copied { IfOk result (λ t. CopyIsVouchedWith (S.accepts scheme.now) pk_text.now sig_text.now
         (rereader_call R.Source R.steady data_reader.old data_reader.new) (sink_call O.Sink out.old out.new)
         (string_bytes t)) }

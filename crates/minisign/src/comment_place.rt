@@ -1,5 +1,5 @@
-//! The place of the trusted comment in a signature text, for callers that keep the place and not the
-//! comment.
+//! Finds the trusted comment in a signature text, for callers that store its position instead of
+//! the comment.
 
 ghost use Rattle.std.specs.Prelude.{◌≡◌, ◌+◌, ◌≤◌, ◌++◌, [], List, ℕ, Ok, length, slice_index_or};
 ghost use Rattle.std.specs.Str.{trim};
@@ -27,7 +27,7 @@ pub fn trusted_comment_place(text: &str) -> (usize, usize)
     (text.len() - third.len() + start, len)
 }
 
-// What stands behind the first line feed.
+// Returns the text after the first line feed, or nothing if there is none.
 fn behind_line(text: &str) -> &str
     ensures same { result.now ≡ behind_line text.now }
     ensures size { length result.now ≤ length text.now }
@@ -38,7 +38,7 @@ fn behind_line(text: &str) -> &str
     }
 }
 
-// The first line, without what ends it.
+// Returns the first line without its line ending.
 fn first_line(text: &str) -> &str
     ensures same { result.now ≡ slice_index_or (lines text.now) 0 [] }
     ensures size { length result.now ≤ length text.now }
@@ -50,7 +50,7 @@ fn first_line(text: &str) -> &str
     }
 }
 
-// Where in a line with a label the comment stands: how many bytes come before it, and how many it has.
+// Returns the offset and the length, in bytes, of the comment in a line with the label.
 fn comment_in_line(line: &str) -> (usize, usize)
     ensures within { result.0 ≤ length line.now }
     ensures place { (comment : List ℕ) → line.now ≡ trusted_comment_label ++ comment
@@ -60,7 +60,7 @@ fn comment_in_line(line: &str) -> (usize, usize)
     let comment = match trusted_comment_in(line) {
         Ok(comment) => comment,
         Err(fault) => {
-            // (a page has nothing that gives memory back)
+            // The module for the web page has no deallocator, so the error must not be dropped.
             forget(fault);
             return (line.len(), 0);
         }

@@ -12,8 +12,8 @@ use minisign_base::Result;
 use minisign_base::scheme::Scheme;
 use std::alloc::Global;
 
-// Whether the comment signature is accepted; a bare signature has none to test. Only the 32 bytes
-// of the key count.
+// Returns true if the comment signature is valid, or if the signature is bare and so has none. Of
+// `pk`, only the 32 key bytes are used.
 pub(crate) fn accepts_comments<S: Scheme>(
     alloc: Global,
     scheme: &S,
@@ -30,8 +30,8 @@ pub(crate) fn accepts_comments<S: Scheme>(
     }
 }
 
-// Whether the comment signature has at least 64 bytes, and the first 64 are accepted for the
-// signature followed by the trusted comment.
+// Returns true if the comment signature has at least 64 bytes and the first 64 are a valid
+// signature of the data signature followed by the trusted comment.
 fn accepts_comment<S: Scheme>(
     alloc: Global,
     scheme: &S,

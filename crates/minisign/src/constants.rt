@@ -1,4 +1,4 @@
-//! The names of algorithms, of files and of a directory, and the default untrusted comment.
+//! Algorithm names, default file and directory names, default comments, and the limits of new keys.
 
 /// The default untrusted comment of a signature.
 pub const DEFAULT_COMMENT: &str = "signature from rsign secret key";
@@ -6,7 +6,8 @@ pub const DEFAULT_COMMENT: &str = "signature from rsign secret key";
 /// The environment variable that names the directory of keys and settings.
 pub const SIG_DEFAULT_CONFIG_DIR_ENV_VAR: &str = "RSIGN_CONFIG_DIR";
 
-/// The directory of keys and settings in the user's home directory, used if the variable is not set.
+/// The directory of keys and settings in the user's home directory. It is used if
+/// `SIG_DEFAULT_CONFIG_DIR_ENV_VAR` is not set.
 pub const SIG_DEFAULT_CONFIG_DIR: &str = ".rsign";
 
 /// The file name of the public key.
@@ -33,14 +34,14 @@ pub(crate) const KDF_ALG: [u8; 2] = [b'S', b'c'];
 /// The label of the untrusted comment.
 pub(crate) const COMMENT_PREFIX: &str = "untrusted comment: ";
 
-/// The default comment of a secret key's text.
+/// The default untrusted comment of a secret key file.
 pub(crate) const SECRETKEY_DEFAULT_COMMENT: &str = "rsign encrypted secret key";
 
 /// The algorithm of a secret key's checksum: Blake2b.
 pub(crate) const CHK_ALG: [u8; 2] = [b'B', b'2'];
 
-/// The operations limit of a key that is encrypted.
+/// The operations limit of newly encrypted keys.
 pub(crate) const OPSLIMIT: u64 = 1048576;
 
-/// The memory limit of a key that is encrypted, in bytes.
+/// The memory limit of newly encrypted keys, in bytes.
 pub(crate) const MEMLIMIT: u64 = 33554432;

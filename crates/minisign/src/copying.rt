@@ -22,8 +22,8 @@ use minisign_base::{NamedFault, Result};
 use minisign_hash::blake2b::Blake2b;
 use std::alloc::Global;
 
-// Copies the data where that is wanted, and flushes: what was kept, or else what is read again from
-// the mark on.
+// Copies the data to `out` and flushes, if `output` is set. A digest means that the data was not
+// kept, so it is read again from the mark.
 pub(crate) fn copy_out<R: Rereader, O: Sink>(
     alloc: Global,
     signed: &SignedData,
@@ -48,7 +48,7 @@ pub(crate) fn copy_out<R: Rereader, O: Sink>(
     }
 }
 
-// Goes back to the mark and copies what is ahead then, and flushes where it has the digest.
+// Goes back to the mark, copies the data, and flushes only if its digest is the same as before.
 fn copy_again<R: Rereader, O: Sink>(
     alloc: Global,
     digest: &[u8; 64],
@@ -65,7 +65,7 @@ fn copy_again<R: Rereader, O: Sink>(
     flush(out)
 }
 
-// Tests that the digest of the second reading is that of the first.
+// Returns `DataChanged` if the second reading has another digest than the first.
 fn test_same(digest: &[u8; 64], second: &[u8; 64]) -> Result<()>
     ensures { MatchResult result (λ _. bytes_eq second.now digest.now ≡ true)
         (λ e. (e ≡ Named DataChanged) × (bytes_eq second.now digest.now ≡ false)) }
@@ -76,7 +76,7 @@ fn test_same(digest: &[u8; 64], second: &[u8; 64]) -> Result<()>
     Ok(())
 }
 
-// Copies all that is ahead, and returns its Blake2b digest of 64 bytes. Nothing is flushed.
+// Copies all unread data to `out` and returns its 64-byte Blake2b digest. Does not flush.
 fn copy_hashed<R: Rereader, O: Sink>(
     alloc: Global,
     data_reader: &mut R,
@@ -96,7 +96,7 @@ fn copy_hashed<R: Rereader, O: Sink>(
     Ok(finished(&mut hasher))
 }
 
-// Copies all that is ahead through the buffer, and feeds it to the hash. Nothing is flushed.
+// Copies all unread data to `out` through `buf` and hashes it. Does not flush.
 fn copy_pieces<R: Rereader, O: Sink>(
     data_reader: &mut R,
     buf: &mut [u8],
@@ -131,7 +131,6 @@ fn copy_pieces<R: Rereader, O: Sink>(
     }
 }
 
-// Returns to the mark.
 fn go_back<R: Rereader>(data_reader: &mut R) -> Result<()>
     ensures { MatchResult result (λ _. GoesBack (rereader_call R.Source R.steady data_reader.old
         data_reader.new) (Ok tt)) (λ e. (e ≡ Named GoingBackFailed)
@@ -143,7 +142,6 @@ fn go_back<R: Rereader>(data_reader: &mut R) -> Result<()>
     }
 }
 
-// Writes all of the bytes.
 fn put_bytes<O: Sink>(out: &mut O, bytes: &[u8]) -> Result<()>
     ensures { Puts (sink_call O.Sink out.old out.new) bytes.now result }
 {
@@ -153,7 +151,6 @@ fn put_bytes<O: Sink>(out: &mut O, bytes: &[u8]) -> Result<()>
     }
 }
 
-// Flushes what was written.
 fn flush<O: Sink>(out: &mut O) -> Result<()>
     ensures { MatchResult result
         (λ _. Flushes (sink_call O.Sink out.old out.new) (Ok tt))

@@ -1,4 +1,4 @@
-//! Random bytes, drawn a field at a time.
+//! Generates random fields of fixed size.
 
 ghost use Rattle.std.specs.Prelude.{◌≡◌, ◌++◌, length, IfOk, IfErr, OnOk};
 ghost use Rattle.minisign_base.specs.Devices.{HasGiven};
@@ -11,7 +11,7 @@ ghost use Rattle.minisign.specs.Signing.{HasDrawn};
 use minisign_base::devices::random_sources::RandomSource;
 use minisign_base::{NamedFault, Result};
 
-// The next `N` random bytes.
+// Returns the next `N` random bytes.
 pub(crate) fn draw<const N: usize, Z: RandomSource>(random: &mut Z) -> Result<[u8; N]>
     ensures drawn { IfOk result
         (λ z. HasDrawn (random_call Z.RandomSource random.old random.new) z) }
@@ -27,7 +27,7 @@ pub(crate) fn draw<const N: usize, Z: RandomSource>(random: &mut Z) -> Result<[u
     Ok(bytes)
 }
 
-// The next `N` random bytes, and `M` more.
+// Returns the next `N` random bytes and the `M` after them.
 #[tactic(auto, using(crate::proofs::Beginnings::given_behind))]
 pub(crate) fn draw_two<const N: usize, const M: usize, Z: RandomSource>(
     random: &mut Z,

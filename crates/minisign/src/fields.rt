@@ -1,4 +1,4 @@
-//! The fixed-size fields of a record, split off the front of bytes or appended to them.
+//! Splits records into fields of fixed size, and appends fields to records.
 
 ghost use Rattle.std.specs.Prelude.{◌≡◌, ◌+◌, ◌<◌, ◌++◌, length, IfOk, IfErr, MatchResult};
 ghost use Rattle.minisign_base.specs.Fault.{Named};
@@ -6,7 +6,7 @@ ghost use Rattle.minisign_base.specs.declared.faults.NamedFault.TheVariants.{Out
 
 use minisign_base::{NamedFault, Result};
 
-// The first `A` bytes, the next `B` and the next `C`, and the bytes after them.
+// Splits off the first `A` bytes, the next `B` and the next `C`. The last result is the rest.
 pub(crate) fn split_three<const A: usize, const B: usize, const C: usize>(
     bytes: &[u8],
 ) -> Result<([u8; A], [u8; B], [u8; C], &[u8])>
@@ -28,7 +28,6 @@ pub(crate) fn split_three<const A: usize, const B: usize, const C: usize>(
     Ok((*first, *second, *third, rest))
 }
 
-// Puts three fields after the bytes.
 pub(crate) fn push_three(
     bytes: &mut Vec<u8>,
     first: &[u8],

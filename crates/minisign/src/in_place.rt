@@ -1,5 +1,5 @@
-//! Parsing the texts of public keys and signatures without allocating: decoded bytes are in arrays, and
-//! comments are slices of the text.
+//! Parses the texts of public keys and signatures without allocating: decoded bytes are in arrays,
+//! and comments are slices of the text.
 
 ghost use Rattle.std.specs.Prelude.{◌≡◌, ◌==◌, ◌⊎◌, ◌+◌, ◌≤◌, ◌<◌, [], ◌∷◌, true, false, Ok, Err, length};
 ghost use Rattle.std.specs.Prelude.{MatchResult, IfOk, IfErr};
@@ -148,7 +148,7 @@ pub fn read_signature(text: &str) -> Result<SignatureView<'_>>
     })
 }
 
-// Reads the second line of a public key text.
+// Parses the second line of a public key text.
 fn read_key_line(encoded: &str) -> Result<PublicKey>
     ensures { result ≡ require (length encoded.now == 56) PublicKeyLineLength
         (decoded_key PublicKeyLineNotBase64 (trim encoded.now)) }
@@ -159,7 +159,7 @@ fn read_key_line(encoded: &str) -> Result<PublicKey>
     decode_key(encoded.trim(), NamedFault::PublicKeyLineNotBase64)
 }
 
-// The key that a text is the base64 of; where it is not base64, this error.
+// Decodes a public key from base64. `not_base64` is the error if the text is not base64.
 fn decode_key(text: &str, not_base64: NamedFault) -> Result<PublicKey>
     ensures { result ≡ decoded_key not_base64 text.now }
 {
@@ -170,7 +170,7 @@ fn decode_key(text: &str, not_base64: NamedFault) -> Result<PublicKey>
     PublicKey::from_bytes(&record[..count])
 }
 
-// What a signature text reads as, where it lies: the comment signature stays base64.
+// A signature text parsed in place. The comment signature is still base64.
 #[derive(Drop)]
 pub(crate) struct SignatureParts<'a> {
     pub(crate) signature: Signature,
@@ -179,7 +179,7 @@ pub(crate) struct SignatureParts<'a> {
     pub(crate) comment_signature: &'a str,
 }
 
-// Reads a signature text.
+// Parses a signature text. The base64 of the comment signature is checked but not decoded.
 pub(crate) fn read_parts(text: &str) -> Result<SignatureParts<'_>>
     ensures read { IfOk result (λ p. read_signature text.now ≡ Ok
         (with_comments p.signature p.untrusted_comment.now p.trusted_comment.now
@@ -198,7 +198,8 @@ pub(crate) fn read_parts(text: &str) -> Result<SignatureParts<'_>>
     )
 }
 
-// What stands in four lines.
+// Parses the four lines of a signature text. The order of the checks decides which error is
+// returned.
 fn read_lines<'a>(
     first: &'a str,
     second: &'a str,
@@ -230,7 +231,8 @@ fn read_lines<'a>(
     })
 }
 
-// The signature that a text is the base64 of.
+// Decodes a signature from base64. The buffer has one byte more than a signature, because
+// `decode_front` needs a multiple of 3.
 fn decode_signature(text: &str) -> Result<Signature>
     ensures { MatchResult result (Encodes ReadsSignature text.now) (λ e. ((e ≡ Named SignatureNotBase64)
         × (is_base64 text.now ≡ false)) ⊎ ((e ≡ Named RecordTooShort) × (is_base64 text.now ≡ true)
@@ -243,7 +245,8 @@ fn decode_signature(text: &str) -> Result<Signature>
     Signature::from_bytes(&record[..count])
 }
 
-// The first 64 bytes of what base64 decodes to, if it has so many.
+// Returns the first 64 bytes of a comment signature in base64, or `None` if it is shorter. The
+// buffer has 66 bytes because `decode_front` needs a multiple of 3.
 fn signature_front(text: &str) -> Option<[u8; 64]>
     ensures { is_base64 text.now ≡ true → result ≡ first_64 (base64_bytes text.now) }
 {
@@ -254,7 +257,7 @@ fn signature_front(text: &str) -> Option<[u8; 64]>
     }
 }
 
-// The first 64 bytes, if there are so many.
+// Returns the first 64 bytes, or `None` if there are fewer.
 fn first_64(bytes: &[u8]) -> Option<[u8; 64]>
     ensures { result ≡ first_64 bytes.now }
 {

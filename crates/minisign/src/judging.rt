@@ -1,5 +1,5 @@
-//! The checks of a signature, in their order, for data in memory and a signature text that is parsed in
-//! place. Nothing here allocates.
+//! The checks of a signature, in their order, for data in memory and a signature text that is
+//! parsed in place. Nothing here allocates.
 
 ghost use Rattle.std.specs.Prelude.{◌≡◌, ◌+◌, ◌≤◌, if◌then◌else◌, length};
 ghost use Rattle.minisign_hash.specs.Blake2b.{blake2b_digest};
@@ -59,7 +59,8 @@ pub(crate) fn judge_view<S: Scheme>(
     Ok(())
 }
 
-// Whether the signature is accepted, over the digest of the message or over the message itself.
+// Returns true if the signature is valid for the digest of the message (prehashed) or for the
+// message itself (legacy).
 fn accepts_message<S: Scheme>(
     scheme: &S,
     pk: &PublicKey,
@@ -80,8 +81,8 @@ fn accepts_message<S: Scheme>(
     }
 }
 
-// Whether the comment signature has at least 64 bytes, and the first 64 are accepted for the signature
-// followed by the trusted comment.
+// Returns true if the comment signature has at least 64 bytes and the first 64 are a valid
+// signature of the data signature followed by the trusted comment.
 fn accepts_told_comment<S: Scheme>(
     scheme: &S,
     pk: &PublicKey,

@@ -53,9 +53,9 @@ impl KeyPair {
     /// `generate_encrypted_keypair` does with a given password. Takes 32 random bytes for the seed, then 8
     /// for the key ID, then 32 for the salt. Never prompts and writes nothing.
     ///
-    /// Errors come in this order: a password of more than 1024 bytes, which could not be typed when the key
-    /// is decrypted, `PasswordTooLong`, with no random bytes taken; a failing `random`; memory for the
-    /// derivation, some 32 MiB. An empty password is accepted.
+    /// Errors come in this order: a password of more than 1024 bytes, which could not be typed when
+    /// the key is decrypted, `PasswordTooLong`, with no random bytes taken; a failing `random`;
+    /// memory for the derivation, about 32 MiB. An empty password is accepted.
     ///
     /// ```
     /// let pair = KeyPair::generate_with_password(alloc, &scheme, &mut random, password)?;
@@ -86,8 +86,8 @@ impl KeyPair {
         ensures refused { IfErr result
             (PasswordPairFails password.now (random_call Z.RandomSource random.old random.new)) }
 
-        // The bytes still ahead of the random source are a suffix of those that were ahead before the call,
-        // whatever the result.
+        // The unread bytes of the random source are a suffix of those before the call, whatever the
+        // result.
         ensures given { HasGiven (Z.random_ahead random.old) (Z.random_ahead random.new) }
     {
         if password.len() > PASSWORD_BYTES {
@@ -136,8 +136,8 @@ pub fn sign_bytes<S: Scheme, Z: RandomSource>(
     // On success, the random source did not fail.
     ensures random_no_new_fault { OnOk result (Z.random_faults random.new ≡ Z.random_faults random.old) }
 
-    // The bytes still ahead of the random source are a suffix of those that were ahead before the call,
-    // whatever the result.
+    // The unread bytes of the random source are a suffix of those before the call, whatever the
+    // result.
     ensures drawn { HasGiven (Z.random_ahead random.old) (Z.random_ahead random.new) }
 
     // If the key is encrypted, it is rejected, and no random bytes were taken. Otherwise an error is out of
@@ -157,8 +157,8 @@ pub fn sign_bytes<S: Scheme, Z: RandomSource>(
     )
 }
 
-/// Signs all the data ahead of `data_reader`, as `sign_bytes` signs data in memory. The data is read in
-/// pieces of 64 KiB, so memory use does not grow with its size.
+/// Signs all the unread data of `data_reader`, as `sign_bytes` signs data in memory. The data is
+/// read in pieces of 64 KiB, so memory use does not grow with its size.
 ///
 /// Errors come in this order: an encrypted key, `EncryptedKeyRefused`, with nothing read from `data_reader`
 /// or `random`; a failing `data_reader`, `ReadingFailed`, with no random bytes taken; a failing `random`,
@@ -177,9 +177,10 @@ pub fn sign_reader<S: Scheme, R: Source, Z: RandomSource>(
     random: &mut Z,
     moment: u64,
 ) -> Result<String>
-    // On success, the result is the text of the signature box that signing makes for all the data that was
-    // ahead, and with a genuine key it parses to a signature box that is valid for this data, if neither
-    // comment has a line feed and the trusted comment is trimmed. The secret key is not encrypted.
+    // On success, the result is the text of the signature box that signing makes for all the unread
+    // data, and with a genuine key it parses to a signature box that is valid for this data, if
+    // neither comment has a line feed and the trusted comment is trimmed. The secret key is not
+    // encrypted.
     ensures signed { IfOk result (λ t. HasSignedDataText S.Scheme scheme.now sk.now
         (source_call R.Source data_reader.old data_reader.new) (given_comments trusted_comment.entry None
         moment) (random_call Z.RandomSource random.old random.new) (string_bytes t)) }
@@ -195,8 +196,8 @@ pub fn sign_reader<S: Scheme, R: Source, Z: RandomSource>(
         sk.now (given_comments trusted_comment.entry None moment) (source_call R.Source data_reader.old
         data_reader.new) (random_call Z.RandomSource random.old random.new)) }
 
-    // The bytes still ahead of the reader and of the random source are suffixes of those that were ahead
-    // before the call, whatever the result.
+    // The unread bytes of the reader and of the random source are suffixes of those before the
+    // call, whatever the result.
     ensures given { HasGiven (R.ahead data_reader.old) (R.ahead data_reader.new) }
     ensures drawn { HasGiven (Z.random_ahead random.old) (Z.random_ahead random.new) }
 {
@@ -252,8 +253,8 @@ pub fn sign_file<F: Files, S: Scheme, Z: RandomSource>(
         random.new) e ⊎ ((is_encrypted sk.now ≡ false) × (e ≡ Named ReadingFailed)
         × (random.new ≡ random.old))) }
 
-    // The bytes still ahead of the random source are a suffix of those that were ahead before the call,
-    // whatever the result.
+    // The unread bytes of the random source are a suffix of those before the call, whatever the
+    // result.
     ensures drawn { HasGiven (Z.random_ahead random.old) (Z.random_ahead random.new) }
 {
     if sk.is_encrypted() {
@@ -277,7 +278,8 @@ pub fn sign_file<F: Files, S: Scheme, Z: RandomSource>(
     }
 }
 
-// Signs what a file gives, of which no byte is known, with an opened key.
+// Signs the contents of an opened file with a decrypted key. The contract says nothing about the
+// file's bytes.
 fn sign_opened_file<S: Scheme, R: Source, Z: RandomSource>(
     alloc: Global,
     scheme: &S,

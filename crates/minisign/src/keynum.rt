@@ -11,7 +11,7 @@ use std::fmt;
 /// A public key: a key ID of 8 bytes and 32 key bytes.
 #[derive(Clone, Debug, Drop)]
 pub struct KeynumPK {
-    /// The key ID, which each signature of the key repeats.
+    /// The key ID, which is also part of each signature made with this key.
     pub keynum: [u8; 8],
     /// The key bytes.
     pub pk: [u8; 32],
@@ -38,7 +38,7 @@ impl Eq for KeynumPK {
 /// bytes.
 #[derive(Clone, Drop)]
 pub struct KeynumSK {
-    /// The key ID, which each signature of the key repeats.
+    /// The key ID, which is also part of each signature made with this key.
     pub keynum: [u8; 8],
     /// The secret bytes.
     pub sk: [u8; 64],
@@ -55,8 +55,8 @@ impl KeynumSK {
     }
 }
 
-/// Prints the secret: its 64 bytes in lowercase hexadecimal, each without leading zeros. Keep it out of
-/// logs.
+/// Prints the secret: its 64 bytes in lowercase hexadecimal, each without leading zeros, as the
+/// Rust crate does. Keep it out of logs.
 impl fmt::Debug for KeynumSK {
     ghost debug_output = { λ k. Some (secret_text k.sk) };
 

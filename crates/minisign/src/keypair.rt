@@ -47,7 +47,7 @@ pub struct KeyPair {
     pub sk: SecretKey,
 }
 
-// The random bytes of a sealed pair, in the order in which they are drawn.
+// The random bytes for an encrypted key pair, in the order in which they are generated.
 #[derive(Drop)]
 pub(crate) struct Drawn {
     seed: [u8; 32],
@@ -90,8 +90,8 @@ impl KeyPair {
         ensures refused { IfErr result
             (HasFailed RandomSourceFailed Z.random_faults random.old random.new) }
 
-        // The bytes still ahead of the random source are a suffix of those that were ahead before the call,
-        // whatever the result.
+        // The unread bytes of the random source are a suffix of those before the call, whatever the
+        // result.
         ensures given { HasGiven (Z.random_ahead random.old) (Z.random_ahead random.new) }
     {
         let (seed, keynum) = draw_two(random)?;
@@ -103,7 +103,7 @@ impl KeyPair {
     ///
     /// Errors come in this order: a failing `random`; memory for the bytes of both keys, with both sinks
     /// unchanged; a failing `pk_sink`; a failing `sk_sink`. The public key is written and flushed before
-    /// the secret key is begun, and the secret key is flushed at the end. A sink that failed has received a
+    /// the secret key is written, and the secret key is flushed at the end. A sink that failed has received a
     /// prefix of its key.
     pub fn generate_and_write_unencrypted_keypair<S: Scheme, Z: RandomSource, P: Sink, K: Sink>(
         alloc: Global,
@@ -139,8 +139,8 @@ impl KeyPair {
             (random_call Z.RandomSource random.old random.new) (sink_call P.Sink pk_sink.old pk_sink.new)
             (sink_call K.Sink sk_sink.old sk_sink.new)) }
 
-        // The bytes still ahead of the random source are a suffix of those that were ahead before the call,
-        // whatever the result.
+        // The unread bytes of the random source are a suffix of those before the call, whatever the
+        // result.
         ensures given { HasGiven (Z.random_ahead random.old) (Z.random_ahead random.new) }
     {
         let pair = KeyPair::generate_unencrypted_keypair(scheme, random)?;
@@ -148,16 +148,17 @@ impl KeyPair {
         Ok(pair)
     }
 
-    /// Generates a key pair whose secret key is encrypted under a password. Takes 32 random bytes for the
-    /// seed, then 8 for the key ID, then 32 for the salt, all before anything is asked.
+    /// Generates a key pair whose secret key is encrypted under a password. Takes 32 random bytes
+    /// for the seed, then 8 for the key ID, then 32 for the salt, all before the first prompt.
     ///
-    /// If no `password` is given, the prompt says what the password is for, asks for it twice, and reports
-    /// the derivation, which takes some 32 MiB of memory. If one is given, the prompt is unchanged.
-    /// `SecretKey::from_box` decrypts the secret key with the same password.
+    /// If no `password` is given, the prompt says what the password is for, asks for it twice, and
+    /// reports the derivation, which takes about 32 MiB of memory. If one is given, the prompt is
+    /// unchanged. `SecretKey::from_box` decrypts the secret key with the same password.
     ///
-    /// Errors come in this order: a failing `random`, with nothing asked; the errors of `get_password`, for
-    /// the first prompt and then for the second; two passwords that differ, `PasswordsDiffer`; memory for
-    /// the derivation. A prompt that cannot be written to is an error at each text.
+    /// Errors come in this order: a failing `random`, before the first prompt; the errors of
+    /// `get_password`, for the first prompt and then for the second; two passwords that differ,
+    /// `PasswordsDiffer`; memory for the derivation. A prompt that cannot be written to is an error
+    /// at each text.
     pub fn generate_encrypted_keypair<S: Scheme, Z: RandomSource, R: Source, W: Sink>(
         alloc: Global,
         scheme: &S,
@@ -184,8 +185,8 @@ impl KeyPair {
         ensures refused { IfErr result (SealedPairFails (random_call Z.RandomSource random.old random.new)
             (prompt_call R.Source W.Sink prompt.old prompt.new) (option_map string_bytes password)) }
 
-        // The bytes still ahead of the random source are a suffix of those that were ahead before the call,
-        // whatever the result.
+        // The unread bytes of the random source are a suffix of those before the call, whatever the
+        // result.
         ensures given { HasGiven (Z.random_ahead random.old) (Z.random_ahead random.new) }
     {
         let drawn = draw_with_salt(random)?;
@@ -198,7 +199,7 @@ impl KeyPair {
     ///
     /// Errors come in this order: those of `generate_encrypted_keypair`, and memory for the two texts, with
     /// both sinks unchanged; a failing `pk_sink`; a failing `sk_sink`. The public key is written and
-    /// flushed before the secret key is begun, and the secret key is flushed at the end. A sink that failed
+    /// flushed before the secret key is written, and the secret key is flushed at the end. A sink that failed
     /// has received a prefix of its text.
     pub fn generate_and_write_encrypted_keypair<
         S: Scheme,
@@ -248,8 +249,8 @@ impl KeyPair {
             prompt.new) (option_map string_bytes password) (sink_call P.Sink pk_sink.old pk_sink.new)
             (sink_call K.Sink sk_sink.old sk_sink.new) (option_copied comment.entry)) }
 
-        // The bytes still ahead of the random source are a suffix of those that were ahead before the call,
-        // whatever the result.
+        // The unread bytes of the random source are a suffix of those before the call, whatever the
+        // result.
         ensures given { HasGiven (Z.random_ahead random.old) (Z.random_ahead random.new) }
     {
         let pair = KeyPair::generate_encrypted_keypair(alloc, scheme, random, password, prompt)?;
@@ -258,7 +259,8 @@ impl KeyPair {
     }
 }
 
-// Seals a pair under the password, or asks for one.
+// Makes a key pair that is encrypted with the given password or, without one, with a password that
+// the prompt asks for.
 fn seal_pair<S: Scheme, R: Source, W: Sink>(
     alloc: Global,
     scheme: &S,
@@ -279,7 +281,7 @@ fn seal_pair<S: Scheme, R: Source, W: Sink>(
     }
 }
 
-// Asks for a password, and seals a pair under it.
+// Prompts for a password and makes a key pair that is encrypted with it.
 fn ask_and_seal<S: Scheme, R: Source, W: Sink>(
     alloc: Global,
     scheme: &S,
@@ -296,7 +298,7 @@ fn ask_and_seal<S: Scheme, R: Source, W: Sink>(
     seal_aloud(alloc, scheme, drawn, password.as_bytes(), prompt)
 }
 
-// Says what a password is for, and asks for it twice.
+// Says what the password is for, and prompts for it twice.
 #[tactic(auto, unfolding(crate::specs::Generation::purpose_line, crate::specs::Sealing::asking_text, crate::specs::Generation::second_question))]
 fn choose_password<R: Source, W: Sink>(alloc: Global, prompt: &mut Prompt<R, W>) -> Result<String>
     ensures chosen { IfOk result (λ password. (first : List ℕ) × (second : List ℕ) × (password_of first
@@ -315,7 +317,7 @@ fn choose_password<R: Source, W: Sink>(alloc: Global, prompt: &mut Prompt<R, W>)
     Ok(password)
 }
 
-// Seals a pair under a password, and tells of it.
+// Makes a key pair that is encrypted with the password, and reports the derivation on the prompt.
 #[tactic(auto, unfolding(crate::specs::Generation::sealing_text, crate::specs::Sealing::done_text))]
 fn seal_aloud<S: Scheme, R: Source, W: Sink>(
     alloc: Global,
@@ -383,7 +385,7 @@ fn write_texts<P: Sink, K: Sink>(
     write_parts(pk_sink, sk_sink, public.as_bytes(), secret.as_bytes())
 }
 
-// Writes both parts: the public one is flushed before the secret one is begun.
+// Writes both parts of a key pair. The public part is flushed before the secret part is written.
 fn write_parts<P: Sink, K: Sink>(
     pk_sink: &mut P,
     sk_sink: &mut K,
@@ -402,7 +404,6 @@ fn write_parts<P: Sink, K: Sink>(
     write_part(sk_sink, secret)
 }
 
-// Writes a part and flushes it.
 fn write_part<W: Sink>(sink: &mut W, part: &[u8]) -> Result<()>
     ensures taken { OnOk result (TakesPart (sink_call W.Sink sink.old sink.new) part.now) }
     ensures failed { OnErr result (FailsAtPart (sink_call W.Sink sink.old sink.new) part.now) }
@@ -411,7 +412,7 @@ fn write_part<W: Sink>(sink: &mut W, part: &[u8]) -> Result<()>
     put_and_flush(sink, part).map_err(|_| NamedFault::WritingFailed.into())
 }
 
-// The pair of a seed under a key ID, sealed with a salt under a password.
+// Makes the key pair of a seed and a key ID, with the secret key encrypted.
 pub(crate) fn make_sealed_pair<S: Scheme>(
     alloc: Global,
     scheme: &S,
@@ -433,7 +434,7 @@ pub(crate) fn make_sealed_pair<S: Scheme>(
     Ok(KeyPair { pk, sk })
 }
 
-// The random bytes of a sealed pair: a seed, a key ID, and a salt.
+// Generates the random bytes for an encrypted key pair: the seed, the key ID and the salt.
 #[tactic(auto, using(crate::proofs::Beginnings::given_behind))]
 pub(crate) fn draw_with_salt<Z: RandomSource>(random: &mut Z) -> Result<Drawn>
     ensures drawn { IfOk result
@@ -451,7 +452,7 @@ pub(crate) fn draw_with_salt<Z: RandomSource>(random: &mut Z) -> Result<Drawn>
     Ok(Drawn { seed, keynum, salt })
 }
 
-// The pair of a seed under a key ID, not sealed.
+// Makes the key pair of a seed and a key ID, with the secret key not encrypted.
 fn make_pair<S: Scheme>(scheme: &S, seed: &[u8; 32], keynum: [u8; 8]) -> KeyPair
     ensures public { result.pk ≡ public_key_of (S.public_of scheme.now) seed.now keynum }
     ensures secret { result.sk ≡ unsealed_key keynum (secret_of (S.public_of scheme.now) seed.now) }

@@ -1,5 +1,5 @@
-//! Texts of keys that are made from their parts, for example to change a password or to write a public key
-//! again.
+//! Makes key texts from the parts of keys, for example to change a password or to write a public
+//! key again.
 
 ghost use Rattle.std.specs.Prelude.{◌≡◌, ◌≤◌, ◌+◌, List, ℕ, Some, Ok, IfOk, IfErr, length};
 ghost use Rattle.std.specs.Str.Iter.{LacksByte};
@@ -17,8 +17,8 @@ use crate::secret_key_box::SecretKeyBox;
 use minisign_base::Result;
 use std::alloc::Global;
 
-/// How `make_secret_key` encrypts a key, with C layout. The limits are those of libsodium's
-/// `crypto_pwhash_scryptsalsa208sha256`.
+/// The salt and the limits with which `make_secret_key` encrypts a key, with C layout. The limits are
+/// those of libsodium's `crypto_pwhash_scryptsalsa208sha256`.
 #[repr(C)]
 #[derive(Clone, Copy)]
 pub struct Sealing {
@@ -75,7 +75,7 @@ pub fn make_secret_key(
     }
 }
 
-// The text of a key that is sealed under a password.
+// Encrypts the key and returns its text.
 fn make_sealed(
     alloc: Global,
     sk: SecretKey,

@@ -1,11 +1,11 @@
-//! A source that never fails: the bytes of a slice.
+//! `MemorySource`, a source that reads from a slice and never fails.
 
 ghost use Rattle.std.specs.Prelude.{◌≡◌, true, Some, length, ⊤};
 
 use minisign_base::devices::DeviceFault;
 use minisign_base::devices::sources::{Rereader, Source};
 
-// The bytes of a slice. This source never fails, and its beginning is marked at first.
+// A source that reads from a slice. It never fails. The beginning of the slice is marked at first.
 #[derive(Drop)]
 pub(crate) struct MemorySource<'a> {
     rest: &'a [u8],
@@ -13,7 +13,6 @@ pub(crate) struct MemorySource<'a> {
 }
 
 impl<'a> MemorySource<'a> {
-    // All of the slice is ahead.
     pub(crate) fn new(bytes: &'a [u8]) -> MemorySource<'a>
         ensures ahead { ⟦<MemorySource<'a> as Source>⟧.ahead result ≡ Some bytes.now }
     {

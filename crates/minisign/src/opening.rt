@@ -109,11 +109,11 @@ impl SecretKey {
         SecretKey::open_box(alloc, sk_box, password, prompt, derivation)
     }
 
-    /// Parses the text of an encrypted key and decrypts it with the password, as `from_box` does, in a
-    /// fraction of the memory: only every k-th of scrypt's rows is kept, for k from 1 on, and the others
-    /// are computed again when they are needed. The result and the errors are the same for every k; the
-    /// time grows with k. Memory for the kept rows is allocated once: 128 * 8 bytes for each of N / k rows,
-    /// rounded up.
+    /// Parses the text of an encrypted key and decrypts it with the password, as `from_box` does,
+    /// in a fraction of the memory: only every k-th of scrypt's rows is kept, k at least 1, and the
+    /// others are computed again when they are needed. The result and the errors are the same for
+    /// every k; the time grows with k. Memory for the kept rows is allocated once: 128 * 8 bytes
+    /// for each of N / k rows, rounded up.
     pub fn from_box_keeping<R: Source, W: Sink>(
         alloc: Global,
         sk_box: SecretKeyBox,
@@ -123,7 +123,7 @@ impl SecretKey {
     ) -> Result<SecretKey>
         requires kept { 1 ≤ k }
 
-        // For every k from 1 on, with every k-th row of scrypt kept, the text is decrypted as
+        // For every k of at least 1, with every k-th row of scrypt kept, the text is decrypted as
         // `SecretKey::from_box_within` promises, without a bound on the work.
         ensures opens { IsOpening (prompt_call R.Source W.Sink prompt.old prompt.new)
             (option_map string_bytes password) sk_box None result }
@@ -179,9 +179,9 @@ impl SecretKey {
         SecretKey::open_box(alloc, sk_box, password, prompt, derivation)
     }
 
-    /// Parses the text of an encrypted key and decrypts it with the password, as `from_box_within` does,
-    /// with only every k-th of scrypt's rows kept, for k from 1 on, as in `from_box_keeping`. N is at most
-    /// 2^20, so with k = 16 no key needs more than 64 MiB for rows.
+    /// Parses the text of an encrypted key and decrypts it with the password, as `from_box_within`
+    /// does, with only every k-th of scrypt's rows kept, k at least 1, as in `from_box_keeping`. N
+    /// is at most 2^20, so with k = 16 no key needs more than 64 MiB for rows.
     ///
     /// The result, the errors and their order are those of `from_box_within` for every k.
     pub fn from_box_keeping_within<R: Source, W: Sink>(
@@ -194,7 +194,7 @@ impl SecretKey {
     ) -> Result<SecretKey>
         requires kept { 1 ≤ k }
 
-        // For every k from 1 on, with every k-th row of scrypt kept, the text is decrypted as
+        // For every k of at least 1, with every k-th row of scrypt kept, the text is decrypted as
         // `SecretKey::from_box_within` promises.
         ensures opens { IsOpening (prompt_call R.Source W.Sink prompt.old prompt.new)
             (option_map string_bytes password) sk_box (Some max_p) result }
@@ -251,13 +251,14 @@ impl SecretKey {
         }
     }
 
-    /// Decrypts a parsed key with a password, within a bound on the work and with every k-th of scrypt's
-    /// rows kept, for k from 1 on, as `from_box_keeping_within` does with the key's text. Never prompts.
+    /// Decrypts a parsed key with a password, within a bound on the work and with every k-th of
+    /// scrypt's rows kept, k at least 1, as `from_box_keeping_within` does with the key's text.
+    /// Never prompts.
     ///
-    /// Errors come in this order: a key that was never encrypted, `KeyNotEncrypted`; a key derivation other
-    /// than scrypt, `UnsupportedEncryptionAlgorithm`; limits, `ParametersTooHigh` or `InvalidParameters`; p
-    /// above `max_p`, `WorkTooHigh`; a checksum that does not match after decryption, `WrongPassword`. The
-    /// allocation for the rows may fail, after all of these checks but the last.
+    /// Errors come in this order: a key that was never encrypted, `KeyNotEncrypted`; a key
+    /// derivation other than scrypt, `UnsupportedEncryptionAlgorithm`; limits, `ParametersTooHigh`
+    /// or `InvalidParameters`; p above `max_p`, `WorkTooHigh`; a failed allocation for the rows; a
+    /// checksum that does not match after decryption, `WrongPassword`.
     pub fn open_keeping_within(
         self,
         alloc: Global,
@@ -279,10 +280,11 @@ impl SecretKey {
         self.open_with(alloc, password, Derivation { bound, k })
     }
 
-    /// Returns the memory that `open_in_place` needs if every k-th of scrypt's rows is kept, for k from 1
-    /// on: a number of 32-bit words and a number of bytes. They make 1 KiB for each kept row, of which
-    /// there are at most 2^20 / k, for three more, and for each of the p parts. Both are zero if the key
-    /// needs no password, or if its limits are rejected. Does not allocate.
+    /// Returns the memory that `open_in_place` needs if every k-th of scrypt's rows is kept, k at
+    /// least 1: a number of 32-bit words and a number of bytes. Together they are 1 KiB for each
+    /// kept row, for three more rows, and for each of the p parts. At most 2^20 / k rows are kept,
+    /// rounded up. Both numbers are zero if the key needs no password, or if its limits are
+    /// rejected. Does not allocate.
     pub fn opening_memory(&self, k: u64) -> (u64, u64)
         requires { 1 ≤ k }
 
@@ -337,7 +339,7 @@ impl SecretKey {
         }
     }
 
-    // Reads a sealed key and opens it.
+    // Parses an encrypted key and decrypts it.
     fn open_box<R: Source, W: Sink>(
         alloc: Global,
         sk_box: SecretKeyBox,
@@ -355,7 +357,7 @@ impl SecretKey {
         sk.open(alloc, password.as_deref(), prompt, derivation)
     }
 
-    // Opens the sealed key that a text reads as, with a password that is passed in or asked for.
+    // Decrypts a parsed key with a password that is given or asked for.
     pub(crate) fn open<R: Source, W: Sink>(
         self,
         alloc: Global,
@@ -376,7 +378,7 @@ impl SecretKey {
         }
     }
 
-    // Tests that the key is sealed, and by scrypt.
+    // Returns an error unless the key is encrypted with scrypt.
     pub(crate) fn test_sealed(&self) -> Result<()>
         ensures { result ≡ without_value (sealed_by_scrypt self.now) }
     {
@@ -389,7 +391,7 @@ impl SecretKey {
         Ok(())
     }
 
-    // Asks for a password, and opens a sealed key with it.
+    // Prompts for a password and decrypts the key with it.
     fn open_asking<R: Source, W: Sink>(
         self,
         alloc: Global,
@@ -408,7 +410,7 @@ impl SecretKey {
         self.open_telling(alloc, password.as_bytes(), prompt, derivation)
     }
 
-    // Opens a sealed key, and says so before the derivation and after it.
+    // Decrypts the key, and reports on the prompt before and after the derivation.
     #[tactic(auto, using(crate::proofs::Openings::opened_so))]
     fn open_telling<R: Source, W: Sink>(
         self,
@@ -429,7 +431,7 @@ impl SecretKey {
         Ok(sk)
     }
 
-    // Says that the key was derived, and only then tests that opening restored the checksum.
+    // Reports the end of the derivation, and only then checks the decrypted checksum.
     fn finish_telling<R: Source, W: Sink>(&self, prompt: &mut Prompt<R, W>) -> Result<()>
         ensures ended { ConversationEnds (prompt_call R.Source W.Sink prompt.old prompt.new)
             (Say done_text ∷ Test (result_err (restored_key self.now)) ∷ []) result }
@@ -439,7 +441,7 @@ impl SecretKey {
         self.test_restored()
     }
 
-    // Opens a sealed key with a password that was passed in.
+    // Decrypts a key with a given password.
     pub(crate) fn open_with(
         self,
         alloc: Global,
@@ -456,7 +458,7 @@ impl SecretKey {
         Ok(sk)
     }
 
-    // Tests that opening restored the checksum.
+    // Returns `WrongPassword` if the checksum does not match after decryption.
     pub(crate) fn test_restored(&self) -> Result<()>
         ensures { MatchResult result (λ _. restored_key self.now ≡ Ok self.now)
             (λ e. restored_key self.now ≡ Err e) }
@@ -467,8 +469,8 @@ impl SecretKey {
         Ok(())
     }
 
-    // Seals a key that is not sealed, with every k-th row of scrypt kept. Limits that are not
-    // allowed are rejected before anything is derived.
+    // Encrypts an unencrypted key, with every k-th row of scrypt kept. Limits that are not allowed
+    // are rejected before anything is derived.
     pub(crate) fn seal_by(
         self,
         alloc: Global,
@@ -490,9 +492,9 @@ impl SecretKey {
         Ok(sk)
     }
 
-    // Xors the last 104 bytes of the record with the stream under the password: opens a sealed key,
-    // and seals an opened one. Limits that are not allowed are rejected before anything is derived,
-    // and then a parallelization above the bound; neither takes memory.
+    // Xors the last 104 bytes of the record with the stream for the password: decrypts an encrypted
+    // key, and encrypts a decrypted one. Limits that are not allowed are rejected first, then a
+    // parallelization above the bound, both before anything is allocated or derived.
     #[tactic(auto, using(crate::proofs::SealedParts::restored_key))]
     pub(crate) fn apply_stream(
         &mut self,
@@ -514,8 +516,8 @@ impl SecretKey {
         Ok(())
     }
 
-    // Xors the last 104 bytes of the record, as one list. Once more with the same stream restores
-    // them.
+    // Xors the last 104 bytes of the record with the stream. A second call with the same stream
+    // restores them.
     pub(crate) fn xor_keynum(&mut self, stream: &[u8; 104])
         ensures xored { self.new ≡ key_xor self.old stream.now }
         ensures restores { key_xor self.new stream.now ≡ self.old }
@@ -527,7 +529,7 @@ impl SecretKey {
         xor_bytes(&mut self.keynum_sk.chk, checksum);
     }
 
-    // Opens a key that is sealed by scrypt.
+    // Decrypts a key that is encrypted with scrypt.
     fn open_sealed_in_place(
         self,
         password: &[u8],
@@ -550,8 +552,7 @@ impl SecretKey {
         Ok(sk)
     }
 
-    // Xors the last 104 bytes of the record with the stream under the password, as `apply_stream`
-    // does.
+    // Does what `apply_stream` does, in the caller's memory.
     fn apply_stream_in_place(
         &mut self,
         password: &[u8],
@@ -576,7 +577,6 @@ impl SecretKey {
     }
 }
 
-// Asks for the password.
 #[tactic(auto, unfolding(crate::specs::Sealing::asking_text))]
 fn ask_password<R: Source, W: Sink>(alloc: Global, prompt: &mut Prompt<R, W>) -> Result<String>
     ensures asked { IfOk result (λ password. (bytes : List ℕ) × (password_of bytes
@@ -589,7 +589,6 @@ fn ask_password<R: Source, W: Sink>(alloc: Global, prompt: &mut Prompt<R, W>) ->
     get_password(alloc, prompt, "Password: ")
 }
 
-// Says that the key is being derived.
 #[tactic(auto, unfolding(crate::specs::Sealing::deriving_text))]
 fn say_deriving<R: Source, W: Sink>(prompt: &mut Prompt<R, W>) -> Result<()>
     ensures ended { StepEnds (prompt_call R.Source W.Sink prompt.old prompt.new)
@@ -598,7 +597,6 @@ fn say_deriving<R: Source, W: Sink>(prompt: &mut Prompt<R, W>) -> Result<()>
     prompt.say("Deriving a key from the password and decrypting the secret key... ")
 }
 
-// Says that the key was derived.
 #[tactic(auto, unfolding(crate::specs::Sealing::done_text))]
 fn say_done<R: Source, W: Sink>(prompt: &mut Prompt<R, W>) -> Result<()>
     ensures ended { StepEnds (prompt_call R.Source W.Sink prompt.old prompt.new)
@@ -607,7 +605,7 @@ fn say_done<R: Source, W: Sink>(prompt: &mut Prompt<R, W>) -> Result<()>
     prompt.say("done\n")
 }
 
-// The greatest p with which at most so many rows are made, cut to 32 bits.
+// Returns the greatest p for which N * p is at most `most_rows`, limited to 32 bits.
 fn times(most_rows: u64, params: &Params) -> u32
     ensures { nat_lt result params.now.p ≡ nat_lt most_rows (2 ^ params.now.n_log2 * params.now.p) }
 {

@@ -46,7 +46,6 @@ pub fn write_comment_message(signature: &[u8; 64], trusted: &[u8], message: &mut
     fill(whole, signature, trusted);
 }
 
-// Fills the buffer with both, one after the other.
 fn fill(to: &mut [u8], signature: &[u8; 64], trusted: &[u8])
     requires { length to.old ≡ 64 + length trusted.now }
     ensures { to.new ≡ signature.now ++ trusted.now }
@@ -97,8 +96,8 @@ impl SignatureBox {
         &self.signature
     }
 
-    /// Returns the trusted comment and the whole comment signature, however long its text is; a bare
-    /// signature has neither.
+    /// Returns the trusted comment and the whole comment signature, which may have any length.
+    /// Returns `None` for a bare signature.
     pub fn signed_comment(&self) -> Option<(&str, &[u8])>
         ensures { MatchOption self.now.comments (result ≡ None)
             (λ c. IsSomeAnd result

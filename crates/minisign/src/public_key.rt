@@ -1,4 +1,4 @@
-//! A public key, which verifies what its secret key signed.
+//! Public keys, which verify signatures: their fields, their bytes and their text.
 
 ghost use Rattle.std.specs.Prelude.{◌≡◌, ◌<◌, ◌+◌, Ok, length, string_bytes, MatchResult, IsOk, IfOk, IfErr};
 ghost use Rattle.std.specs.Prelude.{bytes_eq};
@@ -88,9 +88,9 @@ impl PublicKey {
     /// UTF-8, `NotUtf8`; the errors of `from_box`. An allocation may fail at any time. No contract says
     /// that the text is that of the named file.
     pub fn from_file<F: Files>(files: &F, alloc: Global, path: &str) -> Result<PublicKey>
-        // On success, the result was parsed from some text, as the call that takes a text parses it. An
-        // error is out of memory, a file that could not be opened or read, a file that is not UTF-8, or a
-        // text that is rejected. No contract says that the text is that of the named file.
+        // On success, the result is what parsing some text gives. An error is out of memory, a file
+        // that could not be opened or read, a file that is not UTF-8, or the error of parsing some
+        // text. No contract says that the text is that of the named file.
         ensures { IsReadFromFile read_public_key result }
     {
         let text = read_text_file(files, alloc, path)?;

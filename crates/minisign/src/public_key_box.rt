@@ -1,4 +1,4 @@
-//! The text of a public key.
+//! `PublicKeyBox`, the text of a public key.
 
 ghost use Rattle.std.specs.Prelude.{◌≡◌, Some, IfOk, IfErr, string_bytes};
 ghost use Rattle.minisign_base.specs.Fault.{Named};
@@ -65,7 +65,6 @@ impl PublicKeyBox {
         PublicKey::from_box(alloc, self)
     }
 
-    // The text.
     pub(crate) fn as_str(&self) -> &str
         ensures { result.now ≡ self.now }
     {

@@ -1,4 +1,4 @@
-//! Reading data to its end: hashed while it is read, kept in memory, or taken as a text.
+//! Reads data to its end, and hashes it, keeps it in memory or checks that it is UTF-8.
 
 ghost use Rattle.std.specs.Prelude.{◌≡◌, ℕ, ◌<◌, List, ◌++◌, false, length, string_bytes, vec_len};
 ghost use Rattle.std.specs.Prelude.{MatchResult, IfOk, IfErr};
@@ -17,11 +17,11 @@ use std::alloc::Global;
 use std::fs;
 use std::rt::Files;
 
-// How many bytes a read asks for.
+// The size of the read buffer in bytes.
 const PIECE_BYTES: usize = 65536;
 
-// The text that the file at this path holds. A file that cannot be opened is rejected as one that
-// cannot be read.
+// Reads the file as text. If the file cannot be opened, the error is the one for a file that cannot
+// be read.
 pub(crate) fn read_text_file<F: Files>(files: &F, alloc: Global, path: &str) -> Result<String>
     ensures { IfErr result IsTextFileFault }
 {
@@ -31,11 +31,11 @@ pub(crate) fn read_text_file<F: Files>(files: &F, alloc: Global, path: &str) -> 
     }
 }
 
-/// Reads all that is ahead and returns it as a text. Errors: a failing source (`ReadingFailed`), bytes that
-/// are not UTF-8 (`NotUtf8`), and a failed allocation, which may come at any time.
+/// Reads all unread data and returns it as text. The errors are a failing source (`ReadingFailed`),
+/// bytes that are not UTF-8 (`NotUtf8`), and a failed allocation, which may come at any time.
 pub fn read_text<S: Source>(alloc: Global, source: &mut S) -> Result<String>
-    // On success, the text is all the bytes that were ahead, and these are UTF-8. An error is out of
-    // memory, and the source did not fail; or the source failed; or the bytes that were ahead are not
+    // On success, the text consists of all the unread bytes, and these are UTF-8. An error is out
+    // of memory, and the source did not fail; or the source failed; or the unread bytes are not
     // UTF-8.
     ensures text { IfOk result (λ t. ReadsWhole S.Source source.old source.new (string_bytes t)) }
     ensures refused { IfErr result (IsTextFault S.Source source.old source.new) }
@@ -48,12 +48,13 @@ pub fn read_text<S: Source>(alloc: Global, source: &mut S) -> Result<String>
     }
 }
 
-/// Reads all that is ahead, in pieces of 64 KiB, and returns it. Errors: a failing source, and a failed
-/// allocation, for the buffer or for the data. Some bytes may have been read by then.
+/// Reads all unread data, in pieces of 64 KiB, and returns it. The errors are a failing source, and
+/// a failed allocation for the buffer or for the data. Some data may have been read before the
+/// error.
 pub fn read_to_end<S: Source>(alloc: Global, source: &mut S) -> Result<Vec<u8>>
-    // On success, the result is all the bytes that were ahead. An error is out of memory, and the source
-    // did not fail; or a read failed, and the source's error count rose. A place that was marked is still
-    // marked.
+    // On success, the result consists of all the unread bytes. An error is out of memory, and the
+    // source did not fail; or a read failed, and the source's error count rose. A place that was
+    // marked is still marked.
     ensures bytes { IfOk result (λ v. ReadsWhole S.Source source.old source.new v.items) }
     ensures refused { IfErr result (IsReadFault S.Source source.old source.new) }
     ensures given { HasGiven (S.ahead source.old) (S.ahead source.new) }
@@ -65,8 +66,8 @@ pub fn read_to_end<S: Source>(alloc: Global, source: &mut S) -> Result<Vec<u8>>
     Ok(kept)
 }
 
-// The Blake2b digest of 64 bytes of all that is ahead, which is read in pieces, so that memory does
-// not grow with it.
+// Returns the 64-byte Blake2b digest of all unread data. The data is read in pieces, so memory use
+// does not grow with its size.
 pub(crate) fn prehash<S: Source>(alloc: Global, source: &mut S) -> Result<[u8; 64]>
     ensures digest { IfOk result (λ d. (message : List ℕ) × ReadsWhole S.Source source.old source.new message
         × (d ≡ blake2b_digest 64 message)) }
@@ -82,7 +83,7 @@ pub(crate) fn prehash<S: Source>(alloc: Global, source: &mut S) -> Result<[u8; 6
     }
 }
 
-// The digest of 64 bytes of what the hash was fed.
+// Returns the 64-byte digest of the data that was hashed.
 pub(crate) fn finished(hasher: &mut Blake2b) -> [u8; 64]
     requires { output_length hasher.old ≡ 64 }
     ensures { (message : List ℕ) → IsFed hasher.old message → result ≡ blake2b_digest 64 message }
@@ -92,7 +93,7 @@ pub(crate) fn finished(hasher: &mut Blake2b) -> [u8; 64]
     digest
 }
 
-// Feeds all that is ahead to the hash, through the buffer.
+// Hashes all unread data, through the buffer.
 fn feed<S: Source>(
     source: &mut S,
     buf: &mut [u8],
@@ -116,7 +117,7 @@ fn feed<S: Source>(
     }
 }
 
-// Adds all that is ahead, through the buffer.
+// Appends all unread data to `kept`, through the buffer.
 fn keep<S: Source>(source: &mut S, buf: &mut [u8], kept: &mut Vec<u8>) -> Result<()>
     requires { 0 < length buf.old }
     ensures kept { MatchResult result (λ _. (message : List ℕ) × ReadsWhole S.Source source.old source.new
@@ -137,7 +138,6 @@ fn keep<S: Source>(source: &mut S, buf: &mut [u8], kept: &mut Vec<u8>) -> Result
     }
 }
 
-// A buffer for pieces, of zeros.
 pub(crate) fn piece_buffer(alloc: Global) -> Result<Vec<u8>>
     ensures len { IfOk result (λ v. vec_len v ≡ PIECE_BYTES) }
     ensures refused { IfErr result (λ e. e ≡ Named OutOfMemory) }
@@ -145,7 +145,6 @@ pub(crate) fn piece_buffer(alloc: Global) -> Result<Vec<u8>>
     zeros(alloc, PIECE_BYTES)
 }
 
-// A buffer of zeros.
 pub(crate) fn zeros(alloc: Global, len: usize) -> Result<Vec<u8>>
     ensures len { IfOk result (λ v. vec_len v ≡ len) }
     ensures refused { IfErr result (λ e. e ≡ Named OutOfMemory) }

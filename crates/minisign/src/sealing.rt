@@ -16,21 +16,20 @@ use minisign_base::{NamedFault, Params, Result};
 use minisign_kdf::{clear_memory, scrypt_in, scrypt_keeping};
 use std::alloc::Global;
 
-// The greatest memory limit of a key that is sealed or opened, in bytes.
+// The greatest memory limit with which keys are encrypted or decrypted, in bytes.
 const MEMLIMIT_MAX: u64 = 1073741824;
 
-// The logarithm to base 2 of the greatest cost of a key that is sealed or opened.
+// The base-2 logarithm of the greatest cost N with which keys are encrypted or decrypted.
 const N_LOG2_MAX: u8 = 20;
 
-// How much work and memory a derivation may take: within a bound on the parallelization, where there
-// is one, and with every k-th row of scrypt kept, for k from 1 on.
+// The bound on scrypt's parallelization p, if there is one, and which rows scrypt keeps: every
+// k-th, k at least 1.
 #[derive(Clone, Copy)]
 pub(crate) struct Derivation {
     pub(crate) bound: Option<u32>,
     pub(crate) k: u64,
 }
 
-// Xors each byte with that of the stream.
 pub(crate) fn xor_bytes(bytes: &mut [u8], stream: &[u8])
     requires { length bytes.old ≡ length stream.now }
     ensures { bytes.new ≡ zip2 bit_xor bytes.old stream.now }
@@ -40,7 +39,7 @@ pub(crate) fn xor_bytes(bytes: &mut [u8], stream: &[u8])
     }
 }
 
-// The stream under the password.
+// Derives the stream for the password.
 #[tactic(auto, using(crate::proofs::SealingLimits::derived_stream))]
 pub(crate) fn derive_stream(
     alloc: Global,
@@ -68,7 +67,7 @@ pub(crate) fn derive_stream(
     Ok(stream)
 }
 
-// The stream under the password.
+// Derives the stream for the password in the caller's memory, which is all zero afterwards.
 #[tactic(auto, using(crate::proofs::SealingLimits::derived_stream))]
 pub(crate) fn derive_stream_in_place(
     sk: &SecretKey,
@@ -109,8 +108,8 @@ pub(crate) fn derive_stream_in_place(
     }
 }
 
-// The parameters that the key's limits lead to, where these are allowed and p is within the bound,
-// where there is one.
+// Returns the scrypt parameters for the key's limits, if these are allowed and p is within the
+// bound.
 #[tactic(auto, using(crate::proofs::SealingLimits::allowed_numbers))]
 pub(crate) fn bounded_params(sk: &SecretKey, bound: Option<u32>) -> Result<Params>
     ensures { MatchResult result (λ v. (numbers (from_le_bytes w64 sk.now.memory_limit)
@@ -129,7 +128,7 @@ pub(crate) fn bounded_params(sk: &SecretKey, bound: Option<u32>) -> Result<Param
     }
 }
 
-// The parameters that the key's limits lead to, where sealing and opening allow them.
+// Returns the scrypt parameters for the key's limits, if these are allowed.
 pub(crate) fn key_params(sk: &SecretKey) -> Result<Params>
     ensures { result ≡ key_limits sk.now }
 {

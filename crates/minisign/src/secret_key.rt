@@ -1,4 +1,4 @@
-//! A secret key, which signs: its parts, its bytes and its text.
+//! Secret keys, which sign: their fields, their bytes and their text.
 
 ghost use Rattle.std.specs.Prelude.{◌≡◌, Some, Ok, IfOk, IfErr, bytes_eq, ◌+◌, length, IfSome, List, ℕ};
 ghost use Rattle.std.specs.Cmp.{on_per, on_equiv, partial_equiv_from_equiv};
@@ -29,9 +29,10 @@ use std::alloc::Global;
 use std::fmt;
 use std::marker::Model;
 
-/// A secret key: an algorithm of 2 bytes, the key derivation of 2, the checksum's algorithm of 2, a salt of
-/// 32, the two limits of the key derivation of 8 each, and then a key ID of 8, a secret of 64 and a
-/// checksum of 32. The last three are encrypted if the key is. The two algorithms are kept as they were
+/// A secret key, a record of 158 bytes: the algorithm (2 bytes), the key derivation (2), the
+/// algorithm of the checksum (2), the salt (32), the operations limit (8) and the memory limit (8)
+/// of the key derivation, the key ID (8), the secret bytes (64) and the checksum (32). In an
+/// encrypted key, the last three fields are encrypted. The two algorithms are stored as they were
 /// read and never checked.
 #[derive(Clone, Drop)]
 pub struct SecretKey {
@@ -67,7 +68,7 @@ impl SecretKey {
     ghost use Rattle.minisign.specs.KeyTexts.{read_secret_key_bytes};
     ghost use Rattle.minisign.specs.Sealing.{checksum_of, is_encrypted};
 
-    // Computes the checksum of the other fields.
+    // Computes the checksum, which covers the algorithm, the key ID and the secret bytes.
     pub(crate) fn read_checksum(&self) -> [u8; 32]
         ensures { result ≡ checksum_of self.now }
     {
@@ -88,36 +89,35 @@ impl SecretKey {
         fixed_time_eq(&self.keynum_sk.chk, &self.read_checksum())
     }
 
-    // Writes the checksum of the other fields.
     pub(crate) fn write_checksum(&mut self)
         ensures { self.new ≡ record self.old { checksum = checksum_of self.old } }
     {
         self.keynum_sk.chk = self.read_checksum();
     }
 
-    /// Returns the key ID, 8 bytes; of an encrypted key, the encrypted bytes.
+    /// Returns the 8 bytes of the key ID. If the key is encrypted, they are encrypted too.
     pub fn keynum(&self) -> &[u8]
         ensures { result.now ≡ self.now.keynum }
     {
         &self.keynum_sk.keynum[..]
     }
 
-    /// Returns the key ID as an array; of an encrypted key, the encrypted bytes.
+    /// Returns the key ID as an array. If the key is encrypted, its bytes are encrypted too.
     pub fn key_id(&self) -> &[u8; 8]
         ensures { result.now ≡ self.now.keynum }
     {
         &self.keynum_sk.keynum
     }
 
-    /// Returns the 64 secret bytes: of a decrypted key, the 32 bytes of the seed and the 32 of its public
-    /// key; of an encrypted key, the encrypted bytes.
+    /// Returns the 64 secret bytes: the 32 bytes of the seed and the 32 bytes of its public key. If
+    /// the key is encrypted, they are encrypted too.
     pub fn secret(&self) -> &[u8; 64]
         ensures { result.now ≡ self.now.secret }
     {
         &self.keynum_sk.sk
     }
 
-    /// Returns the key derivation that the key names, which is two zero bytes for a key that was never
+    /// Returns the two bytes that name the key derivation. They are zero for a key that was never
     /// encrypted.
     pub fn key_derivation(&self) -> &[u8; 2]
         ensures { result.now ≡ self.now.kdf }
@@ -125,7 +125,7 @@ impl SecretKey {
         &self.kdf_alg
     }
 
-    /// Returns the 32 bytes of the checksum; of an encrypted key, the encrypted bytes.
+    /// Returns the 32 bytes of the checksum. If the key is encrypted, they are encrypted too.
     pub fn checksum(&self) -> &[u8; 32]
         ensures { result.now ≡ self.now.checksum }
     {
@@ -245,7 +245,6 @@ impl SecretKey {
         }
     }
 
-    // Writes the key as a text with this comment.
     #[tactic(auto, unfolding(crate::specs::KeyTexts::secret_key_text, crate::specs::Texts::untrusted_comment_label))]
     fn write_box(&self, alloc: Global, comment: &str) -> Result<SecretKeyBox>
         ensures text { IfOk result (λ b. b ≡ secret_key_text (Some comment.now) self.now) }
@@ -287,7 +286,7 @@ impl SecretKey {
         sk
     }
 
-    // Names the key derivation, its salt and its limits.
+    // Returns the key with scrypt as its key derivation and with this salt and these limits.
     #[tactic(auto, unfolding(crate::specs::Generation::key_to_seal))]
     pub(crate) fn with_limits(self, salt: [u8; 32], opslimit: u64, memlimit: u64) -> SecretKey
         ensures named { (keynum secret : List ℕ) → self ≡ unsealed_key keynum secret
@@ -319,8 +318,8 @@ impl Eq for SecretKey {
     ghost laws = { on_equiv (λ k. k.secret) nat_list_eq_equiv };
 }
 
-/// Prints the secret: its 64 bytes in lowercase hexadecimal, each without leading zeros. Keep it out of
-/// logs.
+/// Prints the secret: its 64 bytes in lowercase hexadecimal, each without leading zeros, as the
+/// Rust crate does. Keep it out of logs.
 impl fmt::Debug for SecretKey {
     ghost use Rattle.minisign.specs.Records.{secret_text};
 

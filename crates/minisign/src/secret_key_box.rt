@@ -1,4 +1,4 @@
-//! The text of a secret key.
+//! `SecretKeyBox`, the text of a secret key.
 
 ghost use Rattle.std.specs.Prelude.{◌≡◌, Some, string_bytes, IfOk, IfErr};
 ghost use Rattle.minisign_base.specs.Fault.{Named};
@@ -56,7 +56,6 @@ impl SecretKeyBox {
         SecretKeyBox::from_string(alloc, self.as_str())
     }
 
-    // The text, lent.
     pub(crate) fn as_str(&self) -> &str
         ensures { result.now ≡ self.now }
     {

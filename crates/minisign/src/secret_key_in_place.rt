@@ -1,4 +1,4 @@
-//! Parsing the text of a secret key without allocating.
+//! Parses the text of a secret key without allocating.
 
 ghost use Rattle.std.specs.Prelude.{◌≡◌};
 ghost use Rattle.minisign_base.specs.declared.faults.NamedFault.TheVariants.{SecretKeyNotBase64};
@@ -29,7 +29,8 @@ pub fn read_secret_key(text: &str) -> Result<[u8; 158]>
     decode_record(encoded)
 }
 
-// The record that the second line of a text is the base64 of, whatever stands after it.
+// Decodes the record from the second line and ignores later bytes. The buffer has one byte more
+// than a record, because `decode_front` needs a multiple of 3.
 fn decode_record(encoded: &str) -> Result<[u8; 158]>
     ensures { require (is_base64 encoded.now) SecretKeyNotBase64
         (read_secret_key_bytes (base64_bytes encoded.now))

@@ -1,4 +1,4 @@
-//! A signature as it is stored: algorithm, key ID, signature.
+//! Signatures as they are stored: algorithm, key ID and signature.
 
 ghost use Rattle.std.specs.Prelude.{◌≡◌, Some, ◌<◌, ◌++◌, length, vec_len, replicate, MatchResult, IfOk};
 ghost use Rattle.std.specs.Prelude.{IfErr};
@@ -73,7 +73,7 @@ impl Signature {
 }
 
 impl Signature {
-    // The 74 bytes.
+    // Returns the 74 bytes of the record.
     fn stored(&self) -> [u8; 74]
         ensures { result ≡ signature_bytes self.now }
     {
@@ -86,7 +86,8 @@ impl Signature {
         bytes
     }
 
-    // What a comment signature is over: the signature followed by the trusted comment.
+    // Returns the comment message, which the comment signature signs: the signature followed by the
+    // trusted comment.
     pub(crate) fn with_comment(&self, alloc: Global, trusted_comment: &str) -> Result<Vec<u8>>
         ensures bytes { IfOk result (λ v. v.items ≡ self.now.signature ++ trusted_comment.now) }
         ensures each { IfOk result (λ v. IsBytes v.items) }
@@ -96,7 +97,6 @@ impl Signature {
     }
 }
 
-// The two lists, one after the other.
 fn joined(alloc: Global, front: &[u8], back: &[u8]) -> Result<Vec<u8>>
     ensures bytes { IfOk result (λ v. v.items ≡ front.now ++ back.now) }
     ensures each { IfOk result (λ v. IsBytes v.items) }

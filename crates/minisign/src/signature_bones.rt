@@ -1,4 +1,4 @@
-//! A signature without comments.
+//! `SignatureBones`, a signature without comments.
 
 ghost use Rattle.std.specs.Prelude.{◌≡◌, ◌<◌, ◌≤◌, ◌⊎◌, length, take, vec_len, IfOk, IfErr};
 ghost use Rattle.minisign_base.specs.Fault.{Named};

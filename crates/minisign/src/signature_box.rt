@@ -1,4 +1,4 @@
-//! A signature with its comments.
+//! `SignatureBox`, a signature with its comments.
 
 ghost use Rattle.std.specs.Prelude.{◌≡◌, ◌≢◌, ◌||◌, ◌+◌, ◌≤◌, [], ◌∷◌, ◌++◌, List, ℕ, bytes_eq, false, None};
 ghost use Rattle.std.specs.Prelude.{Some, Ok, Err, length, string_bytes, MatchOption, MatchResult, IfOk};
@@ -36,8 +36,8 @@ pub struct SignatureBox {
     pub(crate) comments: Option<Comments>,
 }
 
-// The comments of a signature box. The last field signs the box's signature followed by the trusted
-// comment.
+// The comments of a signature box. `global_sig` is the comment signature: it signs the signature of
+// the data followed by the trusted comment.
 #[derive(Drop)]
 pub(crate) struct Comments {
     pub(crate) untrusted_comment: String,
@@ -113,9 +113,9 @@ impl SignatureBox {
     /// UTF-8, `NotUtf8`; the errors of `from_string`. An allocation may fail at any time. No contract says
     /// that the text is that of the named file.
     pub fn from_file<F: Files>(files: &F, alloc: Global, path: &str) -> Result<SignatureBox>
-        // On success, the result was parsed from some text, as the call that takes a text parses it. An
-        // error is out of memory, a file that could not be opened or read, a file that is not UTF-8, or a
-        // text that is rejected. No contract says that the text is that of the named file.
+        // On success, the result is what parsing some text gives. An error is out of memory, a file
+        // that could not be opened or read, a file that is not UTF-8, or the error of parsing some
+        // text. No contract says that the text is that of the named file.
         ensures { IsReadFromFile read_signature_box result }
     {
         let text = read_text_file(files, alloc, path)?;
@@ -251,7 +251,7 @@ impl Comments {
     }
 }
 
-// The text of a signature with comments.
+// Returns the text of a signature with comments.
 fn written(alloc: Global, signature: &Signature, comments: &Comments) -> Result<String>
     ensures text { IfOk result (λ t. string_bytes t ≡ signature_text signature.now comments.now) }
     ensures reads_back { AreReadBack comments.now.untrusted comments.now.trusted
@@ -281,7 +281,7 @@ pub(crate) struct TextLines<'a> {
     pub(crate) global_sig: &'a str,
 }
 
-// Reads a signature text.
+// Parses a signature text. Nothing is allocated for a text that is rejected.
 fn read_text(alloc: Global, text: &str) -> Result<SignatureBox>
     ensures { IsGivenOrNoMemory result (read_signature_box text.now) }
 {
@@ -300,7 +300,7 @@ fn read_text(alloc: Global, text: &str) -> Result<SignatureBox>
     })
 }
 
-// The first four lines of a text.
+// Splits off the first four lines of a text.
 pub(crate) fn four_lines(text: &str) -> Result<TextLines<'_>>
     ensures { MatchResult result (λ l. (read_signature text.now ≡ signature_in_lines (l.untrusted_comment.now
         ∷ l.signature.now ∷ l.trusted_comment.now ∷ l.global_sig.now ∷ [])) × (length l.signature.now + length
@@ -327,7 +327,7 @@ pub(crate) fn four_lines(text: &str) -> Result<TextLines<'_>>
     })
 }
 
-// The comment in the first line.
+// Returns the comment in the first line.
 #[tactic(auto, unfolding(crate::specs::Texts::untrusted_comment_label))]
 pub(crate) fn untrusted_comment_in(line: &str) -> Result<&str>
     ensures { MatchResult result (λ c. line.now ≡ untrusted_comment_label ++ c.now)
@@ -340,7 +340,7 @@ pub(crate) fn untrusted_comment_in(line: &str) -> Result<&str>
     }
 }
 
-// The comment in the third line.
+// Returns the comment in the third line.
 #[tactic(auto, unfolding(crate::specs::SignatureText::trusted_comment_label))]
 pub(crate) fn trusted_comment_in(line: &str) -> Result<&str>
     ensures { MatchResult result (λ c. line.now ≡ trusted_comment_label ++ c.now)
@@ -353,7 +353,7 @@ pub(crate) fn trusted_comment_in(line: &str) -> Result<&str>
     }
 }
 
-// A signature of an algorithm that is known.
+// Returns `UnsupportedSignatureAlgorithm` unless the algorithm is `Ed` or `ED`.
 pub(crate) fn known(signature: Signature) -> Result<Signature>
     ensures { MatchResult result (λ s. (s ≡ signature) × IsKnownAlgorithm s.algorithm)
         (λ e. (e ≡ Named UnsupportedSignatureAlgorithm) × ((bytes_eq signature.algorithm legacy_algorithm ||

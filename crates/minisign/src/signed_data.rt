@@ -1,4 +1,4 @@
-//! The signed data as it is held after it was read: its digest, or the data itself.
+//! `SignedData`, the data as it is held in memory after it was read.
 
 ghost use Rattle.std.specs.Prelude.{◌≡◌, List, ℕ, MatchResult};
 ghost use Rattle.minisign_base.specs.Devices.{HasGiven};
@@ -11,20 +11,20 @@ use minisign_base::Result;
 use minisign_base::devices::sources::Source;
 use std::alloc::Global;
 
-// What is held of data for its signature to be judged.
+// The data in the form that the signature signs.
 #[derive(Drop)]
 pub(crate) enum SignedData {
-    // The Blake2b digest of 64 bytes of the data, which itself is not kept.
+    // Prehashed: the 64-byte Blake2b digest of the data. The data itself is not kept.
     Digest([u8; 64]),
-    // The data.
+    // Legacy: the data itself.
     Kept(Vec<u8>),
-    // Nothing of data whose signature is over itself, where that is not allowed: no signature is
-    // judged then.
+    // Legacy although that is not allowed: nothing, because the signature will be rejected before
+    // the data is looked at.
     Unkept,
 }
 
 impl SignedData {
-    // The bytes that the signature is over.
+    // Returns the bytes that the signature signs.
     pub(crate) fn as_bytes(&self) -> &[u8]
         ensures { result.now ≡ held_bytes self.now }
     {
@@ -36,9 +36,9 @@ impl SignedData {
     }
 }
 
-// Reads all that is ahead in pieces. It is kept in memory where the signature is over the data
-// itself and that is allowed, and otherwise hashed, so that memory does not grow with it: a
-// stranger's file must not fill it. It is read to its end in any case, since a failing read comes
+// Reads all unread data in pieces. It is kept in memory only for a legacy signature that is
+// allowed. Otherwise it is hashed, so that an attacker cannot fill the memory with a large file.
+// The data is read to its end even if the signature will be rejected, because read errors come
 // before the verdict.
 pub(crate) fn read_signed_data<R: Source>(
     alloc: Global,

@@ -33,7 +33,7 @@ use std::alloc::Global;
 /// The comments of a signature as the caller gives them, and the time for the default trusted comment.
 #[derive(Clone, Copy)]
 pub(crate) struct GivenComments<'a> {
-    /// The trusted comment, which is signed. The default is `timestamp:` and the moment.
+    /// The trusted comment, which is signed. The default is `timestamp:` and `moment`.
     pub(crate) trusted: Option<&'a str>,
     /// The untrusted comment, which is not signed. The default is `signature from rsign secret key`.
     pub(crate) untrusted: Option<&'a str>,
@@ -41,7 +41,8 @@ pub(crate) struct GivenComments<'a> {
     pub(crate) moment: u64,
 }
 
-/// Signs all the data ahead of `data_reader` with `sk`, and returns a signature box with both comments.
+/// Signs all the unread data of `data_reader` with `sk`, and returns a signature box with both
+/// comments.
 ///
 /// The data is hashed in pieces of 64 KiB, so memory use does not grow with its size. The default trusted
 /// comment is `timestamp:` and the `moment`, in seconds since 1970. The default untrusted comment is
@@ -62,9 +63,9 @@ pub fn sign<S: Scheme, R: Source, Z: RandomSource>(
     random: &mut Z,
     moment: u64,
 ) -> Result<SignatureBox>
-    // On success, the signature box is made from all the bytes that were ahead, the comments or their
-    // defaults, and two times 64 random bytes, and if the key is genuine, the box is valid for these bytes
-    // under its own public key with the same key ID. This holds for all comments.
+    // On success, the signature box is made from all the unread bytes, the comments or their
+    // defaults, and two times 64 random bytes, and if the key is genuine, the box is valid for
+    // these bytes under its own public key with the same key ID. This holds for all comments.
     ensures signed { IfOk result (HasSignedData S.Scheme scheme.now sk.now
         (source_call R.Source data_reader.old data_reader.new) (given_comments trusted_comment.entry
         untrusted_comment.entry moment) (random_call Z.RandomSource random.old random.new)) }
@@ -89,8 +90,8 @@ pub fn sign<S: Scheme, R: Source, Z: RandomSource>(
         (given_comments trusted_comment.entry untrusted_comment.entry moment) (source_call R.Source
         data_reader.old data_reader.new) (random_call Z.RandomSource random.old random.new)) }
 
-    // The bytes still ahead of the source and of the random source are suffixes of those that were ahead
-    // before the call, whatever the result.
+    // The unread bytes of the source and of the random source are suffixes of those before the
+    // call, whatever the result.
     ensures given { HasGiven (R.ahead data_reader.old) (R.ahead data_reader.new) }
     ensures drawn { HasGiven (Z.random_ahead random.old) (Z.random_ahead random.new) }
 {
@@ -115,7 +116,7 @@ pub fn default_comments_are_read_back(moment: u64)
     ensures { AreChosenReadBack (given_comments None None moment) }
 {}
 
-// Signs all the data ahead with an opened key.
+// Signs all unread data with a decrypted key.
 pub(crate) fn sign_data<S: Scheme, R: Source, Z: RandomSource>(
     alloc: Global,
     scheme: &S,
@@ -140,7 +141,7 @@ pub(crate) fn sign_data<S: Scheme, R: Source, Z: RandomSource>(
     make_box(alloc, scheme, sk, &digest, trusted, untrusted, random)
 }
 
-// Tests the comment signature of a box with the public key that is given, if one is.
+// Returns `RefusedByGivenKey` if a public key is given and does not accept the comment signature.
 fn test_given_key<S: Scheme>(
     alloc: Global,
     scheme: &S,
@@ -165,8 +166,8 @@ fn test_given_key<S: Scheme>(
     .into())
 }
 
-// The box over a digest with both comments: signs the digest with 64 random bytes, and then that
-// signature followed by the trusted comment with 64 more.
+// Makes the signature box of a digest: signs the digest, and then that signature followed by the
+// trusted comment, each with 64 random bytes.
 fn make_box<S: Scheme, Z: RandomSource>(
     alloc: Global,
     scheme: &S,
@@ -207,7 +208,7 @@ fn make_box<S: Scheme, Z: RandomSource>(
     })
 }
 
-// The comment, or else the moment in decimal.
+// Returns the given comment, or else `timestamp:` and the time in decimal.
 #[tactic(auto, unfolding(crate::specs::Signing::default_trusted_comment))]
 fn trusted_or_default(alloc: Global, comment: Option<&str>, moment: u64) -> Result<String>
     ensures comment { IfOk result
@@ -221,7 +222,6 @@ fn trusted_or_default(alloc: Global, comment: Option<&str>, moment: u64) -> Resu
     }
 }
 
-// The comment, or else the default one.
 #[tactic(auto, unfolding(crate::specs::Signing::default_untrusted_comment))]
 fn untrusted_or_default(alloc: Global, comment: Option<&str>) -> Result<String>
     ensures comment { IfOk result

@@ -1,4 +1,4 @@
-//! Signing with the text of a secret key.
+//! Signs data with the text of a secret key.
 
 ghost use Rattle.std.specs.Prelude.{◌≡◌, false, None, Ok, string_bytes, IfOk, IfErr, OnOk, IfSome};
 ghost use Rattle.std.specs.Option.{option_map};
@@ -20,8 +20,8 @@ use minisign_base::prompt::Prompt;
 use minisign_base::scheme::Scheme;
 use std::alloc::Global;
 
-/// Signs all the data ahead of `data_reader` with the secret key in `sk_text`, and returns the signature
-/// text.
+/// Signs all the unread data of `data_reader` with the secret key in `sk_text`, and returns the
+/// signature text.
 ///
 /// A key that was never encrypted is used if its checksum matches (`from_unencrypted_box`). Any other key
 /// is decrypted with the given password, or with one that the prompt asks for (`from_box`). Then the data
@@ -56,8 +56,7 @@ pub fn sign_texts<S: Scheme, P: Source, Q: Sink, R: Source, Z: RandomSource>(
     // On success, the text gave a key: either one that was never encrypted and whose checksum matches, with
     // the prompt unchanged, or an encrypted one that was decrypted with the password that was given or
     // typed. The result is the text of the signature box that signing makes with this key for all the data.
-    // If this key is genuine, the signature text is read back as the clause `headline` says. So whoever
-    // signs with an encrypted key and its password gets a signature that verifies.
+    // If this key is genuine, the signature text is read back as the clause `headline` says.
     ensures signed { IfOk result (λ t. HasSignedWithText S.Scheme scheme.now
         (prompt_call P.Source Q.Sink prompt.old prompt.new) (option_map string_bytes password) sk_text.now
         (source_call R.Source data_reader.old data_reader.new) (given_comments trusted_comment.entry
@@ -77,8 +76,8 @@ pub fn sign_texts<S: Scheme, P: Source, Q: Sink, R: Source, Z: RandomSource>(
     // If a password is given, the prompt is unchanged.
     ensures untouched { IfSome password (λ _. prompt.new ≡ prompt.old) }
 
-    // The bytes still ahead of the source and of the random source are suffixes of those that were ahead
-    // before the call, whatever the result.
+    // The unread bytes of the source and of the random source are suffixes of those before the
+    // call, whatever the result.
     ensures given { HasGiven (R.ahead data_reader.old) (R.ahead data_reader.new) }
     ensures drawn { HasGiven (Z.random_ahead random.old) (Z.random_ahead random.new) }
 {
@@ -91,7 +90,7 @@ pub fn sign_texts<S: Scheme, P: Source, Q: Sink, R: Source, Z: RandomSource>(
     sign_opened(alloc, scheme, &sk, data_reader, comments, random)
 }
 
-// Signs with an opened key, and writes the box.
+// Signs with a decrypted key and returns the signature text.
 pub(crate) fn sign_opened<S: Scheme, R: Source, Z: RandomSource>(
     alloc: Global,
     scheme: &S,
@@ -115,7 +114,7 @@ pub(crate) fn sign_opened<S: Scheme, R: Source, Z: RandomSource>(
     signature_box.to_string(alloc)
 }
 
-// The key of a text: one that was never sealed as it stands, any other opened with the password.
+// Returns the secret key in the text, decrypted with the password unless it was never encrypted.
 pub(crate) fn key_of_text<P: Source, Q: Sink>(
     alloc: Global,
     text: &str,

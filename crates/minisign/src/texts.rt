@@ -1,4 +1,4 @@
-//! Reading and writing texts: lines, one after the other, and base64.
+//! Splits texts into lines, appends lines, and encodes and decodes base64.
 
 ghost use Rattle.std.specs.Prelude.{◌≡◌, ℕ, ◌+◌, ◌≤◌, List, [], ◌∷◌, ◌++◌, length, false, Option};
 ghost use Rattle.std.specs.Prelude.{string_bytes, IfOk, IfErr, OnOk, IfSome, IfNone};
@@ -55,8 +55,8 @@ pub fn texts_are_decided()
         → IsReading (IsUnencryptedText text) (read_unencrypted_key text) }
 {}
 
-// The next line of a text: what comes before a line feed, less one carriage return at its end, or
-// what is left.
+// Returns the next line without its line feed and without one carriage return before that. The last
+// line needs no line feed.
 pub(crate) fn next_line<'a>(rest: &mut Lines<'a>) -> Option<&'a str>
     ensures some { IfSome result
         (λ x. lines (lines_rest rest.old) ≡ x.now ∷ lines (lines_rest rest.new)) }
@@ -70,7 +70,7 @@ pub(crate) fn next_line<'a>(rest: &mut Lines<'a>) -> Option<&'a str>
     }
 }
 
-// The bytes that a text is the base64 of; nothing where it is not base64.
+// Decodes base64. Returns `None` if the text is not base64.
 pub(crate) fn decode(alloc: Global, text: &str) -> Result<Option<Vec<u8>>>
     ensures bytes { IfOk result (λ o. IfSome o (λ v. IsBase64Of text.now v.items)) }
     ensures none { IfOk result (λ o. IfNone o (is_base64 text.now ≡ false)) }
@@ -83,7 +83,6 @@ pub(crate) fn decode(alloc: Global, text: &str) -> Result<Option<Vec<u8>>>
     }
 }
 
-// The base64 of bytes.
 #[tactic(auto, unfolding(crate::specs::Texts::base64_of))]
 pub(crate) fn encode(alloc: Global, bytes: &[u8]) -> Result<String>
     ensures text { IfOk result (λ t. string_bytes t ≡ base64_of bytes.now) }
@@ -93,7 +92,7 @@ pub(crate) fn encode(alloc: Global, bytes: &[u8]) -> Result<String>
     Ok(STANDARD.encode(alloc, bytes)?)
 }
 
-// Adds a line: a label, a text and a line feed.
+// Appends a line: the label, the text and a line feed.
 pub(crate) fn push_line(lines: &mut String, label: &str, text: &str) -> Result<()>
     ensures line { OnOk result
         (string_bytes lines.new ≡ string_bytes lines.old ++ line (label.now ++ text.now)) }

@@ -1,4 +1,4 @@
-//! Verification of data with a parsed public key and signature box.
+//! Verifies data with a parsed public key and signature box.
 
 ghost use Rattle.std.specs.Prelude.{◌≡◌, ◌↔◌, ℕ, Bool, List, true, false, ◌⊎◌, Ok, Err, IfOk, IfErr, OnOk};
 ghost use Rattle.std.specs.Prelude.{OnErr};
@@ -27,8 +27,8 @@ use minisign_base::scheme::Scheme;
 use minisign_base::{NamedFault, Result};
 use std::alloc::Global;
 
-/// Verifies that `signature_box` is a valid signature of all the data ahead of `data_reader` under `pk`.
-/// With `output`, copies the verified data to `out`.
+/// Verifies that `signature_box` is a valid signature of all the unread data of `data_reader` under
+/// `pk`. With `output`, copies the verified data to `out`.
 ///
 /// The data is read to its end first, in pieces of 64 KiB. It is hashed while it is read, so memory use
 /// does not grow with its size. Only the data of a legacy signature is kept in memory, and only if
@@ -65,12 +65,13 @@ pub fn verify<S: Scheme, R: Rereader, W: Sink, O: Sink>(
         data_reader.new) (sink_call W.Sink status.old status.new) (sink_call O.Sink out.old out.new) result
         (λ message. judge (S.accepts scheme.now) pk.now signature_box.now message allow_legacy) }
 
-    // On success, the signature box is valid for all the bytes that were ahead of `data_reader`. That
-    // means: the key IDs are equal; the signature is prehashed, or `allow_legacy` is set; the scheme
-    // accepts the signature for the Blake2b digest of the data (for a legacy signature, for the data
-    // itself); and the comment signature, if there is one, has at least 64 bytes, and the scheme accepts
-    // the first 64 for the signature followed by the trusted comment. All the data was read to its end
-    // without an error. Unless the data of a prehashed signature is copied, the marked bytes are unchanged.
+    // On success, the signature box is valid for all the unread bytes of `data_reader`. That means:
+    // the key IDs are equal; the signature is prehashed, or `allow_legacy` is set; the scheme
+    // accepts the signature for the Blake2b digest of the data (for a legacy signature, for the
+    // data itself); and the comment signature, if there is one, has at least 64 bytes, and the
+    // scheme accepts the first 64 for the signature followed by the trusted comment. All the data
+    // was read to its end without an error. Unless the data of a prehashed signature is copied, the
+    // marked bytes are unchanged.
     //
     // On success, `status` received exactly the status lines, or nothing with `quiet`, and was not flushed.
     // Neither `status` nor `out` reported an error.
@@ -92,7 +93,7 @@ pub fn verify<S: Scheme, R: Rereader, W: Sink, O: Sink>(
         data_reader.new) (sink_call W.Sink status.old status.new) (sink_call O.Sink out.old out.new)) }
 
     // An error comes from one of the following stages. All earlier stages succeeded, no later stage was
-    // begun, and each stage changes only the devices that it uses. First the start of the data is marked,
+    // started, and each stage changes only the devices that it uses. First the start of the data is marked,
     // if the data of a prehashed signature is to be copied. Then the data is read to its end, the signature
     // is checked, and unless `quiet` is set the status lines are written. With `output`, the data of a
     // prehashed signature is then copied: the source goes back to the mark, the data is read again and
@@ -123,8 +124,8 @@ pub fn verify<S: Scheme, R: Rereader, W: Sink, O: Sink>(
     // or it occurs after going back and before the second reading begins, and nothing was copied. So
     // neither a device's error nor a partial copy is ever reported as out of memory.
     //
-    // A read only removes bytes from the front of what is ahead of the source. Going back restores the
-    // marked bytes, which for a steady source are those that were ahead at first.
+    // A read only removes bytes from the front of the source's unread bytes. Going back restores
+    // the marked bytes, which for a steady source are those that were unread at first.
     ensures refused { IfErr result (VerifyingFails (S.accepts scheme.now) pk.now signature_box.now
         (options_of quiet output allow_legacy) (rereader_call R.Source R.steady data_reader.old
         data_reader.new) (sink_call W.Sink status.old status.new) (sink_call O.Sink out.old out.new)) }
@@ -133,8 +134,8 @@ pub fn verify<S: Scheme, R: Rereader, W: Sink, O: Sink>(
     ensures said_front { OnErr result
         (TakesFront (sink_call W.Sink status.old status.new) (wanted_status quiet signature_box.now)) }
 
-    // Unless the data of a prehashed signature is copied, the bytes still ahead of `data_reader` are a
-    // suffix of those that were ahead before the call, whatever the result.
+    // Unless the data of a prehashed signature is copied, the unread bytes of `data_reader` are a
+    // suffix of those before the call, whatever the result.
     ensures given { is_reread output signature_box.now ≡ false
         → HasGiven (R.ahead data_reader.old) (R.ahead data_reader.new) }
 
@@ -186,7 +187,7 @@ pub fn verdicts_are_decided()
         (verdict accepts pk_text sig_text message legacy) }
 {}
 
-// Marks the place where the data will be read again, and reads it to its end.
+// Marks the beginning of the data if it will be read again, and reads the data to its end.
 fn read_data<R: Rereader>(
     alloc: Global,
     signature_box: &SignatureBox,
@@ -206,14 +207,13 @@ fn read_data<R: Rereader>(
     read_signed_data(alloc, signature_box, data_reader, allow_legacy)
 }
 
-// Whether the data will be read again: where it is copied out, and only its digest is held.
+// Returns true if the data will be read twice: it is copied, and only its digest is kept.
 fn reads_again(signature_box: &SignatureBox, output: bool) -> bool
     ensures { result ≡ is_reread output signature_box.now }
 {
     output && signature_box.is_prehashed()
 }
 
-// Remembers the place where that is wanted.
 fn mark_place<R: Rereader>(data_reader: &mut R, again: bool) -> Result<()>
     ensures ahead { OnOk result (R.ahead data_reader.new ≡ R.ahead data_reader.old) }
     ensures unmarked { again ≡ false → data_reader.new ≡ data_reader.old }
@@ -231,7 +231,8 @@ fn mark_place<R: Rereader>(data_reader: &mut R, again: bool) -> Result<()>
     }
 }
 
-// Tests the conditions in their order over what the signature is over: the digest, or the data.
+// Makes the checks of a signature in their order. `signed` is the digest of the data, or the data
+// of a legacy signature.
 fn judge<S: Scheme>(
     alloc: Global,
     scheme: &S,
@@ -256,7 +257,7 @@ fn judge<S: Scheme>(
     Ok(())
 }
 
-// Says that the box was accepted, unless it is to be quiet.
+// Writes the status lines unless `quiet` is set.
 fn say<W: Sink>(
     alloc: Global,
     status: &mut W,
@@ -280,7 +281,7 @@ fn say<W: Sink>(
     say_lines(alloc, status, signature_box)
 }
 
-// Writes what is said of a box that was accepted, in one write.
+// Writes the status lines in one write.
 #[tactic(auto, unfolding(crate::specs::Acceptance::verified_text, crate::specs::Acceptance::trusted_comment_text))]
 fn say_lines<W: Sink>(alloc: Global, status: &mut W, signature_box: &SignatureBox) -> Result<()>
     ensures said { OnOk result (Takes (sink_call W.Sink status.old status.new)

@@ -1,4 +1,4 @@
-//! Verification of data with the texts of a public key and a signature.
+//! Verifies data with the texts of a public key and a signature.
 
 ghost use Rattle.std.specs.Prelude.{◌≡◌, ◌⊎◌, true, false, Ok, IfErr, OnOk, OnErr};
 ghost use Rattle.minisign_base.specs.Devices.{HasGiven};
@@ -20,9 +20,9 @@ use minisign_base::devices::sources::Rereader;
 use minisign_base::scheme::Scheme;
 use std::alloc::Global;
 
-/// Verifies that `sig_text` is a valid signature of all the data ahead of `data_reader` under the public
-/// key in `pk_text`. Parses the public key as `PublicKey::from_box` does and the signature as
-/// `SignatureBox::from_string` does, and then calls `verify`.
+/// Verifies that `sig_text` is a valid signature of all the unread data of `data_reader` under the
+/// public key in `pk_text`. Parses the public key as `PublicKey::from_box` does and the signature
+/// as `SignatureBox::from_string` does, and then calls `verify`.
 ///
 /// The public key is parsed first, then the signature, both before any data is read. If either is rejected,
 /// `data_reader`, `status` and `out` are unchanged. Everything else is as documented for `verify`.
@@ -73,8 +73,7 @@ pub fn verify_texts<S: Scheme, R: Rereader, W: Sink, O: Sink>(
         ((key : PublicKeyRecord) × (box : SignatureBoxRecord) × (read_texts pk_text.now sig_text.now
         ≡ Ok (key, box)) × TakesFront (sink_call W.Sink status.old status.new) (wanted_status quiet box))) }
 
-    // Without `output`, the bytes still ahead of `data_reader` are a suffix of those that were ahead before
-    // the call.
+    // Without `output`, the unread bytes of `data_reader` are a suffix of those before the call.
     ensures given { output ≡ false → HasGiven (R.ahead data_reader.old) (R.ahead data_reader.new) }
 
     // With `quiet`, `status` is unchanged.

@@ -1,4 +1,4 @@
--- What a prompt writes by the steps of its conversation.
+-- Lemmas about what a prompt writes in the steps of a conversation.
 use Rattle.std.proofs.Common.{◌≡◌, ℕ, List, [], ◌∷◌, Ok, Err, ap, inl, inr, subst, sym, ◌∙◌}
 use Rattle.std.proofs.KnownBytes.{Appends-nil, Appends-trans, Keeps-refl}
 use Rattle.std.specs.Io.KnownBytes.{Appends}
@@ -8,7 +8,7 @@ use Rattle.minisign_base.specs.DeviceCalls.{PromptCall}
 use Rattle.minisign_base.specs.Prompts.{Allocate, ConversationEnds, Hear, Say, Step, Test, written}
 use Rattle.minisign_base.proofs.SinkLaws.{AppendsFront-after, AppendsFront-keeps, AppendsFront-more}
 
--- a writer that was left alone
+-- An unchanged writer received a prefix of any text, namely nothing.
 nothing_taken : {R W : Type 0} (p : PromptCall R W) (bytes : List ℕ) → p.new.writer ≡ p.old.writer
     → AppendsFront (p.sink.taken p.old.writer) (p.sink.taken p.new.writer) bytes
 nothing_taken p bytes same =
@@ -16,7 +16,7 @@ nothing_taken p bytes same =
     (AppendsFront-keeps (p.sink.taken p.old.writer) (p.sink.taken p.old.writer) bytes
     (Keeps-refl (p.sink.taken p.old.writer)))
 
--- the writer took all that a conversation writes, with no new error
+-- The writer received all that the conversation writes, without an error.
 pub held_taken : {R W : Type 0} (p : PromptCall R W) (steps : List Step) → ConversationEnds p steps (Ok tt)
     → Appends (p.sink.taken p.old.writer) (p.sink.taken p.new.writer) (written steps)
 held_taken p [] same = subst (λ d. Appends (p.sink.taken p.old.writer) (p.sink.taken d.writer) []) (sym same)
@@ -48,7 +48,7 @@ held_no_new_fault p (Hear bytes ∷ later) (between, (read, same), held) =
 held_no_new_fault p (Test refusal ∷ later) (between, (none, same), held) =
     held_no_new_fault (record p { old = between }) later held ∙ ap (λ d. p.sink.sink_faults d.writer) same
 
--- where it stopped, the writer holds a prefix of that
+-- If the conversation stopped, the writer received a prefix of that.
 pub stopped_taken : {R W : Type 0} (p : PromptCall R W) (steps : List Step) (e : Fault)
     → ConversationEnds p steps (Err e)
     → AppendsFront (p.sink.taken p.old.writer) (p.sink.taken p.new.writer) (written steps)

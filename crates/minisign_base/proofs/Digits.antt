@@ -1,4 +1,4 @@
--- How hexadecimal digits with zeros in front are spelled, one after another.
+-- Lemmas about hexadecimal digits with leading zeros.
 use Rattle.std.proofs.Common.{◌≡◌, ℕ, zero, suc, ◌+◌, ◌-◌, ◌/◌, ◌%◌, ◌^◌, ◌<◌, ◌≤◌, ◌==◌, true, false, List}
 use Rattle.std.proofs.Common.{[], ◌∷◌, ◌++◌, length, replicate, cond, refl, sym, ◌∙◌, ap, add-one}
 use Rattle.std.proofs.Common.{append_assoc, append-nil, arith, lit<}
@@ -9,7 +9,7 @@ use Rattle.std.specs.Fmt.{char_count, digit_glyph, digits, digits_onto, format_s
 use Rattle.std.specs.Int.{from_le_bytes, w64}
 use Rattle.minisign_base.specs.KeyIds.{key_id_text, last_digits}
 
--- the places of nothing are zeros
+-- All digits of zero are zeros.
 last_digits_of_zero : (places : ℕ) (behind : List ℕ) → last_digits places 0 behind ≡ replicate places 48
     ++ behind
 last_digits_of_zero zero behind = refl
@@ -18,12 +18,12 @@ last_digits_of_zero (suc places) behind =
     ∙ ap (λ (z : List ℕ). z ++ behind)
     (replicate_more places 48 ∙ ap (λ (k : ℕ). replicate k 48) (add-one places))
 
--- a number with a digit before its last needs a second place
+-- A number with more than one digit needs a second place.
 two_places : (p n : ℕ) → (n / 16 == 0) ≡ false → n < 16 ^ suc p → 0 < p
 two_places zero n some h = grind (arith, common_steps)
 two_places (suc p) n some h = omega arith
 
--- the digits of a number, filled up with zeros in front, are its last digits
+-- The digits of a number with leading zeros are its last digits.
 filled_up : (places fuel n : ℕ) (behind : List ℕ) → n < 16 ^ places → places ≤ fuel → 0 < places
     → replicate (places + length behind - length (digits_onto fuel 16 true n behind)) 48
     ++ digits_onto fuel 16 true n behind ≡ last_digits places n behind
@@ -46,7 +46,7 @@ filled_up (suc p) (suc fuel) n behind h l some =
           (two_places p n e h)
     ] refl
 
--- what `{:016X}` writes before and after the digits
+-- What `{:016X}` writes before and after the digits.
 padded_sixteen : (numeral : List ℕ) → padded_integral (format_spec 32 0 4 16 (2 ^ 64 - 1)) false [] numeral
     ≡ replicate (16 - length numeral) 48 ++ numeral
 unfolding padded_integral char_count
@@ -55,7 +55,7 @@ padded_sixteen numeral =
     ap (λ (k : ℕ). replicate k 48 ++ (numeral ++ [])) count
     ∙ ap (λ (z : List ℕ). replicate (16 - length numeral) 48 ++ z) (append-nil numeral)
 
--- a key ID is shown as the last 16 digits of its number
+-- The text of a key ID is the last 16 digits of its number.
 pub key_id_by_digits : (id : List ℕ) → from_le_bytes w64 id < 2 ^ 64
     → key_id_text id ≡ last_digits 16 (from_le_bytes w64 id) []
 unfolding key_id_text digits

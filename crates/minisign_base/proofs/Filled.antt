@@ -1,4 +1,4 @@
--- A buffer that is filled from its front, a part at a time.
+-- Lemmas about a buffer that is filled from its front, part by part.
 use Rattle.std.proofs.Common.{◌≡◌, ℕ, ◌+◌, ◌-◌, ◌≤◌, List, ◌++◌, length, take, ap, sym, ◌∙◌, subst, arith}
 use Rattle.std.proofs.Common.{refl}
 use Rattle.std.proofs.lemmas.List.{take-take, length-take-le}
@@ -6,7 +6,8 @@ use Rattle.std.proofs.lemmas.Slice.{take-put_mid}
 use Rattle.std.proofs.Math.Seq.{take-append-add}
 use borrow.Rule.Slice.PartMut.{put_mid}
 
--- what was there before, and a prefix of the part
+-- A buffer that is filled from an index on holds its earlier bytes up to it, followed by the new
+-- ones.
 pub take-filled : (at n : ℕ) (xs ys : List ℕ) → at ≤ length xs → n ≤ length ys
     → take (at + n) (put_mid at (length xs - at) xs ys) ≡ take at xs ++ take n ys
 take-filled at n xs ys within short =

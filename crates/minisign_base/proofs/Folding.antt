@@ -1,4 +1,4 @@
--- Folding a message into 32 bytes, one byte more at a time.
+-- Lemmas about folding a message into 32 bytes, byte by byte.
 use Rattle.std.proofs.Common.{◌≡◌, ℕ, ◌+◌, ◌%◌, ◌<◌, ◌≢◌, suc, add-zero, ◌==◌, List, [], ◌∷◌, ◌++◌, length}
 use Rattle.std.proofs.Common.{take, map, slice_index, slice_set, bit_xor, if◌then◌else◌, ap, sym, ◌∙◌, arith}
 use Rattle.std.proofs.Common.{cond, eq-eqb, zero-add, ⊎_elim}
@@ -10,7 +10,7 @@ use Rattle.std.proofs.lemmas.Grind.{get_or-set_at}
 use Rattle.std.proofs.lemmas.List.FromFn.{length-range_with_len, get_or-range_with_len}
 use Rattle.minisign_base.specs.Toy.{column, fold_of}
 
--- one byte more
+-- An appended byte is xored into the column in which it is, and into no other.
 pub column-append : (i j : ℕ) (xs : List ℕ) (b : ℕ) → column i j (xs ++ b ∷ []) ≡ bit_xor (column i j xs)
     (if (j + length xs) % 32 == i then b else 0)
 column-append i j [] b = rw add-zero (xor_zero_r (if j % 32 == i then b else 0))
@@ -22,13 +22,13 @@ column-append i j (x ∷ xs) b =
     ∙ ap (λ k. bit_xor (bit_xor (if j % 32 == i then x else 0) (column i (j + 1) xs))
     (if k % 32 == i then b else 0)) next
 
--- a byte changes one column
+-- An appended byte changes its own column.
 pub column-changed : (i j : ℕ) (xs : List ℕ) (b : ℕ) → length xs ≡ j → j % 32 ≡ i → column i 0 (xs ++ b ∷ [])
     ≡ bit_xor (column i 0 xs) b
 column-changed i j xs b len e = column-append i 0 xs b ∙ ap (λ t. bit_xor (column i 0 xs) (cond t b 0))
     (eq-eqb ((0 + length xs) % 32) i (ap (λ k. k % 32) (zero-add (length xs)) ∙ ap (λ k. k % 32) len ∙ e))
 
--- and leaves the others
+-- It does not change the other columns.
 pub column-kept : (i j : ℕ) (xs : List ℕ) (b : ℕ) → length xs ≡ j → j % 32 ≢ i → column i 0 (xs ++ b ∷ [])
     ≡ column i 0 xs
 column-kept i j xs b len ne =
@@ -43,14 +43,15 @@ columns-at m n i l =
     get_or-map (λ k. column k 0 m) (range_with_len 0 n) i 0 0 (omega (arith, len))
     ∙ ap (λ k. column k 0 m) (get_or-range_with_len 0 n i 0 l ∙ zero-add i)
 
--- 32 bytes that hold the columns are the folded message
+-- 32 bytes that hold the columns are the folded message.
 pub folded : (m xs : List ℕ) → length xs ≡ 32 → ((i : ℕ) → i < 32 → slice_index xs i ≡ column i 0 m)
     → xs ≡ fold_of m
 unfolding fold_of
 folded m xs len each = ext_get_or 0 xs (fold_of m) len
     (λ i l. let low : i < 32 = omega (arith, len) in each i low ∙ sym (columns-at m 32 i low))
 
--- the next byte in its column
+-- If the columns are those of the first j bytes, xoring byte number j into its column gives those
+-- of the first j + 1.
 pub columns-next : (m columns : List ℕ) (j : ℕ) → length columns ≡ 32 → j < length m
     → ((i : ℕ) → i < 32 → slice_index columns i ≡ column i 0 (take j m)) → (i : ℕ) → i < 32
     → slice_index (slice_set columns (j % 32) (bit_xor (slice_index columns (j % 32)) (slice_index m j))) i

@@ -1,3 +1,4 @@
+-- The lemmas that the proofs of minisign_base use.
 mod Digits
 mod Filled
 mod Folding

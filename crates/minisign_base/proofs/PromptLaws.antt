@@ -1,4 +1,4 @@
--- What follows for a prompt from the steps of its conversation.
+-- Laws about a prompt and the steps of its conversation.
 use Rattle.std.proofs.Common.{◌≡◌, ℕ, List, [], ◌++◌, Result, Ok, Err, ap}
 use Rattle.std.specs.Prelude.{⊤}
 use Rattle.std.specs.Result.{result_unwrap_or}
@@ -9,18 +9,18 @@ use Rattle.minisign_base.specs.Passwords.{password_of, typed_password}
 use Rattle.minisign_base.proofs.StepLaws.{first_stopped, second_ends}
 use Rattle.minisign_base.specs.declared.prompt.Prompt.{Prompt}
 
--- the password that was typed
+-- If the typed bytes give a password, it is typed_password of these bytes.
 pub typed_is : (bytes password : List ℕ) → password_of bytes ≡ Ok password → typed_password bytes ≡ password
 typed_is bytes password e = ap (λ r. result_unwrap_or r []) e
 
--- two conversations, one after the other: the first one stopped
+-- If the first of two conversations fails, both together fail with its error.
 pub stopped_first : {R W : Type 0} (p : PromptCall R W) (first second : List Step) (e : Fault)
     → ConversationEnds p first (Err e) → ConversationEnds p (first ++ second) (Err e)
 stopped_first p first second e =
     first_stopped (λ step old new. StepEnds (record p { old = old; new = new }) step) first second p.old p.new
     e
 
--- the first one was held, and the second one ended so
+-- If the first conversation succeeds, both together end with the result of the second.
 pub second_ended : {R W : Type 0} (p : PromptCall R W) (between : Prompt R W) (first second : List Step)
     (answer : Result ⊤ Fault) → ConversationEnds (record p { new = between }) first (Ok tt)
     → ConversationEnds (record p { old = between }) second answer

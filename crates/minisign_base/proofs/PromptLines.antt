@@ -1,4 +1,4 @@
--- What a line is, byte after byte.
+-- Lemmas about lines, byte by byte.
 use Rattle.std.proofs.Common.{true≢false, ◌≡◌, ℕ, ◌+◌, ◌<◌, ◌≤◌, ◌≢◌, List, [], ◌∷◌, ◌++◌, length, take, None}
 use Rattle.std.proofs.Common.{Some, Option, IfSome, Ok, Err, not, ◌==◌, cond, nat_lt, if◌then◌else◌, true}
 use Rattle.std.proofs.Common.{false, IsUtf8, refl, sym, ap, ◌∙◌, subst, arith, append_assoc, append-nil}
@@ -16,21 +16,22 @@ use Rattle.minisign_base.specs.DeviceCalls.{SourceCall}
 use Rattle.minisign_base.specs.Prompts.{HasReadLine}
 use Rattle.minisign_base.specs.Passwords.{accepted_line, first_line, line_length, password_of, read_count}
 
--- what a reader whose bytes are known had is what was read and what is left
+-- The bytes of a reader, if they are known, are those that were read followed by those that are
+-- left.
 pub told : (a b : Option (List ℕ)) (done : List ℕ) → Consumes a b done
     → (rest : List ℕ) × IfSome a (λ xs. xs ≡ done ++ rest) × IfSome a (λ _. b ≡ Some rest)
 told None b done c = ([], tt, tt)
 told (Some xs) None done c = absurd c
 told (Some xs) (Some ys) done c = (ys, c, refl)
 
--- and nothing is left at the end
+-- At the end none is left.
 pub told_all : (a b : Option (List ℕ)) (done : List ℕ) → Consumes a b done → IsAtEnd b
     → IfSome a (λ xs. xs ≡ done) × IfSome a (λ _. b ≡ Some [])
 told_all None b done c e = (tt, tt)
 told_all (Some xs) None done c e = absurd c
 told_all (Some xs) (Some ys) done c e = (c ∙ ap (λ l. done ++ l) e ∙ append-nil done, ap Some e)
 
--- bytes without a line feed, and more of them
+-- Bytes without a line feed, followed by a line, are a line as long as both.
 pub line_length-append : (done more : List ℕ) → line_length done ≡ length done → line_length (done ++ more)
     ≡ length done + line_length more
 line_length-append done more e =
@@ -43,7 +44,7 @@ pub line_length-push : (done : List ℕ) (b : ℕ) → line_length done ≡ leng
 line_length-push done b e other =
     line_length-append done (b ∷ []) e ∙ ap (λ t. length done + cond (not t) (1 + 0) 0) (ne_eqb b 10 other)
 
--- a line feed ends the line
+-- A line feed ends the line.
 pub line_length-feed : (done rest : List ℕ) → line_length done ≡ length done
     → line_length ((done ++ 10 ∷ []) ++ rest) ≡ length done
 line_length-feed done rest e =
@@ -94,7 +95,7 @@ password_of-long done rest e long =
           (omega (arith, line)),
     ) refl
 
--- what was read is all that is read for a line
+-- The reader has read a line if it read as many bytes as a line takes.
 pub read_front : {R : Type 0} (r : SourceCall R) (done rest : List ℕ)
     → IfSome (r.source.ahead r.old) (λ xs. xs ≡ done ++ rest)
     → IfSome (r.source.ahead r.old) (λ _. r.source.ahead r.new ≡ Some rest)
@@ -110,7 +111,7 @@ read_front r done rest ahead unread count left no_new_fault = record {
   no_new_fault = no_new_fault;
 }
 
--- the end came before
+-- The reader has read a line if it read the whole input and no more bytes than a line takes.
 pub read_whole : {R : Type 0} (r : SourceCall R) (done : List ℕ)
     → IfSome (r.source.ahead r.old) (λ xs. xs ≡ done)
     → IfSome (r.source.ahead r.old) (λ _. r.source.ahead r.new ≡ Some [])
@@ -129,7 +130,7 @@ pub password_of-nothing : password_of [] ≡ Err (Named EndOfInput)
 unfolding password_of
 password_of-nothing = refl
 
--- a line that is no UTF-8
+-- A line that is not UTF-8 is rejected.
 pub accepted_line-other : (line : List ℕ) → (IsUtf8 line → false ≡ true)
     → accepted_line line ≡ Err (Named NotUtf8)
 unfolding accepted_line

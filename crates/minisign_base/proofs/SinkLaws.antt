@@ -1,4 +1,4 @@
--- What follows for a sink from one write after another, for callers that write a text in parts.
+-- Laws about a sink that is written to several times, for callers that write a text in parts.
 use Rattle.std.proofs.Common.{ℕ, ◌+◌, min, Option, None, Some, List, ◌++◌, length, take, ap, sym, ◌∙◌}
 use Rattle.std.proofs.Common.{append_assoc}
 use Rattle.std.proofs.Common.{append-nil, arith}
@@ -7,13 +7,13 @@ use Rattle.std.proofs.Math.Seq.{take-append-add}
 use Rattle.std.specs.Io.KnownBytes.{Appends, Keeps}
 use Rattle.minisign_base.specs.Devices.{AppendsFront}
 
--- nothing taken is a prefix of every text
+-- A sink that received nothing received a prefix of any text.
 pub AppendsFront-keeps : (a b : Option (List ℕ)) (bs : List ℕ) → Keeps a b → AppendsFront a b bs
 AppendsFront-keeps None b bs k = (0, tt)
 AppendsFront-keeps (Some x) None bs k = absurd k
 AppendsFront-keeps (Some x) (Some y) bs k = (0, ap Some (k ∙ sym (append-nil x)))
 
--- a whole part, and then a prefix of the next
+-- A sink that received a whole part and then a prefix of the next received a prefix of both joined.
 pub AppendsFront-after : (a b c : Option (List ℕ)) (bs cs : List ℕ) → Appends a b bs → AppendsFront b c cs
     → AppendsFront a c (bs ++ cs)
 AppendsFront-after None b c bs cs p q = (0, tt)
@@ -24,7 +24,7 @@ AppendsFront-after (Some x) (Some y) c bs cs p (n, q) = (
       append_assoc x bs (take n cs) ∙ ap (λ l. x ++ l) (sym (take-append-add bs cs n))),
 )
 
--- a prefix of a part is one of the whole text
+-- A prefix of a part is a prefix of the whole text.
 pub AppendsFront-more : (a b : Option (List ℕ)) (bs cs : List ℕ) → AppendsFront a b bs
     → AppendsFront a b (bs ++ cs)
 AppendsFront-more None b bs cs p = (0, tt)
@@ -33,7 +33,7 @@ AppendsFront-more (Some x) b bs cs (n, p) = (
   p ∙ ap (λ l. Some (x ++ l)) (sym (take-append-le (min n (length bs)) bs cs (omega arith) ∙ take_min n bs)),
 )
 
--- a whole text is a prefix of itself
+-- A whole text is a prefix of itself.
 pub AppendsFront-whole : (a b c : Option (List ℕ)) (bs : List ℕ) → Appends a b bs → Keeps b c
     → AppendsFront a c bs
 AppendsFront-whole None b c bs p k = (0, tt)

@@ -1,4 +1,5 @@
--- The named errors for the errors of decoding base64, which are those for the line of a secret key.
+-- Maps the errors of decoding base64 to named errors, namely those for the second line of a secret
+-- key.
 use Rattle.base64.specs.declared.decode.DecodeAllocError.{DecodeAllocError}
 use Rattle.base64.specs.declared.decode.DecodeAllocError.TheVariants.{DecodeError, OutOfMemory}
 use Rattle.minisign_base.specs.Fault.{Fault, Named}

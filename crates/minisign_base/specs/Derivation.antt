@@ -1,4 +1,4 @@
--- The named errors for the errors of key derivation.
+-- Maps the errors of key derivation to named errors.
 use Rattle.minisign_kdf.specs.declared.errors.KdfError.{KdfError}
 use Rattle.minisign_kdf.specs.declared.errors.KdfError.TheVariants.{OutOfMemory, InvalidOutputLen}
 use Rattle.minisign_base.specs.Fault.{Fault, Named}

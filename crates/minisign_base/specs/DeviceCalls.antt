@@ -1,5 +1,5 @@
--- A device over one call, as one value: what contracts see of it, before the call (old) and after it (new).
--- And relations over such values.
+-- Calls on devices: a device before the call (old) and after it (new), with the ghost members of
+-- its trait, as one value; and relations on such values.
 use Rattle.std.specs.Prelude.{◌≡◌, ⊤, ℕ, List, None, Result, MatchResult}
 use Rattle.std.specs.Io.KnownBytes.{Appends}
 use Rattle.minisign_base.specs.Devices.{AppendsFront, HasFlushed, HasGiven, HasGoneBack, HasMarked, Rose}
@@ -9,27 +9,27 @@ use Rattle.minisign_base.specs.declared.faults.NamedFault.TheVariants.{WritingFa
 use Rattle.minisign_base.specs.Members.{RandomOf, SinkOf, SourceOf}
 use Rattle.minisign_base.specs.declared.prompt.Prompt.{Prompt}
 
--- A source that can be read again, over a call.
+-- A call on a source that can be read again.
 pub record RereaderCall (R : Type 0) : Type 1 where
   pub source : SourceOf R
   pub steady : R → Type 0
   pub old : R
   pub new : R
 
--- A sink over a call.
+-- A call on a sink.
 pub record SinkCall (W : Type 0) : Type 1 where
   pub sink : SinkOf W
   pub old : W
   pub new : W
 
--- These two values as a clause writes them.
+-- These two records, as a clause writes them.
 abbrev pub rereader_call : {R : Type 0} → SourceOf R → (R → Type 0) → R → R → RereaderCall R
 rereader_call source steady old new = record { source = source; steady = steady; old = old; new = new }
 
 abbrev pub sink_call : {W : Type 0} → SinkOf W → W → W → SinkCall W
 sink_call sink old new = record { sink = sink; old = old; new = new }
 
--- Going back restores the bytes that were ahead when the mark was set.
+-- The source is steady: going back restores the bytes that were unread when the mark was set.
 abbrev pub IsSteady : {R : Type 0} → RereaderCall R → Type 0
 IsSteady reader = reader.steady reader.old
 
@@ -41,7 +41,7 @@ SourceFails reader = Rose (reader.source.faults reader.old) (reader.source.fault
 abbrev pub SourceHasNoNewFault : {R : Type 0} → RereaderCall R → Type 0
 SourceHasNoNewFault reader = reader.source.faults reader.new ≡ reader.source.faults reader.old
 
--- Of the bytes ahead, a prefix was returned, which may be empty or all of them.
+-- A prefix of the unread bytes was returned, which may be empty or all of them.
 abbrev pub SourceGives : {R : Type 0} → RereaderCall R → Type 0
 SourceGives reader = HasGiven (reader.source.ahead reader.old) (reader.source.ahead reader.new)
 
@@ -64,25 +64,25 @@ SinkFails out = Rose (out.sink.sink_faults out.old) (out.sink.sink_faults out.ne
 abbrev pub SinkHasNoNewFault : {W : Type 0} → SinkCall W → Type 0
 SinkHasNoNewFault out = out.sink.sink_faults out.new ≡ out.sink.sink_faults out.old
 
--- The sink took these bytes. If it is not known what the sink takes, this says nothing.
+-- The sink received these bytes. If its bytes are not known, this says nothing.
 abbrev pub Takes : {W : Type 0} → SinkCall W → List ℕ → Type 0
 Takes out bytes = Appends (out.sink.taken out.old) (out.sink.taken out.new) bytes
 
--- The sink took a prefix of these bytes.
+-- The sink received a prefix of these bytes.
 abbrev pub TakesFront : {W : Type 0} → SinkCall W → List ℕ → Type 0
 TakesFront out bytes = AppendsFront (out.sink.taken out.old) (out.sink.taken out.new) bytes
 
--- The sink flushed all that it took. If it is not known what was flushed, this says nothing.
+-- The sink flushed all that it received. If it is not known what was flushed, this says nothing.
 abbrev pub IsFlushed : {W : Type 0} → SinkCall W → Type 0
 IsFlushed out = SameWhereKnown (out.sink.taken out.new) (out.sink.flushed out.new)
 
--- The sink took all of a text and flushed it.
+-- The sink received all of a part and flushed it, without an error.
 pub record TakesPart {W : Type 0} (out : SinkCall W) (part : List ℕ) : Type 0 where
   pub bytes : Takes out part
   pub flushed : IsFlushed out
   pub no_new_fault : SinkHasNoNewFault out
 
--- The sink took a prefix of a text, and failed there or at its flush.
+-- The sink received a prefix of a part, and failed at a write or at the flush.
 pub record FailsAtPart {W : Type 0} (out : SinkCall W) (part : List ℕ) : Type 0 where
   pub front : TakesFront out part
   pub rose : SinkFails out
@@ -95,18 +95,19 @@ IsUnflushed out = out.sink.flushed out.new ≡ out.sink.flushed out.old
 abbrev pub Flushes : {O : Type 0} → SinkCall O → Result ⊤ ⊤ → Type 0
 Flushes out answer = HasFlushed out.sink.taken out.sink.flushed out.sink.sink_faults out.old out.new answer
 
--- The sink failed.
+-- The error of a sink that failed.
 abbrev pub IsWritingFault : {W : Type 0} → SinkCall W → Fault → Type 0
 IsWritingFault sink e = (e ≡ Named WritingFailed) × SinkFails sink
 
--- Bytes are written to a sink, which flushes nothing: it takes all of them, or a prefix if it fails.
+-- Bytes are written to a sink and not flushed. On success it received all of them, and after an
+-- error a prefix.
 abbrev pub Puts : {W : Type 0} → SinkCall W → List ℕ → Result ⊤ Fault → Type 0
 Puts out bytes answer =
     MatchResult answer (λ _. Takes out bytes × SinkHasNoNewFault out)
     (λ e. IsWritingFault out e × TakesFront out bytes)
     × IsUnflushed out
 
--- A sink that is not used.
+-- A call on a sink that is not used.
 abbrev pub unused : SinkCall ⊤
 unused =
     record {
@@ -115,7 +116,7 @@ unused =
       new = tt;
     }
 
--- A source over a call.
+-- A call on a source.
 pub record SourceCall (R : Type 0) : Type 1 where
   pub source : SourceOf R
   pub old : R
@@ -124,7 +125,7 @@ pub record SourceCall (R : Type 0) : Type 1 where
 abbrev pub source_call : {R : Type 0} → SourceOf R → R → R → SourceCall R
 source_call source old new = record { source = source; old = old; new = new }
 
--- A random source over a call.
+-- A call on a random source.
 pub record RandomCall (Z : Type 0) : Type 1 where
   pub random : RandomOf Z
   pub old : Z
@@ -133,7 +134,7 @@ pub record RandomCall (Z : Type 0) : Type 1 where
 abbrev pub random_call : {Z : Type 0} → RandomOf Z → Z → Z → RandomCall Z
 random_call random old new = record { random = random; old = old; new = new }
 
--- A prompt over a call: a reader and a writer.
+-- A call on a prompt, which has a reader and a writer.
 pub record PromptCall (R W : Type 0) : Type 1 where
   pub source : SourceOf R
   pub sink : SinkOf W
@@ -143,7 +144,7 @@ pub record PromptCall (R W : Type 0) : Type 1 where
 abbrev pub prompt_call : {R W : Type 0} → SourceOf R → SinkOf W → Prompt R W → Prompt R W → PromptCall R W
 prompt_call source sink old new = record { source = source; sink = sink; old = old; new = new }
 
--- The reader and the writer of a prompt over this call.
+-- The call on the reader of a prompt, and on its writer.
 abbrev pub reader_of : {R W : Type 0} → PromptCall R W → SourceCall R
 reader_of p = source_call p.source p.old.reader p.new.reader
 

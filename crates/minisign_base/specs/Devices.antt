@@ -1,32 +1,33 @@
--- What calls on a device do to its bytes, as far as they are known, and to its error count. Each kind of
--- call has a record over the members of the device's trait, the device before the call (old) and after it
--- (new), and the answer.
+-- The effects of a call on a device: on its bytes, as far as they are known, and on its error count.
+-- The record for each kind of call takes the members of the device's trait, the device before the
+-- call (old) and after it (new), and the answer.
 use Rattle.std.specs.Prelude.{◌≡◌, ℕ, ◌+◌, ◌-◌, ◌^◌, ◌<◌, ◌≤◌, min, Bool, true, false, List, [], ◌++◌, length}
 use Rattle.std.specs.Prelude.{take, Option, Some, IfSome, Result, IsErr, IfOk, OnOk, OnErr}
 use Rattle.std.specs.Io.KnownBytes.{append_known, Appends, Consumes, IsAtEnd, Keeps}
 
--- The count rose, or was at its greatest value.
+-- The error count rose, or was at its greatest value, 2 ^ 64 - 1.
 abbrev pub Rose : ℕ → ℕ → Type 0
 Rose old new = min (old + 1) (2 ^ 64 - 1) ≤ new
 
--- The second list, if it is known, is the first one.
+-- If the second list is known, the first one is known too, and they are equal.
 abbrev pub SameWhereKnown : Option (List ℕ) → Option (List ℕ) → Type 0
 SameWhereKnown whole known = IfSome known (λ ys. whole ≡ Some ys)
 
--- What is known starts again with nothing.
+-- If the bytes are known, there are none yet.
 abbrev pub BeginsAnew : Option (List ℕ) → Type 0
 BeginsAnew new = IfSome new (λ ys. ys ≡ [])
 
--- What is still known lost a prefix.
+-- A prefix of the bytes was removed, as far as the bytes are known before and after.
 abbrev pub HasGiven : Option (List ℕ) → Option (List ℕ) → Type 0
 HasGiven old new = IfSome new (λ ys. IfSome old (λ xs. (front : List ℕ) × (xs ≡ front ++ ys)))
 
--- Known bytes grew by a prefix of bs.
+-- A prefix of bs was appended to the bytes, if they are known.
 abbrev pub AppendsFront : Option (List ℕ) → Option (List ℕ) → List ℕ → Type 0
 AppendsFront old new bs = (n : ℕ) × IfSome old (λ xs. new ≡ Some (xs ++ take n bs))
 
--- A read moved the next n bytes to the start of the buffer, or failed. n is 0 only if the buffer is empty
--- or no byte is left. A place is marked afterwards exactly if one was before.
+-- A read: the next n bytes were moved to the start of the buffer, or it failed. n is 0 only if the
+-- buffer is empty or no bytes are left. A place is marked afterwards exactly if one was marked
+-- before.
 pub record HasRead {S E : Type 0} (ahead_of behind_of since_of : S → Option (List ℕ))
     (is_marked_of : S → Bool) (left_of faults_of : S → ℕ)
     (old new : S) (buffer : List ℕ) (answer : Result ℕ E) : Type 0 where
@@ -43,8 +44,8 @@ pub record HasRead {S E : Type 0} (ahead_of behind_of since_of : S → Option (L
   pub since : IfOk answer (λ n. since_of new ≡ append_known (since_of old) (take n buffer))
   pub since_kept : OnErr answer (SameWhereKnown (since_of old) (since_of new))
 
--- A place was marked. The bytes ahead are unchanged, and a steady source remembers them. After an error no
--- place is marked.
+-- Marking a place: the unread bytes are unchanged, and a steady source remembers them. After an
+-- error no place is marked.
 pub record HasMarked {S A E : Type 0} (steady_of : S → Type 0)
     (ahead_of behind_of since_of : S → Option (List ℕ))
     (is_marked_of : S → Bool) (faults_of : S → ℕ)
@@ -58,8 +59,9 @@ pub record HasMarked {S A E : Type 0} (steady_of : S → Type 0)
   pub unmarked : OnErr answer (is_marked_of new ≡ false)
   pub since : OnOk answer (BeginsAnew (since_of new))
 
--- The remembered bytes are ahead again, which is possible only if a place is marked. The place remains
--- marked, so that going back again would restore the same bytes. After an error no place is marked.
+-- Going back: the remembered bytes are unread again. This fails if no place is marked. The place
+-- remains marked, so that going back again restores the same bytes. After an error no place is
+-- marked.
 pub record HasGoneBack {S A E : Type 0} (ahead_of behind_of since_of : S → Option (List ℕ))
     (is_marked_of : S → Bool) (faults_of : S → ℕ)
     (old new : S) (answer : Result A E) : Type 0 where
@@ -72,7 +74,7 @@ pub record HasGoneBack {S A E : Type 0} (ahead_of behind_of since_of : S → Opt
   pub unmarked : OnErr answer (is_marked_of new ≡ false)
   pub since : OnOk answer (BeginsAnew (since_of new))
 
--- The buffer was filled with the next bytes.
+-- Filling a buffer: it holds the next bytes.
 pub record HasFilled {S A E : Type 0} (ahead_of : S → Option (List ℕ)) (faults_of : S → ℕ)
     (old new : S) (buffer : List ℕ) (answer : Result A E) : Type 0 where
   pub bytes : OnOk answer (Consumes (ahead_of old) (ahead_of new) buffer)
@@ -80,8 +82,8 @@ pub record HasFilled {S A E : Type 0} (ahead_of : S → Option (List ℕ)) (faul
   pub fault : OnErr answer (Rose (faults_of old) (faults_of new))
   pub given : OnErr answer (HasGiven (ahead_of old) (ahead_of new))
 
--- The first n of the bytes were taken, at least one unless there are none; or none after an error. Nothing
--- was flushed.
+-- A write: the sink received the first n of the bytes, at least one unless there are none; after an
+-- error it received none. Nothing was flushed.
 pub record HasWritten {S E : Type 0} (taken_of flushed_of : S → Option (List ℕ)) (faults_of : S → ℕ)
     (old new : S) (due : List ℕ) (answer : Result ℕ E) : Type 0 where
   pub bound : IfOk answer (λ n. n ≤ length due)
@@ -92,8 +94,8 @@ pub record HasWritten {S E : Type 0} (taken_of flushed_of : S → Option (List �
   pub kept : OnErr answer (Keeps (taken_of old) (taken_of new))
   pub unflushed : flushed_of new ≡ flushed_of old
 
--- Nothing was taken, and all that was taken before was flushed. After an error what was flushed is
--- unchanged or no longer known.
+-- A flush: the sink received nothing, and all that it received before is flushed. After an error,
+-- what was flushed is unchanged or no longer known.
 pub record HasFlushed {S A E : Type 0} (taken_of flushed_of : S → Option (List ℕ)) (faults_of : S → ℕ)
     (old new : S) (answer : Result A E) : Type 0 where
   pub bytes : Keeps (taken_of old) (taken_of new)

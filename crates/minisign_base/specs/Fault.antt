@@ -23,7 +23,7 @@ abbrev pub text_of : Fault → List ℕ
 text_of (Named f) = named_text f
 text_of (Worded kind text) = text
 
--- The error as it is stored.
+-- The error that the stored meaning stands for.
 abbrev pub fault_of : Meaning → Fault
 fault_of (kept.Named f) = Named f
 fault_of (kept.Fixed kind text) = Worded kind text.now

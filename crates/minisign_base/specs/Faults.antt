@@ -1,4 +1,5 @@
--- The named errors: the number by which programs in other languages know each one, its kind, and its text.
+-- The named errors: for each one the number that programs in other languages see, its kind and its
+-- text.
 use Rattle.std.specs.Prelude.{ℕ, List, ◌++◌, codes}
 use Rattle.minisign_base.specs.KeyIds.{key_id_text}
 use Rattle.minisign_base.specs.declared.errors.ErrorKind.{ErrorKind}
@@ -6,7 +7,7 @@ use Rattle.minisign_base.specs.declared.errors.ErrorKind.TheVariants as kind
 use Rattle.minisign_base.specs.declared.faults.NamedFault.{NamedFault}
 use Rattle.minisign_base.specs.declared.faults.NamedFault.TheVariants as fault
 
--- A number, a kind, and the text of the error without its key IDs.
+-- The number, the kind, and the text of the error without its key IDs.
 pub record FaultRow : Type 0 where
   pub number : ℕ
   pub kind : ErrorKind
@@ -76,7 +77,7 @@ fault_row fault.InputOrOutputFailed = row 78 kind.Io (codes "input or output fai
 fault_row fault.FormattingFailed = row 79 kind.Io (codes "an error occurred when formatting an argument")
 fault_row fault.InvalidUtf8 = row 80 kind.Encoding (codes "invalid UTF-8")
 
--- The text. For all errors but three it is the summary.
+-- The text of the error. For all errors except three it is the summary.
 abbrev pub named_text : NamedFault → List ℕ
 named_text (fault.DifferentKeyIds signature key) =
     codes "Signature key id: " ++ (key_id_text signature ++

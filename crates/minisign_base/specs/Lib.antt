@@ -1,3 +1,4 @@
+-- The definitions that the contracts of minisign_base use.
 pub mod Decoding
 pub mod Derivation
 pub mod DeviceCalls

@@ -1,4 +1,4 @@
--- What contracts see of a device or of a scheme, as one value: the ghost members of its trait. A clause
+-- A device or a scheme as contracts see it: the ghost members of its trait as one value. A clause
 -- writes it `S.Source`, `W.Sink`, `Z.RandomSource` or `S.Scheme`, even if `S` is a `Rereader`, whose own
 -- member is `S.steady`.
 --

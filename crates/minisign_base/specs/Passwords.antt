@@ -18,25 +18,25 @@ first_line bytes =
     let line = take (line_length bytes) bytes in
     if nat_lt (line_length bytes) (length bytes) then strip_carriage_return line else line
 
--- The number of bytes that are read: those of the line and its line feed, but no more than 1026.
+-- The number of bytes that are read: the line and its line feed, but at most 1026.
 abbrev pub read_count : List ℕ → ℕ
 read_count bytes = min 1026 (line_length bytes + 1)
 
--- A line as a password, which must be UTF-8 of at most 1024 bytes.
+-- The line as a password. It must be UTF-8 of at most 1024 bytes.
 unfoldable pub accepted_line : List ℕ → Result (List ℕ) Fault
 accepted_line line =
     if not (is_utf8 line) then Err (Named NotUtf8)
     else (if nat_lt 1024 (length line) then Err (Named PasswordTooLong)
     else Ok line)
 
--- The password, or the first error: no byte at all, no line feed in 1026 bytes, or a line that is no
--- password.
+-- The password in the typed bytes, or the first error: no bytes at all, no line feed in 1026 bytes,
+-- or a line that is not a valid password.
 unfoldable pub password_of : List ℕ → Result (List ℕ) Fault
 password_of bytes =
     if length bytes == 0 then Err (Named EndOfInput)
     else (if nat_lt 1025 (line_length bytes) then Err (Named PasswordTooLong)
     else accepted_line (first_line bytes))
 
--- The password in the typed bytes, or nothing if they hold none.
+-- The password in the typed bytes, or the empty list if there is none.
 abbrev pub typed_password : List ℕ → List ℕ
 typed_password bytes = result_unwrap_or (password_of bytes) []

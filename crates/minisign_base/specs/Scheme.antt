@@ -1,7 +1,8 @@
--- What the law of a signature scheme is about: bytes, and the random bytes of a signature.
+-- The assumptions of the law of a signature scheme: lists of bytes, and the random bytes for a
+-- signature.
 use Rattle.std.specs.Prelude.{◌≡◌, ℕ, ◌<◌, List, Option, length, slice_index, IfSome}
 
--- Each member of the list is a byte.
+-- Each element of the list is a byte.
 abbrev pub IsBytes : List ℕ → Type 0
 IsBytes b = (i : ℕ) → slice_index b i < 256
 

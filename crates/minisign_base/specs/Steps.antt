@@ -1,12 +1,12 @@
--- How a call that takes several steps ends, and how far it came. The steps depend on the call: Ends says
--- for a step what became of the devices (old at its beginning, new at its end) and how it ended, with Ok if
--- it was done, and otherwise with the error that ended the call.
+-- Calls that take several steps: which steps were taken, and how the call ended. The steps depend
+-- on the call. The parameter Ends says for a step what it does to the devices (old before it, new
+-- after it) and how it ends: with Ok, or with the error that ends the call.
 use Rattle.std.specs.Prelude.{◌≡◌, ◌⊎◌, ⊤, List, [], ◌∷◌, Result, Ok, Err, MatchResult}
 use Rattle.minisign_base.specs.Fault.{Fault, Named}
 use Rattle.minisign_base.specs.declared.faults.NamedFault.{NamedFault}
 
--- How these steps end: all were done, one after another; or one failed after all before it were done, and
--- none after it was begun.
+-- These steps ran in order: all succeeded; or one failed after all earlier ones succeeded, and no
+-- later one was started.
 abbrev pub StepsEnd : {Step D E : Type 0} → (Step → D → D → Result ⊤ E → Type 0) → List Step → D → D
     → Result ⊤ E → Type 0
 StepsEnd Ends [] old new (Ok _) = new ≡ old
@@ -17,11 +17,12 @@ StepsEnd {D = D} Ends (step ∷ later) old new (Err e) =
     Ends step old new (Err e)
     ⊎ ((between : D) × Ends step old between (Ok tt) × StepsEnd Ends later between new (Err e))
 
--- An end with a single error: what holds on success, the error, and what holds after it.
+-- The end of a step that has only one error: what holds on success, the error, and what holds after
+-- it.
 abbrev pub EndsWith : Type 0 → NamedFault → Type 0 → Result ⊤ Fault → Type 0
 EndsWith Done fault Failed answer = MatchResult answer (λ _. Done) (λ e. (e ≡ Named fault) × Failed)
 
--- How a call ended, without the value that it made.
+-- The result of a call without the value that it returns.
 abbrev pub without_value : {T E : Type 0} → Result T E → Result ⊤ E
 without_value (Ok _) = Ok tt
 without_value (Err e) = Err e

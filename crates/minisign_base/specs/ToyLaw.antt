@@ -1,4 +1,5 @@
--- The toy accepts what it signed, whatever table it has.
+-- Proof that the toy scheme obeys the law of signature schemes: it accepts what it signed, whatever
+-- its table is.
 use Rattle.std.proofs.Common.{◌≡◌, ℕ, Option, None, Some, List, ◌++◌, length, drop, ◌||◌, true, false, refl}
 use Rattle.std.proofs.Common.{arith}
 use Rattle.std.proofs.lemmas.List.{drop_at, length-replicate, length-take-le, take_at}

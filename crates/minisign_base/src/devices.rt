@@ -11,12 +11,12 @@ ghost use Rattle.std.specs.Prelude.{◌≡◌, ◌+◌, ◌-◌, ◌^◌, min};
 #[derive(Clone, Copy, Debug, PartialEq, Eq)]
 pub struct DeviceFault;
 
-// How often a device failed.
+// The number of errors of a device. It stays at 2^64 - 1 instead of overflowing.
 #[derive(Clone, Copy)]
 struct FaultCount(u64);
 
 impl FaultCount {
-    // One more error. The count stays at its greatest value.
+    // Counts one more error and returns it.
     fn raise(&mut self) -> DeviceFault
         ensures { self.new.0 ≡ min (self.old.0 + 1) (2 ^ 64 - 1) }
     {

@@ -18,7 +18,7 @@ use std::marker::Model;
 use std::string::FromUtf8Error;
 use std::{fmt, io};
 
-/// What an error concerns.
+/// The kind of problem that an error reports.
 #[derive(Clone, Copy, Debug, PartialEq, Eq)]
 pub enum ErrorKind {
     /// Key generation.
@@ -54,7 +54,7 @@ pub struct PError {
 /// A value or an error.
 pub type Result<T> = std::result::Result<T, PError>;
 
-// An error as it is kept.
+// An error as it is stored. A text that was allocated is `Made`.
 #[derive(Debug, Drop)]
 enum Meaning {
     Named(NamedFault),

@@ -27,9 +27,9 @@ pub enum NamedFault {
     GoingBackFailed,
     /// A random source failed or had too few bytes.
     RandomSourceFailed,
-    /// There are fewer bytes than the record needs.
+    /// A decoded key or signature has too few bytes.
     RecordTooShort,
-    /// A text, a typed line, a password or a comment is not UTF-8.
+    /// The input is not UTF-8: a file, a typed line, a password, a comment or a name.
     NotUtf8,
     /// The input ended before a line could be read.
     EndOfInput,
@@ -37,11 +37,12 @@ pub enum NamedFault {
     PasswordTooLong,
     /// The two passwords typed for a new key pair differ.
     PasswordsDiffer,
-    /// The memory or work limit of an encrypted key is higher than allowed.
+    /// The memory limit of an encrypted key is above 2^30 bytes, or its limits give scrypt more than 2^20
+    /// rows.
     ParametersTooHigh,
     /// The limits of an encrypted key give parameters that scrypt rejects.
     InvalidParameters,
-    /// Decrypting the key takes more work than the caller allows.
+    /// Decrypting the key takes more rows of scrypt than the caller allows.
     WorkTooHigh,
     /// The signature file has no untrusted comment line.
     MissingUntrustedComment,
@@ -77,11 +78,12 @@ pub enum NamedFault {
     MissingEncodedSecretKey,
     /// The second line of the secret key file is not base64.
     SecretKeyNotBase64,
-    /// A secret key that should be unencrypted names a key derivation.
+    /// The key was to be opened without a password, but it names a key derivation, so it may be
+    /// encrypted.
     KeyMightBeEncrypted,
-    /// A secret key that should be encrypted names no key derivation.
+    /// The key was to be opened with a password, but it names no key derivation, so it is not encrypted.
     KeyNotEncrypted,
-    /// An encrypted key names a key derivation other than `Sc`.
+    /// An encrypted key names a key derivation other than `Sc`, which is scrypt.
     UnsupportedEncryptionAlgorithm,
     /// The checksum does not match after decryption, so the password is probably wrong.
     WrongPassword,
@@ -188,8 +190,8 @@ impl NamedFault {
         self.row().0
     }
 
-    /// Returns the text of the error without its key IDs, at most 127 bytes. For all errors but three it is
-    /// the whole text.
+    /// Returns the text of the error without its key IDs, at most 127 bytes. For all errors except
+    /// three it is the whole text.
     pub fn summary(&self) -> &'static str
         ensures { result.now ≡ (fault_row self.now).summary }
     {
@@ -222,7 +224,7 @@ impl NamedFault {
         }
     }
 
-    // The number, the kind and the summary.
+    // Returns the number, the kind and the summary.
     fn row(&self) -> &'static (u32, ErrorKind, &'static str)
         ensures { record { number = result.now.0; kind = result.now.1; summary = result.now.2.now }
             ≡ fault_row self.now }

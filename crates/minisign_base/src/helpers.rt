@@ -1,4 +1,4 @@
-//! Numbers as bytes, the scrypt parameters that a key's limits give, asking for a password, and the clock.
+//! Integers as bytes, the scrypt parameters for a key's limits, password prompts, and the clock.
 
 ghost use Rattle.std.specs.Prelude.{◌≡◌, ℕ, ◌+◌, ◌/◌, ◌%◌, ◌^◌, ◌<◌, ◌≤◌, ◌++◌, List, Ok, Err, IfOk, IfErr};
 ghost use Rattle.std.specs.Prelude.{length, string_bytes, take, if◌then◌else◌, max, min, nat_lt};
@@ -60,7 +60,7 @@ pub fn joined<'a>(
     &room[..end]
 }
 
-// Puts a piece after the first `at` bytes, and returns where it ends.
+// Copies `piece` to `room` from index `at` on, and returns the index after it.
 fn put_at(room: &mut [u8], at: usize, piece: &[u8]) -> usize
     requires { at + length piece.now ≤ length room.old }
     ensures end { result ≡ at + length piece.now }
@@ -85,9 +85,10 @@ pub fn get_password<R: Source, W: Sink>(
     prompt: &mut Prompt<R, W>,
     text: &str,
 ) -> Result<String>
-    // On success, the result is the password in the first line of the bytes ahead, as `specs/Passwords`
-    // defines it. The text was written and flushed, and after it the mark of an empty password if the
-    // password is empty. No more than the line was read, and no device failed.
+    // On success, the result is the password in the first line of the unread bytes, as
+    // `specs/Passwords` defines it. The text was written and flushed, and after it the mark of an
+    // empty password if the password is empty. No more than the line was read, and no device
+    // failed.
     ensures asked { IfOk result (λ password. (bytes : List ℕ) × (password_of bytes
         ≡ Ok (string_bytes password)) × ConversationEnds (prompt_call R.Source W.Sink prompt.old prompt.new)
         (asking_steps text.now bytes) (Ok tt)) }
@@ -106,8 +107,7 @@ pub fn get_password<R: Source, W: Sink>(
     Ok(password)
 }
 
-// Room for the longest line that is read: a password of 1024 bytes, a carriage return and a line
-// feed.
+// Allocates the buffer for a line.
 fn line_buffer(alloc: Global) -> Result<Vec<u8>>
     ensures length { IfOk result (λ v. length v.items ≡ 1026) }
     ensures refused { IfErr result (λ e. e ≡ Named OutOfMemory) }
@@ -127,7 +127,7 @@ pub fn unix_timestamp(clock: &impl Clock) -> Result<u64>
     seconds_since_1970(now)
 }
 
-// The seconds from 1970 to a moment.
+// Returns the seconds from 1970 to `now`, rounded down.
 fn seconds_since_1970(now: SystemTime) -> Result<u64>
     ensures { result ≡ Ok (system_time_nanos now / 1000000000) }
 {
@@ -164,8 +164,8 @@ pub fn raw_scrypt_params(memlimit: u64, opslimit: u64, n_log2_max: u8) -> Result
     checked_params(n_log2, parallelization(operations, n_log2), n_log2_max)
 }
 
-// The parameters with this cost and this parallelization, unless the cost is above the allowed one
-// or scrypt does not take them.
+// Returns the parameters with this cost and this parallelization, unless the cost is above the
+// allowed one or scrypt rejects them.
 #[tactic(auto, unfolding(crate::specs::Limits::limits))]
 fn checked_params(n_log2: u8, p: u32, n_log2_max: u8) -> Result<Params>
     ensures { result ≡ limits (record { n_log2 = n_log2; r = 8; p = p }) n_log2_max }
@@ -176,8 +176,8 @@ fn checked_params(n_log2: u8, p: u32, n_log2_max: u8) -> Result<Params>
     Ok(Params::new(n_log2, BLOCK_SIZE, p)?)
 }
 
-// The least number from 1 whose power of two is above half of the greatest cost. No cost that two
-// limits lead to is large enough for the cap of 63.
+// Returns the least n of at least 1 with 2^n above half of the greatest cost. The definition caps n
+// at 63, which is never reached, because the greatest cost is always below 2^59.
 fn cost_log2(greatest: u64) -> u8
     requires { greatest < 2 ^ 59 }
     ensures least { IsCostLog2 greatest result }
@@ -187,7 +187,8 @@ fn cost_log2(greatest: u64) -> u8
     half.ilog2() as u8 + 1
 }
 
-// The parallelization where the memory is the measure: the quotient is cut to 32 bits first.
+// Returns p for the case that the memory limit bounds N. The quotient is reduced modulo 2^32 before
+// it is limited.
 fn parallelization(operations: u64, n_log2: u8) -> u32
     requires n_log2 { n_log2 < 64 }
     ensures { result ≡ min 0x3fffffff (operations / 4 / 2 ^ n_log2 % 2 ^ 32) / 8 }

@@ -1,4 +1,4 @@
-//! How a key ID is shown.
+//! The text form of key IDs.
 
 ghost use Rattle.std.specs.Prelude.{◌≡◌, ◌<◌, Some, true, []};
 ghost use Rattle.std.specs.Fmt.{digit_glyph};
@@ -30,7 +30,7 @@ impl fmt::Display for KeyId {
     }
 }
 
-// The last 16 hexadecimal digits of a number, with zeros in front.
+// Returns the last 16 hexadecimal digits of a number, with leading zeros.
 fn sixteen_digits(number: u64) -> [u8; 16]
     ensures { result ≡ last_digits 16 number [] }
 {
@@ -45,7 +45,7 @@ fn sixteen_digits(number: u64) -> [u8; 16]
     digits
 }
 
-// A hexadecimal digit, an upper letter from ten on.
+// Returns a hexadecimal digit in upper case.
 fn digit(value: u64) -> u8
     requires { value < 16 }
     ensures { result ≡ digit_glyph true value }

@@ -1,5 +1,5 @@
-//! What keys and signatures are built on: errors, devices, the interface of a signature scheme, and the
-//! limits of key derivation.
+//! The base of the other crates: errors, devices, prompts, the interface of a signature scheme, and
+//! the limits of key derivation.
 
 #![tactic(auto)]
 

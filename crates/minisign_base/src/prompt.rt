@@ -1,4 +1,4 @@
-//! A prompt asks a person: it writes texts and reads lines.
+//! `Prompt`, which writes texts to a person and reads lines.
 
 ghost use Rattle.std.specs.Prelude.{◌≡◌, ◌⊎◌, ℕ, ◌+◌, ◌≤◌, List, [], ◌∷◌, length, take, Ok, Err, IfOk, IfErr};
 ghost use Rattle.std.specs.Prelude.{OnOk, OnErr, MatchOption, MatchResult, string_bytes};
@@ -64,7 +64,7 @@ impl<R: Source, W: Sink> Prompt<R, W> {
         }
     }
 
-    // Where the password is empty, shows that.
+    // Writes `<empty>` and a line feed if the password is empty.
     pub(crate) fn mark_empty(&mut self, password: &str) -> Result<()>
         ensures ended { ConversationEnds (prompt_call R.Source W.Sink self.old self.new)
             (marking_steps password.now) result }
@@ -75,7 +75,7 @@ impl<R: Source, W: Sink> Prompt<R, W> {
         self.say("<empty>\n")
     }
 
-    // Reads a line into a buffer of 1026 bytes, and takes it as a password.
+    // Reads a line into a buffer of 1026 bytes and returns it as a password.
     pub(crate) fn read_password(&mut self, line: Vec<u8>) -> Result<String>
         requires { length line.items ≡ 1026 }
         ensures writer { self.new.writer ≡ self.old.writer }
@@ -94,8 +94,8 @@ impl<R: Source, W: Sink> Prompt<R, W> {
 }
 
 impl Prompt<NoSource, NoSink> {
-    /// Returns a prompt that never asks and shows nothing. What is written to it is dropped, and asking for
-    /// a password fails with `EndOfInput`. Does not allocate.
+    /// Returns a prompt without input and output. Text that is written to it is discarded, and
+    /// asking for a password fails with `EndOfInput`. Does not allocate.
     pub fn silent() -> Prompt<NoSource, NoSink>
         // No line that is read from a silent prompt is a password: its input ends at once, and the error is
         // `EndOfInput`.
@@ -107,7 +107,6 @@ impl Prompt<NoSource, NoSink> {
     }
 }
 
-// Writes a text and flushes it.
 fn put_text<W: Sink>(writer: &mut W, text: &str) -> Result<()>
     ensures taken { OnOk result (TakesPart (sink_call W.Sink writer.old writer.new) text.now) }
     ensures failed { IfErr result (λ e. (e ≡ Named WritingFailed)
@@ -119,8 +118,9 @@ fn put_text<W: Sink>(writer: &mut W, text: &str) -> Result<()>
     }
 }
 
-// Moves a line into the buffer and returns how long it is: the line feed and one carriage return
-// before it are no part of it. No more than 1026 bytes are read, one at a time.
+// Reads a line into the buffer and returns its length without the line feed and one carriage return
+// before it. Reads one byte at a time, so that nothing after the line is consumed, and at most 1026
+// bytes.
 fn read_line<R: Source>(source: &mut R, line: &mut [u8]) -> Result<usize>
     requires { length line.old ≡ 1026 }
     ensures read { IfOk result (λ n. (bytes : List ℕ)
@@ -143,7 +143,7 @@ fn read_line<R: Source>(source: &mut R, line: &mut [u8]) -> Result<usize>
     Err(NamedFault::PasswordTooLong.into())
 }
 
-// The next byte, or none at the end.
+// Returns the next byte, or `None` at the end.
 fn next_byte<R: Source>(source: &mut R) -> Result<Option<u8>>
     ensures byte { IfOk result (λ next. MatchOption next (Consumes (R.ahead source.old) (R.ahead source.new)
         [] × IsAtEnd (R.ahead source.new) × (R.left source.new ≡ R.left source.old)) (λ b. Consumes
@@ -177,7 +177,7 @@ pub fn conversations_are_written<R: Source, W: Sink>()
         → AppendsFront (W.taken old.writer) (W.taken new.writer) (written steps) }
 {}
 
-// How long a line is without one carriage return at its end.
+// Returns the length of a line without one carriage return at its end.
 fn without_carriage_return(line: &[u8]) -> usize
     ensures bound { result ≤ length line.now }
     ensures line { take result line.now ≡ strip_carriage_return line.now }
@@ -189,7 +189,7 @@ fn without_carriage_return(line: &[u8]) -> usize
     }
 }
 
-// A line as a password, if it is UTF-8 of at most 1024 bytes.
+// Returns the line as a password if it is UTF-8 and has at most 1024 bytes.
 #[tactic(auto, unfolding(crate::specs::Passwords::accepted_line))]
 fn accepted_line(line: Vec<u8>) -> Result<String>
     ensures outcome { MatchResult result

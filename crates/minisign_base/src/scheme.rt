@@ -4,8 +4,9 @@ ghost use Rattle.std.specs.Prelude.{◌≡◌, ℕ, List, ◌++◌, Option, Bool
 ghost use Rattle.std.specs.Option.{option_map};
 ghost use Rattle.minisign_base.specs.Scheme.{IsBytes, AreRandomBytes};
 
-/// A lawful signature scheme. A secret key has 64 bytes, the 32 of its seed followed by the 32 of its
-/// public key. A signature has 64 bytes. No call fails or allocates.
+/// A signature scheme that accepts the signatures it makes. A secret key has 64 bytes, the 32 of
+/// its seed followed by the 32 of its public key. A signature has 64 bytes. No call fails or
+/// allocates.
 pub trait Scheme {
     // The public key of a seed.
     ghost public_of: { Self → List ℕ → List ℕ };

@@ -1,4 +1,4 @@
-//! A scheme for tests. It is insecure: everybody who has the public key can sign.
+//! The toy scheme, for tests. It is insecure: everybody who has the public key can sign.
 
 ghost use Rattle.std.specs.Prelude.{◌≡◌, ℕ, List, ◌++◌, Option, take, drop, bit_xor};
 ghost use Rattle.std.specs.Simd.Lanes.{zip2};
@@ -89,7 +89,7 @@ impl<'a> Scheme for ToyScheme<'a> {
     ghost accepts_own = { λ s. own_accepted s.table.now };
 }
 
-// Whether the three stand in the table together.
+// Returns true if the table contains this triple.
 fn is_listed(table: &[Triple], message: &[u8], public_key: &[u8; 32], signature: &[u8; 64]) -> bool
     ensures { result ≡ is_listed table.now message.now public_key.now signature.now }
 {
@@ -104,7 +104,8 @@ fn is_listed(table: &[Triple], message: &[u8], public_key: &[u8; 32], signature:
     false
 }
 
-// Whether the second half of the signature is tied to the first.
+// Returns true if the second half of the signature follows from the first half, the public key and
+// the message.
 fn is_tied(message: &[u8], public_key: &[u8; 32], signature: &[u8; 64]) -> bool
     ensures { result ≡ toy_accepts message.now public_key.now signature.now }
 {
@@ -113,14 +114,14 @@ fn is_tied(message: &[u8], public_key: &[u8; 32], signature: &[u8; 64]) -> bool
     given == expected.as_slice()
 }
 
-// The seed with each byte xored with `5a`.
+// Returns the public key of a seed: each byte xored with `5a`.
 fn masked(seed: &[u8; 32]) -> [u8; 32]
     ensures { result ≡ toy_public_of seed.now }
 {
     (u8x32::from_array(*seed) ^ u8x32::splat(0x5a)).to_array()
 }
 
-// The half of a signature that is tied to the other, to the key and to the message.
+// Returns the second half of the signature whose first half is `random`.
 fn tied(random: &[u8; 32], public_key: &[u8; 32], message: &[u8]) -> [u8; 32]
     ensures { result ≡ zip2 bit_xor (zip2 bit_xor random.now public_key.now) (fold_of message.now) }
 {
@@ -128,7 +129,7 @@ fn tied(random: &[u8; 32], public_key: &[u8; 32], message: &[u8]) -> [u8; 32]
     (keyed ^ u8x32::from_array(fold(message))).to_array()
 }
 
-// The xor of the message's bytes in 32 columns.
+// Folds the message into 32 bytes by xor.
 fn fold(message: &[u8]) -> [u8; 32]
     ensures { result ≡ fold_of message.now }
 {

@@ -1,4 +1,4 @@
--- What the calls of an installation answer and are told, by numbers.
+-- The calls of an installation with numbers for results and errors.
 use Rattle.std.specs.Prelude.{◌≡◌, ◌⊎◌, ◌==◌, ◌&&◌, nat_lt, not, ℕ, Bool, if◌then◌else◌, List, Option, None}
 use Rattle.std.specs.Prelude.{Some, IfSome, Err}
 use Rattle.minisign.specs.Acceptance.{Verifier}
@@ -20,42 +20,42 @@ use Rattle.minisign_install.specs.declared.hosted.Choices.{Choices}
 use Rattle.minisign_install.specs.declared.hosted.Installation.{Installation}
 use Rattle.minisign_install.specs.declared.order.Due.{Due}
 
--- the number is that of a rejection that is as P says
+-- The number is that of an error for which P holds.
 abbrev pub IsRejectionNumber : (Refusal InstallFault → Type 0) → ℕ → Type 0
 IsRejectionNumber P n = (r : Refusal InstallFault) × (n ≡ refusal_number install_number r) × P r
 
--- the number is that of a call that is not due: nothing is due, or a call that is as P says, and nothing
--- changes
+-- The number is that of API misuse: nothing is due, or P holds for the call that is due. Nothing changes.
 abbrev pub IsNotDueNumber : (Due ℕ → Type 0) → Installation → Installation → ℕ → Type 0
 IsNotDueNumber P old new n = (n ≡ misuse_number NotDue) × (new ≡ old) × IfSome (due_of old) P
 
--- the number is that of what the answers decide of the comment
+-- The number is that of what the scheme's results decide about the comment.
 abbrev pub IsCommentNumber : Verifier → PublicKeyValue → Terms → ℕ → ℕ → Installation → Installation → ℕ
     → Type 0
 IsCommentNumber accepts key terms kept first old new n =
     IsNumberOf (AnswersJudgeComment accepts key terms kept (first == answer_yes) old new) n
 
--- the number is that of a rejection: a number is no answer, and nothing changes; or what the answers reject
+-- The number is that of an error: a number is not a result of the scheme, and nothing changes; or else what
+-- the results decide is an error.
 abbrev pub IsAnswerNumber : ℕ → ℕ → Installation → Installation → ℕ → Type 0
 IsAnswerNumber first second old new n =
     ((n ≡ misuse_number BadAnswer) × (¬ (IsAnswer first) ⊎ ¬ (IsAnswer second)) × (new ≡ old))
     ⊎ (IsAnswer first × IsAnswer second
     × IsRejectionNumber (IsAnswerRefusal (first == answer_yes) (second == answer_yes) old new) n)
 
--- the number is that of what the comment is rejected for by itself: one of the two texts is not UTF-8, or
--- both are, and this is the first reason
+-- The number is that of the error for which a comment is rejected: the comment or the file name is not UTF-8,
+-- or else the first check that fails.
 abbrev pub IsJudgedNumber : List ℕ → List ℕ → Terms → ℕ → ℕ → Type 0
 IsJudgedNumber comment file terms kept n = (e : InstallFault) × (n ≡ install_number e)
     × TextsAreRead comment file (IsWorth terms kept comment) (Err e)
 
 -- == Options ==
 
--- each option but the numbering is 0 or 1
+-- Each option except the numbering is 0 or 1.
 abbrev pub are_flags : InstallOptions → Bool
 are_flags o = nat_lt o.is_first 2 && nat_lt o.again 2 && nat_lt o.is_check 2 && nat_lt o.is_waiting 2
     && nat_lt o.must_expire 2
 
--- the choices of options: of each 1 is yes
+-- The choices in the options, where 1 means yes.
 abbrev pub choices_of : InstallOptions → Numbering → Choices
 choices_of o numbering = record {
   is_first = o.is_first == 1;
@@ -66,8 +66,8 @@ choices_of o numbering = record {
   numbering = numbering;
 }
 
--- an installation is not begun for this: an option, or else the numbering, or else a public key that was not
--- read
+-- Why an installation is not begun: an option is neither 0 nor 1; or else the numbering is unknown; or else a
+-- public key was not read.
 abbrev pub starting_misuse : PublicKeyValue → PublicKeyValue → InstallOptions → Option Misuse
 starting_misuse key other o =
     if not (are_flags o) then Some BadOption else

@@ -1,5 +1,5 @@
--- What the text of a secret key opens to, what signing with that answers by numbers, and what is an error of
--- how a key is sealed.
+-- What a secret key file opens to, the error numbers of signing with it, and the API misuse in how a key is
+-- to be encrypted.
 use Rattle.std.specs.Prelude.{◌≡◌, ◌==◌, ◌&&◌, ◌||◌, not, nat_le, nat_lt, ℕ, Bool, List, length, replicate}
 use Rattle.std.specs.Prelude.{if◌then◌else◌, bytes_eq, Option, None, Some, Result, option_copied}
 use Rattle.minisign_base.specs.Fault.{Fault}
@@ -18,30 +18,31 @@ use Rattle.minisign_external.specs.declared.state.Misuse.TheVariants.{WeakSealin
 use Rattle.minisign_external.specs.declared.state.Refusal.{Refusal}
 use Rattle.minisign_external.specs.declared.unopened_keys.KeyText.{KeyText}
 
--- the key that a text opens to, with its password where there is one, within its bound on the work
+-- The key that a secret key file opens to, with its password if there is one, within its bound on the work.
 abbrev pub opened_by : KeyText → Result SecretKeyRecord Fault
 opened_by t = opened_text t.text.now (option_copied t.password) t.most_rows
 
--- the number is that of why a message was not signed with the key of a text
+-- The error number of why a message was not signed with the key of a secret key file.
 abbrev pub IsSigningNumber : {S : Type 0} → SchemeOf S → S → KeyText → ChosenComments → List ℕ → List ℕ → ℕ
     → Type 0
 IsSigningNumber s scheme t chosen message bytes n = (r : Refusal Fault) × (n ≡ refusal_number fault_number r)
     × IsTextSigningRefusal s scheme t.text.now (option_copied t.password) t.most_rows chosen message bytes r
 
--- == How a key is sealed ==
+-- == Encrypting a key ==
 
--- a password is an error: with_password is not 0, 1 or 2, or it is 1 and the password is empty
+-- The API misuse in the password arguments: with_password is not 0, 1 or 2, or it is 1 and the password is
+-- empty.
 abbrev pub password_misuse : ℕ → List ℕ → Option Misuse
 password_misuse with_password password =
     if nat_lt 2 with_password then Some BadPasswordFlag else
     if (with_password == 1) && (length password == 0) then Some EmptyPassword else None
 
--- the salt is all zeros, or a limit is below the least one under which Minisign seals a key
+-- The salt is all zeros, or a limit is below the lowest one with which Minisign encrypts a key.
 abbrev pub is_weak : Sealing → Bool
 is_weak s =
     bytes_eq s.salt (replicate 32 0) || nat_lt s.operations_limit 524288 || nat_lt s.memory_limit 16777216
 
--- the password is an error, or else how the key is sealed, if it is
+-- The first API misuse of two checks, if there is one.
 abbrev pub first_misuse : Option Misuse → Option Misuse → Option Misuse
 first_misuse (Some m) more = Some m
 first_misuse None more = more
@@ -50,7 +51,7 @@ abbrev pub sealing_misuse : ℕ → List ℕ → Sealing → Option Misuse
 sealing_misuse with_password password s = first_misuse (password_misuse with_password password)
     (if not (with_password == 0) && is_weak s then Some WeakSealing else None)
 
--- the number is that of why the text of a secret key was not written: a usage error, or else a rejection
+-- The error number of why a secret key file was not written: this API misuse, or else another error.
 abbrev pub IsMakingNumber : Option Misuse → SecretKeyValue → Option (List ℕ) → Sealing → List ℕ → List ℕ → ℕ
     → Type 0
 IsMakingNumber (Some m) v password s comment bytes n = n ≡ misuse_number m

@@ -1,4 +1,4 @@
--- What a caller tells a state by a number.
+-- The results of the caller's scheme, passed in as numbers.
 use Rattle.std.specs.Prelude.{◌≡◌, ◌==◌, ℕ, Bool, true, List}
 use Rattle.minisign.specs.Acceptance.{Verifier}
 use Rattle.minisign_external.specs.Numbers.{IsAnswer, answer_yes}
@@ -7,8 +7,8 @@ use Rattle.minisign_external.specs.States.{HasAsked, is_begun}
 use Rattle.minisign_external.specs.declared.public_keys.PublicKeyValue.{PublicKeyValue}
 use Rattle.minisign_external.specs.declared.state.State.{State}
 
--- the state has asked about the key and the text of the signature and was not ended, the number is an answer,
--- and the scheme answers the question about the trusted comment so
+-- The state was asked about the key and the signature file and is not finished, and the number is the
+-- scheme's result of the second check.
 pub record CommentIsAnswered (s : State) (accepts : Verifier) (v : PublicKeyValue) (sig_text : List ℕ)
     (legacy : Bool) (second : ℕ) : Type 0 where
   pub asked : HasAsked s v sig_text legacy

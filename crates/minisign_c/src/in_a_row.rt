@@ -1,6 +1,5 @@
-//! What the calls of the header come to where a host makes them in its order, whatever the pieces of the data
-//! are. No program calls these functions: they are there for what their clauses say of the calls that they
-//! make.
+//! Makes the calls of the header in the order in which an application makes them, so that contracts can state
+//! what the whole sequence does, however the data is split. No program calls these functions.
 
 ghost use Rattle.std.specs.Prelude.{option_copied, ◌≡◌, ◌==◌, ◌<◌, ◌≤◌, ◌+◌, ◌++◌, ℕ, List, [], None, Ok};
 ghost use Rattle.std.specs.Prelude.{false, true, drop, is_ok, length, take};
@@ -45,8 +44,9 @@ use minisign_external::state::{Questions, State};
 use minisign_external::unopened_keys::{KeyText, UnopenedKeyValue};
 use std::alloc::Global;
 
-/// Verifies the joined pieces, with two texts: returns the first number that is not 0, or that of the
-/// verdict. `room` has as many bytes as the text of the signature at least.
+/// Verifies the concatenated pieces with a public key file and a signature file. Returns the first error
+/// number that a call returns, or else that of the verdict. `room` must have at least as many bytes as the
+/// signature file.
 pub fn verify_in_a_row<S: Scheme>(
     scheme: &S,
     pk_text: &[u8],
@@ -56,14 +56,15 @@ pub fn verify_in_a_row<S: Scheme>(
 ) -> u32
     requires { length sig_text.now ≤ length room.old }
 
-    // **For every scheme, texts and data, split in any way: the result is the number of the verdict on the
-    // joined pieces, of the key that the one text reads as and of the other text, by the scheme with all
-    // public keys and signatures rejected that strict Ed25519 rejects for their bytes. Such a key or
-    // signature has an error number of its own.**
+    // **For every scheme, files and data, however the data is split: the result is 0 exactly if the signature
+    // file is a valid prehashed signature of the concatenated data under the public key file, and neither the
+    // key nor a signature in it is weak. Otherwise it is the error number of the first check that fails. A
+    // weak key or signature has an error number of its own, and is rejected before the scheme is asked.**
     ensures number { result ≡ number_with (read_utf8 read_public_key pk_text.now) (λ k.
         strict_verdict_number (S.accepts scheme.now) (value_of k) sig_text.now (joined pieces.now) false) }
 
-    // **So the result is 0 exactly if the key and the text vouch for the joined pieces under that scheme.**
+    // **So the result is 0 exactly if the verdict is success for the scheme that in addition rejects weak
+    // public keys and signatures.**
     ensures accepted { (result == 0) ≡ is_ok (and_then (read_utf8 read_public_key pk_text.now) (λ k.
         verdict_under (strict (S.accepts scheme.now)) (value_of k) sig_text.now (joined pieces.now) false)) }
 {
@@ -75,7 +76,7 @@ pub fn verify_in_a_row<S: Scheme>(
     verify_under(scheme, &key, sig_text, pieces, room)
 }
 
-// The same with a key that was read.
+// Verifies the concatenated pieces with a public key that was read.
 fn verify_under<S: Scheme>(
     scheme: &S,
     key: &PublicKeyValue,
@@ -96,7 +97,7 @@ fn verify_under<S: Scheme>(
     verify_read(scheme, key, &signature, sig_text, pieces, room)
 }
 
-// No signature yet.
+// Returns a signature that was not read.
 fn no_signature() -> SignatureValue {
     SignatureValue {
         mark: 0,
@@ -113,7 +114,7 @@ fn no_signature() -> SignatureValue {
     }
 }
 
-// The same with a signature that was read.
+// Verifies the concatenated pieces with a public key and a signature that were read.
 fn verify_read<S: Scheme>(
     scheme: &S,
     key: &PublicKeyValue,
@@ -165,7 +166,7 @@ fn feed(state: &mut State, pieces: &[&[u8]]) -> u32
     0
 }
 
-// Tells the digest, has the scheme answer, and gives the verdict.
+// Computes the digest, lets the scheme make both checks, and returns the number of the verdict.
 fn answer<S: Scheme>(scheme: &S, state: &mut State, questions: &Questions, room: &[u8]) -> u32
     requires { questions.now.message_len ≤ length room.now }
     ensures { (v : PublicKeyValue) (text m : List ℕ) (t : SignatureTextRecord) → IsFedState state.old m
@@ -187,7 +188,7 @@ fn answer<S: Scheme>(scheme: &S, state: &mut State, questions: &Questions, room:
     minisign_verdict(state, answer_of(first), answer_of(second))
 }
 
-// The number of an answer.
+// Returns the number by which a result of the scheme is passed in.
 fn answer_of(is_accepted: bool) -> u32
     ensures known { IsAnswer result }
     ensures same { (result == answer_yes) ≡ is_accepted }
@@ -195,9 +196,9 @@ fn answer_of(is_accepted: bool) -> u32
     if is_accepted { ANSWER_YES } else { ANSWER_NO }
 }
 
-/// Signs the joined pieces, with the text of a secret key, which is opened with its password where there is
-/// one, and writes the text of the signature: returns the first number that is not 0. `room` has 64 bytes
-/// more than the trusted comment at least.
+/// Signs the concatenated pieces with a secret key file, which it opens with its password if there is one,
+/// and writes the signature file. Returns the first error number that a call returns, or 0. `room` must have
+/// at least 64 bytes more than the trusted comment.
 pub fn sign_in_a_row<S: Scheme>(
     alloc: Global,
     scheme: &S,
@@ -211,26 +212,26 @@ pub fn sign_in_a_row<S: Scheme>(
 ) -> u32
     requires { 64 + length trusted.now ≤ length room.old }
 
-    // **For every scheme, key file, data, split in any way, and comments: if the number is 0, the text opens
-    // to a key. If that is the key of a seed, and strict Ed25519 rejects neither its public key nor the two
-    // signatures for their bytes, the text of the signature verifies: the verdict on it and the joined
-    // pieces, under the public half of the key, is the trusted comment, by the scheme with such keys and
-    // signatures rejected.**
+    // **If the result is 0, the secret key file opens to a key. If that key consists of a seed and the seed's
+    // public key, and neither that public key nor the two signatures are weak, the signature file that was
+    // written verifies: the verdict on it and the concatenated data, under that public key, is the trusted
+    // comment, for the scheme that in addition rejects weak public keys and signatures. This holds for every
+    // scheme and for all data, however it is split.**
     ensures verifies { result ≡ 0 → (k : SecretKeyRecord) × (opened_by key_text.now ≡ Ok k)
         × OwnTextVerifiesStrictly S.Scheme scheme.now k (joined pieces.now) trusted.now
         (take text_len.new text.new) }
 
-    // On success the text is that of the two signatures that the scheme makes with the key: of the digest of
-    // the joined pieces, and of that signature followed by the trusted comment. The rest of the buffer is
-    // unchanged.
+    // On success, the signature file contains the two signatures that the scheme makes with the key: of the
+    // digest of the concatenated data, and of that signature followed by the trusted comment. The rest of the
+    // buffer is unchanged.
     ensures text { result ≡ 0 → (k : SecretKeyRecord) × (opened_by key_text.now ≡ Ok k)
         × HoldsOwnText S.Scheme scheme.now (taken_key k.keynum k.secret)
         (comments_of trusted.now untrusted.now) (joined pieces.now) text.new text_len.new }
     ensures rest { result ≡ 0 → drop text_len.new text.new ≡ drop text_len.new text.old }
 
-    // Any other number is the error of opening the key file, or else that of `minisign_signed_text` for the
-    // public key of that key, the comments, those signatures and the buffer. After an error the buffer and
-    // the length are unchanged.
+    // Any other number is that of an error of opening the key file or, after that, of `minisign_signed_text`
+    // for the public key of that key, the comments, those signatures and the buffer. After an error the
+    // buffer and the length are unchanged.
     ensures refused { 0 < result → IsSigningNumber S.Scheme scheme.now key_text.now
         (comments_of trusted.now untrusted.now) (joined pieces.now) text.old result }
     ensures kept { 0 < result → (text.new ≡ text.old) × (text_len.new ≡ text_len.old) }
@@ -245,7 +246,7 @@ pub fn sign_in_a_row<S: Scheme>(
     )
 }
 
-// No public key yet.
+// Returns a public key that was not read.
 fn no_public_key() -> PublicKeyValue {
     PublicKeyValue {
         mark: 0,
@@ -254,7 +255,7 @@ fn no_public_key() -> PublicKeyValue {
     }
 }
 
-// No key yet.
+// Returns a secret key that is not open.
 fn no_secret_key() -> SecretKeyValue {
     SecretKeyValue {
         mark: 0,
@@ -274,7 +275,7 @@ fn no_unopened_key() -> UnopenedKeyValue {
     }
 }
 
-// Reads the text of the key and opens it.
+// Reads a secret key file and opens the key.
 #[tactic(auto, using(crate::proofs::Refusals::reading_refusal))]
 fn open(alloc: Global, key_text: &KeyText<'_>, key: &mut SecretKeyValue) -> u32
     ensures opened { result ≡ 0 → (k : SecretKeyRecord) × (opened_by key_text.now ≡ Ok k)
@@ -291,7 +292,7 @@ fn open(alloc: Global, key_text: &KeyText<'_>, key: &mut SecretKeyValue) -> u32
     open_read(alloc, key_text, &unopened, key)
 }
 
-// Opens the key that was read.
+// Opens the key that was read, with the password if there is one.
 fn open_read(
     alloc: Global,
     key_text: &KeyText<'_>,
@@ -319,7 +320,7 @@ fn open_read(
     }
 }
 
-// Signs with a key that was opened.
+// Signs with an open key.
 fn sign_with<S: Scheme>(
     alloc: Global,
     scheme: &S,
@@ -371,7 +372,7 @@ fn sign_with<S: Scheme>(
     )
 }
 
-// Writes the public key of a key.
+// Writes the public key of an open key.
 #[tactic(auto, using(crate::proofs::PublicHalves::told_half, crate::proofs::PublicHalves::untold_half))]
 fn public_half(key: &SecretKeyValue, public_key: &mut PublicKeyValue) -> u32
     ensures told { result ≡ 0 → (is_opened key.now ≡ true) × (public_value_of key.now ≡ Ok public_key.new)
@@ -381,7 +382,7 @@ fn public_half(key: &SecretKeyValue, public_key: &mut PublicKeyValue) -> u32
     minisign_public_key_of(key, public_key)
 }
 
-// The digest of the joined pieces.
+// Computes the digest of the concatenated pieces.
 fn digest_of(pieces: &[&[u8]], digest: &mut [u8; 64]) -> u32
     ensures { (result ≡ 0) × (digest.new ≡ blake2b_digest 64 (joined pieces.now)) }
 {
@@ -394,7 +395,7 @@ fn digest_of(pieces: &[&[u8]], digest: &mut [u8; 64]) -> u32
     minisign_digest(&mut state, digest)
 }
 
-// The signature of the digest.
+// Returns the scheme's signature of the digest.
 fn sign_first<S: Scheme>(scheme: &S, key: &SecretKeyValue, digest: &[u8; 64]) -> [u8; 64]
     ensures made { result ≡ S.signature_of scheme.now digest.now key.now.secret None }
     ensures accepted { (seed : List ℕ) → IsPairOf (S.public_of scheme.now) seed key.now
@@ -403,7 +404,7 @@ fn sign_first<S: Scheme>(scheme: &S, key: &SecretKeyValue, digest: &[u8; 64]) ->
     scheme.signature(digest, &key.secret, None)
 }
 
-// The signature of that signature followed by the trusted comment.
+// Computes the scheme's signature of the first signature followed by the trusted comment.
 fn sign_second<S: Scheme>(
     scheme: &S,
     key: &SecretKeyValue,

@@ -1,5 +1,6 @@
-//! Verifying and making minisign signatures from C, with an Ed25519 of the caller's own:
-//! `include/minisign.h` declares these functions and says what a caller owes.
+//! The library for C: verifies and makes minisign signatures with an Ed25519 that the caller supplies.
+//! `include/minisign.h` and `include/minisign_install.h` declare these functions and say what a caller has to
+//! do.
 
 #![tactic(auto)]
 
@@ -79,12 +80,12 @@ use minisign_install::hosted::{Choices, Installation, write_error_text};
 use minisign_install::hosted_judging::judge_comment;
 use std::alloc::Global;
 
-// The least limits under which Minisign seals a key.
+// The lowest limits with which Minisign encrypts a key.
 const LEAST_OPERATIONS_LIMIT: u64 = 524_288;
 
 const LEAST_MEMORY_LIMIT: u64 = 16_777_216;
 
-// The number of what a call answers: 0 of a success, and that of an error.
+// Converts the result of a call to a number: 0 for success, otherwise the error number.
 macro_rules! number_of {
     ($answer:expr) => {
         match $answer {
@@ -98,9 +99,10 @@ macro_rules! number_of {
 /// Returns the length of the whole text.
 #[unsafe(no_mangle)]
 pub extern "C" fn minisign_error_text(error: u32, text: &mut [u8]) -> usize
-    // The text is that of the API misuse, that of the error of installing, or that of the library's error
-    // without its key IDs. For any other number but 0 it is "unknown error". It has less than 128 bytes, is
-    // cut to the buffer and ends with a 0 byte. The rest of the buffer is unchanged.
+    // The text is that of the API misuse, of the installation error or of the library's error that has this
+    // number, without key IDs. For 0 it is "no error", and for a number without a meaning "unknown error". It
+    // has fewer than 128 bytes. The buffer holds as much of it as fits before a terminating 0 byte, and the
+    // bytes after the 0 are unchanged. The result is the length of the whole text.
     ensures written { (meaning : List ℕ) × IsHostMeaning error meaning × (result ≡ length meaning)
         × WritesCut meaning text.old text.new }
     ensures room { result < 128 }
@@ -111,7 +113,7 @@ pub extern "C" fn minisign_error_text(error: u32, text: &mut [u8]) -> usize
 /// Begins: the state was fed nothing.
 #[unsafe(no_mangle)]
 pub extern "C" fn minisign_init(state: &mut State)
-    // The new state was fed nothing, and nothing was asked. What the state held before is gone.
+    // The state has been fed no data and nothing was asked, whatever it held before.
     ensures fed { IsFedState state.new [] }
     ensures blank { IsBlank state.new }
 {
@@ -121,9 +123,9 @@ pub extern "C" fn minisign_init(state: &mut State)
 /// Feeds the next bytes of the data.
 #[unsafe(no_mangle)]
 pub extern "C" fn minisign_update(state: &mut State, piece: &[u8]) -> u32
-    // On success the piece is appended to the data that the state was fed. What was asked is unchanged. If
-    // the state was never begun, or its digest was returned, the result is the number of that error, and the
-    // state is unchanged.
+    // On success, the piece is appended to the data that the state was fed. What was asked is unchanged. The
+    // call fails only if the digest was already returned, or if the state was never initialized or was
+    // finished by a verdict. Then the result is the number of that error, and the state is unchanged.
     ensures fed { (m : List ℕ) → IsFedState state.old m → (result ≡ 0)
         × IsFedState state.new (m ++ piece.now) }
     ensures asked { KeepsAsked state.old state.new }
@@ -137,8 +139,9 @@ pub extern "C" fn minisign_update(state: &mut State, piece: &[u8]) -> u32
 /// Tells the digest of the data that was fed. The state then takes no more.
 #[unsafe(no_mangle)]
 pub extern "C" fn minisign_digest(state: &mut State, digest: &mut [u8; 64]) -> u32
-    // On success the digest is that of all data that the state was fed, and the state takes no more. What was
-    // asked is unchanged. If the state was never begun, or its digest was returned before, the result is the
+    // On success, the digest is the Blake2b digest (64 bytes) of all data that the state was fed, and the
+    // state accepts no more data. What was asked is unchanged. The call fails only if the digest was already
+    // returned, or if the state was never initialized or was finished by a verdict. Then the result is the
     // number of that error, and the state and the digest are unchanged.
     ensures digest { (m : List ℕ) → IsFedState state.old m
         → (result ≡ 0) × (digest.new ≡ blake2b_digest 64 m) × HasToldDigest state.new m }
@@ -153,9 +156,9 @@ pub extern "C" fn minisign_digest(state: &mut State, digest: &mut [u8; 64]) -> u
 /// Reads the text of a public key, two lines. Does not allocate.
 #[unsafe(no_mangle)]
 pub extern "C" fn minisign_read_public_key(pk_text: &[u8], key: &mut PublicKeyValue) -> u32
-    // On success the key has the mark, the 32 bytes and the key ID of the public key in the file. The result
-    // is a function of the bytes, which must be UTF-8: any other number is that of the first check that
-    // fails. After an error the key is unchanged.
+    // On success, `key` holds the key and the key ID of the public key file, and is marked as read. The file
+    // must be UTF-8. Otherwise, or if it does not parse, the result is the number of the first check that
+    // fails, and `key` is unchanged.
     ensures { (result, key.new) ≡ told_key_number (read_utf8 read_public_key pk_text.now) key.old }
 {
     number_of!(tell_public_key(pk_text, key))
@@ -164,7 +167,9 @@ pub extern "C" fn minisign_read_public_key(pk_text: &[u8], key: &mut PublicKeyVa
 /// Reads the bare base64 of a public key, as updaters embed it. Does not allocate.
 #[unsafe(no_mangle)]
 pub extern "C" fn minisign_read_bare_public_key(base64: &[u8], key: &mut PublicKeyValue) -> u32
-    // The same for the base64 of a public key.
+    // On success, `key` holds the key and the key ID of the base64 text, and is marked as read. The text must
+    // be UTF-8. Otherwise, or if it does not parse, the result is the number of the first check that fails,
+    // and `key` is unchanged.
     ensures { (result, key.new) ≡ told_key_number (read_utf8 read_bare_public_key base64.now) key.old }
 {
     number_of!(tell_bare_public_key(base64, key))
@@ -173,9 +178,9 @@ pub extern "C" fn minisign_read_bare_public_key(base64: &[u8], key: &mut PublicK
 /// Reads the signature of a text. Does not allocate.
 #[unsafe(no_mangle)]
 pub extern "C" fn minisign_read_signature(sig_text: &[u8], signature: &mut SignatureValue) -> u32
-    // On success the signature is that of the text, and the trusted comment is in the text where the
-    // signature says. The result is a function of the bytes, which must be UTF-8: any other number is that of
-    // the first check that fails. After an error the signature is unchanged.
+    // On success, `signature` holds the key ID, the algorithm and both signatures of the text, and the
+    // position at which the trusted comment is in the text. The text must be UTF-8. Otherwise, or if it does
+    // not parse, the result is the number of the first check that fails, and `signature` is unchanged.
     ensures number { (result, signature.new)
         ≡ told_signature_value (read_signature_value sig_text.now) signature.old }
     ensures read { result ≡ 0 → (t : SignatureTextRecord) × IsReadFrom signature.new sig_text.now t }
@@ -201,30 +206,33 @@ pub extern "C" fn minisign_ask(
     questions: &mut Questions,
     message: &mut [u8],
 ) -> u32
-    // The result is a function of the state, the key, the signature, the text, the flag and the buffer size.
-    // The errors are, in this order: `allow_legacy` is above 1; those of `State::ask`; strict Ed25519 rejects
-    // the key or a signature for its bytes.
+    // Errors are checked in this order: `allow_legacy` is above 1; those of `State::ask`; the key or a
+    // signature is weak. The comment signature counts if it has its 64 bytes. If none of them applies, the
+    // result is 0.
     ensures number { result ≡ strict_asking_number state.old key.now signature.now sig_text.now allow_legacy
         (length message.old) }
 
-    // If the signature was read from this text, the result is that of asking about the text and the key.
+    // If the signature was read from this text, and `allow_legacy` is 0 or 1, the result is the same as if
+    // the text were parsed here and checked under this key.
     ensures text { (t : SignatureTextRecord) → IsReadFrom signature.now sig_text.now t → allow_legacy < 2
         → result ≡ asked_number (asked_strictly (is_strict_text key.now t)
         (asking_under state.old key.now sig_text.now (allow_legacy == 1) (length message.old))) }
 
-    // On success the questions are those of the key and the signature text, with zeros for the digest, and
-    // the message of the second one is at the start of the buffer. The state records that they were asked.
-    // The data that it was fed is unchanged.
+    // **On success, if the signature was read from this text, `questions` holds the two questions about the
+    // key and the text, with zeros in place of the digest, and the message of the second question is at the
+    // start of the buffer. The state records that it was asked. The data that it was fed is unchanged.**
     ensures asked { result ≡ 0 → (t : SignatureTextRecord) → IsReadFrom signature.now sig_text.now t
         → (read_under key.now (allow_legacy == 1) sig_text.now ≡ Ok t) × AreAsked questions.new message.new
         key.now t × HasAsked state.new key.now sig_text.now (allow_legacy == 1) }
     ensures fed { (m : List ℕ) → IsFedState state.old m → IsFedState state.new m }
 
-    // On success strict Ed25519 rejects neither the key nor a signature of the text for its bytes.
+    // On success, if the signature was read from this text, neither the key nor a signature in the text is
+    // weak. The comment signature counts if it has its 64 bytes.
     ensures strict { result ≡ 0 → (t : SignatureTextRecord) → IsReadFrom signature.now sig_text.now t
         → is_strict_text key.now t ≡ true }
 
-    // On success the buffer behind the message is unchanged. After an error everything is unchanged.
+    // On success, the buffer after the message is unchanged. After an error, the state, the questions and the
+    // buffer are unchanged.
     ensures rest { result ≡ 0 → drop questions.new.message_len message.new
         ≡ drop questions.new.message_len message.old }
     ensures kept { 0 < result → (state.new ≡ state.old) × (questions.new ≡ questions.old)
@@ -250,14 +258,16 @@ pub extern "C" fn minisign_ask(
 /// What the answer to the second question, `ANSWER_YES` or `ANSWER_NO`, is worth by itself.
 #[unsafe(no_mangle)]
 pub extern "C" fn minisign_comment_verdict(state: &State, second: u32) -> u32
-    // For every scheme that gives this result for the second question: 0 exactly if the key signed the
-    // trusted comment, together with the first signature. Nothing is said about any data.
+    // After a successful `minisign_ask`, for every scheme for which `second` is the result of the second
+    // check: the result is 0 exactly if the comment signature is valid under the key. It says nothing about
+    // any data.
     ensures verdict { (v : PublicKeyValue) (sig_text : List ℕ) (legacy : Bool) (accepts : Verifier)
         → CommentIsAnswered state.now accepts v sig_text legacy second
         → result ≡ verdict_number (comment_verdict_under accepts v sig_text legacy) }
 
-    // The result is a function of the state and the answer. An answer is 7955827 for yes or 28271 for no; any
-    // other number is an error. If nothing was asked, or the state was ended, the result is an error.
+    // It is API misuse if `second` is neither 7955827 (yes) nor 28271 (no), if nothing was asked, or if the
+    // state was never initialized or was finished by a verdict. Otherwise the result is 0 exactly if the
+    // comment signature has its 64 bytes and `second` is yes.
     ensures number { result ≡ comment_number state.now second }
 {
     if !is_answer(second) {
@@ -270,22 +280,23 @@ pub extern "C" fn minisign_comment_verdict(state: &State, second: u32) -> u32
 /// state.
 #[unsafe(no_mangle)]
 pub extern "C" fn minisign_verdict(state: &mut State, first: u32, second: u32) -> u32
-    // **For every scheme that gives these results for the two questions, and every message: the result is the
-    // number of the verdict on the key, the signature file and the message. It is 0 exactly if the signature
-    // is valid.**
+    // **After a successful `minisign_ask` and `minisign_digest`, for every scheme and every message for which
+    // `first` and `second` are the results of the two checks: the result is the number of the verdict on the
+    // key, the signature file and the message. It is 0 exactly if the signature is valid.**
     ensures verdict { (v : PublicKeyValue) (sig_text message : List ℕ) (legacy : Bool) (accepts : Verifier)
         → IsAnswered state.old accepts v sig_text message legacy first second
         → result ≡ verdict_number (verdict_under accepts v sig_text message legacy) }
 
-    // **So for every public key file with this key: 0 exactly if the signature file is a valid signature of
-    // the message under it, otherwise the number of the first check that fails.**
+    // **So for every public key file that contains this key: the result is 0 exactly if the signature file is
+    // a valid signature of the message under that public key. Otherwise it is the number of the first check
+    // that fails.**
     ensures texts { (v : PublicKeyValue) (pk_text sig_text message : List ℕ) (legacy : Bool)
         (accepts : Verifier) → IsAnswered state.old accepts v sig_text message legacy first second
         → IsKeyText pk_text v → GivesNumber accepts pk_text sig_text message legacy result }
 
-    // The result and the new state are a function of the state and the answers. An answer is 7955827 for yes
-    // or 28271 for no; any other number is an error. A verdict ends the state. After API misuse the state is
-    // unchanged.
+    // It is API misuse if a result is neither 7955827 (yes) nor 28271 (no), if nothing was asked or if the
+    // digest was not returned; then the state is unchanged. Otherwise the state is finished, and the result
+    // is 0 exactly if `first` is yes, the comment signature has its 64 bytes and `second` is yes.
     ensures number { (result, state.new) ≡ told_verdict_number state.old first second }
 {
     if !is_answer(first) || !is_answer(second) {
@@ -297,14 +308,14 @@ pub extern "C" fn minisign_verdict(state: &mut State, first: u32, second: u32) -
 /// Reads the text of a secret key, which is not opened yet. Does not allocate.
 #[unsafe(no_mangle)]
 pub extern "C" fn minisign_read_secret_key(sk_text: &[u8], unopened: &mut UnopenedKeyValue) -> u32
-    // The result is a function of the bytes, which must be UTF-8: any number but 0 is that of the first check
-    // that fails. After an error the value is unchanged.
+    // The result is 0 exactly if the text is UTF-8 and a well-formed secret key file. Otherwise it is the
+    // number of the first check that fails, and `unopened` is unchanged.
     ensures number { result ≡ reading_number (read_utf8 read_secret_key sk_text.now) }
     ensures kept { 0 < result → unopened.new ≡ unopened.old }
 
-    // On success the value holds the key record of the text, and says what opening it takes: whether a
-    // password, how many rows of scrypt and how often. Opening the value gives what opening the text gives,
-    // under every password and for every bound on the work.
+    // On success, `unopened` holds the key of the file and says how much work opening it takes: if it needs a
+    // password, how many rows scrypt uses, and how many times it computes them. Opening it gives the same
+    // result as opening the file, for every password and every bound on the work.
     ensures read { result ≡ 0 → read_utf8 read_secret_key sk_text.now ≡ Ok (unopened_record unopened.new) }
     ensures told { result ≡ 0 → unopened.new ≡ read_value unopened.new.bytes }
     ensures opens { result ≡ 0 → OpensAs unopened.new sk_text.now }
@@ -318,9 +329,9 @@ pub extern "C" fn minisign_open_unsealed_key(
     unopened: &UnopenedKeyValue,
     key: &mut SecretKeyValue,
 ) -> u32
-    // The result is 0 exactly if the key was read, was never sealed, and has a checksum that matches, or
-    // zeros. On success the key is the opened one, with the mark of an opened key. Any other number is that
-    // of the first check that fails. After an error the key is unchanged.
+    // The result is 0 exactly if the key was read, is not encrypted, and has a checksum that matches or is 32
+    // zeros. Then `key` holds it and is marked as open. Otherwise the result is the number of the first check
+    // that fails, and `key` is unchanged.
     ensures { (result, key.new) ≡ told_opened (opened_unsealed unopened.now) key.old }
 {
     number_of!(open_unsealed_key(unopened, key))
@@ -336,10 +347,10 @@ pub extern "C" fn minisign_open_sealed_key(
     most_rows: u64,
     key: &mut SecretKeyValue,
 ) -> u32
-    // The result is 0 exactly if the key was read and the password opens it within `most_rows`. On success
-    // the key is the opened one, with the mark of an opened key. Any other number is that of the first check
-    // that fails or, if a key is derived from the password, possibly out of memory. After an error the key is
-    // unchanged. None of this depends on `keep_every`.
+    // If the result is 0, the key was read, the password decrypts it within `most_rows`, and `key` holds the
+    // decrypted key and is marked as open. Otherwise the result is the number of the first check that fails
+    // or, once a key is derived from the password, possibly out of memory; and `key` is unchanged. Apart from
+    // out of memory, the result does not depend on `keep_every`.
     ensures { ((result, key.new) ≡ told_opened (opened_sealed unopened.now password.now most_rows) key.old)
         ⊎ (((result, key.new) ≡ told_opened (Err (Refused (Named OutOfMemory))) key.old)
         × DerivesWithin unopened.now password.now most_rows) }
@@ -356,9 +367,9 @@ pub extern "C" fn minisign_opening_memory(
     words_wanted: &mut u64,
     bytes_wanted: &mut u64,
 )
-    // The numbers are the words of 32 bits and the bytes that opening the key takes, if every `keep_every`-th
-    // row is kept. They are zeros for a key that would make more than `most_rows` rows: it is rejected
-    // before.
+    // The two values are how many 32-bit words and how many bytes opening the key in place needs, if every
+    // `keep_every`-th row of scrypt is kept. Both are 0 if the key needs no password, its limits are
+    // rejected, or it needs more than `most_rows` rows.
     ensures { (words_wanted.new, bytes_wanted.new) ≡ value_memory unopened.now keep_every most_rows }
 {
     let (words, bytes) = memory_to_open(unopened, keep_every, most_rows);
@@ -377,14 +388,14 @@ pub extern "C" fn minisign_open_sealed_key_in_place(
     bytes: &mut [u8],
     key: &mut SecretKeyValue,
 ) -> u32
-    // The result and the key are those of `minisign_open_sealed_key`, whatever the memory held, but the
-    // result is never out of memory. If there is less memory than `minisign_opening_memory` returns, the
-    // result says so before anything is derived.
+    // The result and the key are those of `minisign_open_sealed_key`, except that the result is never out of
+    // memory. If the memory is smaller than `minisign_opening_memory` says, the result is the error of a
+    // buffer that is too short, and no key is derived. What the memory held before makes no difference.
     ensures opened { (result, key.new) ≡ told_opened
         (opened_in_place unopened.now password.now keep_every most_rows (length words.old) (length bytes.old))
         key.old }
 
-    // All of that memory then holds zeros, after an error too.
+    // The memory is filled with zeros when the call returns, also after an error.
     ensures words_cleared { words.new ≡ replicate (length words.old) 0 }
     ensures bytes_cleared { bytes.new ≡ replicate (length bytes.old) 0 }
 {
@@ -406,7 +417,8 @@ pub struct NewKey {
 /// Takes in a new secret key. Does not allocate.
 #[unsafe(no_mangle)]
 pub extern "C" fn minisign_take_secret_key(new_key: &NewKey, key: &mut SecretKeyValue)
-    // The key has this key ID and this secret, and the mark of one that was opened.
+    // `key` has this key ID and these secret bytes, and is marked as open. Nothing checks that the second
+    // half of the secret bytes is the public key of the first.
     ensures { key.new ≡ taken_key new_key.now.key_id new_key.now.secret }
 {
     *key = SecretKeyValue::take(&new_key.key_id, &new_key.secret);
@@ -415,7 +427,7 @@ pub extern "C" fn minisign_take_secret_key(new_key: &NewKey, key: &mut SecretKey
 /// Overwrites a value with zeros. Does not allocate.
 #[unsafe(no_mangle)]
 pub extern "C" fn minisign_clear(value: &mut [u8])
-    // All bytes are then zeros.
+    // All bytes of the value are 0 when the call returns.
     ensures { value.new ≡ replicate (length value.old) 0 }
 {
     value.fill(0);
@@ -427,8 +439,8 @@ pub extern "C" fn minisign_public_key_of(
     key: &SecretKeyValue,
     public_key: &mut PublicKeyValue,
 ) -> u32
-    // On success the secret key was opened, and the public key is the last 32 bytes of its secret, with its
-    // key ID. If it was not opened, the result is the number of that error, and the public key is unchanged.
+    // If the secret key is open, the public key is the last 32 of its secret bytes, with its key ID.
+    // Otherwise the result is the number of that error, and the public key is unchanged.
     ensures { (result, public_key.new) ≡ told_public_key (public_value_of key.now) public_key.old }
 {
     match key.public_key() {
@@ -440,7 +452,7 @@ pub extern "C" fn minisign_public_key_of(
     }
 }
 
-// The password that two arguments pass in.
+// Returns the password, or nothing if `with_password` is 0.
 fn given(with_password: u32, password: &[u8]) -> Option<&[u8]>
     ensures { option_copied result ≡ passed_in with_password password.now }
 {
@@ -451,8 +463,8 @@ fn given(with_password: u32, password: &[u8]) -> Option<&[u8]>
     }
 }
 
-// Returns the usage error of the password: with_password is not 0, 1 or 2, or it is 1 and the password is
-// empty.
+// Returns the API misuse in the password arguments, if any: `with_password` is not 0, 1 or 2, or it is 1 and
+// the password is empty.
 fn password_misuse(with_password: u32, password: &[u8]) -> Option<Misuse>
     ensures { result ≡ password_misuse with_password password.now }
 {
@@ -465,7 +477,7 @@ fn password_misuse(with_password: u32, password: &[u8]) -> Option<Misuse>
     None
 }
 
-// Returns the usage error of the password, or else of how the key is sealed.
+// Returns the API misuse in the password arguments or, after these, in `sealing`, if any.
 fn sealing_misuse(with_password: u32, password: &[u8], sealing: &Sealing) -> Option<Misuse>
     ensures { result ≡ sealing_misuse with_password password.now sealing.now }
 {
@@ -501,24 +513,25 @@ pub extern "C" fn minisign_secret_key_text(
     text: &mut [u8],
     text_len: &mut usize,
 ) -> u32
-    // On success the text of the secret key is at the start of the buffer, as `write_secret_key` says. The
-    // key was opened, and nothing is wrong with the password and the sealing.
+    // On success, the secret key file is at the start of the buffer, as `write_secret_key` promises: with the
+    // same password, or without one if there was none, it opens to this key. The key was open, and the
+    // password and the sealing are allowed.
     ensures text { result ≡ 0 → HoldsSecretKey key.now.key_id key.now.secret
         (passed_in with_password password.now) sealing.now comment.now text.new text_len.new }
     ensures number { result ≡ 0 → (sealing_misuse with_password password.now sealing.now ≡ None)
         × (is_opened key.now ≡ true) }
 
-    // On success Minisign reads the comment whole in the first line of the text.
+    // On success, Minisign reads the whole comment in the first line of the file.
     ensures readable { result ≡ 0 → IsKeyComment comment.now }
 
-    // The rest of the buffer is unchanged: no byte of a secret is left there.
+    // The rest of the buffer is unchanged, so no byte of a secret is left there.
     ensures rest { result ≡ 0 → drop text_len.new text.new ≡ drop text_len.new text.old }
 
-    // The errors are, in this order: `with_password` is not 0, 1 or 2; it is 1 and the password is empty; the
-    // key is to be sealed with a salt of zeros or a limit below the minimum of Minisign; the key was not
-    // opened; the comment or the password is not UTF-8; the comment has two lines; Minisign does not read it
-    // whole; the buffer is too short; sealing does not allow the limits; out of memory. After an error the
-    // buffer and the length are unchanged.
+    // The errors are, in this order: `with_password` is not 0, 1 or 2; it is 1 and the password is empty;
+    // with a password, the salt is all zeros or a limit is below the minimum of Minisign; the key is not
+    // open; the comment or the password is not UTF-8; the comment has a line feed; Minisign does not read all
+    // of it; the buffer is too short; with a password, the limits are not allowed; out of memory. After an
+    // error the buffer and the length are unchanged.
     ensures refused { 0 < result
         → IsMakingNumber (sealing_misuse with_password password.now sealing.now) key.now
         (passed_in with_password password.now) sealing.now comment.now text.old result }
@@ -547,7 +560,8 @@ pub extern "C" fn minisign_secret_key_text_with_any_limits(
     text: &mut [u8],
     text_len: &mut usize,
 ) -> u32
-    // The same, without a minimum for the sealing.
+    // The promises are those of `minisign_secret_key_text`, except that the salt may be all zeros and the
+    // limits may be below the minimum of Minisign.
     ensures text { result ≡ 0 → HoldsSecretKey key.now.key_id key.now.secret
         (passed_in with_password password.now) sealing.now comment.now text.new text_len.new }
     ensures number { result ≡ 0 → (password_misuse with_password password.now ≡ None)
@@ -567,7 +581,7 @@ pub extern "C" fn minisign_secret_key_text_with_any_limits(
     )
 }
 
-// Writes the text of a secret key, sealed in any way.
+// Writes a secret key file, with any salt and any limits that encryption allows.
 fn secret_key_text(
     alloc: Global,
     key: &SecretKeyValue,
@@ -605,8 +619,9 @@ pub extern "C" fn minisign_public_key_text(
     text: &mut [u8],
     text_len: &mut usize,
 ) -> u32
-    // On success the text of the public key is at the start of the buffer, as `write_public_key` says, and
-    // Minisign reads the comment whole. The rest of the buffer is unchanged.
+    // On success, the public key file is at the start of the buffer, as `write_public_key` promises: it
+    // parses to the public key of this secret key, and Minisign reads the whole comment. The rest of the
+    // buffer is unchanged.
     ensures opened { result ≡ 0 → is_opened key.now ≡ true }
     ensures rest { result ≡ 0 → drop text_len.new text.new ≡ drop text_len.new text.old }
     ensures text { result ≡ 0
@@ -634,8 +649,8 @@ pub extern "C" fn minisign_comment_message(
     trusted: &[u8],
     message: &mut [u8],
 ) -> u32
-    // On success the first signature, followed by the trusted comment, is at the start of the buffer. The
-    // rest of the buffer is unchanged. If the buffer is too short, it is unchanged.
+    // On success, the first signature followed by the trusted comment is at the start of the buffer, and the
+    // rest of the buffer is unchanged. The only error is a buffer that is too short; then it is unchanged.
     ensures message { result ≡ 0 → (64 + length trusted.now ≤ length message.new)
         × (take (64 + length trusted.now) message.new ≡ first.now ++ trusted.now) }
     ensures rest { result ≡ 0
@@ -661,10 +676,11 @@ pub extern "C" fn minisign_signed_text(
     text: &mut [u8],
     text_len: &mut usize,
 ) -> u32
-    // **On success the public key was read, and the text reads as the box with exactly its key ID, these
-    // comments and these signatures. For every scheme that made these two signatures, that is the box that
-    // signing makes. The text is a valid signature of the message under every public key under which both
-    // signatures are valid, and for a genuine key the headline's third part holds for it.**
+    // **On success, the public key was read, and the signature file at the start of the buffer parses to a
+    // signature with exactly its key ID, these comments and these signatures. If a scheme made the two
+    // signatures, that is the signature box that signing with it makes. The file is a valid signature of a
+    // message under every public key with this key ID under which both signatures are valid, and for a
+    // genuine key the third sentence of the headline holds for it.**
     ensures text { result ≡ 0 → (is_public_key key.now ≡ true)
         × HoldsText key.now.key_id (comments_of trusted.now untrusted.now) first.now second.now text.new
         text_len.new }
@@ -673,9 +689,9 @@ pub extern "C" fn minisign_signed_text(
     // The rest of the buffer is unchanged.
     ensures rest { result ≡ 0 → drop text_len.new text.new ≡ drop text_len.new text.old }
 
-    // The errors are, in this order: the public key was not read; a comment is not UTF-8; a comment would not
-    // be read back; Minisign 0.11 would not read a comment back; the buffer is too short. Otherwise only a
-    // failed allocation is an error. After an error the buffer and the length are unchanged.
+    // The errors are, in this order: the public key was not read; a comment is not UTF-8; a comment would
+    // change when it is read back; Minisign 0.11 would not read a comment back; the buffer is too short. Out
+    // of memory is possible too. After an error the buffer and the length are unchanged.
     ensures refused { 0 < result → IsWritingNumber key.now (comments_of trusted.now untrusted.now)
         first.now second.now text.old result }
     ensures kept { 0 < result → (text.new ≡ text.old) × (text_len.new ≡ text_len.old) }
@@ -715,14 +731,16 @@ pub extern "C" fn minisign_install_init(
     other: &PublicKeyValue,
     options: &InstallOptions,
 ) -> u32
-    // On success both keys were read, and the lock is due, or of a check the record. Nothing was read yet.
-    // The keys and the options are kept: of each option 1 is yes.
+    // On success, the first call is due: reading the record for a check, and taking the lock otherwise. Both
+    // public keys were read. The keys and the options are stored, where 1 means yes. The installation was fed
+    // no data, and holds no version number, no error, no record and no judged comment.
     ensures begun { result ≡ 0 → (field : Numbering) × (options.now.numbering ≡ numbering_number field)
         × IsBegun key.now other.now (choices_of options.now field) installation.new }
     ensures unused { result ≡ 0 → IsUnused installation.new }
 
-    // The errors are, in this order: an option is neither 0 nor 1; the numbering is none; a public key was
-    // not read. After an error the installation is unchanged.
+    // The errors are, in this order: an option is neither 0 nor 1; the numbering is neither the timestamp nor
+    // the version; a public key was not read. If none of them applies, the result is 0. After an error the
+    // installation is unchanged.
     ensures number { MatchOption (starting_misuse key.now other.now options.now) (result ≡ 0)
         (λ m. result ≡ misuse_number m) }
     ensures kept { 0 < result → installation.new ≡ installation.old }
@@ -751,7 +769,7 @@ fn are_flags(options: &InstallOptions) -> bool
         && options.must_expire < 2
 }
 
-// Returns the choices of these options: of each 1 is yes.
+// Returns the choices of these options, where 1 means yes.
 fn choices_by(options: &InstallOptions, numbering: Numbering) -> Choices
     ensures { result ≡ choices_of options.now numbering }
 {
@@ -768,7 +786,8 @@ fn choices_by(options: &InstallOptions, numbering: Numbering) -> Choices
 /// The number of the call that is due.
 #[unsafe(no_mangle)]
 pub extern "C" fn minisign_install_due(installation: &Installation) -> u32
-    // The result is the number of the call that is due, or 0 if none is.
+    // The result is the number of the call that is due, or 0 if none is, for example because the installation
+    // was not begun.
     ensures { MatchOption (due_of installation.now) (result ≡ 0) (λ due. result ≡ due_number due) }
 {
     installation.due_number()
@@ -777,9 +796,9 @@ pub extern "C" fn minisign_install_due(installation: &Installation) -> u32
 /// The call that was due was done.
 #[unsafe(no_mangle)]
 pub extern "C" fn minisign_install_done(installation: &mut Installation) -> u32
-    // On success the next call is due, as the table says, and bytes are counted anew. If no call is due that
-    // is reported so, the result is an error, and nothing changes. If the data has fewer bytes than the
-    // signed comment says, the run is rejected.
+    // On success, the call that comes next (`Due::next`) is due, and the count of bytes starts again at 0. If
+    // the call that is due cannot be reported as done, the result is API misuse, and nothing changes. If data
+    // was received or copied and does not have the size that the signed comment says, the run is rejected.
     ensures gone { result ≡ 0 → CallWasDone installation.old installation.new }
     ensures refused { 0 < result
         → IsRejectionNumber (IsDoneRefusal installation.old installation.new) result }
@@ -790,9 +809,9 @@ pub extern "C" fn minisign_install_done(installation: &mut Installation) -> u32
 /// A piece of so many bytes was copied or received, and there may be more.
 #[unsafe(no_mangle)]
 pub extern "C" fn minisign_install_more(installation: &mut Installation, piece_len: usize) -> u32
-    // On success the bytes of the piece are counted, and copying or receiving is due again. If neither is
-    // due, the result is an error, and nothing changes. If the data has more bytes than the signed comment
-    // says, the run is rejected.
+    // On success, receiving or copying is still due, and the bytes of the piece are counted if the signed
+    // comment says the size. If neither is due, the result is API misuse, and nothing changes. If the data
+    // has more bytes than the signed comment says, the run is rejected.
     ensures gone { result ≡ 0 → PieceWasTaken piece_len installation.old installation.new }
     ensures refused { 0 < result
         → IsRejectionNumber (IsMoreRefusal piece_len installation.old installation.new) result }
@@ -803,8 +822,9 @@ pub extern "C" fn minisign_install_more(installation: &mut Installation, piece_l
 /// The call that was due failed for the error of this number.
 #[unsafe(no_mangle)]
 pub extern "C" fn minisign_install_failed(installation: &mut Installation, why: u32) -> u32
-    // On success the next call is due, as the table says; if the lock was due, data that may stand still is
-    // received first. If the call that is due cannot fail so, the result is an error, and nothing changes.
+    // On success, the call that comes after this failure (`Due::next`) is due or, if the lock was due and
+    // data from a slow source was still to be received, receiving it. If the call that is due cannot fail
+    // with this error, the result is API misuse, and nothing changes.
     ensures failed { result ≡ 0 → CallHasFailed why installation.old installation.new }
     ensures refused { 0 < result
         → IsNotDueNumber (λ due. failure due why ≡ None) installation.old installation.new result }
@@ -819,9 +839,10 @@ pub extern "C" fn minisign_install_record(
     bytes: &[u8],
     written: u64,
 ) -> u32
-    // On success the recorded number of the field and the time of the record are kept; if there is none and
-    // this is not the first installation, the run is rejected. If reading the record is not due, the result
-    // is an error, and nothing changes.
+    // On success, judging the comment is due, and the recorded version for the field is stored with the
+    // digest and the time of the record; or, if the record holds no version for the field and this is not the
+    // first installation, the run is rejected. If reading the record is not due, the result is API misuse,
+    // and nothing changes.
     ensures read { result ≡ 0 → RecordWasRead (Some bytes.now) written installation.old installation.new }
     ensures refused { 0 < result
         → IsNotDueNumber (λ due. due ≢ ReadRecord) installation.old installation.new result }
@@ -832,7 +853,9 @@ pub extern "C" fn minisign_install_record(
 /// There is no record.
 #[unsafe(no_mangle)]
 pub extern "C" fn minisign_install_no_record(installation: &mut Installation) -> u32
-    // The same if there is no record.
+    // On success, judging the comment is due if this is the first installation; otherwise the run is rejected
+    // because there is no record. If reading the record is not due, the result is API misuse, and nothing
+    // changes.
     ensures read { result ≡ 0 → RecordWasRead None 0 installation.old installation.new }
     ensures refused { 0 < result
         → IsNotDueNumber (λ due. due ≢ ReadRecord) installation.old installation.new result }
@@ -843,8 +866,9 @@ pub extern "C" fn minisign_install_no_record(installation: &mut Installation) ->
 /// The next bytes of what the stage holds were read back; none at its end.
 #[unsafe(no_mangle)]
 pub extern "C" fn minisign_install_piece(installation: &mut Installation, piece: &[u8]) -> u32
-    // On success the piece is appended to what was read back, and after the last one the answers are due. If
-    // nothing is read back, the result is the number of that error, and nothing changes.
+    // On success, the piece is added to what was read of the installed file or of the temporary file. After
+    // an empty piece, which means the end, the scheme's answers about the file are due. If no file is being
+    // read, the result is API misuse, and nothing changes.
     ensures read { result ≡ 0 → PieceWasRead piece.now installation.old installation.new }
     ensures refused { 0 < result → (installation.new ≡ installation.old)
         × (m : Misuse) × (result ≡ misuse_number m) × PieceCannotBeFed installation.old m }
@@ -855,8 +879,8 @@ pub extern "C" fn minisign_install_piece(installation: &mut Installation, piece:
 /// No file stands at the target.
 #[unsafe(no_mangle)]
 pub extern "C" fn minisign_install_no_target(installation: &mut Installation) -> u32
-    // On success the run goes on, and what is read next is fed to a new state. If reading the target is not
-    // due, the result is an error, and nothing changes.
+    // On success, the run continues without an installed file, and the next file that is read is hashed from
+    // its start. If reading the installed file is not due, the result is API misuse, and nothing changes.
     ensures gone { result ≡ 0 → TargetIsMissing installation.old installation.new }
     ensures refused { 0 < result → (result ≡ misuse_number NotDue) × (installation.new ≡ installation.old)
         × ((kept : ℕ) → ¬ (IsDue installation.old (Look kept))) }
@@ -875,18 +899,18 @@ pub extern "C" fn minisign_install_ask(
     questions: &mut Questions,
     message: &mut [u8],
 ) -> u32
-    // On success the questions are those of the key that must have signed and of the signature text, as
-    // `Installation::ask` says. The state records that they were asked, and the trusted comment is judged
-    // against the recorded number.
+    // On success, the questions are those about the signature file under the key that must have signed,
+    // chosen by its key ID, as `Installation::ask` promises. The trusted comment is judged against the
+    // recorded version.
     ensures asked { result ≡ 0 → InstallationHasAskedAbout sig_text.now file.now now questions.new
         message.new installation.old installation.new }
 
-    // The options are unchanged.
+    // The options are always unchanged.
     ensures chosen { installation.new.chosen ≡ installation.old.chosen }
 
-    // The errors are those of `Installation::ask`. After API misuse nothing changes; after any other error
-    // the run is rejected. After an error the questions and the buffer are unchanged. On success the buffer
-    // behind the message is unchanged.
+    // The errors are those of `Installation::ask`. API misuse changes nothing. After any other error the run
+    // is rejected. After every error the questions and the buffer are unchanged. On success, the buffer after
+    // the message is unchanged.
     ensures refused { 0 < result → IsRejectionNumber (IsAskRefusal installation.old installation.new
         sig_text.now file.now (length message.old)) result }
     ensures kept { 0 < result → (questions.new ≡ questions.old) × (message.new ≡ message.old) }
@@ -903,9 +927,9 @@ pub extern "C" fn minisign_install_answer(
     first: u32,
     second: u32,
 ) -> u32
-    // **For every scheme that gives these results, and every message: the result is what
-    // `Installation::answer` says about the comment, the file at the target, and the staged file that was
-    // read back. 0 is success, and any other number is that of the first check that fails.**
+    // **For every scheme and every file content for which `first` and `second` are the results of the two
+    // checks: the result is 0, or the number of the first check that fails, as `Installation::answer`
+    // promises for the comment, for the installed file and for the temporary file that was read back.**
     ensures comment { IsAnswer first × IsAnswer second
         → WhereCommentAnswered (second == answer_yes) installation.old (λ accepts key terms k.
         IsCommentNumber accepts key terms k first installation.old installation.new result) }
@@ -916,21 +940,22 @@ pub extern "C" fn minisign_install_answer(
         (second == answer_yes) installation.old (λ accepts terms k m. IsNumberOf
         (StageGivesUpdate accepts terms k m installation.new) result) }
 
-    // If the run goes on, or the target is to be read, what is read next is fed to a new state.
+    // If the run continues, or the installed file is to be read, the next file that is read is hashed from
+    // its start.
     ensures fed { (kept : ℕ) → IsDue installation.old (Judge kept) → result ≡ 0
         → IsFedState installation.new.state [] }
     ensures again { (kept : ℕ) → IsDue installation.old (JudgeTarget kept) → result ≡ 0
         → IsDue installation.new (going_on installation.old kept) → IsFedState installation.new.state [] }
 
-    // An answer is 7955827 for yes or 28271 for no; any other number is an error. After API misuse nothing
-    // changes.
+    // It is API misuse if a result is neither 7955827 (yes) nor 28271 (no), if no answers are due or if
+    // nothing was asked. API misuse changes nothing. After any other error the run is rejected.
     ensures refused { 0 < result → IsAnswerNumber first second installation.old installation.new result }
 
     // The trusted comment counts as signed exactly if the key signed it.
     ensures vouched { IsAnswer first × IsAnswer second
         → AnswerVouches (second == answer_yes) installation.old installation.new }
 
-    // The options, what was asked about, and the result of judging the comment are unchanged.
+    // The options, what was asked about, and what was found in the comment are unchanged.
     ensures chosen { InstallationKeepsAsked installation.old installation.new }
 {
     if !(is_answer(first) && is_answer(second)) {
@@ -942,7 +967,8 @@ pub extern "C" fn minisign_install_answer(
 /// Whether a key was found to have signed the comment that was asked about last: 1 or 0.
 #[unsafe(no_mangle)]
 pub extern "C" fn minisign_install_is_vouched(installation: &Installation) -> u32
-    // The result is 1 exactly if `minisign_install_answer` found that a key signed the comment.
+    // The result is 1 if `minisign_install_answer` found that the key signed the comment that was last asked
+    // about, and otherwise 0.
     ensures { result ≡ (if is_vouched installation.now then 1 else 0) }
 {
     u32::from(installation.is_vouched())
@@ -951,7 +977,8 @@ pub extern "C" fn minisign_install_is_vouched(installation: &Installation) -> u3
 /// The number of the comment, where that is vouched for and has one; otherwise 0.
 #[unsafe(no_mangle)]
 pub extern "C" fn minisign_install_number(installation: &Installation) -> u64
-    // If a key signed the comment, the result is its number; otherwise it is 0.
+    // If `minisign_install_is_vouched` returns 1, the result is the version number that was found in the
+    // signed comment. Otherwise it is 0.
     ensures { result ≡ told_number installation.now }
 {
     installation.number()
@@ -963,8 +990,9 @@ pub extern "C" fn minisign_install_record_text(
     installation: &Installation,
     text: &mut [u8],
 ) -> usize
-    // If writing the record is due and the buffer is long enough, the record is at its start. Otherwise
-    // nothing is written. The rest of the buffer is unchanged.
+    // If writing the record is due and the buffer is long enough, the record is at its start, and the result
+    // is the length of the record. Otherwise the result is 0 and nothing is written. The rest of the buffer
+    // is unchanged.
     ensures written { 0 < result → (n : ℕ) × IsDue installation.now (WriteRecord n)
         × (result ≤ length text.new) × (take result text.new ≡ record_for installation.now n) }
     ensures rest { drop result text.new ≡ drop result text.old }
@@ -978,7 +1006,7 @@ pub extern "C" fn minisign_install_record_text(
 /// The number of the error that the run was rejected for.
 #[unsafe(no_mangle)]
 pub extern "C" fn minisign_install_error(installation: &Installation) -> u32
-    // The result is the number of the error for which the run was rejected, or 0.
+    // If the run was rejected, the result is the number of the error that is the reason. Otherwise it is 0.
     ensures refused { (e : ℕ) → IsDue installation.now (ended.Refused e) → result ≡ e }
     ensures none { ((e : ℕ) → ¬ (IsDue installation.now (ended.Refused e))) → result ≡ 0 }
 {
@@ -995,9 +1023,9 @@ pub extern "C" fn minisign_judge_comment(
     kept: u64,
     number: &mut u64,
 ) -> u32
-    // On success the comment and the name are UTF-8, and the comment names the file, has this number, which
-    // is not below the recorded one, and has not expired. Any other result is the number of the first check
-    // that fails. After an error the number is unchanged.
+    // If the result is 0, the comment and the file name are UTF-8, the comment names the file, has not
+    // expired, and has a version number that is not below `kept`, and `number` is that version number.
+    // Otherwise the result is the number of the first check that fails, and `number` is unchanged.
     ensures says { result ≡ 0 → (k : Numbering) × (numbering ≡ numbering_number k)
         × IsUtf8 comment.now × IsUtf8 file.now
         × CommentSays comment.now (said_by file.now k moment) number.new × (kept ≤ number.new) }

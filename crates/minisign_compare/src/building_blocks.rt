@@ -1,4 +1,4 @@
-//! Requests for hashes, derived keys, limits, numbers, the clock and a typed password.
+//! Answers requests for hashes, derived keys, limits, numbers, the clock and typed passwords.
 
 ghost use Rattle.std.specs.Prelude.{◌≡◌, ◌≤◌, ℕ, List, ◌++◌, false, OnOk, length};
 ghost use Rattle.minisign_hash.specs.Fed.{IsFed, has_finalized, output_length};
@@ -21,7 +21,7 @@ use std::alloc::Global;
 use std::io;
 use std::time::{Clock, Duration};
 
-/// Answers any request that is not of keys, signatures, pairs or a table.
+/// Answers any request that is not about keys, signatures, pairs or a table.
 pub fn answer(
     alloc: Global,
     request: &BlockRequest,
@@ -48,7 +48,7 @@ fn answer_limits(line: &str, reply: &mut Reply) -> Result<(), Refusal> {
     Ok(())
 }
 
-// The fields of the parameters of key derivation that a call returned.
+// Adds the fields of scrypt parameters.
 fn show_params(returned: minisign::Result<Params>, reply: &mut Reply) {
     match returned {
         Ok(params) => {
@@ -75,8 +75,8 @@ fn answer_blake2b(alloc: Global, line: &str, reply: &mut Reply) -> Result<(), Re
     )
 }
 
-// The fields of a digest, for each of which there is this room: of the bytes as a whole, and in
-// pieces, as the state tells it first and again.
+// Adds the fields of a digest: of all bytes at once, and in pieces, for which the state is
+// finalized twice. The length of `room` is the length of the digest.
 fn show_digests(
     room: &mut [u8],
     cuts: &str,
@@ -97,7 +97,8 @@ fn show_digests(
     Ok(())
 }
 
-// Feeds a state all of the bytes: `-` at once, otherwise cut at places parted by commas.
+// Adds all of the bytes to a state: at once for `-`, and otherwise cut at the places in a list with
+// commas.
 fn feed(state: &mut Blake2b, cuts: &str, bytes: &[u8]) -> Result<(), Refusal>
     requires { has_finalized state.old ≡ false }
     ensures fed { OnOk result ((m : List ℕ) → IsFed state.old m → IsFed state.new (m ++ bytes.now)) }
@@ -123,7 +124,7 @@ fn answer_scrypt(alloc: Global, line: &str, reply: &mut Reply) -> Result<(), Ref
     answer_derived(alloc, line, (&password, &salt), reply)
 }
 
-// The key that is derived, once the numbers are read.
+// Answers a request for a derived key.
 fn answer_derived(
     alloc: Global,
     line: &str,
@@ -138,7 +139,7 @@ fn answer_derived(
     Ok(())
 }
 
-// The key of so many bytes, by the parameters of these numbers.
+// Derives a key of this length with these parameters.
 fn derived(
     alloc: Global,
     (password, salt): (&[u8], &[u8]),
@@ -173,7 +174,7 @@ fn answer_load(alloc: Global, line: &str, reply: &mut Reply) -> Result<(), Refus
     Ok(())
 }
 
-// A clock that shows one moment, or can't be read.
+// A clock that shows a fixed time, or cannot be read.
 #[derive(Drop)]
 struct Shows(Option<Duration>);
 
@@ -190,7 +191,8 @@ impl Clock for Shows {
     }
 }
 
-// A clock that shows so many seconds since 1970, or after a `-` can't be read.
+// Returns a clock that shows this number of seconds since 1970, or one that cannot be read if the
+// word begins with `-`.
 fn clock_of(word: &str) -> Result<Shows, Refusal> {
     if word.starts_with("-") {
         return Ok(Shows(None));
@@ -207,7 +209,6 @@ fn answer_timestamp(line: &str, reply: &mut Reply) -> Result<(), Refusal> {
     Ok(())
 }
 
-// What the call that asks for a password returns.
 fn asked<R: Source, W: Sink>(alloc: Global, prompt: &mut Prompt<R, W>) -> minisign::Result<String> {
     get_password(alloc, prompt, "Password: ")
 }

@@ -1,4 +1,4 @@
-//! Devices that a request describes, which count what is done with them.
+//! The devices that a request describes. They count their calls.
 
 ghost use Rattle.std.specs.Prelude.{◌≡◌, ◌≤◌, Some, length};
 ghost use Rattle.std.specs.Option.{is_some};
@@ -13,12 +13,12 @@ use minisign::base::prompt::Prompt;
 use minisign_fixtures::devices::sinks::LimitedSink;
 use std::alloc::Global;
 
-// How many bytes of a counter are made: more than any call draws.
+// The number of bytes of a counter, which is more than any call takes.
 const COUNTED_BYTES: u16 = 512;
 
-/// Data as a request describes it: `x..[,pos=P][,chunk=C][,fail=N][,second=x..]`, the bytes, the
-/// place where they are begun, the most bytes of a read, the read that fails, and what is there
-/// after going back.
+/// The data of a request: `x..[,pos=P][,chunk=C][,fail=N][,second=x..]`, that is the bytes, the
+/// position where they begin, the greatest number of bytes for each read, the number of the read
+/// that fails, and the bytes after going back.
 #[derive(Drop)]
 pub struct DataWord {
     bytes: Vec<u8>,
@@ -30,7 +30,7 @@ pub struct DataWord {
 }
 
 impl DataWord {
-    /// Reads the description.
+    /// Parses the description.
     pub fn read(alloc: Global, word: &str) -> Result<DataWord, Refusal> {
         let mut parts = word.split(',');
         let Some(first) = parts.next() else {
@@ -49,7 +49,7 @@ impl DataWord {
         Ok(data)
     }
 
-    // Takes one part after the bytes.
+    // Parses one part after the bytes.
     fn refine(&mut self, alloc: Global, part: &str) -> Result<(), Refusal> {
         let Some((name, value)) = part.split_once('=') else {
             return Err(Refusal::BadRequest);
@@ -61,7 +61,7 @@ impl DataWord {
         self.set(name, number_of(value)?)
     }
 
-    // Takes the number of a part. There is no read of 0 bytes.
+    // Sets the number of a part. A read of 0 bytes is not allowed.
     fn set(&mut self, name: &str, number: usize) -> Result<(), Refusal> {
         match name {
             "pos" => self.place = number,
@@ -72,7 +72,7 @@ impl DataWord {
         Ok(())
     }
 
-    /// The source of the data.
+    /// Returns the source of the data.
     pub fn source(&self) -> CountedSource<'_> {
         CountedSource {
             rest: from_place(&self.bytes, self.place),
@@ -90,7 +90,7 @@ impl DataWord {
     }
 }
 
-/// A source that counts its reads and the bytes that it gave.
+/// A source that counts its reads and the bytes that it returned.
 #[derive(Drop)]
 pub struct CountedSource<'a> {
     rest: &'a [u8],
@@ -105,14 +105,14 @@ pub struct CountedSource<'a> {
 }
 
 impl<'a> CountedSource<'a> {
-    /// How many reads were tried.
+    /// Returns the number of reads, also of those that failed.
     pub fn reads(&self) -> u64
         ensures { result ≡ self.now.reads }
     {
         self.reads
     }
 
-    /// The number of the byte that is ahead.
+    /// Returns the position of the next byte.
     pub fn place(&self) -> u64
         ensures { result ≡ self.now.place }
     {
@@ -166,7 +166,7 @@ impl<'a> Rereader for CountedSource<'a> {
     }
 }
 
-// The bytes from a place on, none where it lies after them.
+// Returns the bytes from a position on, or none if the position is after them.
 fn from_place(bytes: &[u8], place: usize) -> &[u8] {
     if place < bytes.len() {
         &bytes[place..]
@@ -175,8 +175,8 @@ fn from_place(bytes: &[u8], place: usize) -> &[u8] {
     }
 }
 
-/// A sink as a request describes it: `-` (takes all), `N` (takes so many bytes), `f` or `fN` (as
-/// these, and its flush fails).
+/// The sink of a request: `-` accepts everything, `N` accepts this number of bytes, and `f` or `fN`
+/// does the same but fails to flush.
 #[derive(Clone, Copy)]
 pub struct SinkWord {
     room: usize,
@@ -184,7 +184,7 @@ pub struct SinkWord {
 }
 
 impl SinkWord {
-    /// Reads the description.
+    /// Parses the description.
     pub fn read(word: &str) -> Result<SinkWord, Refusal> {
         let (room, flushes) = match word.strip_prefix("f") {
             Some(room) => (room, 0),
@@ -194,13 +194,13 @@ impl SinkWord {
         Ok(SinkWord { room, flushes })
     }
 
-    /// The sink, which is empty.
+    /// Returns the sink, which is empty.
     pub fn sink(self, alloc: Global) -> LimitedSink {
         LimitedSink::new(alloc, self.room).flushed(self.flushes)
     }
 }
 
-// How many bytes a sink takes.
+// Parses the number of bytes that a sink accepts.
 fn room_of(word: &str) -> Result<usize, Refusal> {
     match word {
         "" | "-" => Ok(usize::MAX),
@@ -208,7 +208,7 @@ fn room_of(word: &str) -> Result<usize, Refusal> {
     }
 }
 
-/// Random bytes that are passed in, and a count of those that were drawn.
+/// Random bytes that are given, and the number of those that were taken.
 #[derive(Drop)]
 pub struct CountedRandom<'a> {
     random: FixedRandom<'a>,
@@ -216,7 +216,6 @@ pub struct CountedRandom<'a> {
 }
 
 impl<'a> CountedRandom<'a> {
-    /// All of the bytes are still to be drawn.
     pub fn new(bytes: &'a [u8]) -> CountedRandom<'a> {
         CountedRandom {
             random: FixedRandom::new(bytes),
@@ -224,7 +223,7 @@ impl<'a> CountedRandom<'a> {
         }
     }
 
-    /// How many bytes were drawn.
+    /// Returns the number of bytes that were taken.
     pub fn drawn(&self) -> u64
         ensures { result ≡ self.now.drawn }
     {
@@ -248,7 +247,8 @@ impl<'a> RandomSource for CountedRandom<'a> {
     }
 }
 
-/// Reads random bytes: `c` and a first byte for a counter that wraps, otherwise a list of bytes.
+/// Parses random bytes: `c` and a first byte for a counter that wraps around, or else a list of
+/// bytes.
 pub fn random_bytes(alloc: Global, word: &str) -> Result<Vec<u8>, Refusal> {
     match word.strip_prefix("c") {
         Some(first) => counted_bytes(alloc, number_of(first)?),
@@ -256,7 +256,7 @@ pub fn random_bytes(alloc: Global, word: &str) -> Result<Vec<u8>, Refusal> {
     }
 }
 
-// A first byte, and each time one more, which wraps.
+// Returns bytes that count up from a first one and wrap around.
 fn counted_bytes(alloc: Global, first: u8) -> Result<Vec<u8>, Refusal> {
     let mut bytes = Vec::new(alloc);
     let mut next = first;
@@ -267,7 +267,7 @@ fn counted_bytes(alloc: Global, first: u8) -> Result<Vec<u8>, Refusal> {
     Ok(bytes)
 }
 
-/// A prompt into which lines are typed, and which keeps what it is told.
+/// Returns a prompt with this input, which keeps what is written to it.
 pub fn typed_prompt(alloc: Global, typed: &[u8]) -> Prompt<SliceSource<'_>, VecSink> {
     Prompt::new(SliceSource::new(typed), VecSink::new(alloc))
 }

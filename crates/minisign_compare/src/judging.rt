@@ -1,4 +1,4 @@
-//! Requests that sign and verify.
+//! Answers requests that sign and verify.
 
 use crate::devices::{CountedRandom, CountedSource, DataWord, random_bytes};
 use crate::public_keys::{key_of, key_of_text};
@@ -26,7 +26,7 @@ pub fn answer_sign(
     sign_with_comments(alloc, table, line, (&data, &random), reply)
 }
 
-// Signs data with random bytes, once the comments are read.
+// Parses the comments, and signs the data with random bytes.
 fn sign_with_comments(
     alloc: Global,
     table: &Table,
@@ -41,7 +41,7 @@ fn sign_with_comments(
     sign_with_keys(alloc, table, line, given, comments, moment, reply)
 }
 
-// Signs, once the keys are read.
+// Parses the keys, and signs.
 fn sign_with_keys(
     alloc: Global,
     table: &Table,
@@ -59,7 +59,7 @@ fn sign_with_keys(
     Ok(())
 }
 
-// Signs the data with random bytes.
+// Signs the data with random bytes, and adds the fields.
 fn sign_data(
     alloc: Global,
     triples: &[Triple<'_>],
@@ -85,7 +85,7 @@ fn sign_data(
     show_returned(alloc, signed, reply);
 }
 
-// What the call that signs returns.
+// Calls the library to sign.
 fn signed(
     alloc: Global,
     triples: &[Triple<'_>],
@@ -124,7 +124,7 @@ pub fn answer_verify(
     judge_box(alloc, table, (&pk, &signature_box), line, reply)
 }
 
-// Verifies with a key, a box and what the words of the request say.
+// Verifies with a key, a box and the other words of the request.
 fn judge_box(
     alloc: Global,
     table: &Table,
@@ -139,14 +139,14 @@ fn judge_box(
     Ok(())
 }
 
-// The flags of a request: quiet, output, legacy.
+// Parses the flags of a request: quiet, output, legacy.
 fn flags_of(line: &str) -> Result<(bool, bool, bool), Refusal> {
     let quiet = flag_of(word(line, 4))?;
     let output = flag_of(word(line, 5))?;
     Ok((quiet, output, flag_of(word(line, 6))?))
 }
 
-// Verifies the data.
+// Verifies the data, and adds the fields.
 fn judge_data(
     alloc: Global,
     triples: &[Triple<'_>],
@@ -175,7 +175,7 @@ fn judge_data(
     }
 }
 
-// What the call that verifies returns.
+// Calls the library to verify.
 fn verified(
     alloc: Global,
     triples: &[Triple<'_>],
@@ -199,13 +199,13 @@ fn verified(
     )
 }
 
-// How the data was read.
+// Adds the fields about how the data was read.
 fn show_reads(source: &CountedSource<'_>, reply: &mut Reply) {
     reply.tail.number("reads", source.reads());
     reply.tail.number("pos", source.place());
 }
 
-// The record of a public key, or none where the word is `-`.
+// Parses the record of a public key; `-` stands for none.
 fn key_or_none(alloc: Global, word: &str) -> Result<Option<PublicKey>, Refusal> {
     if word == "-" {
         return Ok(None);

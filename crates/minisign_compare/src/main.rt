@@ -1,6 +1,6 @@
-//! The program `minisign_compare`: it reads requests from standard input, one a line, calls the
-//! library and prints one line for each. A program over the Rust crate answers the same requests in
-//! the same words; `compare/README.md` has both.
+//! The program `minisign_compare`: reads requests from standard input, one on each line, calls the
+//! library, and prints one line for each. A program over the Rust crate answers the same requests
+//! in the same format. `compare/README.md` describes both.
 #![tactic(auto)]
 
 mod building_blocks;
@@ -31,7 +31,7 @@ fn main(rt: HostRuntime) -> io::Result<ExitCode> {
     Ok(code)
 }
 
-// Answers each line, up to one that is no request.
+// Answers each line until one is not a request.
 fn answer_all<W: Write>(rt: &HostRuntime, answers: &mut W) -> io::Result<ExitCode> {
     let mut table = Table::new(rt.alloc());
     for line in BufReader::new(rt.alloc(), rt.reader())?.lines(rt.alloc()) {
@@ -42,8 +42,8 @@ fn answer_all<W: Write>(rt: &HostRuntime, answers: &mut W) -> io::Result<ExitCod
     Ok(ExitCode::SUCCESS)
 }
 
-// Answers a line that was read or was not. It is false of what is no request, which is said after
-// the answers to the lines before.
+// Answers a line. Returns false if it is not a request, which is reported after the answers to the
+// lines before.
 fn answer_read<W: Write>(
     rt: &HostRuntime,
     table: &mut Table,
@@ -59,7 +59,8 @@ fn answer_read<W: Write>(
     Ok(is_answered)
 }
 
-// Answers one line; an empty one and a comment get no answer. It is false of what is no request.
+// Answers a line. Empty lines and comments get no answer. Returns false if the line is not a
+// request.
 fn answer_line<W: Write>(
     rt: &HostRuntime,
     table: &mut Table,
@@ -77,7 +78,6 @@ fn answer_line<W: Write>(
     print(rt, answers, answer, &mut reply)
 }
 
-// Answers one request.
 fn answer(
     rt: &HostRuntime,
     table: &mut Table,
@@ -103,7 +103,7 @@ fn answer(
     }
 }
 
-// Prints the answer, unless the request was none.
+// Prints the answer. Returns false if the line was not a request.
 fn print<W: Write>(
     rt: &HostRuntime,
     answers: &mut W,
@@ -122,7 +122,7 @@ fn print<W: Write>(
     Ok(true)
 }
 
-// Prints what a call returned.
+// Prints the fields of a result.
 fn print_fields<W: Write>(answers: &mut W, fields: &str) -> io::Result<()> {
     if fields.is_empty() {
         return write!(answers, "ok");
@@ -130,7 +130,7 @@ fn print_fields<W: Write>(answers: &mut W, fields: &str) -> io::Result<()> {
     write!(answers, "ok {fields}")
 }
 
-// Prints the error that a call returned.
+// Prints an error that a call returned.
 fn print_fault<W: Write>(rt: &HostRuntime, answers: &mut W, fault: &PError) -> io::Result<()> {
     let text = format!(in rt.alloc(); "{fault}")?;
     let digits = hex::encode(rt.alloc(), text.as_bytes())?;

@@ -1,4 +1,4 @@
-//! Requests for pairs of keys.
+//! Answers requests for key pairs.
 
 use crate::devices::{CountedRandom, SinkWord, random_bytes, typed_prompt};
 use crate::refusals::Refusal;
@@ -13,7 +13,7 @@ use minisign::base::toy::ToyScheme;
 use minisign_fixtures::devices::sinks::LimitedSink;
 use std::alloc::Global;
 
-// The devices of a call that makes a pair.
+// The devices of a call that generates a pair.
 #[derive(Drop)]
 struct Devices<'a> {
     random: CountedRandom<'a>,
@@ -43,8 +43,8 @@ pub fn answer(
     answer_over(alloc, request, line, devices, reply)
 }
 
-// The numbers of a request's words: those of two sinks, of a comment, a password and typed lines.
-// It is 0 for what the request has no word of.
+// Returns the positions of a request's words: two sinks, a comment, a password and typed lines. 0
+// stands for a word that the request does not have.
 fn numbers_of(request: &PairRequest) -> &'static [usize; 5] {
     match request {
         PairRequest::Plain => &[0, 0, 0, 0, 0],
@@ -54,7 +54,7 @@ fn numbers_of(request: &PairRequest) -> &'static [usize; 5] {
     }
 }
 
-// The word with this number, or `-`.
+// Returns the word at this position, or `-`.
 fn given(line: &str, number: usize) -> &str {
     match number {
         0 => "-",
@@ -62,7 +62,7 @@ fn given(line: &str, number: usize) -> &str {
     }
 }
 
-// Makes the pair over these devices, once the comment and the password are read.
+// Parses the comment and the password, and generates the pair with these devices.
 fn answer_over(
     alloc: Global,
     request: &PairRequest,
@@ -79,7 +79,7 @@ fn answer_over(
     Ok(())
 }
 
-// What the call that makes a pair returns.
+// Calls the library to generate a pair.
 fn made(
     alloc: Global,
     request: &PairRequest,
@@ -141,7 +141,8 @@ fn written_sealed(
     )
 }
 
-// What the prompt was told, what was drawn and, where the pair was written, what the two sinks took.
+// Adds what the prompt shows, the number of random bytes that were taken, and what the two sinks
+// received if the pair was written.
 fn show_devices(alloc: Global, request: &PairRequest, devices: Devices<'_>, reply: &mut Reply) {
     reply.end_prompt(alloc, devices.prompt);
     reply.tail.number("drawn", devices.random.drawn());
@@ -151,7 +152,7 @@ fn show_devices(alloc: Global, request: &PairRequest, devices: Devices<'_>, repl
     }
 }
 
-// The fields of the pair that a call returned.
+// Adds the fields of a result.
 fn show(alloc: Global, returned: minisign::Result<KeyPair>, reply: &mut Reply) {
     match returned {
         Ok(pair) => show_pair(alloc, &pair, reply),
@@ -159,7 +160,7 @@ fn show(alloc: Global, returned: minisign::Result<KeyPair>, reply: &mut Reply) {
     }
 }
 
-// The fields of a pair.
+// Adds the fields of a pair.
 fn show_pair(alloc: Global, pair: &KeyPair, reply: &mut Reply) {
     reply.returned_bytes("pk", pair.pk.to_bytes(alloc));
     reply.returned_bytes("sk", pair.sk.to_bytes(alloc));

@@ -1,4 +1,4 @@
-//! Requests for public keys.
+//! Answers requests for public keys.
 
 use crate::refusals::Refusal;
 use crate::replies::Reply;
@@ -27,7 +27,7 @@ pub fn answer(
     Ok(())
 }
 
-// The key that the first word of a request tells.
+// Returns the key in the first word of a request.
 fn key_read(
     rt: &HostRuntime,
     request: &PublicKeyRequest,
@@ -41,7 +41,7 @@ fn key_read(
     }
 }
 
-// The key that a text, its base64 or the file of a text tells.
+// Returns the key in a text, in its base64, or in a file.
 fn key_told(
     rt: &HostRuntime,
     request: &PublicKeyRequest,
@@ -56,45 +56,45 @@ fn key_told(
     Ok(key?)
 }
 
-/// The key of a text, as its box reads it.
+/// Parses the text of a key with `PublicKeyBox`.
 pub fn key_of_text(alloc: Global, word: &str) -> Result<PublicKey, Refusal> {
     let text = text_of(alloc, word)?;
     Ok(key_out_of_box(alloc, text.as_str())?)
 }
 
-// The key that a box of this text turns into.
+// Parses a text with `into_public_key`.
 fn key_out_of_box(alloc: Global, text: &str) -> minisign::Result<PublicKey> {
     PublicKeyBox::from_string(alloc, text)?.into_public_key(alloc)
 }
 
-// The key of a box of this text.
+// Parses a text with `from_box`.
 fn key_in_box(alloc: Global, text: &str) -> minisign::Result<PublicKey> {
     PublicKey::from_box(alloc, PublicKeyBox::from_string(alloc, text)?)
 }
 
-// The public key of the record of a secret one.
+// Returns the public key of the record of a secret key.
 fn key_of_secret(alloc: Global, word: &str) -> Result<PublicKey, Refusal> {
     let bytes = bytes_of(alloc, word)?;
     Ok(public_half(&bytes)?)
 }
 
-// The public key of a secret one.
+// Returns the public key of a secret key.
 fn public_half(bytes: &[u8]) -> minisign::Result<PublicKey> {
     PublicKey::from_secret_key(&SecretKey::from_bytes(bytes)?)
 }
 
-/// The public key of a record.
+/// Parses the record of a public key.
 pub fn key_of(alloc: Global, word: &str) -> Result<PublicKey, Refusal> {
     let bytes = bytes_of(alloc, word)?;
     Ok(PublicKey::from_bytes(&bytes)?)
 }
 
-// The text of a key, in its box.
+// Returns the text of a key.
 fn text_in_box(alloc: Global, key: &PublicKey) -> minisign::Result<String> {
     Ok(key.to_box(alloc)?.into_string())
 }
 
-// The fields of a public key.
+// Adds the fields of a public key.
 fn show(alloc: Global, key: &PublicKey, reply: &mut Reply) {
     reply.returned_bytes("raw", key.to_bytes(alloc));
     reply.fields.bytes("keynum", key.keynum());

@@ -1,4 +1,4 @@
-//! Why a request is rejected.
+//! The reasons for which a request has no result.
 
 ghost use Rattle.std.specs.Prelude.{◌≡◌};
 ghost use Rattle.minisign_base.specs.Fault.{Named};
@@ -9,14 +9,14 @@ use minisign::PError;
 use minisign::base::NamedFault;
 use std::alloc::{AllocError, AllocFailed};
 
-/// Why a request gets no fields for an answer.
+/// The reason for which a request has no result to print.
 #[derive(Drop)]
 pub enum Refusal {
     /// The library's call returned an error.
     Fault(PError),
-    /// The call has a condition that the request does not meet.
+    /// The request does not meet a precondition of the call.
     OutsideConditions,
-    /// The line is no request.
+    /// The line is not a request.
     BadRequest,
 }
 

@@ -1,4 +1,4 @@
-//! The answer to a request: what the call returned, wrote, read and drew.
+//! The answer to a request: the result of the call, and what it wrote, read and took from devices.
 
 ghost use Rattle.std.specs.Prelude.{◌≡◌, [], ◌++◌, false, OnOk, codes, if◌then◌else◌, string_bytes};
 ghost use Rattle.hex.specs.Hex.{encode_lower};
@@ -14,7 +14,8 @@ use minisign::base::prompt::Prompt;
 use minisign::reading::read_to_end;
 use std::alloc::{AllocError, Global};
 
-/// Fields `NAME=VALUE`, parted by single spaces. They keep whether memory was out for one of them.
+/// Fields `NAME=VALUE`, separated by single spaces, and whether an allocation failed for one of
+/// them.
 #[derive(Drop)]
 pub struct Fields {
     alloc: Global,
@@ -23,7 +24,7 @@ pub struct Fields {
 }
 
 impl Fields {
-    /// No field.
+    /// Returns no fields.
     pub fn new(alloc: Global) -> Fields
         ensures { string_bytes result.text ≡ [] }
     {
@@ -34,14 +35,14 @@ impl Fields {
         }
     }
 
-    /// The fields as they are printed.
+    /// Returns the fields as they are printed.
     pub fn as_str(&self) -> &str
         ensures { result.now ≡ string_bytes self.now.text }
     {
         self.text.as_str()
     }
 
-    /// A field of bytes: an `x`, and two lower hexadecimal digits for each.
+    /// Adds a field of bytes: `x` and two lowercase hexadecimal digits for each byte.
     pub fn bytes(&mut self, name: &str, bytes: &[u8])
         ensures { self.new.is_short ≡ false → string_bytes self.new.text
             ≡ begun (string_bytes self.old.text) name.now ++ codes "x" ++ encode_lower bytes.now }
@@ -52,7 +53,7 @@ impl Fields {
         }
     }
 
-    /// A field of a decimal number.
+    /// Adds a field of a decimal number.
     pub fn number(&mut self, name: &str, number: u64) {
         match format!(in self.alloc; "{number}") {
             Ok(digits) => self.put(name, "", digits.as_str()),
@@ -60,7 +61,7 @@ impl Fields {
         }
     }
 
-    /// A field of a flag: 1 or 0.
+    /// Adds a field of a flag: 1 or 0.
     pub fn flag(&mut self, name: &str, flag: bool)
         ensures { self.new.is_short ≡ false → string_bytes self.new.text
             ≡ begun (string_bytes self.old.text) name.now ++ (if flag then codes "1" else codes "0") }
@@ -68,7 +69,7 @@ impl Fields {
         self.put(name, "", if flag { "1" } else { "0" });
     }
 
-    // A field, whose value has a mark in front.
+    // Adds a field with a mark before the value.
     fn put(&mut self, name: &str, mark: &str, value: &str)
         ensures { self.new.is_short ≡ false → string_bytes self.new.text
             ≡ begun (string_bytes self.old.text) name.now ++ mark.now ++ value.now }
@@ -78,7 +79,7 @@ impl Fields {
         }
     }
 
-    // Writes a field, unless memory is out.
+    // Writes a field, unless an allocation fails.
     fn push(&mut self, name: &str, mark: &str, value: &str) -> Result<(), AllocError>
         ensures text { OnOk result (string_bytes self.new.text
             ≡ begun (string_bytes self.old.text) name.now ++ mark.now ++ value.now) }
@@ -93,27 +94,27 @@ impl Fields {
     }
 }
 
-/// What a request's call returned and did.
+/// The result of a request's call, and its effects.
 #[derive(Drop)]
 pub struct Reply {
-    /// The fields of the answer.
+    /// The fields of the result.
     pub fields: Fields,
-    /// The fields of what the call did besides.
+    /// The fields of the call's effects.
     pub tail: Fields,
-    /// The fields of what the call wrote, and of how much was left of what was typed.
+    /// The fields of what the call wrote, and of the unread typed lines.
     pub deeds: Fields,
-    /// What the call wrote to standard output in the Rust crate: a prompt's texts, or a copy.
+    /// The bytes that the Rust crate writes to standard output: a prompt's texts, or a copy.
     pub stdout: Vec<u8>,
-    /// What the call wrote to standard error in the Rust crate: the status.
+    /// The bytes that the Rust crate writes to standard error: the status.
     pub stderr: Vec<u8>,
-    /// How many typed lines were left.
+    /// The number of unread typed lines.
     pub typed_left: u64,
-    // The first error of a value that was to be a field.
+    // The first error in place of a value for a field.
     fault: Option<PError>,
 }
 
 impl Reply {
-    /// Nothing was returned or done yet.
+    /// Returns an empty reply.
     pub fn new(alloc: Global) -> Reply {
         Reply {
             fields: Fields::new(alloc),
@@ -126,7 +127,7 @@ impl Reply {
         }
     }
 
-    /// A field of the bytes that a call returned.
+    /// Adds a field of the bytes that a call returned.
     pub fn returned_bytes(&mut self, name: &str, returned: minisign::Result<Vec<u8>>) {
         match returned {
             Ok(bytes) => self.fields.bytes(name, &bytes),
@@ -134,7 +135,7 @@ impl Reply {
         }
     }
 
-    /// A field of the bytes of the text that a call returned.
+    /// Adds a field of the text that a call returned.
     pub fn returned_text(&mut self, name: &str, returned: minisign::Result<String>) {
         match returned {
             Ok(text) => self.fields.bytes(name, text.as_bytes()),
@@ -142,14 +143,14 @@ impl Reply {
         }
     }
 
-    /// Keeps the error that a call returned, unless there was one before.
+    /// Stores the error that a call returned, if it is the first one.
     pub fn keep(&mut self, fault: PError) {
         if self.fault.is_none() {
             self.fault = Some(fault);
         }
     }
 
-    /// Keeps what a prompt was told, and how many lines are left of those that were typed.
+    /// Stores what a prompt received and the number of unread typed lines.
     pub fn end_prompt(&mut self, alloc: Global, prompt: Prompt<SliceSource<'_>, VecSink>) {
         let (mut reader, writer) = prompt.into_parts();
         self.stdout = writer.into_vec();
@@ -159,7 +160,7 @@ impl Reply {
         }
     }
 
-    /// The answer, or the error that was kept in its place, once all fields are written.
+    /// Writes the last fields, and returns the answer or the error that was stored.
     pub fn end(&mut self, answer: Result<(), Refusal>) -> Result<(), Refusal> {
         self.deeds.bytes("stdout", &self.stdout);
         self.deeds.bytes("stderr", &self.stderr);

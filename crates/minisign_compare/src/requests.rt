@@ -1,8 +1,8 @@
-//! The requests, by their names.
+//! The requests by their names.
 
 use crate::words::{times_in, word};
 
-/// What a request asks for.
+/// The subject of a request.
 pub enum Request {
     /// A public key.
     PublicKey(PublicKeyRequest),
@@ -12,15 +12,15 @@ pub enum Request {
     Signature(SignatureRequest),
     /// A pair of keys.
     Pair(PairRequest),
-    /// One more triple in the table, `table_add`.
+    /// Adds a triple to the table: `table_add`.
     TableAdd,
-    /// An empty table, `table_clear`.
+    /// Clears the table: `table_clear`.
     TableClear,
-    /// A new signature, `sign`.
+    /// Makes a signature: `sign`.
     Sign,
-    /// A verdict over a record, `verify`.
+    /// Verifies with the record of a key: `verify`.
     Verify,
-    /// A verdict over a text, `verify_texts`.
+    /// Verifies with the text of a key: `verify_texts`.
     VerifyTexts,
     /// A hash, a derived key, a limit, a number, the clock or a typed password.
     Block(BlockRequest),
@@ -77,7 +77,7 @@ pub enum BlockRequest {
     Password,
 }
 
-// Each request, how many words stand after its name, and what it asks for.
+// Each request, the number of words after its name, and its subject.
 const REQUESTS: [(&str, u64, Request); 36] = [
     (
         "pk_from_box",
@@ -173,12 +173,12 @@ const REQUESTS: [(&str, u64, Request); 36] = [
     ("get_password", 1, Request::Block(BlockRequest::Password)),
 ];
 
-// The rows, so that no proof looks into all of them.
+// Hides the table from proofs, which would otherwise unfold all of it.
 fn requests() -> &'static [(&'static str, u64, Request)] {
     &REQUESTS
 }
 
-/// The request of a line, unless no request has its name and as many words after it.
+/// Returns the request on a line, if there is one with this name and this number of words.
 pub fn request_of(line: &str) -> Option<&'static Request> {
     let name = word(line, 0);
     let words = times_in(line.as_bytes(), b' ');

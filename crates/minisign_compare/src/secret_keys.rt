@@ -1,4 +1,4 @@
-//! Requests for secret keys.
+//! Answers requests for secret keys.
 
 use crate::devices::typed_prompt;
 use crate::refusals::Refusal;
@@ -30,7 +30,7 @@ pub fn answer(
     }
 }
 
-// The fields of the key that a text or the file of a text holds, where lines are typed.
+// Adds the fields of the key in a text or in a file, with typed lines for the prompt.
 fn answer_opened(
     rt: &HostRuntime,
     request: &SecretKeyRequest,
@@ -47,7 +47,7 @@ fn answer_opened(
     Ok(())
 }
 
-// What the call returns that opens a key.
+// Calls the library to decrypt a key.
 fn opened(
     rt: &HostRuntime,
     request: &SecretKeyRequest,
@@ -63,7 +63,7 @@ fn opened(
     }
 }
 
-// What the call returns that opens the key of a box of this text.
+// Decrypts the key in a text with `into_secret_key`.
 fn opened_text(
     alloc: Global,
     text: &str,
@@ -80,7 +80,7 @@ fn answer_plain(alloc: Global, bytes: &[u8], reply: &mut Reply) -> Result<(), Re
     Ok(())
 }
 
-// What the call returns that reads a key without a password.
+// Parses a key without a password.
 fn plain_key(alloc: Global, text: &str) -> minisign::Result<SecretKey> {
     SecretKeyBox::from_string(alloc, text)?.into_unencrypted_secret_key()
 }
@@ -97,7 +97,7 @@ fn answer_text(alloc: Global, bytes: &[u8], line: &str, reply: &mut Reply) -> Re
     Ok(())
 }
 
-// The text of the key of a record, in its box.
+// Returns the text of the key of a record.
 fn text_of_record(alloc: Global, bytes: &[u8], comment: Option<&str>) -> minisign::Result<String> {
     let key = SecretKey::from_bytes(bytes)?;
     Ok(key.to_box(alloc, comment)?.into_string())
@@ -110,13 +110,13 @@ fn answer_equal(alloc: Global, bytes: &[u8], line: &str, reply: &mut Reply) -> R
     Ok(())
 }
 
-/// The secret key of a record.
+/// Parses the record of a secret key.
 pub fn key_of(alloc: Global, word: &str) -> Result<SecretKey, Refusal> {
     let bytes = bytes_of(alloc, word)?;
     Ok(SecretKey::from_bytes(&bytes)?)
 }
 
-// The fields of the secret key that a call returned.
+// Adds the fields of a result.
 fn show_returned(alloc: Global, returned: minisign::Result<SecretKey>, reply: &mut Reply) {
     match returned {
         Ok(key) => show(alloc, &key, reply),
@@ -124,7 +124,7 @@ fn show_returned(alloc: Global, returned: minisign::Result<SecretKey>, reply: &m
     }
 }
 
-// The fields of a secret key.
+// Adds the fields of a secret key.
 fn show(alloc: Global, key: &SecretKey, reply: &mut Reply) {
     reply.returned_bytes("raw", key.to_bytes(alloc));
     reply.fields.bytes("keynum", key.keynum());
@@ -132,7 +132,7 @@ fn show(alloc: Global, key: &SecretKey, reply: &mut Reply) {
     reply.returned_text("debug", printed(alloc, key));
 }
 
-// A secret key as it is printed for debugging.
+// Returns the debug output of a secret key.
 fn printed(alloc: Global, key: &SecretKey) -> minisign::Result<String> {
     Ok(format!(in alloc; "{key:?}")?)
 }

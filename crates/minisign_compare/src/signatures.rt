@@ -1,4 +1,4 @@
-//! Requests for signatures and their texts.
+//! Answers requests for signatures and their texts.
 
 use crate::refusals::Refusal;
 use crate::replies::Reply;
@@ -23,7 +23,7 @@ pub fn answer(
     }
 }
 
-// The fields of the signature that a text or the file of a text holds.
+// Adds the fields of the signature in a text or in a file.
 fn answer_text(
     rt: &HostRuntime,
     request: &SignatureRequest,
@@ -39,7 +39,7 @@ fn answer_text(
     Ok(())
 }
 
-// What a request asks of the bare signature of a record.
+// Answers a request about the bare signature of a record.
 fn answer_record(
     alloc: Global,
     request: &SignatureRequest,
@@ -54,13 +54,13 @@ fn answer_record(
     Ok(())
 }
 
-// The fields of a bare signature.
+// Adds the fields of a bare signature.
 fn show_bones(alloc: Global, bones: &SignatureBones, reply: &mut Reply) {
     reply.returned_bytes("bones", bones.to_bytes(alloc));
     reply.fields.flag("prehashed", bones.is_prehashed());
 }
 
-// The field that a request asks of a box.
+// Adds the field of a box that a request asks for.
 fn show_part(
     alloc: Global,
     request: &SignatureRequest,
@@ -78,7 +78,7 @@ fn show_part(
     }
 }
 
-/// A box: of `bones:` and a record, or of a text.
+/// Parses a box: `bones:` and a record, or a text.
 pub fn box_of(alloc: Global, word: &str) -> Result<SignatureBox, Refusal> {
     let Some(record) = word.strip_prefix("bones:") else {
         let text = text_of(alloc, word)?;
@@ -88,7 +88,7 @@ pub fn box_of(alloc: Global, word: &str) -> Result<SignatureBox, Refusal> {
     Ok(SignatureBox::from_bones(SignatureBones::from_bytes(&bytes)?))
 }
 
-/// The fields of the signature that a call returned.
+/// Adds the fields of a result.
 pub fn show_returned(alloc: Global, returned: minisign::Result<SignatureBox>, reply: &mut Reply) {
     match returned {
         Ok(signature_box) => show(alloc, &signature_box, reply),
@@ -96,7 +96,7 @@ pub fn show_returned(alloc: Global, returned: minisign::Result<SignatureBox>, re
     }
 }
 
-// The fields of a signature.
+// Adds the fields of a signature.
 fn show(alloc: Global, signature_box: &SignatureBox, reply: &mut Reply) {
     reply.returned_bytes("bones", record_of(alloc, signature_box));
     reply.fields.bytes("keynum", signature_box.keynum());
@@ -106,7 +106,7 @@ fn show(alloc: Global, signature_box: &SignatureBox, reply: &mut Reply) {
     reply.returned_text("text", signature_box.to_string(alloc));
 }
 
-// The record of the bare signature in a box.
+// Returns the record of the bare signature in a box.
 fn record_of(alloc: Global, signature_box: &SignatureBox) -> minisign::Result<Vec<u8>> {
     let bones = SignatureBones::from(signature_box.try_clone(alloc)?);
     bones.to_bytes(alloc)

@@ -1,4 +1,4 @@
-//! The triples that the toy scheme accepts besides its own signatures.
+//! The triples that the toy scheme accepts in addition to its own signatures.
 
 use crate::refusals::Refusal;
 use crate::words::{bytes_of, word};
@@ -20,14 +20,14 @@ pub struct Table {
 }
 
 impl Table {
-    /// No triple.
+    /// Returns an empty table.
     pub fn new(alloc: Global) -> Table {
         Table {
             listed: Vec::new(alloc),
         }
     }
 
-    /// Answers `table_clear`: no triple is left.
+    /// Answers `table_clear`: removes all triples.
     pub fn clear(&mut self) {
         self.listed.clear();
     }
@@ -45,7 +45,7 @@ impl Table {
         Ok(())
     }
 
-    /// The triples as the scheme takes them.
+    /// Returns the triples in the form that the scheme expects.
     pub fn triples(&self, alloc: Global) -> Result<Vec<Triple<'_>>, Refusal> {
         let mut triples = Vec::new(alloc);
         for listed in self.listed.iter() {
@@ -59,7 +59,7 @@ impl Table {
     }
 }
 
-// The bytes of a word as an array, where there are as many.
+// Parses a word as an array of exactly `N` bytes.
 fn array_of<const N: usize>(alloc: Global, word: &str) -> Result<[u8; N], Refusal> {
     let bytes = bytes_of(alloc, word)?;
     if bytes.len() != N {

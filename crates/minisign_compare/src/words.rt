@@ -1,4 +1,5 @@
-//! The words of a request, which single spaces part: bytes, texts, numbers and flags.
+//! Parses the words of a request, which are separated by single spaces: bytes, texts, numbers and
+//! flags.
 
 ghost use Rattle.std.specs.Prelude.{◌≡◌, ℕ, List, ◌++◌, Ok, IfOk, codes, string_bytes};
 ghost use Rattle.hex.specs.Hex.{decode_of};
@@ -9,7 +10,7 @@ use minisign::base::NamedFault;
 use std::alloc::Global;
 use std::str::FromStr;
 
-/// The word with this number, of which the request's name has 0.
+/// Returns the word at this position. The request's name is at position 0.
 pub fn word(line: &str, number: usize) -> &str {
     match line.split(' ').nth(number) {
         Some(word) => word,
@@ -17,7 +18,7 @@ pub fn word(line: &str, number: usize) -> &str {
     }
 }
 
-/// How often a byte stands in these bytes.
+/// Returns the number of times that a byte occurs.
 pub fn times_in(bytes: &[u8], wanted: u8) -> u64 {
     let mut times = 0u64;
     for byte in bytes {
@@ -28,7 +29,7 @@ pub fn times_in(bytes: &[u8], wanted: u8) -> u64 {
     times
 }
 
-/// The bytes that an `x` and two hexadecimal digits for each byte spell.
+/// Parses bytes: `x` and two hexadecimal digits for each byte.
 pub fn bytes_of(alloc: Global, word: &str) -> Result<Vec<u8>, Refusal>
     ensures { IfOk result (λ v. (digits : List ℕ) × (word.now ≡ codes "x" ++ digits)
         × (decode_of digits ≡ Ok v.items)) }
@@ -43,7 +44,7 @@ pub fn bytes_of(alloc: Global, word: &str) -> Result<Vec<u8>, Refusal>
     }
 }
 
-/// The text whose UTF-8 is spelled as bytes are.
+/// Parses a text, which is written as its UTF-8 bytes.
 pub fn text_of(alloc: Global, word: &str) -> Result<String, Refusal>
     ensures { IfOk result (λ t. (digits : List ℕ) × (word.now ≡ codes "x" ++ digits)
         × (decode_of digits ≡ Ok (string_bytes t))) }
@@ -54,7 +55,7 @@ pub fn text_of(alloc: Global, word: &str) -> Result<String, Refusal>
     }
 }
 
-/// The text of which these bytes are the UTF-8.
+/// Returns the bytes as text if they are UTF-8.
 pub fn text_in(bytes: &[u8]) -> Result<&str, Refusal>
     ensures { IfOk result (λ t. t.now ≡ bytes.now) }
 {
@@ -64,7 +65,7 @@ pub fn text_in(bytes: &[u8]) -> Result<&str, Refusal>
     }
 }
 
-/// The text, or none where the word is `-`.
+/// Parses a text; `-` stands for none.
 pub fn text_or_none_of(alloc: Global, word: &str) -> Result<Option<String>, Refusal> {
     match word {
         "-" => Ok(None),
@@ -72,7 +73,7 @@ pub fn text_or_none_of(alloc: Global, word: &str) -> Result<Option<String>, Refu
     }
 }
 
-/// Typed lines, each with a line feed: none where the word is `-`, otherwise texts parted by commas.
+/// Parses typed lines: `-` for none, or texts separated by commas. Each line ends with a line feed.
 pub fn typed_lines_of(alloc: Global, word: &str) -> Result<Vec<u8>, Refusal> {
     let mut typed = Vec::new(alloc);
     if word != "-" {
@@ -83,7 +84,7 @@ pub fn typed_lines_of(alloc: Global, word: &str) -> Result<Vec<u8>, Refusal> {
     Ok(typed)
 }
 
-// Puts one line and its line feed after those that are there.
+// Appends one line and its line feed.
 fn type_line(alloc: Global, word: &str, typed: &mut Vec<u8>) -> Result<(), Refusal> {
     let mut line = text_of(alloc, word)?;
     line.push_str("\n")?;
@@ -91,12 +92,12 @@ fn type_line(alloc: Global, word: &str, typed: &mut Vec<u8>) -> Result<(), Refus
     Ok(())
 }
 
-/// A flag: 0 is none, and any other number below 256 is one.
+/// Parses a flag: 0 is false, and any other number below 256 is true.
 pub fn flag_of(word: &str) -> Result<bool, Refusal> {
     Ok(number_of::<u8>(word)? != 0)
 }
 
-/// The number that decimal digits spell.
+/// Parses a decimal number.
 pub fn number_of<N: FromStr>(word: &str) -> Result<N, Refusal>
 where
     N::Err: Drop,

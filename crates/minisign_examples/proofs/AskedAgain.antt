@@ -1,4 +1,4 @@
--- Asking for a password again, by how often it may still be asked.
+-- Lemmas about asking for a password again, by the number of attempts that are left.
 use Rattle.std.proofs.Common.{◌≡◌, ◌≢◌, ◌⊎◌, ◌-◌, ℕ, zero, suc, List, Err, arith, inl, inr, subst, sym, ◌∙◌}
 use Rattle.std.proofs.Common.{None}
 use Rattle.std.specs.declared.result.Result.{Result}
@@ -25,7 +25,7 @@ pub answered : {R W : Type 0} (source : SourceOf R) (sink : SinkOf W) (more : �
 answered source sink zero old new text answer opening other = opening
 answered source sink (suc more) old new text answer opening other = inl (opening, other)
 
--- a wrong password is not out of memory
+-- A wrong password is not out of memory.
 no_memory : (A B : Type 0) (r : Result SecretKeyRecord Fault) → r ≡ Err (Named WrongPassword) → A
     ⊎ ((r ≡ Err (Named OutOfMemory)) × B) → A
 no_memory A B r wrong (inl asked) = asked

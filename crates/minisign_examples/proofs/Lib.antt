@@ -1,3 +1,4 @@
+-- The lemmas that the proofs of minisign_examples use.
 mod AskedAgain
 mod Refusals
 mod SignedPairs

@@ -1,4 +1,4 @@
--- What the key of a genuine pair signs.
+-- A lemma about signing with the key of a genuine pair.
 use Rattle.std.specs.Prelude.{ℕ, List, false, Result, Ok, Err, IfErr, IfOk, MatchResult}
 use Rattle.std.proofs.Common.{◌≡◌, inl, inr, sym, ◌∙◌}
 use Rattle.std.proofs.lemmas.Bool.{true≢false}
@@ -12,7 +12,8 @@ use Rattle.minisign.specs.SignatureText.{read_signature_box}
 use Rattle.minisign.proofs.Laws.{judged_vouches}
 use Rattle.minisign_examples.specs.Releasing.{IsMemoryOrRandomFault}
 
--- the text vouches for the message, and only an allocation may fail for it, or no random bytes come
+-- The text is valid for the message. The only errors are a failed allocation and a failing random
+-- source.
 pub signed_by_pair : {T Z : Type 0} (bytes : T → List ℕ) (r : Result T Fault) (accepts : Verifier)
     (public_of : List ℕ → List ℕ) (pk : PublicKeyRecord) (sk : SecretKeyRecord)
     (message : List ℕ) (chosen : ChosenComments) (z : RandomCall Z) → IsGenuinePair public_of pk sk

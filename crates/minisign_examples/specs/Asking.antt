@@ -1,4 +1,4 @@
--- How opening a key ends if the caller asks again after a wrong password.
+-- Decrypting a key if the caller asks again after a wrong password.
 use Rattle.std.specs.Prelude.{◌≡◌, ◌≢◌, ◌⊎◌, ℕ, zero, suc, List, None, Result, Err}
 use Rattle.minisign.specs.Fault.{Fault, Named}
 use Rattle.minisign.specs.Members.{SinkOf, SourceOf}
@@ -8,14 +8,15 @@ use Rattle.minisign.specs.Prompt.{Prompt}
 use Rattle.minisign.specs.Sealing.{IsOpening}
 use Rattle.minisign.specs.Records.{SecretKeyRecord}
 
--- the prompt was asked once; or an allocation failed for a copy of the text, with the prompt as it was
+-- The prompt asked once; or an allocation failed for a copy of the text, and the prompt is
+-- unchanged.
 abbrev pub IsOpeningOnce : {R W : Type 0} → SourceOf R → SinkOf W → Prompt R W → Prompt R W → List ℕ
     → Result SecretKeyRecord Fault → Type 0
 IsOpeningOnce source sink old new text answer =
     IsOpening (prompt_call source sink old new) None text None answer
     ⊎ ((answer ≡ Err (Named OutOfMemory)) × (new ≡ old))
 
--- the prompt was asked once, and again, up to so many times more, only where the password was wrong
+-- The prompt asked once, and again, up to more times, only if the password was wrong.
 abbrev pub IsOpeningAgain : {R W : Type 0} → SourceOf R → SinkOf W → ℕ → Prompt R W → Prompt R W → List ℕ
     → Result SecretKeyRecord Fault → Type 0
 IsOpeningAgain source sink zero old new text answer = IsOpeningOnce source sink old new text answer

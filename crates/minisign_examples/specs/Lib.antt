@@ -1,3 +1,4 @@
+-- The definitions that the contracts of minisign_examples use.
 pub mod Asking
 pub mod NewKeys
 pub mod Releasing

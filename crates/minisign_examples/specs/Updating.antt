@@ -1,4 +1,4 @@
--- An update that two texts vouch for under its name.
+-- The verdict on an update under its name.
 use Rattle.std.specs.Prelude.{ℕ, ⊤, false, List, Result, Ok, Err, bytes_eq, codes, if◌then◌else◌}
 use Rattle.minisign.specs.Fault.{Fault, Worded}
 use Rattle.minisign.specs.ErrorKinds.{Verify}
@@ -6,16 +6,16 @@ use Rattle.minisign.specs.Acceptance.{Verifier}
 use Rattle.minisign.specs.Headline.{verdict}
 use Rattle.minisign.specs.Texts.{and_then}
 
--- the error of an update with another name
+-- The error of an update with another name.
 unfoldable pub another_name : Fault
 another_name = Worded Verify (codes "the update has another name")
 
--- the comment that was signed is the name
+-- The trusted comment is the name.
 abbrev pub named : List ℕ → List ℕ → Result ⊤ Fault
 named name comment = if bytes_eq comment name then Ok tt else Err another_name
 
--- the verdict on an update under its name: the first case that fails of the verdict on the texts, and then of
--- the name
+-- The verdict on an update under its name: the first check that fails, first of the texts and then
+-- of the name.
 abbrev pub named_verdict : Verifier → List ℕ → List ℕ → List ℕ → List ℕ → Result ⊤ Fault
 named_verdict accepts pk_text sig_text update name =
     and_then (verdict accepts pk_text sig_text update false) (named name)

@@ -28,7 +28,7 @@ pub fn open_asking<R: Source, W: Sink>(
     open_asking(alloc, sk_text, prompt, more - 1)
 }
 
-// Whether a key was rejected for its password, and for nothing else.
+// Returns true if the key was rejected because of the password.
 fn is_password_wrong(opened: &Result<SecretKey>) -> bool
     ensures wrong { result ≡ true → opened.now ≡ Err (Named WrongPassword) }
     ensures other { result ≡ false → opened.now ≢ Err (Named WrongPassword) }
@@ -39,7 +39,6 @@ fn is_password_wrong(opened: &Result<SecretKey>) -> bool
     }
 }
 
-// Asks once.
 fn open_once<R: Source, W: Sink>(
     alloc: Global,
     sk_text: &str,

@@ -1,4 +1,4 @@
-//! A small signing tool: it makes keys as texts, and signs a release.
+//! A caller that makes key texts and signs a release.
 
 ghost use Rattle.std.specs.Prelude.{◌≡◌, Ok, false, string_bytes, MatchResult, IfOk, IfErr};
 ghost use Rattle.minisign.specs.Records.{PublicKeyRecord, SecretKeyRecord, SignatureBoxRecord};

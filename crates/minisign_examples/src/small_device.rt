@@ -7,7 +7,7 @@ ghost use Rattle.minisign.specs.Texts.{IsGivenOrNoMemory};
 use minisign::{Prompt, Result, SecretKey, SecretKeyBox};
 use std::alloc::Global;
 
-// One row of scrypt is kept of so many: an eighth of the memory, for twice the time.
+// Every 8th row of scrypt is kept: an eighth of the memory, for twice the time.
 const KEPT_EVERY: u64 = 8;
 
 /// Decrypts the secret key in `sk_text` with the password in an eighth of the usual memory: 4 MiB with the

@@ -1,4 +1,5 @@
-//! A caller that installs what two texts vouch for under its name, and nothing else.
+//! A caller that accepts an update only if its signature is valid and its trusted comment is the
+//! expected name.
 
 ghost use Rattle.minisign.specs.Texts.{IsGivenOrNoMemory};
 ghost use Rattle.minisign_examples.specs.Updating.{named_verdict};

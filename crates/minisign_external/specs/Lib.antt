@@ -1,3 +1,4 @@
+-- The definitions that the contracts of minisign_external use.
 pub mod Questions
 pub mod Numbers
 pub mod States

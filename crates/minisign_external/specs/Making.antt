@@ -1,4 +1,4 @@
--- Texts of keys that are made of their parts, at the start of a buffer.
+-- Key files that are made from a key's parts and written to the start of a buffer.
 use Rattle.std.specs.Prelude.{◌≡◌, ◌⊎◌, ◌<◌, ◌≤◌, ◌+◌, ℕ, true, false, List, length, take, Option, Some, Ok}
 use Rattle.std.specs.Prelude.{IfSome}
 use Rattle.std.specs.Str.{IsUtf8}
@@ -18,8 +18,8 @@ use Rattle.minisign_external.specs.declared.secrets.SecretKeyValue.{SecretKeyVal
 use Rattle.minisign_external.specs.declared.state.Refusal.{Refusal}
 use Rattle.minisign_external.specs.declared.state.Refusal.TheVariants.{WrongUse, Refused}
 
--- a comment on one line that Minisign reads whole in a key's first line: with no carriage return and no zero
--- byte, and no longer than its buffer
+-- Minisign reads the whole comment in the first line of a key file: it has no carriage return and no zero
+-- byte, and is not longer than Minisign's buffer.
 pub record IsReadInKey (comment : List ℕ) : Type 0 where
   pub no_return : LacksByte 13 comment
   pub no_zero : LacksByte 0 comment
@@ -28,8 +28,7 @@ pub record IsReadInKey (comment : List ℕ) : Type 0 where
 abbrev pub IsKeyComment : List ℕ → Type 0
 IsKeyComment comment = LacksByte 10 comment × IsReadInKey comment
 
--- the text of the secret key of these parts stands at the start of a buffer, in so many bytes: it gives back
--- the key
+-- The first len bytes of the buffer are the secret key file of these parts, which gives back the key.
 pub record HoldsSecretKey (keynum secret : List ℕ) (password : Option (List ℕ)) (s : Sealing)
     (comment bytes : List ℕ)
     (len : ℕ) : Type 0 where
@@ -38,7 +37,7 @@ pub record HoldsSecretKey (keynum secret : List ℕ) (password : Option (List �
   pub written : take len bytes ≡ secret_key_text (Some comment) (made_key keynum secret password s)
   pub gives : GivesParts (take len bytes) password keynum secret s
 
--- the text of their public key stands there, which it reads as
+-- The first len bytes of the buffer are the public key file of these parts, and parse to their public key.
 pub record HoldsPublicKey (keynum secret comment bytes : List ℕ) (len : ℕ) : Type 0 where
   pub fits : len ≤ length bytes
   pub size : len ≡ length comment + 77
@@ -46,31 +45,31 @@ pub record HoldsPublicKey (keynum secret comment bytes : List ℕ) (len : ℕ) :
       ≡ commented_public_key_text comment (own_public_key (unsealed_key keynum secret))
   pub reads : read_public_key (take len bytes) ≡ Ok (own_public_key (unsealed_key keynum secret))
 
--- a text with a comment, longer by so many bytes, was not written to a buffer: the comment is not on one
--- line, or else none that Minisign reads, or else there is no room
+-- Why a file that is `more` bytes longer than its comment is not written to a buffer: the comment has a line
+-- feed; or else Minisign would not read all of it; or else the buffer is too short.
 abbrev pub IsUnwritable : List ℕ → ℕ → List ℕ → Misuse → Type 0
 IsUnwritable comment more bytes m =
     ((m ≡ BadComment) × ¬ (LacksByte 10 comment))
     ⊎ ((m ≡ UnreadableComment) × LacksByte 10 comment × ¬ (IsReadInKey comment))
     ⊎ ((m ≡ NoRoom) × IsKeyComment comment × (length bytes < length comment + more))
 
--- nothing of this rejects the text
+-- None of these reasons applies.
 abbrev pub IsWritable : List ℕ → ℕ → List ℕ → Type 0
 IsWritable comment more bytes = IsKeyComment comment × (length comment + more ≤ length bytes)
 
--- the comment and the password are UTF-8
+-- The comment and the password are UTF-8.
 abbrev pub AreUtf8KeyTexts : List ℕ → Option (List ℕ) → Type 0
 AreUtf8KeyTexts comment password = IsUtf8 comment × IfSome password IsUtf8
 
--- the text of a secret key, of a comment and a password that are texts, was not written: a usage error; then
--- limits that are rejected, or out of memory
+-- Why a secret key file is not written if its comment and password are UTF-8: API misuse as above; or else
+-- limits that are rejected, or out of memory.
 abbrev pub IsMadeRefusal : Option (List ℕ) → Sealing → List ℕ → List ℕ → Refusal Fault → Type 0
 IsMadeRefusal password s comment bytes (WrongUse m) = IsUnwritable comment 233 bytes m
 IsMadeRefusal password s comment bytes (Refused e) = IsWritable comment 233 bytes
     × (e ≡ making_fault password s)
 
--- the text of a secret key was not written: the key was not opened, a comment or a password is not UTF-8, or
--- else as above
+-- Why a secret key file is not written: the key is not open; or else the comment or the password is not
+-- UTF-8; or else one of the reasons above.
 abbrev pub IsMakingRefusal : SecretKeyValue → Option (List ℕ) → Sealing → List ℕ → List ℕ → Refusal Fault
     → Type 0
 IsMakingRefusal v password s comment bytes r =
@@ -78,7 +77,7 @@ IsMakingRefusal v password s comment bytes r =
     ⊎ ((r ≡ Refused (Named NotUtf8)) × (is_opened v ≡ true) × ¬ (AreUtf8KeyTexts comment password))
     ⊎ ((is_opened v ≡ true) × AreUtf8KeyTexts comment password × IsMadeRefusal password s comment bytes r)
 
--- the text of a public key was not written, in the same order
+-- Why a public key file is not written, in the same order.
 abbrev pub IsPublicKeyRefusal : SecretKeyValue → List ℕ → List ℕ → Refusal Fault → Type 0
 IsPublicKeyRefusal v comment bytes (WrongUse m) =
     ((m ≡ KeyNotOpened) × (is_opened v ≡ false))
@@ -88,7 +87,7 @@ IsPublicKeyRefusal v comment bytes (Refused e) =
     × (((e ≡ Named NotUtf8) × ¬ (IsUtf8 comment))
     ⊎ (IsUtf8 comment × IsWritable comment 77 bytes × (e ≡ Named OutOfMemory)))
 
--- the number of a rejection
+-- The error number of such a reason.
 abbrev pub IsPublicKeyNumber : SecretKeyValue → List ℕ → List ℕ → ℕ → Type 0
 IsPublicKeyNumber v comment bytes n =
     (r : Refusal Fault) × (n ≡ refusal_number fault_number r) × IsPublicKeyRefusal v comment bytes r

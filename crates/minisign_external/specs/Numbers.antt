@@ -1,5 +1,5 @@
--- The numbers by which a program in another language knows rejections, and what they mean. The numbers of
--- named errors stand in their table.
+-- The error numbers for programs in other languages, and their texts. The numbers of named errors are in
+-- their table, `fault_row`.
 use Rattle.std.specs.Prelude.{◌≡◌, ◌≢◌, ◌==◌, ◌||◌, ℕ, Bool, true, ◌<◌, ◌-◌, ◌+◌, List, [], ◌∷◌, ◌++◌, codes}
 use Rattle.std.specs.Prelude.{length, take, drop, min}
 use Rattle.minisign_base.specs.Fault.{Fault, Named, Worded}
@@ -62,47 +62,47 @@ misuse_text PublicKeyNotRead = codes "the public key has not been read"
 misuse_text EmptyPassword = codes "the password is empty"
 misuse_text WeakSealing = codes "the salt is all zeros, or a limit is below the minimum of Minisign"
 
--- the numbers of the two answers of a signature scheme: the letters "yes" and "no", each letter a byte. They
--- are neither 0 nor 1, nor the number of an error, so that no such number is taken for an answer
+-- The numbers by which a caller passes in a result of its signature scheme: the letters "yes" and "no", each
+-- letter a byte. They are neither 0 nor 1, nor an error number, so that no such number is taken for a result.
 abbrev pub answer_yes : ℕ
 answer_yes = 7955827
 
 abbrev pub answer_no : ℕ
 answer_no = 28271
 
--- the number is an answer
+-- The number is one of the two.
 abbrev pub is_answer : ℕ → Bool
 is_answer n = (n == answer_yes) || (n == answer_no)
 
 abbrev pub IsAnswer : ℕ → Type 0
 IsAnswer n = is_answer n ≡ true
 
--- the number and the text of the error of a public key or a signature that strict Ed25519 rejects, which the
--- calls for other languages add to those of the library
+-- The number and the text of the error for a weak public key or signature, which only the calls for other
+-- languages return.
 abbrev pub weak_number : ℕ
 weak_number = 81
 
 abbrev pub weak_text : List ℕ
 weak_text = codes "weak or non-canonical Ed25519 public key or signature"
 
--- the number of an error: 255 where it has no name, which no call answers
+-- The number of an error of the library. An error without a name has the number 255, which no call returns.
 abbrev pub fault_number : Fault → ℕ
 fault_number (Named f) = (fault_row f).number
 fault_number (Worded kind text) = 255
 
--- the number of a rejection: that of the usage error, or that of the error, by its own table
+-- The error number of a failed call: that of the API misuse, or that of the error in its own table.
 abbrev pub refusal_number : {F : Type 0} → (F → ℕ) → Refusal F → ℕ
 refusal_number number (WrongUse m) = misuse_number m
 refusal_number number (Refused e) = number e
 
--- the number is neither 0 nor that of an error of this library
+-- The number is neither 0 nor that of an error of this library.
 pub record IsUnlisted (n : ℕ) : Type 0 where
   pub failure : n ≢ 0
   pub misuse : (m : Misuse) → n ≢ misuse_number m
   pub weak : n ≢ weak_number
   pub fault : (f : NamedFault) → n ≢ (fault_row f).number
 
--- the text is what the number means, if it is 0 or the number of an error of this library
+-- The text is the meaning of the number, if the number is 0 or that of an error of this library.
 pub record IsListedMeaning (n : ℕ) (text : List ℕ) : Type 0 where
   pub success : n ≡ 0 → text ≡ codes "no error"
   pub misuse : (m : Misuse) → n ≡ misuse_number m → text ≡ misuse_text m
@@ -112,13 +112,13 @@ pub record IsListedMeaning (n : ℕ) (text : List ℕ) : Type 0 where
 abbrev pub unknown_text : List ℕ
 unknown_text = codes "unknown error"
 
--- the text is what the number means: of any other number it is that of an unknown error
+-- The text is the meaning of the number. For any other number it is the text of an unknown error.
 pub record IsMeaning (n : ℕ) (text : List ℕ) : Type 0 where
   pub listed : IsListedMeaning n text
   pub unknown : IsUnlisted n → text ≡ unknown_text
 
--- at the front the text, or as much of it as there is room for, and then a 0, and what stands behind it
--- stays; where there is no byte nothing is written
+-- The new buffer begins with as much of the text as fits before a 0 byte, and the 0. The bytes after the 0
+-- are unchanged. A buffer of no bytes stays empty.
 abbrev pub WritesCut : List ℕ → List ℕ → List ℕ → Type 0
 WritesCut text old new =
     let n = 1 + min (length text) (length old - 1) in

@@ -1,4 +1,4 @@
--- A signature as a value: what is read of the text of one, and which text a value is of.
+-- The struct that holds a signature: how it is read from a file, and how it is compared with the file later.
 use Rattle.std.specs.Prelude.{◌≡◌, ◌==◌, ◌≤◌, ◌+◌, ◌&&◌, ℕ, nat_le, Bool, if◌then◌else◌, bytes_eq, List}
 use Rattle.std.specs.Prelude.{length, take, drop, Result, Ok, Err}
 use Rattle.std.specs.Str.{IsUtf8, is_utf8}
@@ -14,11 +14,11 @@ use Rattle.minisign_external.specs.declared.signatures.SignatureValue.{Signature
 use Rattle.minisign_external.specs.declared.state.Misuse.{Misuse}
 use Rattle.minisign_external.specs.declared.state.Misuse.TheVariants.{OtherSignatureText, SignatureNotRead}
 
--- the mark of a signature that was read: "minisigv"
+-- The mark of a signature that was read: "minisigv".
 abbrev pub signature_mark : ℕ
 signature_mark = 8531903963487693165
 
--- the value of what a text reads as
+-- The struct for a parsed signature file.
 abbrev pub signature_value : List ℕ → SignatureTextRecord → SignatureValue
 signature_value text t = record {
   mark = signature_mark;
@@ -34,17 +34,18 @@ signature_value text t = record {
   reserved = 0;
 }
 
--- what bytes read as, which have to be UTF-8
+-- Parses a signature file, which must be UTF-8, to a struct.
 abbrev pub read_signature_value : List ℕ → Result SignatureValue Fault
 read_signature_value text = map_ok (signature_value text) (read_utf8 read_signature text)
 
--- the same as a number, 0 or that of the error, and the value that is told or stays
+-- The result as a number, 0 or the error number, and the struct afterwards, which is unchanged after an
+-- error.
 abbrev pub told_signature_value : Result SignatureValue Fault → SignatureValue → ℕ × SignatureValue
 told_signature_value (Ok s) old = (0, s)
 told_signature_value (Err e) old = (fault_number e, old)
 
--- the value was read from the text, which reads as this: the trusted comment stands there, at the place that
--- the value tells, and is UTF-8; with 64 bytes more it is no longer than the text
+-- The struct was read from this text, which parses to this signature: the trusted comment is in the text at
+-- the position that the struct gives, it is UTF-8, and it is at least 64 bytes shorter than the text.
 pub record IsReadFrom (s : SignatureValue) (text : List ℕ) (t : SignatureTextRecord) : Type 0 where
   pub read : read_utf8 read_signature text ≡ Ok t
   pub value : s ≡ signature_value text t
@@ -52,22 +53,23 @@ pub record IsReadFrom (s : SignatureValue) (text : List ℕ) (t : SignatureTextR
   pub utf8 : IsUtf8 t.comments.trusted
   pub room : 64 + length t.comments.trusted ≤ length text
 
--- the signature of a value
+-- The signature in a struct.
 abbrev pub signature_of_value : SignatureValue → SignatureRecord
 signature_of_value s = record { algorithm = s.algorithm; keynum = s.key_id; signature = s.signature }
 
--- what stands in a text at the place that a value tells
+-- The bytes of a text at the position of the trusted comment that a struct gives.
 abbrev pub comment_bytes : SignatureValue → List ℕ → List ℕ
 comment_bytes s text = take s.comment_len (drop s.comment_offset text)
 
--- the text is the one that the value was read from: it has the digest of that one, the place lies in it, and
--- what stands there is UTF-8. Two texts of one digest are not told apart
+-- The text counts as the one that the struct was read from: it has the recorded digest, is long enough for
+-- the position of the trusted comment, and has UTF-8 there. Two texts with the same digest are not told
+-- apart.
 abbrev pub is_text_of : SignatureValue → List ℕ → Bool
 is_text_of s text =
     bytes_eq (blake2b_digest 32 text) s.text_digest && nat_le (s.comment_offset + s.comment_len) (length text)
     && is_utf8 (comment_bytes s text)
 
--- the trusted comment in the text of a value that was read; otherwise the usage error
+-- The trusted comment in the text that a struct was read from, or else the API misuse.
 abbrev pub comment_of : SignatureValue → List ℕ → Result (List ℕ) Misuse
 comment_of s text =
     if s.mark == signature_mark then if is_text_of s text then Ok (comment_bytes s text) else

@@ -1,4 +1,5 @@
--- What a signature scheme has to be asked for a signature of a message, and the text that its answers make.
+-- The two messages that the caller's scheme must sign, and the signature file that is made from the two
+-- signatures.
 use Rattle.std.specs.Prelude.{◌≡◌, ◌⊎◌, ◌<◌, ◌≤◌, ℕ, true, false, List, ◌++◌, length, take, None, Some, Ok}
 use Rattle.std.specs.Prelude.{Option, drop}
 use Rattle.std.specs.Str.{IsUtf8}
@@ -31,7 +32,7 @@ use Rattle.minisign_external.specs.declared.state.Misuse.TheVariants.{Unreadable
 use Rattle.minisign_external.specs.declared.state.Refusal.{Refusal}
 use Rattle.minisign_external.specs.declared.state.Refusal.TheVariants.{WrongUse, Refused}
 
--- the box of two answers, under a key's key ID and with these comments
+-- The signature box of two signatures, with a key ID and comments.
 abbrev pub answered_signature : List ℕ → List ℕ → SignatureRecord
 answered_signature key_id first =
     record { algorithm = prehashed_algorithm; keynum = key_id; signature = first }
@@ -44,21 +45,20 @@ abbrev pub answered_box : List ℕ → ChosenComments → List ℕ → List ℕ 
 answered_box key_id chosen first second =
     record { signature = answered_signature key_id first; comments = Some (answered_comments chosen second) }
 
--- the scheme answers the two questions about the message so, with the random bytes z1 and z2: the first is
--- the digest of the message, the second the first answer followed by the trusted comment, both with the key's
--- secret
+-- The scheme makes these two signatures with the key's secret and the random bytes z1 and z2: the first of
+-- the digest of the message, the second of the first signature followed by the trusted comment.
 pub record SignsSo (sign : Signer) (key : SecretKeyRecord) (message trusted z1 z2 first second : List ℕ)
     : Type 0 where
   pub to_first : sign (blake2b_digest 64 message) key.secret (Some z1) ≡ first
   pub to_second : sign (first ++ trusted) key.secret (Some z2) ≡ second
 
--- the two answers are accepted under a public key of 32 bytes as signatures of what was asked
+-- The scheme accepts the two signatures of these messages under a public key of 32 bytes.
 pub record AcceptsAnswers (accepts : Verifier) (public message trusted first second : List ℕ) : Type 0 where
   pub to_first : accepts (blake2b_digest 64 message) public first ≡ true
   pub to_second : accepts (first ++ trusted) public second ≡ true
 
--- the signatures that a scheme makes of a message with a secret of 64 bytes and no random ones: of its
--- digest, and of that signature followed by the trusted comment
+-- The two signatures that a scheme makes with a secret of 64 bytes and without random bytes: of the digest of
+-- a message, and of that signature followed by the trusted comment.
 abbrev pub first_signature : Signer → List ℕ → List ℕ → List ℕ
 first_signature sign secret message = sign (blake2b_digest 64 message) secret None
 
@@ -66,15 +66,16 @@ abbrev pub second_signature : Signer → List ℕ → List ℕ → List ℕ → 
 second_signature sign secret message trusted = sign (first_signature sign secret message ++ trusted) secret
     None
 
--- the secret of the key is a seed and the seed's public key
+-- The secret of the key consists of a seed and the seed's public key.
 pub record IsPairOf (public_of : List ℕ → List ℕ) (seed : List ℕ) (v : SecretKeyValue) : Type 0 where
   pub seed_length : length seed ≡ 32
   pub seed_bytes : IsBytes seed
   pub secret : v.secret ≡ seed ++ public_of seed
 
--- the text is that of the two answers: it is UTF-8, and reads as their box. For every scheme that answers the
--- questions so, that is the box that signing makes; and where the answers are accepted under a public key, it
--- vouches for the message under it. So what is promised of the texts that signing makes holds of this one
+-- The text is the signature file of the two signatures: it is UTF-8 and parses to their box. For every scheme
+-- that made the two signatures, this is the box that signing makes. If a scheme accepts them under a public
+-- key, the box is a valid signature of the message under that key. So what is promised of the files that
+-- signing makes also holds for this file.
 pub record IsAnsweredText (key_id : List ℕ) (chosen : ChosenComments) (first second text : List ℕ)
     : Type 0 where
   pub written : text ≡ signature_text (answered_signature key_id first) (answered_comments chosen second)
@@ -93,9 +94,9 @@ pub record IsAnsweredText (key_id : List ℕ) (chosen : ChosenComments) (first s
       → AcceptsAnswers accepts (public_of seed) message chosen.trusted first second)
       → SigningHeadline accepts public_of key message chosen text
 
--- Minisign's own program, of version 0.11, reads the comments back as they are: each line fits its buffer,
--- which has 1,024 bytes for the untrusted comment and 8,192 for the trusted one, and in them a label of 19 or
--- 17 bytes, a line feed and a zero; and no line is cut at a zero byte or a carriage return
+-- Minisign 0.11 reads the comments back unchanged: each line fits its buffer, which has 1,024 bytes for the
+-- untrusted comment and 8,192 for the trusted one, including a label of 19 or 17 bytes, a line feed and a
+-- zero; and no line is cut at a zero byte or a carriage return.
 pub record AreReadByMinisign (chosen : ChosenComments) : Type 0 where
   pub untrusted_fits : length chosen.untrusted < 1004
   pub trusted_fits : length chosen.trusted < 8174
@@ -104,31 +105,31 @@ pub record AreReadByMinisign (chosen : ChosenComments) : Type 0 where
   pub untrusted_return : LacksByte 13 chosen.untrusted
   pub trusted_return : LacksByte 13 chosen.trusted
 
--- the comments are rejected, and this is the first reason: one would not be read back as it is, or not by
--- Minisign's own program
+-- Why the comments are rejected, by the first reason: one would not be read back unchanged by this library,
+-- or else not by Minisign.
 abbrev pub IsCommentMisuse : ChosenComments → Misuse → Type 0
 IsCommentMisuse chosen m =
     ((m ≡ BadComment) × ¬ (AreChosenReadBack chosen))
     ⊎ ((m ≡ UnreadableComment) × AreChosenReadBack chosen × ¬ (AreReadByMinisign chosen))
 
--- both comments are UTF-8
+-- Both comments are UTF-8.
 abbrev pub AreUtf8 : ChosenComments → Type 0
 AreUtf8 chosen = IsUtf8 chosen.trusted × IsUtf8 chosen.untrusted
 
--- a text of answers stands at the start of a buffer, in so many bytes
+-- The first len bytes of the buffer are the signature file of the two signatures.
 pub record HoldsText (key_id : List ℕ) (chosen : ChosenComments) (first second bytes : List ℕ) (len : ℕ)
     : Type 0 where
   pub fits : len ≤ length bytes
   pub text : IsAnsweredText key_id chosen first second (take len bytes)
 
--- the text has no room
+-- The buffer is too short for the signature file.
 abbrev pub HasNoRoom : List ℕ → ChosenComments → List ℕ → List ℕ → List ℕ → Type 0
 HasNoRoom key_id chosen first second bytes =
     length bytes < length (signature_text (answered_signature key_id first) (answered_comments chosen second))
 
--- the text was not written, and this is the first reason: the public key was not read, a comment is not
--- UTF-8, a comment is rejected, or the text has no room; or an allocation failed, of comments that are not
--- rejected
+-- Why a signature file is not written, by the first reason: the public key was not read; a comment is not
+-- UTF-8; a comment is rejected; the buffer is too short. Out of memory is possible only if no comment is
+-- rejected.
 abbrev pub IsWritingRefusal : PublicKeyValue → ChosenComments → List ℕ → List ℕ → List ℕ → Refusal Fault
     → Type 0
 IsWritingRefusal v chosen first second bytes (WrongUse m) =
@@ -142,18 +143,19 @@ IsWritingRefusal v chosen first second bytes (Refused e) =
     × (((e ≡ Named OutOfMemory) × AreUtf8 chosen × AreChosenReadBack chosen × AreReadByMinisign chosen)
     ⊎ ((e ≡ Named NotUtf8) × ¬ (AreUtf8 chosen)))
 
--- the number of a rejection of writing a text
+-- The error number of such a reason.
 abbrev pub IsWritingNumber : PublicKeyValue → ChosenComments → List ℕ → List ℕ → List ℕ → ℕ → Type 0
 IsWritingNumber v chosen first second bytes n =
     (r : Refusal Fault) × (n ≡ refusal_number fault_number r) × IsWritingRefusal v chosen first second bytes r
 
--- == Signing pieces ==
+-- == Signing data in pieces ==
 
--- the bytes of the pieces, one after another
+-- The concatenated pieces.
 abbrev pub joined : List (Bor (List ℕ)) → List ℕ
 joined pieces = flat_map (λ piece. piece.now) pieces
 
--- the text of the two signatures that the scheme makes of a message with an opened key
+-- The first len bytes of the buffer are the signature file of the two signatures that the scheme makes of a
+-- message with an open key.
 abbrev pub HoldsOwnText : {S : Type 0} → SchemeOf S → S → SecretKeyValue → ChosenComments → List ℕ → List ℕ
     → ℕ
     → Type 0
@@ -161,7 +163,8 @@ HoldsOwnText s scheme v chosen message bytes len = (is_opened v ≡ true)
     × HoldsText v.key_id chosen (first_signature (s.signature_of scheme) v.secret message)
     (second_signature (s.signature_of scheme) v.secret message chosen.trusted) bytes len
 
--- it is not written: the key was not opened, or else as above, of its public key
+-- Why this signature file is not written: the key is not open, or else one of the reasons above, for its
+-- public key.
 abbrev pub IsOwnRefusal : {S : Type 0} → SchemeOf S → S → SecretKeyValue → ChosenComments → List ℕ → List ℕ
     → Refusal Fault → Type 0
 IsOwnRefusal s scheme v chosen message bytes r =
@@ -170,7 +173,7 @@ IsOwnRefusal s scheme v chosen message bytes r =
     × IsWritingRefusal w chosen (first_signature (s.signature_of scheme) v.secret message)
     (second_signature (s.signature_of scheme) v.secret message chosen.trusted) bytes r)
 
--- the same with the key of a text, which may also not open
+-- Why it is not written with the key of a secret key file, which may also fail to open.
 abbrev pub IsTextSigningRefusal : {S : Type 0} → SchemeOf S → S → List ℕ → Option (List ℕ) → ℕ
     → ChosenComments → List ℕ → List ℕ → Refusal Fault → Type 0
 IsTextSigningRefusal s scheme text password most_rows chosen message bytes r =
@@ -178,8 +181,8 @@ IsTextSigningRefusal s scheme text password most_rows chosen message bytes r =
     ⊎ ((k : SecretKeyRecord) × (opened_text text password most_rows ≡ Ok k)
     × IsOwnRefusal s scheme (taken_key k.keynum k.secret) chosen message bytes r)
 
--- where the key is one of a seed, the verdict on the text and the message under its public half is the
--- trusted comment
+-- If the key consists of a seed and the seed's public key, the verdict on the signature file and the message
+-- under this public key is the trusted comment.
 abbrev pub OwnTextVerifies : {S : Type 0} → SchemeOf S → S → SecretKeyRecord → List ℕ → List ℕ → List ℕ
     → Type 0
 OwnTextVerifies s scheme k message trusted text = (seed : List ℕ)

@@ -1,4 +1,4 @@
--- What a state that a program in another language holds tells: what it was fed, and what was asked of it.
+-- The state that a program in another language holds: which data it was fed, what was asked, and the verdict.
 use Rattle.std.specs.Prelude.{◌≡◌, ⊤, ◌==◌, ◌⊎◌, ◌<◌, ◌||◌, ◌&&◌, not, nat_le, ℕ, Bool, if◌then◌else◌, List}
 use Rattle.std.specs.Prelude.{◌+◌, length, replicate, MatchResult, Result, Ok, Err}
 use Rattle.std.specs.Str.{IsUtf8}
@@ -27,8 +27,8 @@ use Rattle.minisign_external.specs.declared.state.Refusal.TheVariants.{WrongUse,
 use Rattle.minisign_external.specs.declared.state.State.{State}
 use Rattle.minisign_external.specs.declared.state.Questions.{Questions}
 
--- the marks of a state that is being fed, of one that has told its digest, and of questions that were asked:
--- "minisign", "minissum" and "minisask"
+-- The marks of a state that accepts data, of one whose digest was returned, and of questions that were asked:
+-- "minisign", "minissum" and "minisask".
 abbrev pub fed_mark : ℕ
 fed_mark = 7955443211184269677
 
@@ -38,43 +38,43 @@ told_mark = 7887337261936568685
 abbrev pub asked_mark : ℕ
 asked_mark = 7742639332697991533
 
--- the state was begun and was fed the message, and takes more
+-- The state was initialized and fed the message, and accepts more data.
 pub record IsFedState (s : State) (m : List ℕ) : Type 0 where
   pub mark : s.mark ≡ fed_mark
   pub fed : WasFed s.hash m
 
--- the state has told the digest of the message, which it was fed
+-- The state was fed the message, and its digest was returned.
 pub record HasToldDigest (s : State) (m : List ℕ) : Type 0 where
   pub mark : s.mark ≡ told_mark
   pub fed : WasFed s.hash m
 
--- the questions of the key and the text of the signature were asked
+-- The state was asked about the key and the signature file.
 pub record HasAsked (s : State) (v : PublicKeyValue) (sig_text : List ℕ) (legacy : Bool) : Type 0 where
   pub asked : s.asked.mark ≡ asked_mark
   pub signed : SignatureTextRecord
   pub read : read_under v legacy sig_text ≡ Ok signed
   pub whole : (s.asked.whole == 1) ≡ has_whole_signature signed.comments
 
--- what was asked stays
+-- What was asked is unchanged.
 abbrev pub KeepsAsked : State → State → Type 0
 KeepsAsked old new = new.asked ≡ old.asked
 
--- the state is marked as one that is being fed, or as one that has told its digest
+-- The state has the mark of one that accepts data, or of one whose digest was returned.
 abbrev pub IsMarkedFed : State → Type 0
 IsMarkedFed s = s.mark ≡ fed_mark
 
 abbrev pub IsMarkedTold : State → Type 0
 IsMarkedTold s = s.mark ≡ told_mark
 
--- it was begun, and was not ended
+-- The state was initialized, and no verdict has finished it.
 abbrev pub is_begun : State → Bool
 is_begun s = (s.mark == fed_mark) || (s.mark == told_mark)
 
--- questions were asked
+-- The state was asked about a key and a signature.
 abbrev pub is_asked : State → Bool
 is_asked s = s.asked.mark == asked_mark
 
--- no questions yet
+-- Questions that hold nothing: zeros in every field.
 abbrev pub no_questions : Questions
 no_questions = record {
   public_key = replicate 32 0;
@@ -88,8 +88,8 @@ no_questions = record {
   reserved = 0;
 }
 
--- the questions of the key and of what the text of the signature reads as, but for the digest. The message of
--- the second is the signature, of 64 bytes, followed by the trusted comment
+-- The questions about the key and the parsed signature file, without the digest. The message of the second is
+-- the data signature, of 64 bytes, followed by the trusted comment.
 abbrev pub questions_of : PublicKeyValue → SignatureTextRecord → Questions
 questions_of v t = record {
   public_key = v.key;
@@ -103,7 +103,7 @@ questions_of v t = record {
   reserved = 0;
 }
 
--- the same of a signature that was read
+-- The same for a signature in a struct.
 abbrev pub questions_about : PublicKeyValue → SignatureValue → Questions
 questions_about v s = record {
   public_key = v.key;
@@ -117,40 +117,42 @@ questions_about v s = record {
   reserved = 0;
 }
 
--- the state after it was asked about a signature
+-- The state after it was asked about a signature.
 abbrev pub asked_about : State → SignatureValue → State
 asked_about state s = record state { asked = record { mark = asked_mark; whole = s.whole } }
 
--- why a state that ought to be fed is not: it has told its digest, or was never begun
+-- Why a state accepts no data: its digest was returned, or else it is not initialized.
 abbrev pub feeding_misuse : State → Misuse
 feeding_misuse s = if s.mark == told_mark then AlreadyAsked else NotBegun
 
--- the state was fed nothing, not even no bytes, and this is why
+-- The state accepts no data, for this reason. It was not fed any message, not even an empty one.
 abbrev pub IsNotFed : State → Misuse → Type 0
 IsNotFed s e = (e ≡ feeding_misuse s) × ((m : List ℕ) → ¬ (IsFedState s m))
 
--- what a new state holds beside what it was fed: nothing was asked of it
+-- The state was not asked anything, and its reserved fields are 0.
 pub record IsBlank (s : State) : Type 0 where
   pub asked : s.asked ≡ record { mark = 0; whole = 0 }
   pub reserved : s.reserved ≡ replicate 18 0
 
--- the questions of the key and of what the text reads as, whatever the digest, with the message of the second
--- in these bytes
+-- These are the questions about the key and the parsed signature file, with any digest. The bytes begin with
+-- the message of the second question.
 pub record AreQuestions (q : Questions) (bytes : List ℕ) (v : PublicKeyValue) (t : SignatureTextRecord)
     : Type 0 where
   pub questions : q ≡ record (questions_of v t) { digest = q.digest }
   pub message : HoldsMessage t.signature t.comments.trusted bytes q.message_len
 
--- the same with zeros for the digest
+-- The same with zeros as the digest.
 abbrev pub AreAsked : Questions → List ℕ → PublicKeyValue → SignatureTextRecord → Type 0
 AreAsked q bytes v t = (q ≡ questions_of v t)
     × HoldsMessage t.signature t.comments.trusted bytes q.message_len
 
--- there is room for a message with so many bytes of the trusted comment
+-- Succeeds if the buffer has room for the message of the second question with a trusted comment of this
+-- length.
 abbrev pub room_for : ℕ → ℕ → Result Unit (Refusal Fault)
 room_for len room = if nat_le (64 + len) room then Ok tt else Err (WrongUse NoRoom)
 
--- asking goes on where no error of the library was found, or no usage error
+-- Asking goes on after a check that succeeded, and otherwise fails with the error of the library, or the API
+-- misuse, of this check.
 abbrev pub judged_before : Result ⊤ Fault → Result Unit (Refusal Fault) → Result Unit (Refusal Fault)
 judged_before (Ok t) more = more
 judged_before (Err e) more = Err (Refused e)
@@ -159,33 +161,34 @@ abbrev pub placed_before : Result (List ℕ) Misuse → Result Unit (Refusal Fau
 placed_before (Ok comment) more = more
 placed_before (Err m) more = Err (WrongUse m)
 
--- asking goes on where the public key was read
+-- Asking goes on if the public key was read.
 abbrev pub with_public_key : PublicKeyValue → Result Unit (Refusal Fault) → Result Unit (Refusal Fault)
 with_public_key v more = if is_public_key v then more else Err (WrongUse PublicKeyNotRead)
 
--- what asking about a key, a signature and its text is rejected for, whatever the state is: the public key
--- was not read; the signature was not read, or from another text; then what is rejected under the key; and
--- then too little room
+-- The result of asking about a key, a signature and its text, for any state. The errors are, in this order:
+-- the public key was not read; the signature was not read, or not from this text; those of checking the
+-- signature under the key; the buffer is too short.
 abbrev pub asked_of : PublicKeyValue → SignatureValue → List ℕ → Bool → ℕ → Result Unit (Refusal Fault)
 asked_of v s text legacy room = with_public_key v (placed_before (comment_of s text)
     (judged_before (judge_key v.key_id (signature_of_value s) legacy) (room_for s.comment_len room)))
 
--- why a state cannot be asked: it was asked before or has told its digest, or was never begun
+-- Why a state cannot be asked: it was asked before or its digest was returned; or else it is not initialized.
 abbrev pub asking_misuse : State → Misuse
 asking_misuse s = if is_begun s then AlreadyAsked else NotBegun
 
--- the state may be asked
+-- The state can be asked.
 abbrev pub may_ask : State → Bool
 may_ask s = (s.mark == fed_mark) && not (is_asked s)
 
--- what asking answers: a state that is not being fed or was asked before is rejected first
+-- The result of asking. First, the state must accept data and must not have been asked before.
 abbrev pub asking_result : State → PublicKeyValue → SignatureValue → List ℕ → Bool → ℕ
     → Result Unit (Refusal Fault)
 asking_result s v signature text legacy room =
     if may_ask s then asked_of v signature text legacy room else Err (WrongUse (asking_misuse s))
 
--- the same of a signature that was read from this text: the public key was not read, or what the text is
--- rejected for under the key, and then too little room
+-- The result of asking about a signature that was read from this text, in terms of the text. After the state
+-- and the public key come the errors of parsing the text and checking it under the key, then a buffer that is
+-- too short.
 abbrev pub asked_under : Result SignatureTextRecord Fault → ℕ → Result Unit (Refusal Fault)
 asked_under (Ok t) room = room_for (length t.comments.trusted) room
 asked_under (Err e) room = Err (Refused e)
@@ -195,42 +198,43 @@ asking_under s v text legacy room =
     if may_ask s then with_public_key v (asked_under (read_under v legacy text) room) else
     Err (WrongUse (asking_misuse s))
 
--- why a state gives no verdict: the questions were not asked or the digest was not told, or it was never
--- begun
+-- Why a state gives no verdict: it was not asked or its digest was not returned; or else it is not
+-- initialized.
 abbrev pub verdict_misuse : State → Misuse
 verdict_misuse s = if is_begun s then NotAsked else NotBegun
 
--- what was decided, of which an error of the library is a rejection
+-- The result of a check as the result of a call of this crate.
 abbrev pub decision : Result ⊤ Fault → Result Unit (Refusal Fault)
 decision (Ok t) = Ok tt
 decision (Err e) = Err (Refused e)
 
--- the second question was asked with a comment signature of 64 bytes
+-- The comment signature that the state was asked about has its 64 bytes.
 abbrev pub has_asked_whole : State → Bool
 has_asked_whole s = s.asked.whole == 1
 
--- the verdict of a state from two answers, and the state after it. One that has asked and told its digest
--- gives what the answers decide, and is ended; another is rejected, and stays
+-- The verdict from the results of the two checks, and the state after it. If the state was asked and its
+-- digest was returned, the results decide, and the state is finished. Otherwise the call is API misuse, and
+-- the state is unchanged.
 abbrev pub told_verdict : State → Bool → Bool → Result Unit (Refusal Fault) × State
 told_verdict s first second =
     if is_asked s && (s.mark == told_mark)
     then (decision (judge_answers first (has_asked_whole s && second)), record s { mark = 0 })
     else (Err (WrongUse (verdict_misuse s)), s)
 
--- what the second answer is worth by itself, of a state that has asked and was not ended
+-- The verdict on the comment signature only, if the state was asked and no verdict has finished it.
 abbrev pub comment_result : State → Bool → Result Unit (Refusal Fault)
 comment_result s second =
     if is_asked s && is_begun s
     then decision (require (has_asked_whole s && second) CommentSignatureRefused (Ok tt))
     else Err (WrongUse (verdict_misuse s))
 
--- the rejection is an error of the library, of this kind
+-- The error is one of the library, and this holds for it.
 abbrev pub IsFaultOf : (Fault → Type 0) → Refusal Fault → Type 0
 IsFaultOf holds (WrongUse m) = ⊥
 IsFaultOf holds (Refused e) = holds e
 
--- asking about all that a state was fed was rejected: it is not being fed; or else the signature, its text or
--- the room is rejected as above
+-- Why asking about all data that a state was fed fails: the state accepts no data; or else the key, the
+-- signature, the text or the buffer is rejected as above.
 abbrev pub IsNotFedRefusal : State → Refusal Fault → Type 0
 IsNotFedRefusal s (WrongUse m) = IsNotFed s m
 IsNotFedRefusal s (Refused e) = ⊥
@@ -240,29 +244,29 @@ abbrev pub IsAskFedRefusal : State → PublicKeyValue → SignatureValue → Lis
 IsAskFedRefusal s v signature text legacy room r =
     IsNotFedRefusal s r ⊎ (IsMarkedFed s × (asked_of v signature text legacy room ≡ Err r))
 
--- where it is an error, every text that reads as the key and the text of the signature, which is UTF-8 then,
--- reject for it, whatever the scheme and the message; or the text of the signature is not UTF-8
+-- If this is an error of the library and the signature file is UTF-8, then verification with it fails with
+-- the same error, for every public key file that contains this key, every scheme and every message.
 abbrev pub IsTextRefusal : PublicKeyValue → List ℕ → Bool → Refusal Fault → Type 0
 IsTextRefusal v sig_text legacy (WrongUse m) = ⊤
 IsTextRefusal v sig_text legacy (Refused e) =
     IsUtf8 sig_text → (pk_text message : List ℕ) (accepts : Verifier) → IsKeyText pk_text v
     → verdict accepts pk_text sig_text message legacy ≡ Err e
 
--- the verdict on the texts and the message: success exactly where they vouch for it, otherwise the first case
--- that fails
+-- This is the verdict on the two files and the message: success if the signature is valid, otherwise the
+-- first check that fails.
 abbrev pub GivesVerdict : {T : Type 0} → Verifier → List ℕ → List ℕ → List ℕ → Bool → Result T (Refusal Fault)
     → Type 0
 GivesVerdict accepts pk_text sig_text message legacy r =
     MatchResult r (λ _. TextsVouchFor accepts pk_text sig_text message legacy)
     (IsFaultOf (λ e. verdict accepts pk_text sig_text message legacy ≡ Err e))
 
--- a verdict, of which the trusted comment is known already
+-- A verdict without the trusted comment, which the caller already has.
 abbrev pub given_verdict : Result (List ℕ) Fault → Result Unit (Refusal Fault)
 given_verdict (Ok trusted) = Ok tt
 given_verdict (Err e) = Err (Refused e)
 
--- the state has asked about the key and the text of the signature and has told its digest, both numbers are
--- answers, and the scheme answers so
+-- The state was asked about the key and the signature file, its digest was returned, and the two numbers are
+-- the scheme's results of both checks.
 pub record IsAnswered (s : State) (accepts : Verifier) (v : PublicKeyValue) (sig_text message : List ℕ)
     (legacy : Bool)
     (first second : ℕ) : Type 0 where
@@ -272,46 +276,46 @@ pub record IsAnswered (s : State) (accepts : Verifier) (v : PublicKeyValue) (sig
   pub second_known : IsAnswer second
   pub answers : Answers accepts v sig_text message (first == answer_yes) (second == answer_yes)
 
--- both numbers are answers, and the scheme answers the questions of the two texts so
+-- The two numbers are the scheme's results of both checks for the two files.
 abbrev pub AnswersTextsBy : Verifier → List ℕ → List ℕ → List ℕ → ℕ → ℕ → Type 0
 AnswersTextsBy accepts pk_text sig_text message first second =
     IsAnswer first × IsAnswer second
     × AnswersTexts accepts pk_text sig_text message (first == answer_yes) (second == answer_yes)
 
--- == The same by numbers ==
+-- == With numbers as results ==
 
--- the number of a result: 0 of a success
+-- The number of a result: 0 for success, otherwise the error number.
 abbrev pub result_number : Result Unit (Refusal Fault) → ℕ
 result_number (Ok t) = 0
 result_number (Err r) = refusal_number fault_number r
 
--- the verdict on the texts and the message as a number: 0 exactly where they vouch for it, otherwise that of
--- the first case that fails
+-- The number is that of the verdict on the two files and the message: 0 if the signature is valid, otherwise
+-- the number of the first check that fails.
 abbrev pub GivesNumber : Verifier → List ℕ → List ℕ → List ℕ → Bool → ℕ → Type 0
 GivesNumber accepts pk_text sig_text message legacy n =
     ((n ≡ 0) × TextsVouchFor accepts pk_text sig_text message legacy)
     ⊎ ((0 < n) × (e : Fault) × (n ≡ fault_number e)
     × (verdict accepts pk_text sig_text message legacy ≡ Err e))
 
--- a number that is no answer is rejected, and only then the other reasons come
+-- The number must be one of the two results; the other errors come after this one.
 abbrev pub comment_number : State → ℕ → ℕ
 comment_number s second =
     if is_answer second then result_number (comment_result s (second == answer_yes)) else
     misuse_number BadAnswer
 
--- a number that is no flag is rejected, and only then the other reasons come
+-- The flag must be 0 or 1; the other errors come after this one.
 abbrev pub asking_number : State → PublicKeyValue → SignatureValue → List ℕ → ℕ → ℕ → ℕ
 asking_number s v signature text legacy room =
     if nat_le 2 legacy then misuse_number BadLegacyFlag else result_number
     (asking_result s v signature text (legacy == 1) room)
 
--- the number of a verdict: 0, or that of the first case that fails
+-- The number of a verdict: 0, or the number of the first check that fails.
 abbrev pub verdict_number : Result (List ℕ) Fault → ℕ
 verdict_number (Ok trusted) = 0
 verdict_number (Err e) = fault_number e
 
--- the number of a verdict from two numbers, and the state after it: where one of them is no answer, the state
--- stays
+-- The number of the verdict from two numbers, and the state after it. If one of them is not a result, the
+-- state is unchanged.
 abbrev pub numbered : Result Unit (Refusal Fault) × State → ℕ × State
 numbered (r, s) = (result_number r, s)
 

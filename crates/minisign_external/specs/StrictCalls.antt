@@ -1,5 +1,5 @@
--- What the calls for other languages make of a public key or a signature that strict Ed25519 rejects: they
--- reject it with an error of its own, and so give the verdict of a scheme that rejects it too.
+-- How the calls for other languages treat weak public keys and signatures, which strict Ed25519 rejects for
+-- their bytes: with an error of its own. So they give the verdict of a scheme that also rejects these.
 use Rattle.std.specs.Prelude.{◌≡◌, ◌==◌, ◌&&◌, ◌||◌, not, nat_le, ℕ, Bool, true, false, if◌then◌else◌, List}
 use Rattle.std.specs.Prelude.{take, Result, Ok, Err}
 use Rattle.minisign_base.specs.Fault.{Fault}
@@ -20,70 +20,72 @@ use Rattle.minisign_external.specs.declared.state.Misuse.TheVariants.{BadLegacyF
 use Rattle.minisign_external.specs.declared.state.Refusal.{Refusal}
 use Rattle.minisign_external.specs.declared.state.State.{State}
 
--- a scheme, with the public keys and signatures rejected that strict Ed25519 rejects for their bytes
+-- A scheme with weak public keys and signatures rejected.
 abbrev pub strict : Verifier → Verifier
 strict accepts message key signature = is_strict key signature && accepts message key signature
 
--- strict Ed25519 rejects neither the key nor a signature of the text. A comment signature counts where it has
--- its 64 bytes
+-- Neither the key nor a signature of the file is weak. The comment signature counts if it has its 64 bytes.
 abbrev pub is_strict_text : PublicKeyValue → SignatureTextRecord → Bool
 is_strict_text v t =
     is_strict v.key t.signature.signature
     && (not (has_whole_signature t.comments) || is_strict_signature (take 64 t.comments.signature))
 
--- the same of a signature that was read
+-- The same for a signature in a struct.
 abbrev pub is_strict_value : PublicKeyValue → SignatureValue → Bool
 is_strict_value v s =
     is_strict v.key s.signature && (not (s.whole == 1) || is_strict_signature s.comment_signature)
 
--- what asking answers: whether the key and the signatures are strict, where nothing else is rejected
+-- The result of asking: false if the key or a signature is weak, and true if not, unless there is another
+-- error.
 abbrev pub asked_strictly : Bool → Result Unit (Refusal Fault) → Result Bool (Refusal Fault)
 asked_strictly is_strict (Ok t) = Ok is_strict
 asked_strictly is_strict (Err r) = Err r
 
--- == By numbers ==
+-- == With numbers as results ==
 
--- what asking answers: a key or a signature that is not strict has a number of its own
+-- The result of asking as a number. A weak key or signature has an error number of its own.
 abbrev pub asked_number : Result Bool (Refusal Fault) → ℕ
 asked_number (Ok is_strict) = if is_strict then 0 else weak_number
 asked_number (Err r) = refusal_number fault_number r
 
--- a number that is no flag is rejected, and only then the other reasons come
+-- The flag must be 0 or 1; the other errors come after this one.
 abbrev pub strict_asking_number : State → PublicKeyValue → SignatureValue → List ℕ → ℕ → ℕ → ℕ
 strict_asking_number s v signature text legacy room =
     if nat_le 2 legacy then misuse_number BadLegacyFlag else
     asked_number (asked_strictly (is_strict_value v signature) (asking_result s v signature text (legacy == 1)
     room))
 
--- the number of a verdict on what was read of a signature's text, which has to be strict
+-- The number n of a verdict, unless the signature file was parsed and it or the key is weak.
 abbrev pub strict_read : PublicKeyValue → Result SignatureTextRecord Fault → ℕ → ℕ
 strict_read v (Ok t) n = if is_strict_text v t then n else weak_number
 strict_read v (Err e) n = n
 
--- the number of the verdict of the scheme that rejects what strict Ed25519 rejects: 0 exactly where that is
--- success, otherwise the first case that fails, of which a key or a signature that is not strict is one
+-- The number of the verdict of the scheme that also rejects weak public keys and signatures: 0 if the
+-- signature is valid, otherwise the number of the first check that fails. A weak key or signature is such a
+-- check, with a number of its own.
 abbrev pub strict_verdict_number : Verifier → PublicKeyValue → List ℕ → List ℕ → Bool → ℕ
 strict_verdict_number accepts v sig_text message legacy =
     strict_read v (read_under v legacy sig_text)
     (verdict_number (verdict_under (strict accepts) v sig_text message legacy))
 
--- the number of what is made of a key that was read, or of the error
+-- Goes on with the public key that was read, or gives the number of the error.
 abbrev pub number_with : Result PublicKeyRecord Fault → (PublicKeyRecord → ℕ) → ℕ
 number_with (Ok k) more = more k
 number_with (Err e) more = fault_number e
 
 -- == Signing ==
 
--- strict Ed25519 rejects neither the public key of a seed nor the two signatures that a scheme makes with a
--- key, of the digest of a message and of the first signature followed by a trusted comment
+-- Neither the public key of a seed nor the two signatures that a scheme makes with a key are weak: of the
+-- digest of a message, and of the first signature followed by a trusted comment.
 abbrev pub SignsStrictly : {S : Type 0} → SchemeOf S → S → List ℕ → SecretKeyValue → List ℕ → List ℕ → Type 0
 SignsStrictly s scheme seed v message trusted =
     (is_strict (s.public_of scheme seed) (first_signature (s.signature_of scheme) v.secret message) ≡ true)
     × (is_strict (s.public_of scheme seed) (second_signature (s.signature_of scheme) v.secret message trusted)
     ≡ true)
 
--- where the key is one of a seed, and it and the signatures are strict, the verdict on the text and the
--- message under its public half is the trusted comment, by the scheme that rejects what strict Ed25519 does
+-- If the key consists of a seed and the seed's public key, and neither that public key nor the signatures are
+-- weak, the verdict on the signature file and the message under that public key is the trusted comment, for
+-- the scheme that also rejects weak public keys and signatures.
 abbrev pub VerifiesStrictly : {S : Type 0} → SchemeOf S → S → SecretKeyValue → List ℕ → List ℕ → List ℕ
     → Type 0
 VerifiesStrictly s scheme v message trusted text =
@@ -91,7 +93,7 @@ VerifiesStrictly s scheme v message trusted text =
     → SignsStrictly s scheme seed v message trusted
     → verdict_under (strict (s.accepts scheme)) w text message false ≡ Ok trusted
 
--- the same of the key of a record
+-- The same for the key in a record.
 abbrev pub OwnTextVerifiesStrictly : {S : Type 0} → SchemeOf S → S → SecretKeyRecord → List ℕ → List ℕ
     → List ℕ
     → Type 0

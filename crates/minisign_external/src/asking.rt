@@ -1,4 +1,4 @@
-//! The questions and the verdict, over the state that a program in another language holds.
+//! Asks the two questions and returns the verdict, with the state that a program in another language holds.
 
 ghost use Rattle.std.specs.Prelude.{◌≡◌, ◌≢◌, ◌<◌, ◌≤◌, ◌+◌, ℕ, Bool, List, Ok, Err, true, OnOk};
 ghost use Rattle.std.specs.Prelude.{OnErr, IfOk, IfErr, MatchResult, ◌++◌, length, drop, take};
@@ -27,12 +27,12 @@ use crate::verdict::{comment_verdict, verdict};
 use minisign::judge_key;
 
 impl State {
-    /// Asks, mostly before any data: what a scheme has to answer before it is known whether the key and the
-    /// signature vouch for what the state is fed. Of `sig_text`, from which the signature was read, the
-    /// trusted comment is taken alone. The message of the second question is written to the start of
-    /// `message`: 64 bytes more than the trusted comment are room enough.
+    /// Writes the two questions that a scheme must answer to verify the data, usually before any data is fed.
+    /// `sig_text` must be the text from which the signature was read; only its trusted comment is used. The
+    /// message of the second question is written to the start of `message`, which needs 64 bytes more than
+    /// the trusted comment.
     ///
-    /// Its clause `value` says what is rejected, and in which order. Does not allocate.
+    /// The clause `value` lists the errors in the order in which they are checked. Does not allocate.
     pub fn ask(
         &mut self,
         key: &PublicKeyValue,
@@ -42,32 +42,35 @@ impl State {
         questions: &mut Questions,
         message: &mut [u8],
     ) -> Result<(), Refusal>
-        // The result is a function of the state, the key, the signature, the text, the flag and the buffer
-        // size. If several reasons to reject apply, the result is the first one: the state was asked before,
-        // has told its digest or was never begun; the public key was not read; the signature was not read, or
-        // was read from another text; the key IDs differ, or the signature is over the data itself and that
-        // is not allowed; the buffer is too short.
+        // Errors are checked in this order: the state was already asked or its digest returned, or it was
+        // never initialized; the public key was not read; the signature was not read; the text is not the one
+        // that it was read from (compared by digest); the key IDs differ; the signature is a legacy one and
+        // these are not allowed; the buffer is too short. If none of them applies, the call succeeds.
         ensures value { result ≡ asking_result self.old key.now signature.now sig_text.now allow_legacy
             (length message.old) }
 
-        // If the signature was read from this text, the result is that of asking about the text and the key.
+        // If the signature was read from this text, the result is the same as if the text were parsed here
+        // and checked under this key.
         ensures text { (t : SignatureTextRecord) → IsReadFrom signature.now sig_text.now t
             → result ≡ asking_under self.old key.now sig_text.now allow_legacy (length message.old) }
 
-        // On success the questions are those of the key and the signature text, with zeros for the digest,
-        // and the message of the second one is at the start of the buffer. The state records that they were
-        // asked. The data that it was fed is unchanged.
+        // **On success, if the signature was read from this text, `questions` holds the two questions about
+        // the key and the text, with zeros in place of the digest, and the message of the second question is
+        // at the start of the buffer. The state records that it was asked. The data that it was fed is
+        // unchanged.**
         ensures asked { OnOk result ((t : SignatureTextRecord) → IsReadFrom signature.now sig_text.now t
             → (read_under key.now allow_legacy sig_text.now ≡ Ok t) × AreAsked questions.new message.new
             key.now t × HasAsked self.new key.now sig_text.now allow_legacy) }
         ensures fed { (m : List ℕ) → IsFedState self.old m → IsFedState self.new m }
 
-        // If the error is one of the key or the text, verification with them fails with the same error, under
-        // every scheme and for every message.
+        // If the signature was read from this text, and the result is an error of the library and not API
+        // misuse, then verification with this key and text fails with the same error, for every scheme and
+        // every message.
         ensures texts { (t : SignatureTextRecord) → IsReadFrom signature.now sig_text.now t
             → IfErr result (IsTextRefusal key.now sig_text.now allow_legacy) }
 
-        // On success the buffer behind the message is unchanged. After an error everything is unchanged.
+        // On success, the buffer after the message is unchanged. After an error, the state, the questions and
+        // the buffer are unchanged.
         ensures rest { OnOk result
             (drop questions.new.message_len message.new ≡ drop questions.new.message_len message.old) }
         ensures kept { OnErr result
@@ -82,9 +85,9 @@ impl State {
         }
     }
 
-    /// Asks as `ask` does, if strict Ed25519 rejects neither the key nor a signature for its bytes. Returns
-    /// true if it asked. If `ask` rejects nothing, but strict Ed25519 rejects the key or a signature whatever
-    /// the message is, returns false. The comment signature counts if it has its 64 bytes. Does not allocate.
+    /// Asks as `ask` does, but only if neither the key nor a signature is weak (strict Ed25519 rejects its
+    /// bytes, whatever the message is). Returns true if it asked, and false if the only problem is that one
+    /// of them is weak. The comment signature counts if it has its 64 bytes. Does not allocate.
     pub fn ask_strictly(
         &mut self,
         key: &PublicKeyValue,
@@ -94,25 +97,26 @@ impl State {
         questions: &mut Questions,
         message: &mut [u8],
     ) -> Result<bool, Refusal>
-        // The errors are those of `ask`. If there is none, the result is true exactly if strict Ed25519
-        // rejects neither the key nor a signature for its bytes.
+        // If `ask` would fail, so does this call, with the same error; otherwise the result is true exactly
+        // if neither the key nor a signature is weak. The comment signature counts if it has its 64 bytes.
         ensures value { result ≡ asked_strictly (is_strict_value key.now signature.now)
             (asking_result self.old key.now signature.now sig_text.now allow_legacy (length message.old)) }
 
-        // If the signature was read from this text, the result is that of asking about the text and the key.
+        // If the signature was read from this text, the result is the same as if the text were parsed here
+        // and checked under this key.
         ensures text { (t : SignatureTextRecord) → IsReadFrom signature.now sig_text.now t
             → result ≡ asked_strictly (is_strict_text key.now t)
             (asking_under self.old key.now sig_text.now allow_legacy (length message.old)) }
 
-        // If the result is true, the questions are asked as `ask` asks them. The data that the state was fed
-        // is unchanged.
+        // If the result is true, the questions, the message and the state are as a successful `ask` leaves
+        // them. The data that the state was fed is unchanged.
         ensures asked { result ≡ Ok true → (t : SignatureTextRecord) → IsReadFrom signature.now sig_text.now t
             → (read_under key.now allow_legacy sig_text.now ≡ Ok t) × AreAsked questions.new message.new
             key.now t × HasAsked self.new key.now sig_text.now allow_legacy }
         ensures fed { (m : List ℕ) → IsFedState self.old m → IsFedState self.new m }
 
-        // If the result is true, the buffer behind the message is unchanged. Otherwise everything is
-        // unchanged.
+        // If the result is true, the buffer after the message is unchanged. Otherwise the state, the
+        // questions and the buffer are unchanged.
         ensures rest { result ≡ Ok true
             → drop questions.new.message_len message.new ≡ drop questions.new.message_len message.old }
         ensures kept { result ≢ Ok true
@@ -131,7 +135,7 @@ impl State {
         }
     }
 
-    // What asking answers, without asking.
+    // Returns what `ask` would return, without asking.
     fn test_asking(
         &self,
         key: &PublicKeyValue,
@@ -149,9 +153,9 @@ impl State {
         test_questions(key, signature, sig_text, allow_legacy, room)
     }
 
-    /// The same about all that the state was fed, also where it was asked before: the digest is told as well,
-    /// and the state takes no more data. Returns the trusted comment, which nothing vouches for yet. After a
-    /// rejection everything is as it was.
+    /// Asks about all data that the state was fed so far, even if it was asked before: the digest is computed
+    /// too, and the state then accepts no more data. Returns the trusted comment, which is not verified yet.
+    /// After an error everything is unchanged.
     pub fn ask_fed<'a>(
         &mut self,
         key: &PublicKeyValue,
@@ -161,9 +165,9 @@ impl State {
         questions: &mut Questions,
         message: &mut [u8],
     ) -> Result<&'a str, Refusal>
-        // On success, if the signature was read from this text, the questions are those of the key and the
-        // text, and the result is its trusted comment. The digest in the questions is that of all data that
-        // the state was fed, and the state takes no more.
+        // On success, if the signature was read from this text, `questions` holds the two questions about the
+        // key and the text, and the result is the trusted comment. The digest in the questions is that of all
+        // data that the state was fed, and the state accepts no more data.
         ensures asked { IfOk result (λ c. (t : SignatureTextRecord) → IsReadFrom signature.now sig_text.now t
             → (read_under key.now allow_legacy sig_text.now ≡ Ok t) × AreQuestions questions.new message.new
             key.now t × HasAsked self.new key.now sig_text.now allow_legacy × (c.now ≡ t.comments.trusted)) }
@@ -172,14 +176,14 @@ impl State {
             × HasToldDigest self.new m) }
         ensures told { OnOk result (IsMarkedTold self.new) }
 
-        // On success `ask` finds no error in the key, the signature, the text and the buffer size. So the key
-        // and the signature were read, and the signature was read from this text.
+        // On success, the key and the signature were read, the signature was read from this text, and the
+        // key, the signature, the text and the buffer size cause none of the errors of `ask`.
         ensures taken { OnOk result
             (asked_of key.now signature.now sig_text.now allow_legacy (length message.old) ≡ Ok tt) }
 
-        // The errors are, in this order: the state takes no data; those of `ask` in the key, the signature,
-        // the text and the buffer size. After an error everything is unchanged. On success the buffer behind
-        // the message is unchanged.
+        // Errors are checked in this order: the state accepts no data; then those of `ask` about the key, the
+        // signature, the text and the buffer size. After an error, the state, the questions and the buffer
+        // are unchanged. On success, the buffer after the message is unchanged.
         ensures refused { IfErr result
             (IsAskFedRefusal self.old key.now signature.now sig_text.now allow_legacy (length message.old)) }
         ensures texts { (t : SignatureTextRecord) → IsReadFrom signature.now sig_text.now t
@@ -205,7 +209,7 @@ impl State {
         Ok(comment)
     }
 
-    // Asks, whatever the state is, and returns the trusted comment.
+    // Writes the questions for any state, and returns the trusted comment.
     fn open_questions<'a>(
         &mut self,
         key: &PublicKeyValue,
@@ -242,19 +246,20 @@ impl State {
         Ok(comment)
     }
 
-    /// What the answer to the second question decides by itself: success where the comment signature has its
-    /// 64 bytes and the scheme accepts it. Nothing is said of any data. A state that has not asked, or was
-    /// ended, is rejected. Does not allocate.
+    /// Returns the verdict on the comment signature only: success if it has its 64 bytes and the scheme
+    /// accepts it. It says nothing about any data. It is API misuse if nothing was asked or the state was
+    /// finished. Does not allocate.
     pub fn comment_verdict(&self, second: bool) -> Result<(), Refusal>
-        // For every scheme that gives this result for the second question: success exactly if the key signed
-        // the trusted comment, together with the first signature.
+        // After a successful `ask`, for every scheme for which `second` is the result of the second check:
+        // the call succeeds exactly if the comment signature is valid under the key. It says nothing about
+        // any data.
         ensures verdict { (v : PublicKeyValue) (sig_text : List ℕ) (legacy : Bool) (accepts : Verifier)
             → HasAsked self.now v sig_text legacy → AnswersComment accepts v sig_text second → is_begun
             self.now ≡ true → result ≡ given_verdict (comment_verdict_under accepts v sig_text legacy) }
 
-        // The result is a function of the state and the answer. If nothing was asked, or the state was ended,
-        // it is an error. Otherwise it is success exactly if the comment signature has its 64 bytes and is
-        // valid.
+        // It is API misuse if nothing was asked, or if the state was never initialized or was finished by a
+        // verdict. Otherwise the call succeeds exactly if the comment signature has its 64 bytes and `second`
+        // is true.
         ensures value { result ≡ comment_result self.now second }
     {
         if !self.is_begun() || !self.is_asked() {
@@ -266,27 +271,30 @@ impl State {
         }
     }
 
-    /// The verdict from the answers of the scheme, once the digest was told; it ends the state.
+    /// Returns the verdict from the scheme's results of the two checks, after the digest was returned, and
+    /// finishes the state.
     ///
-    /// Success exactly where the key and the text vouch for what the state was fed under the scheme that
-    /// answered so, else the first condition that fails. A state that has not asked or not told its digest is
-    /// rejected, and stays as it was. Does not allocate.
+    /// Succeeds exactly if the signature is valid for the data that the state was fed, under the scheme with
+    /// these results. Otherwise the error is the first check that fails. It is API misuse if nothing was
+    /// asked or the digest was not returned; then the state is unchanged. Does not allocate.
     pub fn verdict(&mut self, first: bool, second: bool) -> Result<(), Refusal>
-        // For every scheme that gives these results for the two questions, and every message: the result is
-        // the verdict on the key, the text and the message.
+        // After a successful `ask` and the digest, for every scheme and every message for which `first` and
+        // `second` are the results of the two checks: the result is the verdict on the key, the signature
+        // text and the message.
         ensures verdict { (v : PublicKeyValue) (sig message : List ℕ) (legacy : Bool) (accepts : Verifier)
             → HasAsked self.old v sig legacy → IsMarkedTold self.old → Answers accepts v sig message first
             second → result ≡ given_verdict (verdict_under accepts v sig message legacy) }
 
-        // So for every public key file with this key: success exactly if the signature file is a valid
-        // signature of the message under it.
+        // So for every public key file that contains this key: the call succeeds exactly if the signature
+        // file is a valid signature of the message under that public key. Otherwise the error is the first
+        // check that fails.
         ensures texts { (v : PublicKeyValue) (pk sig message : List ℕ) (legacy : Bool) (accepts : Verifier)
             → HasAsked self.old v sig legacy → IsMarkedTold self.old → IsKeyText pk v
             → Answers accepts v sig message first second → GivesVerdict accepts pk sig message legacy result }
 
-        // The result and the new state are a function of the state and the answers. If nothing was asked, or
-        // the digest was not returned, the result is an error and the state is unchanged. Otherwise the state
-        // is ended, and the answers decide.
+        // It is API misuse if nothing was asked or the digest was not returned; then the state is unchanged.
+        // Otherwise the state is finished, and the call succeeds exactly if `first` is true, the comment
+        // signature has its 64 bytes and `second` is true.
         ensures value { (result, self.new) ≡ told_verdict self.old first second }
     {
         if self.mark != TOLD || !self.is_asked() {
@@ -299,7 +307,7 @@ impl State {
         }
     }
 
-    // Why a state cannot be asked: it was asked or has told its digest, or was never begun.
+    // Returns why a state cannot be asked: it was asked or its digest was returned, or it is not initialized.
     fn asking_misuse(&self) -> Misuse
         ensures { result ≡ asking_misuse self.now }
     {
@@ -310,7 +318,8 @@ impl State {
         }
     }
 
-    // Why a state gives no verdict: it has not asked or not told its digest, or was never begun.
+    // Returns why a state gives no verdict: it was not asked or its digest was not returned, or it is not
+    // initialized.
     fn verdict_misuse(&self) -> Misuse
         ensures { result ≡ verdict_misuse self.now }
     {
@@ -322,7 +331,7 @@ impl State {
     }
 }
 
-// What asking about a key and a signature answers, whatever the state is, with so much room.
+// Returns what asking about a key and a signature would return for any state, with a buffer of this size.
 fn test_questions(
     key: &PublicKeyValue,
     signature: &SignatureValue,
@@ -344,7 +353,7 @@ fn test_questions(
     }
 }
 
-// Tests that there is room for the message with a trusted comment of this length.
+// Checks that the buffer is long enough for the message with a trusted comment of this length.
 fn test_room(comment_len: u64, room: usize) -> Result<(), Refusal>
     ensures { result ≡ room_for comment_len room }
 {
@@ -354,7 +363,7 @@ fn test_room(comment_len: u64, room: usize) -> Result<(), Refusal>
     Ok(())
 }
 
-// The questions about a key and a signature, of which the second has a message of this length.
+// Returns the questions about a key and a signature. The message of the second has this length.
 fn questions_about(key: &PublicKeyValue, signature: &SignatureValue, message_len: u64) -> Questions
     ensures { result ≡ record (questions_about key.now signature.now) { message_len = message_len } }
 {

@@ -1,5 +1,5 @@
-//! Verifying and signing with a signature scheme outside of the library: the questions to the
-//! scheme, and what its answers decide.
+//! Verifies and signs with a signature scheme outside of the library: returns the questions for the scheme,
+//! and decides from its results.
 
 #![tactic(auto)]
 

@@ -1,5 +1,5 @@
-//! Writes the texts of an open key to a buffer, to change its password or to get its public key
-//! back.
+//! Encodes the secret key file and the public key file of an open key, to change its password or to recover
+//! its public key.
 
 ghost use Rattle.std.specs.Prelude.{◌≡◌, ◌<◌, ◌≤◌, ◌+◌, Some, drop, true, false, OnOk};
 ghost use Rattle.std.specs.Prelude.{OnErr, IfOk, IfErr};
@@ -16,22 +16,22 @@ use minisign::{Sealing, make_public_key, make_secret_key};
 use minisign_base::NamedFault;
 use std::alloc::Global;
 
-// The length from which on Minisign does not read a comment whole.
+// Minisign does not read all of a comment that has this many bytes or more.
 const COMMENT_BYTES: usize = 1004;
 
-// How much longer than its comment the text of a secret key is, and that of a public key.
+// How much longer a secret key file and a public key file are than their comments.
 const SECRET_KEY_BYTES: usize = 233;
 
 const PUBLIC_KEY_BYTES: usize = 77;
 
-/// Writes the text of a secret key to the start of `to`, and returns its length, which
-/// is 233 bytes more than that of the comment. With a password the key is sealed under it, with the salt and
-/// the limits of `sealing`; without one it is not sealed, and `sealing` is not looked at.
+/// Writes a secret key file to the start of `to`, and returns its length, which is 233 bytes more than that
+/// of the comment. With a password, the key is sealed (encrypted) under it with the salt and limits of
+/// `sealing`. Without one, the key is not encrypted and `sealing` is ignored.
 ///
-/// `keep_every` is k, where every k-th of scrypt's rows is kept, 1 KiB each, of at most 2^20; 0 and
-/// 1 keep them all. The text is the same for every k.
+/// `keep_every` is k if only every k-th row of scrypt is kept in memory; a row has 1 KiB, there are at most
+/// 2^20 rows, and 0 and 1 keep them all. The file is the same for every k.
 ///
-/// Its clause `refused` says what is rejected, and in which order.
+/// The clause `refused` lists the errors in the order in which they are checked.
 pub fn write_secret_key(
     alloc: Global,
     key: &SecretKeyValue,
@@ -41,23 +41,23 @@ pub fn write_secret_key(
     comment: &[u8],
     to: &mut [u8],
 ) -> std::result::Result<usize, Refusal>
-    // On success the secret key file is at the start of the buffer, 233 bytes more than the comment has.
-    // Under the password, or without one, it opens to the key with exactly this key ID and these 64 secret
-    // bytes, for every bound on the work that is enough.
+    // On success, the secret key file is at the start of the buffer and is 233 bytes longer than the comment.
+    // With the same password, or without one if there was none, it opens to the key with exactly this key ID
+    // and these 64 secret bytes, for every bound on the work that is high enough.
     ensures opened { OnOk result (is_opened key.now ≡ true) }
     ensures text { IfOk result (HoldsSecretKey key.now.key_id key.now.secret
         (option_copied password.entry) sealing.now comment.now to.new) }
 
-    // On success Minisign reads the whole comment in the first line of the file.
+    // On success, Minisign reads the whole comment in the first line of the file.
     ensures readable { OnOk result (IsKeyComment comment.now) }
 
-    // The rest of the buffer is unchanged: no byte of a secret is left there.
+    // The rest of the buffer is unchanged, so no byte of a secret is left there.
     ensures rest { IfOk result (λ len. drop len to.new ≡ drop len to.old) }
 
-    // The errors are, in this order: the key was not opened; the comment or the password is not UTF-8; the
+    // The errors are, in this order: the key is not open; the comment or the password is not UTF-8; the
     // comment has a line feed; Minisign does not read all of it, because it has a carriage return, a zero
-    // byte or more than 1003 bytes; the buffer is too short; with a password, sealing does not allow the
-    // limits; out of memory. After an error the buffer is unchanged.
+    // byte or more than 1003 bytes; the buffer is too short; with a password, the limits are not allowed; out
+    // of memory. After an error the buffer is unchanged.
     ensures refused { IfErr result
         (IsMakingRefusal key.now (option_copied password.entry) sealing.now comment.now to.old) }
     ensures kept { OnErr result (to.new ≡ to.old) }
@@ -88,7 +88,7 @@ pub fn write_secret_key(
     )
 }
 
-// Writes the text of a secret key whose comment and password are texts.
+// Writes a secret key file. Its comment and password are known to be UTF-8.
 fn write_made(
     alloc: Global,
     key_id: [u8; 8],
@@ -116,18 +116,17 @@ fn write_made(
     }
 }
 
-/// Writes the text of the public key of a secret key to the start of `to`, and returns its length,
-/// which is 77 bytes more than that of the comment: the key is the last 32 of the secret bytes,
-/// under the key ID.
+/// Writes the public key file of a secret key to the start of `to`, and returns its length, which is 77 bytes
+/// more than that of the comment. The public key is the last 32 of the secret bytes, with the same key ID.
 pub fn write_public_key(
     alloc: Global,
     key: &SecretKeyValue,
     comment: &[u8],
     to: &mut [u8],
 ) -> std::result::Result<usize, Refusal>
-    // On success the public key file is at the start of the buffer, 77 bytes more than the comment has. It
-    // reads as the public key of every secret key of these parts, and Minisign reads the whole comment. The
-    // rest of the buffer is unchanged.
+    // On success, the public key file is at the start of the buffer and is 77 bytes longer than the comment.
+    // It parses to the public key of the secret key: the last 32 secret bytes, with the same key ID. Minisign
+    // reads the whole comment. The rest of the buffer is unchanged.
     ensures opened { OnOk result (is_opened key.now ≡ true) }
     ensures text { IfOk result (HoldsPublicKey key.now.key_id key.now.secret comment.now to.new) }
     ensures readable { OnOk result (IsKeyComment comment.now) }
@@ -152,7 +151,8 @@ pub fn write_public_key(
     }
 }
 
-// Tests that Minisign reads the comment, and that a text which is longer by so many bytes has room.
+// Checks that Minisign reads the whole comment, and that the buffer is long enough for a file that is `more`
+// bytes longer than the comment.
 fn test_writable(comment: &[u8], more: usize, to: &[u8]) -> Result<(), Misuse>
     requires { more ≤ 233 }
     ensures passed { OnOk result (IsWritable comment.now more to.now) }
@@ -170,7 +170,7 @@ fn test_writable(comment: &[u8], more: usize, to: &[u8]) -> Result<(), Misuse>
     Ok(())
 }
 
-// Whether Minisign reads a comment whole in the first line of a key.
+// Returns true if Minisign reads all of a comment in the first line of a key file.
 fn is_read_in_key(comment: &[u8]) -> bool
     ensures read { result ≡ true → IsReadInKey comment.now }
     ensures unread { result ≡ false → ¬ (IsReadInKey comment.now) }

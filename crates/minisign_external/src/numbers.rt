@@ -1,5 +1,4 @@
-//! The numbers by which a program in another language knows errors, and what they mean. None of it
-//! allocates.
+//! Error numbers for programs in other languages, and their texts. Nothing here allocates.
 
 ghost use Rattle.std.specs.Prelude.{◌≡◌, ◌==◌, ◌<◌, IfSome, List, ℕ, find, length};
 ghost use Rattle.minisign_base.specs.Faults.{fault_row};
@@ -16,7 +15,7 @@ pub const ANSWER_YES: u32 = 7955827;
 /// The number of the answer no: the letters `no`, each a byte.
 pub const ANSWER_NO: u32 = 28271;
 
-/// Whether a number is an answer: `ANSWER_YES` or `ANSWER_NO`.
+/// Returns true if the number is `ANSWER_YES` or `ANSWER_NO`.
 pub fn is_answer(number: u32) -> bool
     ensures { result ≡ is_answer number }
 {
@@ -28,21 +27,21 @@ pub fn is_answer(number: u32) -> bool
 /// add this error to those of the library.
 pub const WEAK_ED25519: u32 = 81;
 
-// The number of an error without a name, which no call of this library answers.
+// The number of an error without a name, which no call of this library returns.
 const UNNAMED: u32 = 255;
 
-/// An error by whose number a program in another language knows it.
+/// An error that has a number for programs in other languages.
 pub trait Numbered {
     // The number of the error.
     ghost number_of: { Self → ℕ };
 
-    /// The number of the error.
+    /// Returns the error number.
     fn number(&self) -> u32
-        // The number is that of the error in its table.
+        // The result is the error's number in the table of its type.
         ensures { result ≡ number_of self.now };
 }
 
-/// The number of an error of the library: 255 where it has no name, which no call answers.
+/// The number of an error of the library, or 255 for an error without a name, which no call returns.
 impl Numbered for PError {
     ghost number_of = { fault_number };
 
@@ -55,10 +54,10 @@ impl Numbered for PError {
 }
 
 impl<F: Numbered> Refusal<F> {
-    /// The number of the rejection: that of the usage error, or that of the error.
+    /// Returns the error number of the API misuse or of the error.
     pub fn number(&self) -> u32
-        // The number is that of the API misuse or of the error, by a table. In the library's table 7 is out
-        // of memory, and no other error.
+        // The result is the number of the API misuse or of the error, each in its table. In the library's
+        // table, only out of memory has the number 7.
         ensures { result ≡ refusal_number F.number_of self.now }
     {
         match self {
@@ -69,7 +68,7 @@ impl<F: Numbered> Refusal<F> {
 }
 
 impl Misuse {
-    /// All usage errors.
+    /// All kinds of API misuse.
     pub const ALL: [Misuse; 19] = [
         Misuse::NotBegun,
         Misuse::AlreadyAsked,
@@ -92,7 +91,8 @@ impl Misuse {
         Misuse::WeakSealing,
     ];
 
-    /// Returns the number of the usage error: 1 to 15, 61 to 63, or 82 to 84.
+    /// Returns the error number of the API misuse, which the table gives: 1 to 6, 9 to 15, 61 to 63, or 82 to
+    /// 84.
     pub fn number(&self) -> u32
         ensures { result ≡ misuse_number self.now }
     {
@@ -119,7 +119,7 @@ impl Misuse {
         }
     }
 
-    /// What the usage error is, in English.
+    /// Returns the English text of the API misuse.
     pub fn text(&self) -> &'static str
         ensures { result.now ≡ misuse_text self.now }
     {
@@ -155,13 +155,14 @@ impl Misuse {
     }
 }
 
-/// Writes what a number means, in English, to the start of `to`, ended by a 0 and cut where there
-/// is no room for more: returns the length of the whole text, which is at most 127 bytes. What stands
-/// behind the 0 stays; where `to` has no byte nothing is written.
+/// Writes the English text of an error number to the start of `to`, truncated if necessary and terminated by
+/// a 0 byte. Returns the length of the whole text, which is at most 127 bytes. The bytes after the 0 are
+/// unchanged. If `to` is empty, nothing is written.
 pub fn write_error_text(number: u32, to: &mut [u8]) -> usize
-    // The text is that of the API misuse, or that of the error without its key IDs. For any other number but
-    // 0 it is "unknown error". It has less than 128 bytes, is cut to the buffer and ends with a 0 byte. The
-    // rest of the buffer is unchanged.
+    // The text is that of the API misuse or of the error that has this number, without key IDs. For 0 it is
+    // "no error", and for a number without a meaning "unknown error". It has fewer than 128 bytes. The buffer
+    // holds as much of it as fits before a terminating 0 byte, and the bytes after the 0 are unchanged. The
+    // result is the length of the whole text.
     ensures written { (text : List ℕ) × IsMeaning number text × (result ≡ length text)
         × WritesCut text to.old to.new }
     ensures room { result < 128 }
@@ -169,10 +170,10 @@ pub fn write_error_text(number: u32, to: &mut [u8]) -> usize
     write_cut(error_text(number), to)
 }
 
-/// Writes a text, cut where there is no room for more, and a 0. Returns the length of the text.
+/// Writes a text, truncated if necessary, and a 0 byte. Returns the length of the whole text.
 pub fn write_cut(text: &str, to: &mut [u8]) -> usize
-    // The text, cut if the buffer is shorter, is at the start of the buffer, followed by a 0 byte. The rest
-    // of the buffer is unchanged.
+    // The buffer holds as much of the text as fits before a terminating 0 byte, and the bytes after the 0 are
+    // unchanged. The result is the length of the whole text.
     ensures length { result ≡ length text.now }
     ensures cut { WritesCut text.now to.old to.new }
 {
@@ -188,7 +189,8 @@ pub fn write_cut(text: &str, to: &mut [u8]) -> usize
     bytes.len()
 }
 
-/// What a number means, in English: of an error its summary, which says all but its key IDs.
+/// Returns the English text of an error number, without key IDs: "no error" for 0, and "unknown error" for a
+/// number without a meaning. It has fewer than 128 bytes.
 pub fn error_text(number: u32) -> &'static str
     ensures meaning { IsMeaning number result.now }
     ensures room { length result.now < 128 }
@@ -208,7 +210,7 @@ pub fn error_text(number: u32) -> &'static str
     }
 }
 
-// The usage error of a number.
+// Returns the API misuse that has this number.
 fn misuse_of(number: u32) -> Option<Misuse>
     ensures found { IfSome result (λ m. number ≡ misuse_number m) }
     ensures first { result ≡ find (λ m. misuse_number m == number) Misuse.ALL }
@@ -219,7 +221,7 @@ fn misuse_of(number: u32) -> Option<Misuse>
         .find(|misuse| misuse.number() == number)
 }
 
-// The named error of a number, with key IDs of zeros.
+// Returns the named error that has this number, with zeros as its key IDs.
 fn fault_of(number: u32) -> Option<NamedFault>
     ensures found { IfSome result (λ f. number ≡ (fault_row f).number) }
     ensures first { result ≡ find (λ f. (fault_row f).number == number) NamedFault.ALL }

@@ -1,5 +1,5 @@
-//! What the calls of verifying and signing come to together, where a host of another language makes
-//! them in their order, whatever the pieces of the data are.
+//! Makes the calls of verifying and signing in the order in which an application in another language makes
+//! them, so that contracts can state what the whole sequence does, however the data is split.
 
 ghost use Rattle.std.specs.Prelude.{◌≡◌, ◌≤◌, ◌+◌, ◌++◌, ℕ, List, [], Bool, None, Ok, true, false};
 ghost use Rattle.std.specs.Prelude.{length, take, drop, OnErr, IfOk, IfErr, MatchResult};
@@ -32,10 +32,10 @@ use crate::unopened_keys::KeyText;
 use minisign_base::scheme::Scheme;
 use std::alloc::Global;
 
-/// Verifies the joined pieces: reads the text of the signature, asks about the key and that signature, feeds
-/// one piece after another, tells the digest, has the scheme answer both questions, and gives the verdict. A
-/// signature over the data itself is never taken. Does not allocate: `room` has as many bytes as the text of
-/// the signature at least.
+/// Verifies the concatenated pieces: parses the signature file, asks about the key and the signature, feeds
+/// one piece after another, computes the digest, lets the scheme make both checks, and gets the verdict. A
+/// legacy signature is never accepted. `room` must have at least as many bytes as the signature file. Does
+/// not allocate.
 pub fn verify_pieces<S: Scheme>(
     scheme: &S,
     key: &PublicKeyValue,
@@ -45,9 +45,10 @@ pub fn verify_pieces<S: Scheme>(
 ) -> Result<(), Refusal>
     requires { length sig_text.now ≤ length room.old }
 
-    // **For every scheme, public key that was read, signature text and data, split in any way: the result is
-    // the verdict on the key, the text and the joined pieces. It is success exactly if the signature is
-    // valid, otherwise the first check that fails. A public key that was not read is API misuse.**
+    // **For every scheme, public key that was read, signature file and data, however the data is split: the
+    // result is the verdict on the key, the file and the concatenated data. The call succeeds exactly if the
+    // signature is valid and prehashed; otherwise the error is the first check that fails. A public key that
+    // was not read is API misuse.**
     ensures { result ≡ with_public_key key.now (given_verdict
         (verdict_under (S.accepts scheme.now) key.now sig_text.now (joined pieces.now)
         false)) }
@@ -61,10 +62,10 @@ pub fn verify_pieces<S: Scheme>(
     }
 }
 
-/// Signs the joined pieces with a key that was opened: feeds one piece after another, tells the digest, has
-/// the scheme sign it, and that signature followed by the trusted comment, and writes the text of the
-/// signature to the start of `to`. Returns its length. `room` has 64 bytes more than the trusted comment at
-/// least.
+/// Signs the concatenated pieces with an open key: feeds one piece after another, computes the digest, lets
+/// the scheme sign it, and then that signature followed by the trusted comment, and writes the signature file
+/// to the start of `to`. Returns its length. `room` must have at least 64 bytes more than the trusted
+/// comment.
 pub fn sign_pieces<S: Scheme>(
     alloc: Global,
     scheme: &S,
@@ -77,22 +78,22 @@ pub fn sign_pieces<S: Scheme>(
 ) -> Result<usize, Refusal>
     requires { 64 + length trusted.now ≤ length room.old }
 
-    // **For every scheme, secret key made of a seed, data, split in any way, and comments: on success the
-    // signature verifies. The verdict on it and the joined pieces, under the public key of the key, is the
-    // trusted comment.**
+    // **On success, if the secret key consists of a seed and the seed's public key, the signature file that
+    // was written verifies: the verdict on it and the concatenated data, under that public key, is the
+    // trusted comment. This holds for every scheme and for all data, however it is split.**
     ensures verifies { IfOk result (λ len. (seed : List ℕ) (w : PublicKeyValue) → IsPairOf (S.public_of
         scheme.now) seed key.now → public_value_of key.now ≡ Ok w → verdict_under (S.accepts scheme.now) w
         (take len to.new) (joined pieces.now) false ≡ Ok trusted.now) }
 
-    // On success the text is that of the two signatures that the scheme makes with the key: of the digest of
-    // the joined pieces, and of that signature followed by the trusted comment. The rest of the buffer is
-    // unchanged.
+    // On success, the signature file contains the two signatures that the scheme makes with the key: of the
+    // digest of the concatenated data, and of that signature followed by the trusted comment. The rest of the
+    // buffer is unchanged.
     ensures text { IfOk result (HoldsOwnText S.Scheme scheme.now key.now
         (comments_of trusted.now untrusted.now) (joined pieces.now) to.new) }
     ensures rest { IfOk result (λ len. drop len to.new ≡ drop len to.old) }
 
-    // The errors are that the key was not opened, and those of `write_signed_text` for its public key, these
-    // comments and this buffer. After an error the buffer is unchanged.
+    // The errors are, in this order: the key is not open; those of `write_signed_text` for its public key,
+    // these comments and this buffer. After an error the buffer is unchanged.
     ensures refused { IfErr result (IsOwnRefusal S.Scheme scheme.now key.now
         (comments_of trusted.now untrusted.now) (joined pieces.now) to.old) }
     ensures kept { OnErr result (to.new ≡ to.old) }
@@ -103,8 +104,8 @@ pub fn sign_pieces<S: Scheme>(
     write_signed_text(alloc, &public_key, &first, &second, trusted, untrusted, to)
 }
 
-/// The same from the text of the secret key on, which is read and opened first, with its password where there
-/// is one.
+/// Signs the concatenated pieces with a secret key file: reads and opens it, with its password if there is
+/// one, and continues as `sign_pieces`.
 pub fn sign_pieces_by_text<S: Scheme>(
     alloc: Global,
     scheme: &S,
@@ -117,15 +118,16 @@ pub fn sign_pieces_by_text<S: Scheme>(
 ) -> Result<usize, Refusal>
     requires { 64 + length trusted.now ≤ length room.old }
 
-    // **For every scheme, key file, data, split in any way, and comments: on success the file opens to a key.
-    // If that key was made of a seed, the signature verifies: the verdict on it and the joined pieces, under
-    // the public half of the key, is the trusted comment.**
+    // **On success, the secret key file opens to a key. If that key consists of a seed and the seed's public
+    // key, the signature file that was written verifies: the verdict on it and the concatenated data, under
+    // that public key, is the trusted comment. This holds for every scheme and for all data, however it is
+    // split.**
     ensures verifies { IfOk result (λ len. (k : SecretKeyRecord) ×
         (opened_text key_text.now.text.now (option_copied key_text.now.password) key_text.now.most_rows
         ≡ Ok k) × OwnTextVerifies S.Scheme scheme.now k (joined pieces.now) trusted.now (take len to.new)) }
 
-    // The errors are those of opening the key file, and then those of `sign_pieces` with that key. After an
-    // error the buffer is unchanged. On success the rest of the buffer is unchanged.
+    // The errors are, in this order: those of opening the key file; those of `sign_pieces` with that key.
+    // After an error the buffer is unchanged. On success, the rest of the buffer is unchanged.
     ensures refused { IfErr result (IsTextSigningRefusal S.Scheme scheme.now key_text.now.text.now
         (option_copied key_text.now.password) key_text.now.most_rows
         (comments_of trusted.now untrusted.now) (joined pieces.now) to.old) }
@@ -138,7 +140,7 @@ pub fn sign_pieces_by_text<S: Scheme>(
     }
 }
 
-// Verifies the joined pieces with the signature that was read from the text.
+// Verifies the concatenated pieces with a signature that was read from its file.
 fn verify_read<S: Scheme>(
     scheme: &S,
     key: &PublicKeyValue,
@@ -165,7 +167,7 @@ fn verify_read<S: Scheme>(
     }
 }
 
-// Returns the public key of a key.
+// Returns the public key of an open key.
 #[tactic(auto, using(crate::proofs::PublicHalves::told_half, crate::proofs::PublicHalves::untold_half))]
 fn public_half(key: &SecretKeyValue) -> Result<PublicKeyValue, Misuse>
     ensures told { IfOk result (λ w. (is_opened key.now ≡ true) × (public_value_of key.now ≡ Ok w)
@@ -188,7 +190,7 @@ fn feed(state: &mut State, pieces: &[&[u8]]) -> Result<(), Misuse>
     Ok(())
 }
 
-// Tells the digest, has the scheme answer, and gives the verdict.
+// Computes the digest, lets the scheme make both checks, and returns the verdict.
 fn finish<S: Scheme>(
     scheme: &S,
     state: &mut State,
@@ -211,7 +213,7 @@ fn finish<S: Scheme>(
     state.verdict(first, second)
 }
 
-// The digest of the joined pieces.
+// Returns the digest of the concatenated pieces.
 fn digest_of(pieces: &[&[u8]]) -> Result<[u8; 64], Misuse>
     ensures { MatchResult result
         (λ digest. digest ≡ blake2b_digest 64 (joined pieces.now)) (λ _. ⊥) }
@@ -223,8 +225,8 @@ fn digest_of(pieces: &[&[u8]]) -> Result<[u8; 64], Misuse>
     Ok(digest)
 }
 
-// The signatures that the scheme makes with a key: of the digest, and of that signature followed by the
-// trusted comment.
+// Returns the signatures that the scheme makes with a key: of the digest, and of that signature followed by
+// the trusted comment.
 fn sign_both<S: Scheme>(
     scheme: &S,
     key: &SecretKeyValue,
@@ -246,19 +248,23 @@ fn sign_both<S: Scheme>(
     Ok((first, second))
 }
 
-/// A law, for which nothing is done: what the calls of any host come to.
+/// A law (its body does nothing): what the scheme's results mean for an application that asks these
+/// questions.
 #[tactic(auto, using(crate::proofs::GivenAnswers::given, crate::proofs::OwnTexts::own_verdict))]
 pub fn answers_decide()
-    // If a scheme checks the two questions that were asked, with the digest of a message, its results are
-    // those for the key, the text and the message.
+    // If the application asks its scheme the two questions, with the digest of a message in the first, then
+    // the scheme's results are the results of the two checks for the key, the signature text and that
+    // message, which `State::verdict` needs.
     ensures given { (accepts : Verifier) (v : PublicKeyValue) (text message room digest : List ℕ)
         (t : SignatureTextRecord) (q : Questions) → read_under v false text ≡ Ok t → AreAsked q room v t
         → digest ≡ blake2b_digest 64 message → (first second : Bool) → first ≡ accepts digest q.public_key
         q.signature → second ≡ accepts (take q.message_len room) q.public_key q.comment_signature
         → Answers accepts v text message first second }
 
-    // If a scheme accepts two signatures under the public half of a key, their text verifies under it: the
-    // verdict is the trusted comment.
+    // If a scheme accepts both signatures in a signature file, of the digest of a message and of the first
+    // signature followed by the trusted comment, under the public key of a seed, then the file verifies under
+    // that public key: the verdict on the file and the message is the trusted comment. The file must have
+    // been written for the key that consists of the seed and this public key.
     ensures own { (accepts : Verifier) (public_of : List ℕ → List ℕ) (seed : List ℕ) (v : SecretKeyValue)
         (w : PublicKeyValue) → IsPairOf public_of seed v → is_opened v ≡ true → public_value_of v ≡ Ok w
         → (message digest trusted untrusted first second bytes : List ℕ) (len : ℕ) → digest ≡ blake2b_digest

@@ -1,4 +1,4 @@
-//! A public key as a value, read from its text. None of it allocates.
+//! A public key that was read from its file or from base64. Nothing here allocates.
 
 ghost use Rattle.std.specs.Prelude.{◌≡◌};
 ghost use Rattle.minisign.specs.KeyTexts.{read_bare_public_key, read_public_key};
@@ -7,14 +7,14 @@ ghost use Rattle.minisign_external.specs.PublicKeys.{is_public_key, read_utf8, t
 use minisign::{PublicKey, Result, read_bare_public_key, read_public_key};
 use minisign_base::NamedFault;
 
-// A public key that was read, or told of a secret key, begins with the letters `minispub`.
+// The mark of a public key that was read, or obtained from a secret key: the letters `minispub`.
 pub(crate) const PUBLIC: u64 = 7094700428984478061;
 
 /// A public key, 48 bytes with the layout of C.
 #[repr(C)]
 #[derive(Clone, Copy)]
 pub struct PublicKeyValue {
-    /// The mark of a public key that was read, or told of a secret key.
+    /// The mark of a public key that was read, or obtained from a secret key.
     pub mark: u64,
     /// Its 32 bytes.
     pub key: [u8; 32],
@@ -23,7 +23,8 @@ pub struct PublicKeyValue {
 }
 
 impl PublicKeyValue {
-    /// Returns true if the key was read, or told of a secret key.
+    /// Returns true exactly if the mark says that the key was read from a file or text, or obtained from a
+    /// secret key.
     pub fn is_public_key(&self) -> bool
         ensures { result ≡ is_public_key self.now }
     {
@@ -36,9 +37,9 @@ impl PublicKeyValue {
 /// The errors are, in this order: the text is not UTF-8; those of `minisign::read_public_key`. After an error
 /// the value is unchanged.
 pub fn tell_public_key(text: &[u8], value: &mut PublicKeyValue) -> Result<()>
-    // On success the value has the mark, the 32 bytes and the key ID of the public key in the file. The
-    // result is a function of the bytes, which must be UTF-8: the error is the first check that fails. After
-    // an error the value is unchanged.
+    // On success, `value` holds the key and the key ID of the public key file, and is marked as read. The
+    // file must be UTF-8. Otherwise, or if it does not parse, the error is the first check that fails, and
+    // `value` is unchanged.
     ensures { (result, value.new) ≡ told_key (read_utf8 read_public_key text.now) value.old }
 {
     tell(read(text), value)
@@ -49,13 +50,15 @@ pub fn tell_public_key(text: &[u8], value: &mut PublicKeyValue) -> Result<()>
 /// The errors are, in this order: the text is not UTF-8; those of `minisign::read_bare_public_key`. After an
 /// error the value is unchanged.
 pub fn tell_bare_public_key(text: &[u8], value: &mut PublicKeyValue) -> Result<()>
-    // The same for the base64 of a public key.
+    // On success, `value` holds the key and the key ID of the base64 text, and is marked as read. The text
+    // must be UTF-8. Otherwise, or if it does not parse, the error is the first check that fails, and `value`
+    // is unchanged.
     ensures { (result, value.new) ≡ told_key (read_utf8 read_bare_public_key text.now) value.old }
 {
     tell(read_bare(text), value)
 }
 
-// The key that a text of two lines reads as.
+// Parses a public key file of two lines.
 fn read(text: &[u8]) -> Result<PublicKey>
     ensures { result ≡ read_utf8 read_public_key text.now }
 {
@@ -65,7 +68,7 @@ fn read(text: &[u8]) -> Result<PublicKey>
     }
 }
 
-// The key that a bare base64 reads as.
+// Parses the base64 of a public key.
 fn read_bare(text: &[u8]) -> Result<PublicKey>
     ensures { result ≡ read_utf8 read_bare_public_key text.now }
 {
@@ -75,7 +78,7 @@ fn read_bare(text: &[u8]) -> Result<PublicKey>
     }
 }
 
-// Writes the value of a key that was read.
+// Stores a key that was read.
 fn tell(read: Result<PublicKey>, value: &mut PublicKeyValue) -> Result<()>
     ensures { (result, value.new) ≡ told_key read value.old }
 {

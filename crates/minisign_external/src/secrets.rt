@@ -1,4 +1,4 @@
-//! An open secret key as a value. The secret leaves the library here. None of it allocates.
+//! An open (decrypted) secret key, which the caller holds and signs with. Nothing here allocates.
 
 ghost use Rattle.std.specs.Prelude.{◌≡◌};
 ghost use Rattle.minisign_external.specs.SecretKeys.{is_opened, public_value_of, taken_key};
@@ -6,14 +6,14 @@ ghost use Rattle.minisign_external.specs.SecretKeys.{is_opened, public_value_of,
 use crate::public_keys::{PUBLIC, PublicKeyValue};
 use crate::state::Misuse;
 
-// A key that was opened or taken in begins with the letters `minissec`.
+// The mark of an open key: the letters `minissec`.
 const OPENED: u64 = 7162257721929918829;
 
 /// A secret key, 80 bytes with the layout of C.
 #[repr(C)]
 #[derive(Clone, Copy)]
 pub struct SecretKeyValue {
-    /// The mark of a key that was opened or taken in.
+    /// The mark of an open key.
     pub mark: u64,
     /// Its key ID.
     pub key_id: [u8; 8],
@@ -22,9 +22,11 @@ pub struct SecretKeyValue {
 }
 
 impl SecretKeyValue {
-    /// Takes in a key that another made: its key ID, and the 64 bytes of a seed and of its public key.
+    /// Makes an open secret key from its key ID and its 64 secret bytes, which are a seed and the seed's
+    /// public key.
     pub fn take(key_id: &[u8; 8], secret: &[u8; 64]) -> SecretKeyValue
-        // The key has this key ID and this secret, and the mark of one that was opened.
+        // The result has this key ID and these secret bytes, and is marked as open. Nothing checks that the
+        // second half of the secret bytes is the public key of the first.
         ensures { result ≡ taken_key key_id.now secret.now }
     {
         SecretKeyValue {
@@ -34,18 +36,18 @@ impl SecretKeyValue {
         }
     }
 
-    /// Returns true if the key was opened or taken in.
+    /// Returns true exactly if the mark says that the key was opened, or made by `take`.
     pub fn is_opened(&self) -> bool
         ensures { result ≡ is_opened self.now }
     {
         self.mark == OPENED
     }
 
-    /// Returns the public key of the key: the last 32 bytes of the secret, under its key ID. A key that was
-    /// not opened is an error.
+    /// Returns the public key: the last 32 secret bytes, with the same key ID. A key that is not open is the
+    /// error `KeyNotOpened`.
     pub fn public_key(&self) -> Result<PublicKeyValue, Misuse>
-        // On success the secret key was opened, and the public key is the last 32 bytes of its secret, with
-        // its key ID. If it was not opened, the result is an error.
+        // If the secret key is open, the result is the last 32 of its secret bytes, with its key ID.
+        // Otherwise it is the error `KeyNotOpened`.
         ensures { result ≡ public_value_of self.now }
     {
         if !self.is_opened() {

@@ -1,5 +1,5 @@
-//! A signature as a value, read once from its text. It has all that asking takes but the trusted
-//! comment, which stays in the text. None of it allocates.
+//! A signature that was read once from its file. It has everything that asking needs except the trusted
+//! comment, which stays in the file. Nothing here allocates.
 
 ghost use Rattle.std.specs.Prelude.{◌≡◌, ◌+◌, ◌≤◌, Bool, Ok, Err, false, true, IfOk, IfErr, MatchOption};
 ghost use Rattle.std.specs.Prelude.{MatchResult, if◌then◌else◌, bytes_eq, nat_le, length, take, drop};
@@ -24,54 +24,53 @@ use minisign::{Result, Signature, SignatureView, read_signature, trusted_comment
 use minisign_base::NamedFault;
 use minisign_hash::blake2b::Blake2b;
 
-// A signature that was read begins with the letters `minisigv`.
+// The mark of a signature that was read: the letters `minisigv`.
 const READ: u64 = 8531903963487693165;
 
-/// A signature as its text has it, 200 bytes with the layout of C. The mark and the digest are for
-/// `State::ask`; what else it tells is for the caller too.
+/// A signature as its file contains it, 200 bytes with the layout of C. The mark and the digest are for
+/// `State::ask`; the other fields inform the caller too.
 #[repr(C)]
 #[derive(Clone, Copy)]
 pub struct SignatureValue {
     /// The mark of a signature that was read.
     pub mark: u64,
-    /// The key ID of the key that signed, as the text has it.
+    /// The key ID in the signature file.
     pub key_id: [u8; 8],
-    /// The signature of the digest of the data, or of the data itself where `legacy` is 1.
+    /// The signature of the digest of the data, or of the data itself if `legacy` is 1.
     pub signature: [u8; 64],
-    /// The comment signature; zeros where the text has fewer than 64 bytes of it.
+    /// The comment signature, or zeros if the file has fewer than 64 bytes of it.
     pub comment_signature: [u8; 64],
-    /// Where in the text the trusted comment begins.
+    /// The position of the trusted comment in the file.
     pub comment_offset: u64,
-    /// How many bytes the trusted comment has.
+    /// The length of the trusted comment in bytes.
     pub comment_len: u64,
-    /// The Blake2b digest of the text, of 32 bytes.
+    /// The Blake2b digest of the file, of 32 bytes.
     pub text_digest: [u8; 32],
-    /// The algorithm: `ED`, or `Ed` where `legacy` is 1.
+    /// The algorithm: `ED`, or `Ed` if `legacy` is 1.
     pub algorithm: [u8; 2],
-    /// 1 where the signature is over the data itself, otherwise 0.
+    /// 1 if the signature is a legacy one, of the data itself, otherwise 0.
     pub legacy: u8,
-    /// 1 where the text has 64 bytes of the comment signature, otherwise 0.
+    /// 1 if the file has 64 bytes of the comment signature, otherwise 0.
     pub whole: u8,
-    /// Nothing yet.
+    /// Reserved.
     pub reserved: u32,
 }
 
 impl SignatureValue {
-    /// Reads the signature of a text, for `State::ask`.
+    /// Parses a signature file, for `State::ask`.
     ///
-    /// Rejected are, in this order: a text that is not UTF-8, `NotUtf8`; what `minisign::read_signature`
-    /// rejects. Does not allocate.
+    /// The errors are, in this order: `NotUtf8`; those of `minisign::read_signature`. Does not allocate.
     pub fn read(sig_text: &[u8]) -> Result<SignatureValue>
-        // On success the value has the key ID, the algorithm, both signatures, the place of the trusted
-        // comment in the text, and the digest of the text. The result is a function of the bytes, which must
-        // be UTF-8: the error is the first check that fails.
+        // On success, the result holds the key ID, the algorithm and both signatures of the text, the
+        // position of the trusted comment in it, and the digest of the text. The text must be UTF-8.
+        // Otherwise, or if it does not parse, the error is the first check that fails.
         ensures value { result ≡ read_signature_value sig_text.now }
 
-        // On success the trusted comment is at that place in the text.
+        // On success, the trusted comment is in the text at the position that the result gives.
         ensures read { IfOk result (λ s. (t : SignatureTextRecord) × IsReadFrom s sig_text.now t) }
 
-        // If reading fails, verification with this text fails with the same error, under every public key and
-        // scheme and for every message.
+        // If the text is UTF-8 and does not parse, verification with it fails with the same error, under
+        // every public key, for every scheme and every message.
         ensures texts { (v : PublicKeyValue) (legacy : Bool)
             → IfErr result (λ e. IsTextRefusal v sig_text.now legacy (Refused e)) }
     {
@@ -81,7 +80,7 @@ impl SignatureValue {
         }
     }
 
-    // Reads the signature of a text.
+    // Parses a signature file that is UTF-8.
     fn read_text(text: &str) -> Result<SignatureValue>
         ensures value { result ≡ map_ok (signature_value text.now) (read_signature text.now) }
         ensures read { IfOk result (λ s. (t : SignatureTextRecord) × (read_signature text.now ≡ Ok t)
@@ -94,7 +93,7 @@ impl SignatureValue {
         }
     }
 
-    // The value of what a text reads as.
+    // Returns the struct for a parsed signature file.
     fn of_view(text: &str, view: &SignatureView<'_>) -> SignatureValue
         ensures { (t : SignatureTextRecord) → read_signature text.now ≡ Ok t → view.now ≡ view_of t
             → (result ≡ signature_value text.now t)
@@ -118,7 +117,7 @@ impl SignatureValue {
         }
     }
 
-    // The signature.
+    // Returns the data signature.
     pub(crate) fn signature(&self) -> Signature
         ensures { result ≡ signature_of_value self.now }
     {
@@ -129,7 +128,7 @@ impl SignatureValue {
         }
     }
 
-    // The trusted comment in a text, which has to be the one that the signature was read from.
+    // Returns the trusted comment in a text, which must be the one that the signature was read from.
     pub(crate) fn comment_in<'a>(&self, sig_text: &'a [u8]) -> std::result::Result<&'a str, Misuse>
         ensures { MatchResult result (λ c. comment_of self.now sig_text.now ≡ Ok c.now)
             (λ m. comment_of self.now sig_text.now ≡ Err m) }
@@ -143,14 +142,15 @@ impl SignatureValue {
         }
     }
 
-    // Whether a text has the digest of the one that was read.
+    // Returns true if a text has the recorded digest.
     fn has_digest_of(&self, sig_text: &[u8]) -> bool
         ensures { result ≡ bytes_eq (blake2b_digest 32 sig_text.now) self.now.text_digest }
     {
         digest_of(sig_text) == self.text_digest
     }
 
-    // The trusted comment, where the text has the digest of the one that was read, and UTF-8 at its place.
+    // Returns the trusted comment, if the text has the recorded digest and UTF-8 at the position of the
+    // comment.
     fn comment_of_same<'a>(&self, sig_text: &'a [u8]) -> Option<&'a str>
         ensures { MatchOption result (is_text_of self.now sig_text.now ≡ false)
             (λ c. (is_text_of self.now sig_text.now ≡ true) × (c.now ≡ comment_bytes self.now sig_text.now)) }
@@ -166,7 +166,7 @@ impl SignatureValue {
     }
 }
 
-// So many bytes of a text from this place on.
+// Returns len bytes of a text from this position on, if it has them.
 fn part_of(text: &[u8], offset: u64, len: u64) -> Option<&[u8]>
     ensures { MatchOption result (nat_le (offset + len) (length text.now) ≡ false)
         (λ part. (nat_le (offset + len) (length text.now) ≡ true)
@@ -181,7 +181,7 @@ fn part_of(text: &[u8], offset: u64, len: u64) -> Option<&[u8]>
     Some(part)
 }
 
-// The digest of a text, of 32 bytes.
+// Returns the digest of a text, of 32 bytes.
 fn digest_of(text: &[u8]) -> [u8; 32]
     ensures { result ≡ blake2b_digest 32 text.now }
 {
@@ -190,14 +190,14 @@ fn digest_of(text: &[u8]) -> [u8; 32]
     digest
 }
 
-// 1 where the signature is over the data itself, otherwise 0.
+// Returns 1 if the signature is a legacy one, of the data itself, otherwise 0.
 fn legacy_number(view: &SignatureView<'_>) -> u8
     ensures { result ≡ (if is_prehashed view.now.signature then 0 else 1) }
 {
     if view.is_prehashed() { 0 } else { 1 }
 }
 
-// The comment signature, or 64 zeros, and whether it has its 64 bytes: 1 or 0.
+// Returns the comment signature and 1, or 64 zeros and 0 if it has fewer than 64 bytes.
 fn told_comment_signature(view: &SignatureView<'_>) -> ([u8; 64], u8)
     ensures { (c : CommentsRecord) → view.now.comment_signature ≡ first_64 c.signature
         → (result.0 ≡ told_signature c) × (result.1 ≡ (if has_whole_signature c then 1 else 0)) }

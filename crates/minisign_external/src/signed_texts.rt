@@ -1,4 +1,4 @@
-//! The text of a signature, from the answers of a signature scheme.
+//! Encodes a signature file from the two signatures that a scheme made.
 
 ghost use Rattle.std.specs.Prelude.{◌≡◌, ◌⊎◌, ◌<◌, ◌≤◌, ◌+◌, ◌++◌, Some, Ok, true, false, string_bytes};
 ghost use Rattle.std.specs.Prelude.{length, take, drop, OnOk, OnErr, IfOk, IfErr, IfNone, IfSome};
@@ -21,9 +21,9 @@ use minisign::SignatureBox;
 use minisign_base::NamedFault;
 use std::alloc::Global;
 
-/// The text of a signature, the four lines that Minisign reads, from the two answers of a signature
-/// scheme: under the key ID of the key, with the trusted comment that the second answer is over
-/// and an untrusted one.
+/// Returns a signature file, the four lines that Minisign reads, with this key ID, the two signatures that a
+/// scheme made, and the two comments. `second` must be the signature of `first` followed by the trusted
+/// comment.
 pub fn signed_text(
     alloc: Global,
     key_id: &[u8; 8],
@@ -32,19 +32,19 @@ pub fn signed_text(
     trusted: &str,
     untrusted: &str,
 ) -> std::result::Result<String, Refusal>
-    // On success the text reads as the box with exactly this key ID, these comments and these signatures. For
-    // every scheme that made these two signatures, that is the box that signing makes. The text is a valid
-    // signature of the message under every public key under which both signatures are valid, and for a
-    // genuine key the headline's third part holds for it.
+    // On success, the result parses to a signature with exactly this key ID, these comments and these
+    // signatures. If a scheme made the two signatures, that is the signature box that signing with it makes.
+    // The result is a valid signature of a message under every public key with this key ID under which both
+    // signatures are valid, and for a genuine key the third sentence of the headline holds for it.
     ensures text { IfOk result (λ t.
         IsAnsweredText key_id.now (comments_of trusted.now untrusted.now) first.now second.now
         (string_bytes t)) }
 
-    // The errors are, in this order. First, a comment would not be read back as it is: it has a line feed,
-    // the untrusted one a carriage return at its end, or the trusted one white space at either end. Second,
-    // Minisign 0.11 would not read a comment back: the untrusted one has 1,004 bytes or more, the trusted one
-    // 8,174 or more, or one has a zero byte or a carriage return. Otherwise only a failed allocation is an
-    // error, and that is never reported for such a comment.
+    // The errors are, in this order: `BadComment`, if a comment would change when it is read back, because it
+    // has a line feed, the untrusted one ends with a carriage return, or the trusted one begins or ends with
+    // white space; `UnreadableComment`, if Minisign 0.11 would not read a comment back, because the untrusted
+    // one has 1,004 bytes or more, the trusted one 8,174 or more, or one has a zero byte or a carriage
+    // return. For comments without these errors, only out of memory is possible.
     ensures refused { IfErr result (λ r. ((r ≡ Refused (Named OutOfMemory)) × AreChosenReadBack
         (comments_of trusted.now untrusted.now) × AreReadByMinisign (comments_of trusted.now untrusted.now))
         ⊎ ((m : Misuse) × (r ≡ WrongUse m) × IsCommentMisuse (comments_of trusted.now untrusted.now) m)) }
@@ -55,8 +55,8 @@ pub fn signed_text(
     Ok(written(alloc, key_id, first, second, trusted, untrusted)?)
 }
 
-/// Writes the text of `signed_text`, under the key ID of a public key that was read, to the start of `to`.
-/// Returns its length.
+/// Writes the signature file of `signed_text`, with the key ID of a public key that was read, to the start of
+/// `to`. Returns its length.
 pub fn write_signed_text(
     alloc: Global,
     key: &PublicKeyValue,
@@ -66,15 +66,15 @@ pub fn write_signed_text(
     untrusted: &[u8],
     to: &mut [u8],
 ) -> std::result::Result<usize, Refusal>
-    // On success the public key was read, and the text that `signed_text` returns for its key ID is at the
-    // start of the buffer. The rest of the buffer is unchanged.
+    // On success, the public key was read, and the signature file that `signed_text` promises for its key ID
+    // is at the start of the buffer. The rest of the buffer is unchanged.
     ensures text { IfOk result (λ len. (is_public_key key.now ≡ true)
         × HoldsText key.now.key_id (comments_of trusted.now untrusted.now) first.now second.now to.new len) }
     ensures rest { IfOk result (λ len. drop len to.new ≡ drop len to.old) }
     ensures readable { OnOk result (AreReadByMinisign (comments_of trusted.now untrusted.now)) }
 
-    // The errors are, in this order: the public key was not read, a comment is not UTF-8, those of
-    // `signed_text`, and the buffer is too short. After an error the buffer is unchanged.
+    // The errors are, in this order: the public key was not read; a comment is not UTF-8; those of
+    // `signed_text`; the buffer is too short. After an error the buffer is unchanged.
     ensures refused { IfErr result
         (IsWritingRefusal key.now (comments_of trusted.now untrusted.now) first.now second.now to.old) }
     ensures kept { OnErr result (to.new ≡ to.old) }
@@ -95,7 +95,7 @@ pub fn write_signed_text(
     }
 }
 
-// Writes the bytes to the start of `to`, and returns how many.
+// Writes the bytes to the start of `to` and returns their number, or nothing if they do not fit.
 pub(crate) fn write_front(bytes: &[u8], to: &mut [u8]) -> Option<usize>
     ensures written { MatchOption result (length to.old < length bytes.now)
         (λ n. (n ≤ length to.new) × (take n to.new ≡ bytes.now)) }
@@ -111,16 +111,16 @@ pub(crate) fn write_front(bytes: &[u8], to: &mut [u8]) -> Option<usize>
     Some(bytes.len())
 }
 
-/// Writes the message of the second question to the start of `message`, and returns its length: the first
-/// signature followed by the trusted comment, which is 64 bytes longer than the comment. Where there is no
-/// room nothing is written.
+/// Writes the message of the second question to the start of `message`: the first signature followed by the
+/// trusted comment. Returns its length, which is 64 bytes more than that of the comment. If the buffer is too
+/// short, nothing is written.
 pub fn write_comment_message(
     first: &[u8; 64],
     trusted: &[u8],
     message: &mut [u8],
 ) -> Result<usize, Misuse>
-    // On success the first signature, followed by the trusted comment, is at the start of the buffer. The
-    // rest of the buffer is unchanged. If the buffer is too short, it is unchanged.
+    // On success, the first signature followed by the trusted comment is at the start of the buffer, and the
+    // rest of the buffer is unchanged. The only error is a buffer that is too short; then it is unchanged.
     ensures message { IfOk result (λ n. (n ≡ 64 + length trusted.now) × (n ≤ length message.new)
         × (take n message.new ≡ first.now ++ trusted.now)) }
     ensures rest { IfOk result (λ n. drop n message.new ≡ drop n message.old) }
@@ -135,7 +135,7 @@ pub fn write_comment_message(
     Ok(64 + trusted.len())
 }
 
-// Tests comments: whether they are read back as they are written, and by Minisign's own program too.
+// Checks that the comments are read back unchanged, by this library and by Minisign 0.11.
 fn test_comments(trusted: &str, untrusted: &str) -> Result<(), Misuse>
     ensures { MatchResult result (λ _. AreChosenReadBack (comments_of trusted.now untrusted.now)
         × AreReadByMinisign (comments_of trusted.now untrusted.now))
@@ -150,7 +150,7 @@ fn test_comments(trusted: &str, untrusted: &str) -> Result<(), Misuse>
     Ok(())
 }
 
-// Whether Minisign's own program reads comments back as they are written.
+// Returns true if Minisign 0.11 reads the comments back unchanged.
 fn are_read_by_minisign(trusted: &[u8], untrusted: &[u8]) -> bool
     ensures read { result ≡ true → AreReadByMinisign (comments_of trusted.now untrusted.now) }
     ensures unread { result ≡ false → ¬ (AreReadByMinisign (comments_of trusted.now untrusted.now)) }
@@ -163,7 +163,7 @@ fn are_read_by_minisign(trusted: &[u8], untrusted: &[u8]) -> bool
         && !trusted.contains(&13)
 }
 
-// Whether comments are read back as they are written.
+// Returns true if this library reads the comments back unchanged.
 fn are_kept(trusted: &str, untrusted: &str) -> bool
     ensures kept { result ≡ true → AreChosenReadBack (comments_of trusted.now untrusted.now) }
     ensures unkept { result ≡ false → ¬ (AreChosenReadBack (comments_of trusted.now untrusted.now)) }
@@ -174,7 +174,7 @@ fn are_kept(trusted: &str, untrusted: &str) -> bool
         && trusted.trim() == trusted
 }
 
-// Writes the four lines.
+// Returns the four lines of the file.
 fn written(
     alloc: Global,
     key_id: &[u8; 8],

@@ -1,5 +1,5 @@
-//! A state of fixed size that a program in another language holds. You ask it about a key and a
-//! signature, feed it the data in pieces, and get the digest and the verdict.
+//! A state of fixed size, which a program in another language holds to verify or sign one file. It is asked
+//! about a key and a signature, is fed the data in pieces, and returns the digest and the verdict.
 
 ghost use Rattle.std.specs.Prelude.{◌≡◌, ◌++◌, ℕ, List, [], false, Ok, OnOk, IfOk, IfErr, MatchResult};
 ghost use Rattle.std.specs.Prelude.{length};
@@ -14,8 +14,8 @@ use minisign_base::PError;
 use minisign_hash::blake2b::Blake2b;
 use minisign_hash::blake2b::stored::StoredBlake2b;
 
-// A state that is being fed begins with the letters `minisign`, one that has told its digest with `minissum`.
-// Questions that were asked are marked by `minisask`.
+// The marks of a state that accepts data (the letters `minisign`), of one whose digest was returned
+// (`minissum`), and of questions that were asked (`minisask`).
 pub(crate) const FED: u64 = 7955443211184269677;
 
 pub(crate) const TOLD: u64 = 7887337261936568685;
@@ -32,79 +32,78 @@ pub struct State {
     reserved: [u64; 18],
 }
 
-// What was asked. It is written as a whole where the questions are asked; before that it is the default,
-// zeros.
+// What was asked. All of it is written when the questions are asked; before that it is the default, zeros.
 #[repr(C)]
 #[derive(Clone, Copy, Default)]
 pub(crate) struct Asked {
-    // Whether the questions were asked: `ASKED`, or anything else.
+    // `ASKED` if the questions were asked, otherwise anything else.
     pub(crate) mark: u64,
-    // Whether the second question could be asked: 1 or 0.
+    // 1 if the comment signature has its 64 bytes, otherwise 0.
     pub(crate) whole: u64,
 }
 
-/// What has to be asked, with the layout of C.
+/// The two questions that the caller must ask its Ed25519, with the layout of C.
 #[repr(C)]
 #[derive(Clone, Copy)]
 pub struct Questions {
-    /// The key of both questions.
+    /// The public key for both checks.
     pub public_key: [u8; 32],
-    /// The digest of the data; zeros until it is told.
+    /// The digest of the data, or zeros until it is known.
     pub digest: [u8; 64],
-    /// The signature of the first question, whose message is the digest, or the data itself where
-    /// `legacy` is 1.
+    /// The signature for the first check. Its message is the digest, or the data itself if `legacy` is 1.
     pub signature: [u8; 64],
-    /// The signature of the second question; zeros where the text has fewer than 64 bytes.
+    /// The signature for the second check, or zeros if the signature file has fewer than 64 bytes of it.
     pub comment_signature: [u8; 64],
-    /// The length of the message of the second question.
+    /// The length of the message for the second check.
     pub message_len: u64,
-    /// Where in the message of the second question the trusted comment begins.
+    /// The position of the trusted comment in the message for the second check.
     pub comment_offset: u64,
-    /// How many bytes the trusted comment has.
+    /// The length of the trusted comment in bytes.
     pub comment_len: u64,
-    /// 1 where the signature is over the data itself, otherwise 0.
+    /// 1 if the signature is a legacy one, of the data itself, otherwise 0.
     pub legacy: u32,
-    /// Nothing yet.
+    /// Reserved.
     pub reserved: u32,
 }
 
 /// A usage error of a state or of a call.
 #[derive(Clone, Copy, Debug, PartialEq, Eq)]
 pub enum Misuse {
-    /// The state was never begun, or was ended by a verdict.
+    /// The state was not initialized, or a verdict has finished it.
     NotBegun,
-    /// The questions were asked before, or the digest was told.
+    /// `minisign_ask`, `minisign_install_ask` or `minisign_digest` was called already.
     AlreadyAsked,
-    /// The questions were not asked, or the digest was not told.
+    /// `minisign_ask`, `minisign_install_ask` or `minisign_digest` was not called yet.
     NotAsked,
-    /// An answer is neither `MINISIGN_ANSWER_YES` nor `MINISIGN_ANSWER_NO`.
+    /// A result of a check is neither `MINISIGN_ANSWER_YES` nor `MINISIGN_ANSWER_NO`.
     BadAnswer,
     /// A buffer is too short.
     NoRoom,
     /// `allow_legacy` is neither 0 nor 1.
     BadLegacyFlag,
-    /// A comment of a signature would not be read back as it is.
+    /// This library would not read a comment back unchanged, for example because it contains a line
+    /// feed.
     BadComment,
     /// `with_password` is not 0, 1 or 2.
     BadPasswordFlag,
-    /// A comment of a signature is one that Minisign would not read back: too long, or with a zero
-    /// byte or a carriage return.
+    /// This library would read a comment back, but Minisign would not, because it is too long or
+    /// contains a zero byte or a carriage return.
     UnreadableComment,
-    /// A call of installing is not due, or cannot go so.
+    /// The installation does not expect this call, or this error, at this point.
     NotDue,
     /// An option of an installation is neither 0 nor 1.
     BadOption,
-    /// A numbering is neither `MINISIGN_NUMBERING_TIMESTAMP` nor `MINISIGN_NUMBERING_VERSION`.
+    /// `numbering` is neither `MINISIGN_NUMBERING_TIMESTAMP` nor `MINISIGN_NUMBERING_VERSION`.
     BadNumbering,
-    /// A secret key was neither opened nor taken in.
+    /// The secret key was neither opened nor set by `minisign_take_secret_key`.
     KeyNotOpened,
-    /// A secret key that is to be opened was not read.
+    /// The secret key that is to be opened was not read.
     KeyNotRead,
-    /// A signature that is asked about was not read.
+    /// The signature was not read.
     SignatureNotRead,
-    /// The text is not the one that the signature was read from.
+    /// The signature was read from another signature file than the one that was passed.
     OtherSignatureText,
-    /// A public key was not read.
+    /// The public key was not read.
     PublicKeyNotRead,
     /// The password is empty, and `with_password` does not allow that.
     EmptyPassword,
@@ -112,16 +111,16 @@ pub enum Misuse {
     WeakSealing,
 }
 
-/// Why a call did not go: mostly for an error of the library.
+/// Why a call failed: API misuse, or an error, usually one of the library.
 #[derive(Debug, Drop)]
 pub enum Refusal<F = PError> {
-    /// A usage error.
+    /// API misuse.
     WrongUse(Misuse),
-    /// What was asked for is rejected, for this error.
+    /// The call failed with this error.
     Refused(F),
 }
 
-/// The rejection that this error is.
+/// Wraps an error of the library: the result is `Refused` with this error.
 impl From<PError> for Refusal {
     ghost from_gives = { λ e r. r ≡ Refused e };
 
@@ -130,7 +129,7 @@ impl From<PError> for Refusal {
     }
 }
 
-/// The rejection that this usage error is.
+/// Wraps API misuse: the result is `WrongUse` with this error.
 impl<F> From<Misuse> for Refusal<F> {
     ghost from_gives = { λ m r. r ≡ WrongUse m };
 
@@ -140,9 +139,9 @@ impl<F> From<Misuse> for Refusal<F> {
 }
 
 impl Questions {
-    /// No questions yet: zeros, for asking to write over. Does not allocate.
+    /// Returns questions that hold nothing, for a call that asks to overwrite. Does not allocate.
     pub fn none() -> Questions
-        // Every byte and every number is 0.
+        // All fields of the result are 0.
         ensures { result ≡ no_questions }
     {
         Questions {
@@ -160,9 +159,9 @@ impl Questions {
 }
 
 impl State {
-    /// A state that was fed nothing. Does not allocate.
+    /// Returns a state that has been fed no data. Does not allocate.
     pub fn new() -> State
-        // A new state was fed nothing, and everything else in it is 0.
+        // The new state has been fed no data, nothing was asked, and its reserved fields are 0.
         ensures fed { IsFedState result [] }
         ensures blank { IsBlank result }
     {
@@ -174,11 +173,12 @@ impl State {
         }
     }
 
-    /// Feeds the next bytes of the data. Does not allocate. A state that was never begun is rejected,
-    /// and one that has told its digest; then it stays as it was.
+    /// Feeds the next bytes of the data. Fails if the state was never initialized or was finished, or if its
+    /// digest was already returned; then the state is unchanged. Does not allocate.
     pub fn update(&mut self, piece: &[u8]) -> Result<(), Misuse>
-        // On success the piece is appended to the data that the state was fed. What was asked is unchanged. A
-        // state that was never begun, or whose digest was returned, takes no data: it is unchanged.
+        // On success, the piece is appended to the data that the state was fed. What was asked is unchanged.
+        // The call fails only if the digest was already returned, or if the state was never initialized or
+        // was finished by a verdict. Then the state is unchanged.
         ensures fed { (m : List ℕ) → IsFedState self.old m
             → MatchResult result (λ _. IsFedState self.new (m ++ piece.now)) (λ _. ⊥) }
         ensures asked { KeepsAsked self.old self.new }
@@ -192,12 +192,13 @@ impl State {
         Ok(())
     }
 
-    /// Tells the digest of what the state was fed, 64 bytes; the state then takes no more data.
-    /// Rejected as `update`; then the state and the digest stay as they were.
+    /// Writes the 64-byte digest of the data that the state was fed. The state then accepts no more data.
+    /// Fails as `update` does; then the state and `digest` are unchanged.
     pub fn digest(&mut self, digest: &mut [u8; 64]) -> Result<(), Misuse>
-        // On success the digest is that of all data that the state was fed, and the state takes no more. What
-        // was asked is unchanged. If the state was never begun, or its digest was returned before, the result
-        // is an error, and the state and the digest are unchanged.
+        // On success, the digest is the Blake2b digest (64 bytes) of all data that the state was fed, and the
+        // state accepts no more data. What was asked is unchanged. The call fails only if the digest was
+        // already returned, or if the state was never initialized or was finished by a verdict. Then the
+        // state and the digest are unchanged.
         ensures digest { (m : List ℕ) → IsFedState self.old m
             → MatchResult result (λ _. (digest.new ≡ blake2b_digest 64 m) × HasToldDigest self.new m)
             (λ _. ⊥) }
@@ -213,21 +214,21 @@ impl State {
         Ok(())
     }
 
-    // Whether the state was begun, and was not ended.
+    // Returns true if the state was initialized and no verdict has finished it.
     pub(crate) fn is_begun(&self) -> bool
         ensures { result ≡ is_begun self.now }
     {
         self.mark == FED || self.mark == TOLD
     }
 
-    // Whether questions were asked.
+    // Returns true if questions were asked.
     pub(crate) fn is_asked(&self) -> bool
         ensures { result ≡ is_asked self.now }
     {
         self.asked.mark == ASKED
     }
 
-    // The hash of what the state was fed.
+    // Restores the hash of the data that the state was fed.
     fn hasher(&self) -> Result<Blake2b, Misuse>
         ensures fed { (m : List ℕ) → IsFedState self.now m → MatchResult result (λ b. IsFed b m) (λ _. ⊥) }
         ensures length { IfOk result (λ b. output_length b ≡ 64) }

@@ -1,5 +1,5 @@
-//! Judges the bytes of public keys and signatures: whether strict Ed25519 rejects them whatever the
-//! message is. It compares numbers, and does no arithmetic on the curve. None of it allocates.
+//! Finds weak public keys and signatures: those that strict Ed25519 rejects for their bytes, whatever the
+//! message is. It compares numbers and does no arithmetic on the curve. Nothing here allocates.
 
 ghost use Rattle.std.specs.Prelude.{◌≡◌, ◌==◌, ◌^◌, length, nat_lt};
 ghost use Rattle.std.specs.List.{list_any};
@@ -12,7 +12,7 @@ use crate::public_keys::PublicKeyValue;
 use crate::signatures::SignatureValue;
 use std::simd::{u8x32, u64x4};
 
-// The numbers below have 256 bits: four words, the least significant first.
+// Numbers here have 256 bits, in four words, the least significant first.
 
 // The prime of the field.
 const FIELD_PRIME: [u64; 4] = [
@@ -56,25 +56,28 @@ const ORDER_EIGHT_NEGATED: [u64; 4] = [
     0x05fc_536d_8802_38b1,
 ];
 
-/// Whether strict Ed25519 rejects neither a key nor a signature that was read, nor its comment signature
-/// where that has its 64 bytes.
+/// Returns true if neither the key nor the data signature is weak, nor the comment signature, if it has its
+/// 64 bytes.
 pub fn is_strict_value(key: &PublicKeyValue, signature: &SignatureValue) -> bool
-    // The answer is a function of the bytes.
+    // The result is true exactly if `is_strict` is true of the public key and the data signature and, if the
+    // comment signature has its 64 bytes, that signature passes the same test.
     ensures { result ≡ is_strict_value key.now signature.now }
 {
     is_strict(&key.key, &signature.signature)
         && (signature.whole != 1 || is_strict_signature(&signature.comment_signature))
 }
 
-/// Whether strict Ed25519 rejects neither this public key nor this signature for its bytes.
+/// Returns true if neither this public key nor this signature is weak.
 pub fn is_strict(key: &[u8; 32], signature: &[u8; 64]) -> bool
-    // The answer is a function of the bytes.
+    // The result is true exactly if three numbers are allowed: the y coordinates in the public key and in the
+    // first half of the signature (R) are below the field prime and not those of points of small order, and
+    // the second half of the signature (S) is below the group order (RFC 8032, section 5.1).
     ensures { result ≡ is_strict key.now signature.now }
 {
     is_strict_point(key) && is_strict_signature(signature)
 }
 
-// Whether R is a strict point, and S is below the order of the group.
+// Returns true if R is a strict point and S is below the group order.
 fn is_strict_signature(signature: &[u8; 64]) -> bool
     ensures { result ≡ is_strict_signature signature.now }
 {
@@ -82,7 +85,7 @@ fn is_strict_signature(signature: &[u8; 64]) -> bool
     is_strict_point(r) && is_below(number_of(s), GROUP_ORDER)
 }
 
-// Whether 32 bytes are the canonical encoding of a point, and that has no small order.
+// Returns true if the y coordinate in these 32 bytes is canonical and not that of a point of small order.
 fn is_strict_point(point: &[u8]) -> bool
     requires { length point.now ≡ 32 }
     ensures { result ≡ is_strict_point point.now }
@@ -91,7 +94,7 @@ fn is_strict_point(point: &[u8]) -> bool
     is_below(y, FIELD_PRIME) && !has_small_order(y)
 }
 
-// Whether this is the y coordinate of a point of small order.
+// Returns true if this is the y coordinate of a point of small order.
 fn has_small_order(y: [u64; 4]) -> bool
     ensures { result ≡ list_any (λ small. number_l (2 ^ 64) y == small) small_order_ys }
 {
@@ -102,7 +105,7 @@ fn has_small_order(y: [u64; 4]) -> bool
         || is_same(y, ORDER_EIGHT_NEGATED)
 }
 
-// The y coordinate of the point that 32 bytes encode.
+// Returns the y coordinate in the encoding of a point.
 fn y_of(point: &[u8]) -> [u64; 4]
     requires { length point.now ≡ 32 }
     ensures { number_l (2 ^ 64) result ≡ y_of point.now }
@@ -111,7 +114,7 @@ fn y_of(point: &[u8]) -> [u64; 4]
     [a, b, c, d % 0x8000_0000_0000_0000]
 }
 
-// The number that 32 bytes encode.
+// Returns the number that 32 bytes encode.
 fn number_of(bytes: &[u8]) -> [u64; 4]
     requires { length bytes.now ≡ 32 }
     ensures { number_l (2 ^ 64) result ≡ number_of bytes.now }
@@ -119,7 +122,7 @@ fn number_of(bytes: &[u8]) -> [u64; 4]
     u64x4::from_le_bytes(u8x32::from_slice(bytes)).to_array()
 }
 
-// Whether a number is below another one.
+// Returns true if a is below b.
 fn is_below(a: [u64; 4], b: [u64; 4]) -> bool
     ensures { result ≡ nat_lt (number_l (2 ^ 64) a) (number_l (2 ^ 64) b) }
 {
@@ -137,7 +140,7 @@ fn is_below(a: [u64; 4], b: [u64; 4]) -> bool
     a0 < b0
 }
 
-// Whether two numbers are the same.
+// Returns true if the numbers are equal.
 fn is_same(a: [u64; 4], b: [u64; 4]) -> bool
     ensures { result ≡ (number_l (2 ^ 64) a == number_l (2 ^ 64) b) }
 {

@@ -1,5 +1,5 @@
-//! A secret key as its text has it: a value that is read once, tells what opening takes, and can be
-//! opened.
+//! A secret key as its file contains it: a struct that is read once, says how much work opening takes, and
+//! can be opened.
 
 ghost use Rattle.std.specs.Prelude.{◌≡◌, ◌≤◌, ◌⊎◌, ℕ, List, if◌then◌else◌, true, false, None, Some, Ok, Err};
 ghost use Rattle.std.specs.Prelude.{MatchResult};
@@ -31,56 +31,57 @@ use minisign::{PError, Result, SecretKey, clear_memory, read_secret_key};
 use minisign_base::NamedFault;
 use std::alloc::Global;
 
-// A key that was read and is not opened yet begins with the letters `minisrec`.
+// The mark of a key that was read and is not opened yet: the letters `minisrec`.
 const READ: u64 = 7162256622418291053;
 
-// The key derivation of a sealed key: scrypt.
+// The key derivation of a sealed (encrypted) key: scrypt.
 const SCRYPT: [u8; 2] = [83, 99];
 
-// No key derivation: the secret key was never sealed.
+// No key derivation: the secret key is not encrypted.
 const UNSEALED: [u8; 2] = [0, 0];
 
-// What Minisign writes in place of a checksum where it does not seal the key.
+// Minisign writes this as the checksum of a key that it does not encrypt.
 const NO_CHECKSUM: [u8; 32] = [0; 32];
 
-/// A secret key as its text has it, 176 bytes with the layout of C. It is opened by its mark and its bytes;
-/// what else it tells is for the caller.
+/// A secret key as its file contains it, 176 bytes with the layout of C. Only its mark and its bytes are used
+/// to open it; the other fields inform the caller.
 #[repr(C)]
 #[derive(Clone, Copy)]
 pub struct UnopenedKeyValue {
     /// The mark of a key that was read.
     pub mark: u64,
-    /// The 158 bytes of its record; where the key is not sealed, the secret stands there as it is.
+    /// The 158 bytes of its record. If the key is not encrypted, they contain the secret in the clear.
     pub bytes: [u8; 158],
-    /// 1 where the key wants a password, otherwise 0.
+    /// 1 if the key needs a password, otherwise 0.
     pub is_sealed: u8,
-    /// How many rows of 1 KiB opening takes, as a logarithm to base 2, at most 20; 0 where it is not sealed,
-    /// or its limits are rejected.
+    /// The base-2 logarithm of the number of 1 KiB rows that opening needs, at most 20; 0 if the key is not
+    /// encrypted or its limits are rejected.
     pub log2_rows: u8,
-    /// How often all rows are made; 0 where the key is not sealed, or its limits are rejected.
+    /// How many times all rows are computed; 0 if the key is not encrypted or its limits are rejected.
     pub work: u32,
-    /// Nothing yet.
+    /// Reserved.
     pub reserved: u32,
 }
 
-/// The text of a secret key, and how it is opened.
+/// A secret key file, and how to open it.
 #[derive(Clone, Copy)]
 pub struct KeyText<'a> {
-    /// Both lines of the text.
+    /// The file, with both lines.
     pub text: &'a [u8],
-    /// The password; nothing for a key that was never sealed.
+    /// The password, or nothing for a key that is not encrypted.
     pub password: Option<&'a [u8]>,
-    /// Every k-th of scrypt's rows is kept, where this is k; 0 and 1 keep them all.
+    /// k, if only every k-th row of scrypt is kept in memory; 0 and 1 keep them all.
     pub keep_every: u64,
-    /// How many of scrypt's rows may be made in all.
+    /// How many rows scrypt may compute in all.
     pub most_rows: u64,
 }
 
 impl<'a> KeyText<'a> {
-    /// Reads the key and opens it, as `read_unopened_key` and the calls that open do.
+    /// Reads the key file and decrypts the key, as `read_unopened_key` and the calls that open do.
     pub fn open(&self, alloc: Global) -> std::result::Result<SecretKeyValue, Refusal>
-        // On success the result is the key that the text opens to, with the mark of an opened key. The error
-        // is the first check that fails or, if a key is derived from the password, a failed allocation.
+        // On success, the result is the key of the file, decrypted if it was encrypted, and marked as open.
+        // The error is the first check that fails, or out of memory, which is possible only once a key is
+        // derived from the password.
         ensures { MatchResult result (λ v. (k : SecretKeyRecord) × (opened_text self.now.text.now
             (option_copied self.now.password) self.now.most_rows ≡ Ok k) × (v ≡ taken_key k.keynum k.secret))
             (IsTextOpeningRefusal self.now.text.now (option_copied self.now.password) self.now.most_rows) }
@@ -92,7 +93,7 @@ impl<'a> KeyText<'a> {
         }
     }
 
-    // Opens the key that was read.
+    // Opens the key that was read, with the password if there is one.
     fn open_read(
         &self,
         alloc: Global,
@@ -111,7 +112,7 @@ impl<'a> KeyText<'a> {
     }
 }
 
-// Opens a key that was read and is sealed.
+// Opens an encrypted key that was read.
 fn open_sealed(
     alloc: Global,
     unopened: &UnopenedKeyValue,
@@ -131,7 +132,7 @@ fn open_sealed(
     }
 }
 
-// Opens a key that was read and was never sealed.
+// Opens a key that was read and is not encrypted.
 fn open_unsealed_read(unopened: &UnopenedKeyValue) -> std::result::Result<SecretKeyValue, Refusal>
     requires { is_read unopened.now ≡ true }
     ensures { MatchResult result (λ v. (k : SecretKeyRecord) × (open_record
@@ -146,7 +147,7 @@ fn open_unsealed_read(unopened: &UnopenedKeyValue) -> std::result::Result<Secret
 }
 
 impl UnopenedKeyValue {
-    // The value of the key in these bytes.
+    // Returns the struct for a key record.
     fn of_bytes(bytes: [u8; 158]) -> UnopenedKeyValue
         ensures { result ≡ read_value bytes }
     {
@@ -161,7 +162,7 @@ impl UnopenedKeyValue {
         }
     }
 
-    // Whether the key was read.
+    // Returns true if the key was read.
     fn is_read(&self) -> bool
         ensures { result ≡ is_read self.now }
     {
@@ -169,14 +170,14 @@ impl UnopenedKeyValue {
     }
 }
 
-// The key in these bytes, which are as many as a record has.
+// Parses a key record of 158 bytes, which always succeeds.
 fn key_of(bytes: &[u8; 158]) -> Result<SecretKey>
     ensures { result ≡ Ok (secret_key_of_bytes bytes.now) }
 {
     SecretKey::from_bytes(bytes)
 }
 
-// Whether the key in these bytes wants a password, and what opening it takes.
+// Returns 1 if the key in these bytes needs a password, otherwise 0, and the work of opening it.
 fn told_of(bytes: &[u8; 158]) -> (u8, u8, u32)
     ensures sealed { result.0 ≡ (if wants_password (secret_key_of_bytes bytes.now) then 1 else 0) }
     ensures work { (result.1, result.2) ≡ opening_work (secret_key_of_bytes bytes.now) }
@@ -187,7 +188,7 @@ fn told_of(bytes: &[u8; 158]) -> (u8, u8, u32)
     }
 }
 
-// The same of a key.
+// Returns 1 if the key needs a password, otherwise 0, and the work of opening it.
 fn told_by(key: &SecretKey) -> (u8, u8, u32)
     ensures sealed { result.0 ≡ (if wants_password key.now then 1 else 0) }
     ensures work { (result.1, result.2) ≡ opening_work key.now }
@@ -200,18 +201,18 @@ fn told_by(key: &SecretKey) -> (u8, u8, u32)
     }
 }
 
-/// Reads the text of a secret key into a value, which can then be opened.
+/// Parses a secret key file. The key can then be opened.
 ///
-/// Rejected are, in this order: a text that is not UTF-8; what `minisign::read_secret_key` rejects. Then the
-/// value stays as it was. Does not allocate.
+/// The errors are, in this order: `NotUtf8`; those of `minisign::read_secret_key`. After an error `value` is
+/// unchanged. Does not allocate.
 pub fn read_unopened_key(sk_text: &[u8], value: &mut UnopenedKeyValue) -> Result<()>
-    // The result is a function of the bytes, which must be UTF-8: the error is the first check that fails.
-    // After an error the value is unchanged.
+    // The call succeeds exactly if the text is UTF-8 and a well-formed secret key file. Otherwise the error
+    // is the first check that fails, and `value` is unchanged.
     ensures result { result ≡ without_value (read_utf8 read_secret_key sk_text.now) }
     ensures kept { OnErr result (value.new ≡ value.old) }
 
-    // On success the value holds the key record of the text and says what opening it takes. Opening the value
-    // gives what opening the text gives, under every password and for every bound on the work.
+    // On success, `value` holds the key of the file and says how much work opening it takes. Opening `value`
+    // gives the same result as opening the file, for every password and every bound on the work.
     ensures read { OnOk result (read_utf8 read_secret_key sk_text.now ≡ Ok (unopened_record value.new)) }
     ensures told { OnOk result (value.new ≡ read_value value.new.bytes) }
     ensures opens { OnOk result (OpensAs value.new sk_text.now) }
@@ -225,7 +226,7 @@ pub fn read_unopened_key(sk_text: &[u8], value: &mut UnopenedKeyValue) -> Result
     }
 }
 
-// The record of the key that a text reads as, which has to be UTF-8.
+// Returns the record in a secret key file, which must be UTF-8.
 fn read(sk_text: &[u8]) -> Result<[u8; 158]>
     ensures { read_utf8 read_secret_key sk_text.now ≡ map_ok secret_key_of_bytes result }
 {
@@ -235,17 +236,18 @@ fn read(sk_text: &[u8]) -> Result<[u8; 158]>
     }
 }
 
-/// Opens a secret key that was read and that was never sealed. It takes no memory and no password.
+/// Opens a secret key that was read and that is not encrypted.
 ///
-/// Rejected are, in this order: a key that was not read, `KeyNotRead`; a sealed one, `KeyMightBeEncrypted`;
-/// one whose checksum does not match and is not 32 zeros, as Minisign writes them, `CorruptedKey`. Does not
-/// allocate.
+/// The errors are, in this order: `KeyNotRead`; `KeyMightBeEncrypted`, if the key is encrypted;
+/// `CorruptedKey`, if the checksum neither matches nor consists of 32 zeros, which Minisign writes in an
+/// unencrypted key. Does not allocate.
 pub fn open_unsealed_key(
     unopened: &UnopenedKeyValue,
     value: &mut SecretKeyValue,
 ) -> std::result::Result<(), Refusal>
-    // On success the key was read, was never sealed and is now in the value, with the mark of an opened key.
-    // The error is the first check that fails. After an error the value is unchanged.
+    // The call succeeds exactly if the key was read, is not encrypted, and has a checksum that matches or is
+    // 32 zeros. On success, `value` holds the key and is marked as open. Otherwise the error is the first
+    // check that fails, and `value` is unchanged.
     ensures { (result, value.new) ≡ opened_or_kept (opened_unsealed unopened.now) value.old }
 {
     if unopened.is_read() {
@@ -255,17 +257,17 @@ pub fn open_unsealed_key(
     }
 }
 
-/// Opens a sealed secret key that was read, with its password.
+/// Opens (decrypts) a sealed secret key that was read, with its password.
 ///
-/// It takes the memory and the time of scrypt by the key's limits. `keep_every` is k, where every k-th of
-/// scrypt's rows is kept, 1 KiB each, of at most 2^20; 0 and 1 keep them all. `most_rows` is how many rows
-/// may be made in all: N for each of scrypt's p parts, at most 2^20 for a key of Minisign's own.
+/// The limits of the key determine the memory and time of scrypt. `keep_every` is k if only every k-th row of
+/// scrypt is kept in memory; a row has 1 KiB, there are at most 2^20 rows, and 0 and 1 keep them all.
+/// `most_rows` bounds how many rows are computed in all: N for each of scrypt's p parts, which is at most
+/// 2^20 for a key that Minisign made.
 ///
-/// Rejected are, in this order: a key that was not read, `KeyNotRead`; a password that is not UTF-8,
-/// `NotUtf8`; a key that was never sealed, `KeyNotEncrypted`; one that is not sealed by scrypt,
-/// `UnsupportedEncryptionAlgorithm`; limits, with `ParametersTooHigh` or `InvalidParameters`; more rows,
-/// `WorkTooHigh`; another password, `WrongPassword`. Where all of these but the last let it derive, an
-/// allocation may fail.
+/// The errors are, in this order: `KeyNotRead`; `NotUtf8`, for the password; `KeyNotEncrypted`;
+/// `UnsupportedEncryptionAlgorithm`, if the key derivation is not scrypt; `ParametersTooHigh` or
+/// `InvalidParameters`, for the limits; `WorkTooHigh`, if more rows are needed; `WrongPassword`. Out of
+/// memory is possible only if all checks before the password succeed.
 #[tactic(auto, using(crate::proofs::WithinRows::sealed_or_none))]
 pub fn open_sealed_key(
     alloc: Global,
@@ -275,10 +277,10 @@ pub fn open_sealed_key(
     most_rows: u64,
     value: &mut SecretKeyValue,
 ) -> std::result::Result<(), Refusal>
-    // On success the key was read, the password opens it within `most_rows`, and it is now in the value, with
-    // the mark of an opened key. The error is the first check that fails or, if a key is derived from the
-    // password, a failed allocation. After an error the value is unchanged. None of this depends on
-    // `keep_every`.
+    // On success, the key was read, the password decrypts it within `most_rows`, and `value` holds the
+    // decrypted key and is marked as open. Otherwise the error is the first check that fails or, once a key
+    // is derived from the password, possibly out of memory; and `value` is unchanged. Apart from out of
+    // memory, the result does not depend on `keep_every`.
     ensures { ((result, value.new) ≡ opened_or_kept (opened_sealed unopened.now password.now most_rows)
         value.old) ⊎ (((result, value.new) ≡ opened_or_kept (Err (Refused (Named OutOfMemory))) value.old)
         × DerivesWithin unopened.now password.now most_rows) }
@@ -291,11 +293,13 @@ pub fn open_sealed_key(
     }
 }
 
-/// Returns how much memory `open_sealed_key_in_place` takes with the same `keep_every` and `most_rows`: a
-/// number of words of 32 bits, and a number of bytes. Zeros for a key that wants no password, whose limits
-/// are rejected, or that makes more than `most_rows` rows. Does not allocate.
+/// Returns how much memory `open_sealed_key_in_place` needs with the same `keep_every` and `most_rows`: the
+/// number of 32-bit words, and the number of bytes. Both are 0 if the key needs no password, its limits are
+/// rejected, or it needs more than `most_rows` rows. Does not allocate.
 pub fn memory_to_open(unopened: &UnopenedKeyValue, keep_every: u64, most_rows: u64) -> (u64, u64)
-    // The memory is that of opening the key in the value, or zeros if that makes too many rows.
+    // The result is how many 32-bit words and how many bytes opening this key in place needs, if every
+    // `keep_every`-th row of scrypt is kept. Both are 0 if the key needs no password, its limits are
+    // rejected, or it needs more than `most_rows` rows.
     ensures { result ≡ value_memory unopened.now keep_every most_rows }
 {
     match key_of(&unopened.bytes) {
@@ -304,7 +308,7 @@ pub fn memory_to_open(unopened: &UnopenedKeyValue, keep_every: u64, most_rows: u
     }
 }
 
-// Returns the memory that opening a key in place takes, or zeros if that makes more rows.
+// Returns the memory for opening a key in place, or zeros if the key needs more rows than allowed.
 fn memory_within(key: &SecretKey, k: u64, most_rows: u64) -> (u64, u64)
     requires { 1 ≤ k }
     ensures { result ≡ (if makes_within key.now most_rows then opening_memory key.now k else (0, 0)) }
@@ -316,7 +320,7 @@ fn memory_within(key: &SecretKey, k: u64, most_rows: u64) -> (u64, u64)
     }
 }
 
-// Returns true if opening a key makes at most so many rows.
+// Returns true if opening a key needs at most `most_rows` rows.
 #[tactic(auto, using(crate::proofs::WithinRows::within_times))]
 fn makes_within(key: &SecretKey, most_rows: u64) -> bool
     ensures { result ≡ makes_within key.now most_rows }
@@ -326,7 +330,7 @@ fn makes_within(key: &SecretKey, most_rows: u64) -> bool
     !(times < work)
 }
 
-// Returns the error of opening a key that makes more rows.
+// Returns the error of opening a key that needs more rows.
 #[tactic(auto, using(crate::proofs::WithinRows::too_many_of_scrypt, crate::proofs::WithinRows::too_many_of_other))]
 fn too_many_rows(key: &SecretKey, most_rows: u64) -> PError
     requires { makes_within key.now most_rows ≡ false }
@@ -339,13 +343,13 @@ fn too_many_rows(key: &SecretKey, most_rows: u64) -> PError
     }
 }
 
-/// Opens a sealed secret key that was read, with its password, in memory that is passed in, as
-/// `open_sealed_key` does, and allocates none: `words` and `bytes` have at least the lengths that
-/// `memory_to_open` returns. What they held is not read, and all of both is left with zeros, after an error
-/// too.
+/// Opens (decrypts) a sealed secret key that was read, as `open_sealed_key` does, but in memory that the
+/// caller passes in, and without allocating. `words` and `bytes` must have at least the lengths that
+/// `memory_to_open` returns. Their contents are not read, and both are filled with zeros before the call
+/// returns, also after an error.
 ///
-/// Rejected is what `open_sealed_key` rejects, and behind a key that was not read too little memory,
-/// `NoRoom`.
+/// The errors are those of `open_sealed_key` except out of memory, with `NoRoom` for too little memory after
+/// `KeyNotRead`.
 pub fn open_sealed_key_in_place(
     unopened: &UnopenedKeyValue,
     password: &[u8],
@@ -355,14 +359,14 @@ pub fn open_sealed_key_in_place(
     bytes: &mut [u8],
     value: &mut SecretKeyValue,
 ) -> std::result::Result<(), Refusal>
-    // On success the key was read, the memory is enough, the password opens the key within `most_rows`, and
-    // it is now in the value, with the mark of an opened key. The error is the first check that fails, and
-    // never out of memory. After an error the value is unchanged. None of this depends on what the memory
-    // held.
+    // The call succeeds exactly if the key was read, the memory is sufficient, and the password decrypts the
+    // key within `most_rows`. Then `value` holds the decrypted key and is marked as open. Otherwise the error
+    // is the first check that fails, never out of memory, and `value` is unchanged. What the memory held
+    // before makes no difference.
     ensures opened { (result, value.new) ≡ opened_or_kept (opened_in_place unopened.now password.now
         keep_every most_rows (length words.old) (length bytes.old)) value.old }
 
-    // All of that memory then holds zeros, after an error too.
+    // The memory is filled with zeros when the call returns, also after an error.
     ensures words_cleared { words.new ≡ replicate (length words.old) 0 }
     ensures bytes_cleared { bytes.new ≡ replicate (length bytes.old) 0 }
 {
@@ -374,7 +378,7 @@ pub fn open_sealed_key_in_place(
     take_opened(opened, value)
 }
 
-// Tests that the key was read, and that there is memory enough to open it in place.
+// Checks that the key was read and that the memory is sufficient to open it in place.
 fn test_room(
     unopened: &UnopenedKeyValue,
     keep_every: u64,
@@ -401,7 +405,7 @@ fn test_room(
     }
 }
 
-// Leaves the key that was opened in the value.
+// Stores the opened key in `value`.
 fn take_opened(
     opened: Result<SecretKey>,
     value: &mut SecretKeyValue,
@@ -417,7 +421,7 @@ fn take_opened(
     }
 }
 
-// The key opened with a password, which has to be UTF-8.
+// Opens the key with a password, which must be UTF-8.
 fn derive(
     alloc: Global,
     unopened: &UnopenedKeyValue,
@@ -438,7 +442,7 @@ fn derive(
     key.open_keeping_within(alloc, text.as_bytes(), keep_every.max(1), times)
 }
 
-// The same in memory that is passed in and is enough.
+// Opens the key with a password, in memory of sufficient size that is passed in.
 fn derive_in_place(
     unopened: &UnopenedKeyValue,
     password: &[u8],
@@ -467,8 +471,8 @@ fn derive_in_place(
     key.open_in_place(typed.as_bytes(), keep_every.max(1), times, words, bytes)
 }
 
-// The key that was never sealed: one with 32 zeros in place of its checksum, as Minisign writes it, or else
-// what `SecretKey::test_unencrypted` takes.
+// Returns the key if it is not encrypted and its checksum matches, or is the 32 zeros that Minisign writes
+// there.
 fn open_unsealed(unopened: &UnopenedKeyValue) -> Result<SecretKey>
     ensures { result ≡ open_unsealed (unopened_record unopened.now) }
 {
@@ -482,7 +486,7 @@ fn open_unsealed(unopened: &UnopenedKeyValue) -> Result<SecretKey>
     }
 }
 
-// Whether the key names no key derivation, and has zeros in place of its checksum.
+// Returns true if the key names no key derivation and its checksum is all zeros.
 fn lacks_checksum(key: &SecretKey) -> bool
     ensures { result ≡ lacks_checksum key.now }
 {

@@ -1,4 +1,4 @@
-//! What the answers to the questions decide.
+//! The verdict from the results of the two Ed25519 checks.
 
 ghost use Rattle.std.specs.Prelude.{◌≡◌, ◌&&◌, Ok};
 ghost use Rattle.minisign_base.specs.declared.faults.NamedFault.TheVariants.{CommentSignatureRefused};
@@ -7,11 +7,12 @@ ghost use Rattle.minisign.specs.Texts.{require};
 
 use minisign_base::{NamedFault, Result};
 
-/// What the answers to the two questions decide. `whole` says whether the second one could be asked: the
-/// comment signature has its 64 bytes.
+/// Returns the verdict that follows from the results of the two Ed25519 checks: success exactly if both are
+/// true and `whole` is true. `whole` says that the comment signature has its 64 bytes, so that the second
+/// check could be made.
 ///
-/// Does not allocate. Rejected are, in this order: a signature that is not accepted, a comment signature that
-/// is too short or not accepted.
+/// The errors are, in this order: `SignatureRefused`, if `first` is false; `CommentSignatureRefused`, if the
+/// comment signature is too short or `second` is false. Does not allocate.
 pub fn verdict(whole: bool, first: bool, second: bool) -> Result<()>
     ensures { result ≡ judge_answers first (whole && second) }
 {
@@ -21,8 +22,8 @@ pub fn verdict(whole: bool, first: bool, second: bool) -> Result<()>
     comment_verdict(whole, second)
 }
 
-/// What the answer to the second question decides by itself. Rejected is a comment signature that is too
-/// short or not accepted. Does not allocate.
+/// Returns the verdict on the comment signature only: success exactly if `whole` and `second` are true,
+/// otherwise `CommentSignatureRefused`. Does not allocate.
 pub fn comment_verdict(whole: bool, second: bool) -> Result<()>
     ensures { result ≡ require (whole && second) CommentSignatureRefused (Ok tt) }
 {

@@ -1,4 +1,4 @@
-//! Devices that cut bytes finely, take only so much, or fail.
+//! Devices for tests: they split bytes finely, accept a limited number, or fail.
 
 pub mod random;
 pub mod sinks;

@@ -1,9 +1,9 @@
-//! Files that a test makes in the system's directory for passing files, under names of its process.
+//! Paths of files in the directory for temporary files, with the ID of the process in their names.
 
 use minisign_base::errors::Result;
 use std::{env, process};
 
-/// The path of a file of this name.
+/// Returns the path of a file with this name.
 pub fn path_of(rt: &HostRuntime, name: &str) -> Result<String> {
     let id = process::id(rt.process());
     let parent = env::temp_dir(rt)?;

@@ -1,5 +1,5 @@
-//! What the tests share, and the program of the comparison: key A and texts of it, devices that fail, and
-//! files. It has no tests of its own.
+//! Code that the tests and the program of the comparison share: key A and its texts, devices that
+//! fail, and files. It has no tests of its own.
 
 #![tactic(auto)]
 

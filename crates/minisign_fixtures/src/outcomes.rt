@@ -1,4 +1,4 @@
-//! The outcomes of calls, and bytes as they are shown and compared.
+//! Outcomes of calls, and comparisons of bytes and texts.
 
 use minisign_base::errors::Result;
 use minisign_base::faults::NamedFault;
@@ -6,17 +6,17 @@ use std::alloc::Global;
 use std::fmt;
 use std::fmt::Write;
 
-/// What comes of a call, without its value.
+/// The outcome of a call, without its value.
 #[derive(Clone, Copy, Debug, PartialEq, Eq)]
 pub enum Outcome {
-    /// The call gives its value.
+    /// The call succeeds.
     Accepted,
     /// The call returns this error.
     Refused(NamedFault),
 }
 
-/// Whether the answer is a value where one is expected, and otherwise the very error, with its
-/// key IDs. An error with a kind and a text of its caller's own is none that can be expected.
+/// Returns true if the result is as expected: any value, or exactly this error with its key IDs. An
+/// error with a kind and text of the caller's own never matches.
 pub fn comes_to<T>(answer: &Result<T>, expected: Outcome) -> bool {
     match answer {
         Ok(_) => expected == Outcome::Accepted,
@@ -27,12 +27,12 @@ pub fn comes_to<T>(answer: &Result<T>, expected: Outcome) -> bool {
     }
 }
 
-/// The same of an answer of which nothing else is asked.
+/// Does the same with a result that is not used any more.
 pub fn ends_in<T: Drop>(answer: Result<T>, expected: Outcome) -> bool {
     comes_to(&answer, expected)
 }
 
-/// Whether it was found out, and holds.
+/// Returns true if the check was made and holds.
 pub fn is_so(answer: Result<bool>) -> bool {
     match answer {
         Ok(right) => right,
@@ -40,7 +40,6 @@ pub fn is_so(answer: Result<bool>) -> bool {
     }
 }
 
-// Whether it was found out and holds, or an allocation failed.
 fn is_right_or_out_of_memory(answer: &Result<bool>) -> bool {
     match answer {
         Ok(right) => *right,
@@ -48,18 +47,18 @@ fn is_right_or_out_of_memory(answer: &Result<bool>) -> bool {
     }
 }
 
-/// Whether it was found out and holds, or an allocation failed.
+/// Returns true if the check was made and holds, or an allocation failed.
 pub fn is_so_or_out_of_memory(answer: Result<bool>) -> bool {
     is_right_or_out_of_memory(&answer)
 }
 
-/// The same, or a sink could not grow, so that writing failed.
+/// Returns true also if a sink could not grow, so that writing failed.
 pub fn is_so_or_unwritten(answer: Result<bool>) -> bool {
     is_right_or_out_of_memory(&answer)
         || comes_to(&answer, Outcome::Refused(NamedFault::WritingFailed))
 }
 
-/// Whether these are the bytes of the record.
+/// Returns true if the call returned these bytes.
 pub fn gives_record(bytes: Result<Vec<u8>>, record: &[u8]) -> bool {
     match bytes {
         Ok(bytes) => bytes.as_slice() == record,
@@ -67,7 +66,7 @@ pub fn gives_record(bytes: Result<Vec<u8>>, record: &[u8]) -> bool {
     }
 }
 
-/// Whether this is the text.
+/// Returns true if the call returned this text.
 pub fn gives_text(shown: Result<String>, text: &str) -> bool {
     match shown {
         Ok(shown) => shown.as_str() == text,
@@ -75,7 +74,7 @@ pub fn gives_text(shown: Result<String>, text: &str) -> bool {
     }
 }
 
-/// The bytes in lower hexadecimal, two digits each.
+/// Returns the bytes in lowercase hexadecimal, two digits each.
 pub fn hexadecimal(alloc: Global, bytes: &[u8]) -> std::result::Result<String, fmt::Error> {
     let mut text = String::new(alloc);
     for byte in bytes {
@@ -84,12 +83,12 @@ pub fn hexadecimal(alloc: Global, bytes: &[u8]) -> std::result::Result<String, f
     Ok(text)
 }
 
-/// The first so many bytes.
+/// Returns the first `len` bytes, or all if there are fewer.
 pub fn front(bytes: &[u8], len: usize) -> &[u8] {
     &bytes[..len.min(bytes.len())]
 }
 
-/// Bytes that count up from 0.
+/// Returns bytes that count up from 0.
 pub fn counted() -> [u8; 200] {
     let mut bytes = [0u8; 200];
     for i in 0..200 {

@@ -1,4 +1,4 @@
-//! Prompts over slices and buffers, and passwords that are passed.
+//! Prompts over slices and buffers, and passwords that are given.
 
 use crate::devices::sources::OneByOne;
 use minisign_base::devices::sinks::VecSink;
@@ -7,12 +7,12 @@ use minisign_base::errors::Result;
 use minisign_base::prompt::Prompt;
 use std::alloc::Global;
 
-/// A prompt into which these bytes are typed, one byte a read.
+/// Returns a prompt with this input, one byte for each read.
 pub fn typed<'a>(alloc: Global, bytes: &'a [u8]) -> Prompt<OneByOne<'a>, VecSink> {
     Prompt::new(OneByOne::new(bytes), VecSink::new(alloc))
 }
 
-/// The password that is passed in, if there is one.
+/// Returns the given password, if there is one.
 pub fn handed(alloc: Global, password: Option<&str>) -> Result<Option<String>> {
     match password {
         Some(password) => Ok(Some(String::from_str(alloc, password)?)),
@@ -20,7 +20,7 @@ pub fn handed(alloc: Global, password: Option<&str>) -> Result<Option<String>> {
     }
 }
 
-/// How many bytes a source still gives, ten at most.
+/// Returns the number of bytes that a source still returns, up to ten.
 pub fn bytes_left<R: Source>(source: &mut R) -> usize {
     let mut count = 0usize;
     for _ in 0..10 {

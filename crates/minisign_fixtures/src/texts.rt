@@ -1,52 +1,52 @@
-//! Texts of key A and of its signatures, of sealed keys, and of the pair that is made of random
-//! bytes that count up from 0.
+//! The texts of key A, of its signatures, of encrypted keys, and of the pair from random bytes that
+//! count up from 0.
 //!
-//! They hold the base64 of Python's base64 module. What is sealed was xored with scrypt of Python's
-//! hashlib; key A is sealed under the salt whose bytes count up from 0x20, by
+//! The base64 is from Python's base64 module. Encrypted bytes were xored with scrypt output of
+//! Python's hashlib. Key A is encrypted with the salt whose bytes count up from 0x20, by
 //! `tests/library/sealed_keys.py`.
 
-/// Key A's public text: 114 bytes, of which 57 are the first line.
+/// Key A's public text: 114 bytes, 57 of them in the first line.
 pub const KEY_TEXT: &str =
     "untrusted comment: minisign public key: 0807060504030201\nRWQBAgMEBQYHCFpaWlpaWlpaWlpaWlpaWlpaWlpaWlpaWlpaWlpaWlpa\n";
 
-/// Key A's secret text, not sealed: 259 bytes, of which 46 are the first line.
+/// Key A's secret text, not encrypted: 259 bytes, 46 of them in the first line.
 pub const SECRET_TEXT: &str =
     "untrusted comment: rsign encrypted secret key\nRWQAAEIyAAAAAAAAAAAAAAAAAAAAAAAAAAAAAAAAAAAAAAAAAAAAAAAAAAAAAAAAAAAAAAAAAQIDBAUGBwgAAAAAAAAAAAAAAAAAAAAAAAAAAAAAAAAAAAAAAAAAAFpaWlpaWlpaWlpaWlpaWlpaWlpaWlpaWlpaWlpaWlpazoeDdHm2Hr/pRluKO3DYzP11U/WDPdZWSdZKEnx6ifg=\n";
 
-/// Sealed with `password`; the memory limit is 1048576 and the operations limit 0, so that N is
-/// 1024 and p is 1.
+/// Encrypted with `password`. The memory limit is 1048576 and the operations limit 0, so N is 1024
+/// and p is 1.
 pub const SEALED: &str =
     "c\nRWRTY0IyICEiIyQlJicoKSorLC0uLzAxMjM0NTY3ODk6Ozw9Pj8AAAAAAAAAAAAAEAAAAAAANzLJ/MLV6VpKMIMxcHP/PKMk4Bi0eFdmecBNpsg4ynwt/HpMxIwJcRDauwXAlysg905AtUdJ1s3zc9686k8nFa2Pz7MgLfQOna+YbhXPDg/sopzDAu0uhPc67LTI7waUd6Z1TNToWRQ=\n";
 
-/// The same with the empty password.
+/// Encrypted in the same way, with the empty password.
 pub const SEALED_WITH_NOTHING: &str =
     "c\nRWRTY0IyICEiIyQlJicoKSorLC0uLzAxMjM0NTY3ODk6Ozw9Pj8AAAAAAAAAAAAAEAAAAAAA1DkFeSFrLVKcwd/U0CI9mSavW9NxS4F4EQL92MDkC8uWs0JuRQz6LvKq8SxCaEzQ9atdFcGf+AzNzb5P/9sKQMB2AMmAjhrMMVLg/zh9xJgdEhLMHykwaQZcV4+yRqrbnzM9EwHWjT8=\n";
 
-/// Sealed with `password`; the memory limit is 33554432 and the operations limit 1048576, so that N
+/// Encrypted with `password`. The memory limit is 33554432 and the operations limit 1048576, so N
 /// is 32768 and p is 1.
 pub const SEALED_AS_USUAL: &str =
     "c\nRWRTY0IyICEiIyQlJicoKSorLC0uLzAxMjM0NTY3ODk6Ozw9Pj8AABAAAAAAAAAAAAIAAAAAjUss1iTpx2jHan0ASsaZQwP1dCaRM+oU2FIKEwvLutgH2C0JcjxT/CuY4tv6CM1b3wkKEKHGEe71QgwDScCLEz6+FcNBj3NBoDjmf+b5TY9u8fOF0PBBHUDJaJTqFTelg2U253BVfy0=\n";
 
-/// Sealed with `password` under the limits of the C program, 1073741824 and 33554432, so that N is
+/// Encrypted with `password` and the limits of the C program, 1073741824 and 33554432, so N is
 /// 1048576 and p is 1.
 pub const SEALED_AS_MINISIGN: &str =
     "c\nRWRTY0IyICEiIyQlJicoKSorLC0uLzAxMjM0NTY3ODk6Ozw9Pj8AAAACAAAAAAAAAEAAAAAAfNjz++TIKpp4IyGrjJGmCSx73rDg3YioSercimsbLYSEmCVnqNXlkhOlMnO28DQkrhqE6TPG4CHMRLKTyPTH/aM8cigR6hHlyOu2QlHuGt7c7Ymi2nZ4nmOlTg5ZxOkXvKWEU0RI3L4=\n";
 
-/// The text of the signature over `abc` under key A, with the comments `c` and `t`: 230 bytes.
+/// The text of a signature of `abc` under key A, with the comments `c` and `t`: 230 bytes.
 pub const SIGNATURE_TEXT: &str =
     "untrusted comment: c\nRUQBAgMEBQYHCAAAAAAAAAAAAAAAAAAAAAAAAAAAAAAAAAAAAAAAAAAAnV06XOjtbnryLxgygHtgJg6o/+bp8Qy3qGtn2FWlYag=\ntrusted comment: t\nAAAAAAAAAAAAAAAAAAAAAAAAAAAAAAAAAAAAAAAAAACzB2AGsrc0IKh1QmjaITp8VPKlvLOrVu3yMT2CD/878g==\n";
 
-/// The text over `abc` itself under key A, with the comments `c` and `t`.
+/// The text of a legacy signature of `abc` under key A, with the comments `c` and `t`.
 pub const LEGACY_TEXT: &str =
     "untrusted comment: c\nRWQBAgMEBQYHCAAAAAAAAAAAAAAAAAAAAAAAAAAAAAAAAAAAAAAAAAAAOzg5WlpaWlpaWlpaWlpaWlpaWlpaWlpaWlpaWlpaWlo=\ntrusted comment: t\nAAAAAAAAAAAAAAAAAAAAAAAAAAAAAAAAAAAAAAAAAAAVYmMAAAAAAAAAAAAAAAAAAAAAAAAAAAAAAAAAAAAAAA==\n";
 
-/// What is said of these texts: 60 bytes.
+/// The status lines for these texts: 60 bytes.
 pub const SAID: &[u8] = b"Signature and comment signature verified\nTrusted comment: t\n";
 
-/// The public text of the pair that is made of random bytes that count up from 0: 114 bytes.
+/// The public text of the pair from random bytes that count up from 0: 114 bytes.
 pub const COUNTED_PUBLIC_TEXT: &str =
     "untrusted comment: minisign public key: 2726252423222120\nRWQgISIjJCUmJ1pbWFleX1xdUlNQUVZXVFVKS0hJTk9MTUJDQEFGR0RF\n";
 
-/// The secret text of that pair, sealed under the empty password.
+/// The secret text of this pair, encrypted under the empty password.
 pub const COUNTED_SEALED_UNDER_NOTHING: &str =
     "untrusted comment: rsign encrypted secret key\nRWRTY0IyKCkqKywtLi8wMTIzNDU2Nzg5Ojs8PT4/QEFCQ0RFRkcAABAAAAAAAAAAAAIAAAAAIoT8yd+PcQfH6lwE1U7O9qfndmpt7swxBoez0bsWiknOfDOOpFGbhjh5qsz72GDfpXvgyyaj1ApsXB8h6ndwyMLnkT37fS678tPzO+d7NuqTnl9nkchMiqeXIS9wInpMPH1nK9B1duY=\n";

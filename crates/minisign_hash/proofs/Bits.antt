@@ -1,15 +1,15 @@
--- When the exclusive or of two numbers is zero.
+-- Lemmas about an exclusive or that is zero.
 use Rattle.std.proofs.Common.{◌≡◌, ℕ, ◌∙◌, bit_or, bit_xor, sym, ap, arith}
 use Rattle.std.proofs.lemmas.Nat.{le_or_l, le_or_r}
 use Rattle.std.specs.Int.Bits.{xor_assoc, xor_self, xor_zero_l, xor_zero_r}
 
--- numbers whose exclusive or is zero are equal
+-- Numbers whose exclusive or is zero are equal.
 pub same_from_xor : (x y : ℕ) → bit_xor x y ≡ 0 → x ≡ y
 same_from_xor x y h =
     sym (xor_zero_r x) ∙ ap (bit_xor x) (sym h) ∙ sym (xor_assoc x x y) ∙ ap (λ (n : ℕ). bit_xor n y)
     (xor_self x) ∙ xor_zero_l y
 
--- and the other way round
+-- The exclusive or of equal numbers is zero.
 pub xor_from_same : (x y : ℕ) → x ≡ y → bit_xor x y ≡ 0
 xor_from_same x y e = ap (bit_xor x) (sym e) ∙ xor_self x
 

@@ -1,6 +1,6 @@
--- Values of the definitions that are known from outside: where the initialization vector comes from, and
--- digests of 64 and of 32 bytes, which Python's hashlib and b2sum give too. A wrong constant or step in a
--- definition does not check, nor does a wrong byte here.
+-- Known values of the definitions: where the initialization vector comes from, and digests of 64
+-- and of 32 bytes, which Python's hashlib and b2sum also give. A wrong constant or step in a
+-- definition, or a wrong byte here, makes the proof fail.
 use Rattle.std.proofs.Common.{◌≡◌, refl, ℕ, ◌+◌, ◌-◌, ◌*◌, ◌^◌, ◌&&◌, nat_le, nat_lt, Bool, true}
 use Rattle.std.proofs.Common.{if◌then◌else◌, List, [], ◌∷◌, ◌++◌, codes, slice_index}
 use Prim.Native.String.{String}
@@ -9,21 +9,21 @@ use Rattle.minisign_hash.specs.Blake2b.{blake2b_digest, padded_block, compress, 
 use Rattle.minisign_hash.specs.Blake2b.{state_after, work_vector}
 use Rattle.minisign_hash.specs.Words.{bytes_of_words64, words64_of}
 
--- the first eight primes, and the whole parts of their square roots
+-- The first eight primes, and the integer parts of their square roots.
 abbrev primes : List ℕ
 primes = 2 ∷ 3 ∷ 5 ∷ 7 ∷ 11 ∷ 13 ∷ 17 ∷ 19 ∷ []
 
 abbrev whole_roots : List ℕ
 whole_roots = 1 ∷ 1 ∷ 2 ∷ 2 ∷ 3 ∷ 3 ∷ 4 ∷ 4 ∷ []
 
--- k is the whole part of the square root of p, and x the first 64 bits of its fractional part
+-- k is the integer part of the square root of p, and x the first 64 bits of its fractional part.
 abbrev is_root : ℕ → ℕ → ℕ → Bool
 is_root p k x =
     let root = k * 2 ^ 64 + x in
     nat_le (root ^ 2) (p * 2 ^ 128) && nat_lt (p * 2 ^ 128) ((root + 1) ^ 2) && nat_lt x (2 ^ 64)
 
--- the words of the initialization vector are these bits of the first eight primes (RFC 7693, 2.6), as the
--- first words of SHA-512 are
+-- The words of the initialization vector are these bits for the first eight primes (RFC 7693,
+-- section 2.6), like the first words of SHA-512.
 pub iv-square_roots :
     list_all (λ i. is_root (slice_index primes i) (slice_index whole_roots i) (slice_index iv i))
     (range_with_len 0 8)
@@ -31,7 +31,7 @@ pub iv-square_roots :
 unfolding iv
 iv-square_roots = refl
 
--- bytes as RFC 7693 prints them, two digits each
+-- Bytes as RFC 7693 prints them, two digits each.
 abbrev digit : ℕ → ℕ
 digit c = if nat_le 65 c then c - 55 else c - 48
 
@@ -43,7 +43,8 @@ spelled _ = []
 abbrev hex : String → List ℕ
 hex text = spelled (codes text)
 
--- what the facts of digests open: who opens this opens all that it opens
+-- The definitions that the facts about digests unfold. To unfold this name is to unfold all of
+-- them.
 unfoldable digests : ℕ
 unfolding blake2b_digest state_after padded_block compress work_vector rounds round mix iv sigma words64_of
     bytes_of_words64
@@ -55,21 +56,21 @@ pub digest_of_nothing : blake2b_digest 64 [] ≡
 unfolding digests
 digest_of_nothing = refl
 
--- RFC 7693, appendix A
+-- The digest of "abc" (RFC 7693, appendix A).
 pub digest_of_abc : blake2b_digest 64 (codes "abc") ≡
     hex "BA 80 A5 3F 98 1C 4D 0D 6A 27 97 B6 9F 12 F6 E9 4C 21 2F 14 68 5A C4 B7 4B 12 BB 6F DB FF A2 D1" ++
     hex "7D 87 C5 39 2A AB 79 2D C2 52 D5 DE 45 33 CC 95 18 D3 8A A8 DB F1 92 5A B9 23 86 ED D4 00 99 23"
 unfolding digests
 digest_of_abc = refl
 
--- the bytes 0 to 127: one whole block, which is the last
+-- The bytes 0 to 127: one whole block, which is the last.
 pub digest_of_one_block : blake2b_digest 64 (range_with_len 0 128) ≡
     hex "23 19 E3 78 9C 47 E2 DA A5 FE 80 7F 61 BE C2 A1 A6 53 7F A0 3F 19 FF 32 E8 7E EC BF D6 4B 7E 0E" ++
     hex "8C CF F4 39 AC 33 3B 04 0F 19 B0 C4 DD D1 1A 61 E2 4A C1 FE 0F 10 A0 39 80 6C 5D CC 0D A3 D1 15"
 unfolding digests
 digest_of_one_block = refl
 
--- the bytes 0 to 128, of which the last stands in a second block
+-- The bytes 0 to 128: the last one is in a second block.
 pub digest_of_two_blocks : blake2b_digest 64 (range_with_len 0 129) ≡
     hex "F5 97 11 D4 4A 03 1D 5F 97 A9 41 3C 06 5D 1E 61 4C 41 7E DE 99 85 90 32 5F 49 BA D2 FD 44 4D 3E" ++
     hex "44 18 BE 19 AE C4 E1 14 49 AC 1A 57 20 78 98 BC 57 D7 6A 1B CF 35 66 29 2C 20 C6 83 A5 C4 64 8F"

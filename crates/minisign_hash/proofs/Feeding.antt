@@ -1,4 +1,4 @@
--- How the state and the buffer follow a message as it grows.
+-- Lemmas about the state and the buffer while a message grows.
 use Rattle.std.proofs.Common.{◌≡◌, ℕ, zero, suc, ◌+◌, ◌-◌, ◌*◌, ◌/◌, ◌%◌, ◌^◌, ◌<◌, ◌≤◌, true, false, List}
 use Rattle.std.proofs.Common.{[], ◌++◌, length, take, drop, replicate, refl, sym, ap, ◌∙◌, arith}
 use Rattle.std.proofs.Common.{length-append, length-drop}
@@ -8,7 +8,7 @@ use Rattle.minisign_hash.specs.Blake2b.{blake2b_digest, compress, padded_block, 
 use Rattle.minisign_hash.specs.Words.{bytes_of_words64, words64_of}
 use Rattle.minisign_hash.specs.Fed.{HeldAfter}
 
--- state_after reads only the blocks that it counts
+-- state_after reads only the blocks that it counts.
 pub state_after-append : (n : ℕ) (m d : List ℕ) (i : ℕ) → 128 * i ≤ length m → state_after n (m ++ d) i
     ≡ state_after n m i
 unfolding state_after padded_block
@@ -19,14 +19,14 @@ state_after-append n m d (suc i) h =
     rw (drop-append-le (128 * i) m d (omega arith)) (take-append-le 128 (drop (128 * i) m) d fits) in
     rw (same, state_after-append n m d i (omega arith)) refl
 
--- a whole block needs no zeros
+-- A whole block needs no zeros.
 pub block_whole : (m b : List ℕ) (i : ℕ) → b ≡ drop (128 * i) m → length b ≡ 128 → padded_block m i ≡ b
 unfolding padded_block
 block_whole m b i e full =
     let part : take 128 (drop (128 * i) m) ≡ b = rw (← e) (take_all 128 b (omega arith)) in
     rw (part, full) (append-nil b)
 
--- the bytes after the last whole block, and zeros
+-- The last block is the remaining bytes followed by zeros.
 pub block_rest : (m b : List ℕ) (i used : ℕ) → b ≡ drop (128 * i) m → length b ≡ used → used ≤ 128
     → padded_block m i ≡ b ++ replicate (128 - used) 0
 unfolding padded_block
@@ -34,11 +34,11 @@ block_rest m b i used e len fits =
     let part : take 128 (drop (128 * i) m) ≡ b = rw (← e) (take_all 128 b (omega arith)) in
     rw (part, len) refl
 
--- a state that was fed nothing
+-- The first state, with an empty buffer, holds the empty message.
 pub held_none : (n : ℕ) (h buffer : List ℕ) → h ≡ state_after n [] 0 → HeldAfter n h 0 buffer 0 [] 0
 held_none n h buffer e = record { len = refl; state = e; rest = refl; counted = refl }
 
--- bytes that are put after those in the buffer
+-- Appending bytes to the buffer appends them to the message that the state holds.
 pub held_more : (n : ℕ) (h : List ℕ) (count : ℕ) (b c : List ℕ) (used : ℕ) (m d : List ℕ) (i : ℕ)
     → HeldAfter n h count b used m i
     → take (used + length d) c ≡ take used b ++ d → HeldAfter n h count c (used + length d) (m ++ d) i
@@ -49,7 +49,7 @@ held_more n h count b c used m d i held e = record {
   counted = held.counted;
 }
 
--- a whole block among those that lie ahead
+-- A whole block of the next bytes of the message is a padded block of the message.
 pub block_ahead : (m blocks behind : List ℕ) (i k : ℕ) → drop (128 * i) m ≡ blocks ++ behind
     → 128 * k + 128 ≤ length blocks
     → padded_block m (i + k) ≡ take 128 (drop (128 * k) blocks)
@@ -66,7 +66,7 @@ block_ahead m blocks behind i k ahead fits =
     (drop (128 * k) blocks) enough in
     rw (part, size) (append-nil (take 128 (drop (128 * k) blocks)))
 
--- one block more
+-- Compressing the next block gives the state after one more block.
 pub state_next : (n : ℕ) (m blocks behind : List ℕ) (i k : ℕ) (h g : List ℕ) (t : ℕ)
     → drop (128 * i) m ≡ blocks ++ behind → 128 * k + 128 ≤ length blocks
     → h ≡ state_after n m (i + k) → t ≡ 128 * (i + k + 1) % 2 ^ 128
@@ -77,7 +77,7 @@ state_next n m blocks behind i k h g t ahead fits eh et eg =
     let place : i + (k + 1) ≡ suc (i + k) = omega arith in
     eg ∙ rw (et, eh, place, block_ahead m blocks behind i k ahead fits) refl
 
--- s bytes, which are whole blocks, were taken in, and the buffer is empty
+-- After s bytes, which are whole blocks, were compressed, the buffer is empty.
 pub held_taken : (n : ℕ) (g : List ℕ) (count k : ℕ) (b : List ℕ) (used : ℕ) (m : List ℕ) (i s : ℕ) → used ≡ 0
     → length m ≡ 128 * i + s → s % 128 ≡ 0
     → count ≡ 128 * i % 2 ^ 128 → k ≡ (count + s) % 2 ^ 128 → g ≡ state_after n m (i + s / 128)
@@ -91,7 +91,7 @@ held_taken n g count k b used m i s none len whole ec ek eg =
       counted = omega (arith, ec, ek, whole);
     }
 
--- what is left after whole blocks is the last block
+-- What is left after whole blocks is the last block.
 pub last_taken : (n : ℕ) (h m blocks last : List ℕ) (i k : ℕ) → drop (128 * i) m ≡ blocks ++ last
     → length m ≡ 128 * i + length (blocks ++ last)
     → length blocks % 128 ≡ 0 → length last ≤ 128 → (0 < length m → 0 < length last)

@@ -1,4 +1,5 @@
--- Rows of four words as their members, a rotation as two shifts, and words as the numbers of their bytes.
+-- Lemmas about vectors: rows of four words as their lanes, a rotation as two shifts, and words as
+-- the numbers of their bytes.
 use Rattle.std.proofs.Common.{◌≡◌, ℕ, ◌+◌, ◌-◌, ◌*◌, ◌/◌, ◌%◌, ◌^◌, ◌<◌, ◌≤◌, List, [], ◌∷◌, ◌++◌, length}
 use Rattle.std.proofs.Common.{take, drop, slice_index, bit_or, bit_xor, arith, refl, sym, ap, ◌∙◌, w8, w64}
 use Rattle.std.proofs.Common.{Fits}
@@ -20,7 +21,7 @@ pub sixteen_of : (xs : List ℕ) → length xs ≡ 16 → xs ≡ slice_index xs 
     ∷ slice_index xs 12 ∷ slice_index xs 13 ∷ slice_index xs 14 ∷ slice_index xs 15 ∷ []
 sixteen_of xs h = sym (pick_l_whole 0 xs 16 h)
 
--- two shifts of each lane are a rotation
+-- Two shifts of each lane are a rotation.
 pub shifts_rotate : (n : ℕ) (x y : List ℕ) → 0 < n → n < 64 → length x ≡ 4 → length y ≡ 4
     → zip2 bit_or
     (zip2 (λ a k. a / 2 ^ k) (zip2 bit_xor x y) (n ∷ n ∷ n ∷ n ∷ []))
@@ -31,15 +32,15 @@ shifts_rotate n x y low high lx ly =
     let left : (64 - n) % 64 ≡ 64 - n = omega arith in
     rw (four_of x lx, four_of y ly, right, left) refl
 
--- four words of the vector, from word i on
+-- Four words of the vector, from word i on.
 abbrev row : List ℕ → ℕ → List ℕ
 row v i = slice_index v i ∷ slice_index v (i + 1) ∷ slice_index v (i + 2) ∷ slice_index v (i + 3) ∷ []
 
--- the exclusive or of two words, rotated right by n bits
+-- The exclusive or of two words, rotated right by n bits.
 abbrev xor_right : ℕ → ℕ → ℕ → ℕ
 xor_right n x y = rotate_right w64 (bit_xor x y) n
 
--- G in four lanes is G on the four columns
+-- G in four lanes is G on the four columns.
 pub lanes_mixed : (v x y a d c b a' d' c' b' : List ℕ) → length v ≡ 16 → length x ≡ 4 → length y ≡ 4
     → a ≡ zip2 add64 (zip2 add64 (row v 0) (row v 4)) x → d ≡ zip2 (xor_right 32) (row v 12) a
     → c ≡ zip2 add64 (row v 8) d → b ≡ zip2 (xor_right 24) (row v 4) c
@@ -53,11 +54,11 @@ unfolding mix
 lanes_mixed v x y a d c b a' d' c' b' lv lx ly ea ed ec eb ea' ed' ec' eb' =
     rw (eb', ec', ed', ea', eb, ec, ed, ea, sixteen_of v lv, four_of x lx, four_of y ly) refl
 
--- eight bytes as one number
+-- The two definitions of the number that eight bytes encode agree.
 bytes_number : (xs : List ℕ) → length xs ≡ 8 → number_l 256 xs ≡ from_le_bytes w64 xs
 bytes_number xs len = rw (eight_of xs len) (omega arith)
 
--- a part of a part
+-- A chunk of a chunk is a chunk of the whole list.
 part_of_part : (xs : List ℕ) (i j n m : ℕ) → j + m ≤ n → chunk j m (chunk i n xs) ≡ chunk (i + j) m xs
 part_of_part xs i j n m fits =
     let whole : j + (n - j) ≡ n = omega arith in
@@ -65,7 +66,7 @@ part_of_part xs i j n m fits =
     ∙ take-take m (n - j) (drop j (drop i xs)) (omega arith)
     ∙ ap (take m) (drop-drop j i xs)
 
--- four words of the bytes that were read as one vector
+-- The four words of a vector that is read from bytes are the words of these bytes.
 pub words_read : (bytes : List ℕ) (row j : ℕ) → 32 * row + 32 ≤ length bytes
     → ((k : ℕ) → Fits w8 (slice_index bytes k)) → j < 4
     → slice_index (digits_l (2 ^ 64) 4 (number_l 256 (chunk (32 * row) 32 bytes))) j

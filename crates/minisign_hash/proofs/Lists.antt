@@ -1,4 +1,5 @@
--- Lists of eight words as their members, bounds on the members of lists, and steps of loops.
+-- Lemmas about lists of words as their elements, bounds on the elements of lists, and steps of
+-- loops.
 use Rattle.std.proofs.Common.{◌≡◌, ℕ, zero, suc, ◌+◌, ◌<◌, Bool, true, false, ◌&&◌, refl, w64, nat_lt, List}
 use Rattle.std.proofs.Common.{[], ◌∷◌, ◌++◌, length, take, slice_index, slice_index_or, sym, ap, ◌∙◌}
 use Rattle.std.specs.Int.{to_le_bytes}
@@ -14,7 +15,7 @@ pub eight_of : (xs : List ℕ) → length xs ≡ 8 → xs ≡ slice_index xs 0 �
     ∷ slice_index xs 4 ∷ slice_index xs 5 ∷ slice_index xs 6 ∷ slice_index xs 7 ∷ []
 eight_of xs h = sym (pick_l_whole 0 xs 8 h)
 
--- the bytes of one word more
+-- The bytes of the first i + 1 words are those of the first i, followed by those of word number i.
 pub bytes_of_words64_more : (xs : List ℕ) (i : ℕ) → i < length xs → bytes_of_words64 (take (i + 1) xs)
     ≡ bytes_of_words64 (take i xs) ++ to_le_bytes w64 (slice_index xs i)
 unfolding bytes_of_words64
@@ -32,14 +33,14 @@ and-right : (a b : Bool) → (a && b) ≡ true → b ≡ true
 and-right true b h = h
 and-right false b h = cc
 
--- each number of a list is below a bound, where a test says so
+-- Each number of a list is below a bound, if a test says so.
 below_row : (k : ℕ) → 0 < k → (xs : List ℕ) → list_all (λ x. nat_lt x k) xs ≡ true → (j : ℕ)
     → slice_index xs j < k
 below_row k some [] h j = some
 below_row k some (x ∷ xs) h zero = ltb-true x k (and-left _ _ h)
 below_row k some (x ∷ xs) h (suc j) = below_row k some xs (and-right _ _ h) j
 
--- the same of a list of lists
+-- The same for a list of lists.
 pub below_all : (k : ℕ) → 0 < k → (xss : List (List ℕ)) → list_all (list_all (λ x. nat_lt x k)) xss ≡ true
     → (i j : ℕ) → slice_index (slice_index_or xss i []) j < k
 below_all k some [] h i j = some

@@ -1,4 +1,4 @@
-//! Words of 32 and 64 bits as little endian bytes, and copying.
+//! Conversions of 32-bit and 64-bit words from and to little endian bytes, and copying.
 
 ghost use Rattle.std.specs.Prelude.{◌≡◌, ◌+◌, ◌*◌, ◌≤◌, ◌++◌, ◌∷◌, [], length, take, drop, OnOk};
 ghost use Rattle.std.specs.Int.{w32, w64, from_le_bytes, to_le_bytes};
@@ -87,7 +87,7 @@ pub fn read_u64v_le(dst: &mut [u64], input: &[u8])
     }
 }
 
-// Word number `i` of `input`.
+// Reads word number `i` of `input`.
 #[inline(always)]
 fn read_word(input: &[u8], i: usize) -> u64
     requires { 8 * i + 8 ≤ length input.now }

@@ -18,9 +18,9 @@ use crate::faults::InstallFault;
 /// label occurs more than once, the first field with it counts.
 #[derive(Clone, Copy, PartialEq, Eq)]
 pub enum Numbering {
-    /// `timestamp:`, which signing writes if no comment is given.
+    /// `timestamp:`, which Minisign writes by default.
     Timestamp,
-    /// `version:`, which the signer writes.
+    /// `version:`, which the signer has to write.
     Version,
 }
 

@@ -15,50 +15,49 @@ use std::fmt;
 pub enum InstallFault {
     /// An error of the library: of the texts, of a device, or of memory.
     Library(PError),
-    /// Another run holds the lock on this target.
+    /// Another installation holds the lock on this target.
     TargetInUse,
-    /// No number is kept beside the target, and this was not said to be the first installation.
+    /// No version is recorded for this target, and `is_first` is not set.
     NoRecord,
-    /// What is kept beside the target does not read as a number, and this was not said to be the
-    /// first installation.
+    /// The version record of this target contains no number, and `is_first` is not set.
     DamagedRecord,
     /// The trusted comment does not name the file that the caller expects.
     OtherFile,
-    /// The trusted comment has no number in decimal digits alone under the label that the caller
-    /// chose, or none below 2^64.
+    /// The trusted comment has no field of the chosen numbering, or its value is not a decimal
+    /// number below 2^64.
     NoNumber,
-    /// The number of the trusted comment is below the one that is kept.
+    /// The version number of the update is below the recorded one.
     OlderUpdate,
-    /// The update stands at the target, but a crash may still bring back what stood there before.
+    /// The update is installed but could not be synced, so a crash may bring back the previous
+    /// file.
     DirectoryNotSynced,
-    /// The number that is kept is a timestamp and not a version, and this was not said to be the first
-    /// installation.
+    /// The version record holds a timestamp and not a version, and `is_first` is not set.
     KeptByTimestamp,
-    /// The number that is kept is a version and not a timestamp, and this was not said to be the first
-    /// installation.
+    /// The version record holds a version and not a timestamp, and `is_first` is not set.
     KeptByVersion,
-    /// The update has expired at the moment that the caller passes.
+    /// The update has expired at the time that the caller passes.
     Expired,
-    /// The trusted comment has more than one field for when the update expires, or one with no number in
-    /// decimal digits alone, or none below 2^64. Where the caller wants such a field, one that differs from
-    /// it in white space or case alone is one too.
+    /// The trusted comment has more than one field `expires:`, or its value is not a decimal number
+    /// below 2^64. If `must_expire` is set, a field that differs from it only in case or in white
+    /// space counts too.
     BadExpiry,
-    /// The number of the trusted comment is the one that is kept, other data stands at the target, and the
-    /// caller did not ask for the update to be installed again.
+    /// This version is already recorded, but the installed file is different, and `again` is not
+    /// set.
     SameNumber,
-    /// The trusted comment has no field for when the update expires, and the caller wants one.
+    /// The trusted comment has no field `expires:`, and `must_expire` is set.
     NoExpiry,
-    /// The trusted comment has more than one field for the length of the data, or one with no number in
-    /// decimal digits alone, or none below 2^64.
+    /// The trusted comment has more than one field `size:`, or its value is not a decimal number
+    /// below 2^64.
     BadSize,
-    /// The data is longer than the trusted comment says, or shorter.
+    /// The data is longer or shorter than the trusted comment says.
     OtherSize,
 }
 
 impl InstallFault {
     /// What the error concerns.
     pub fn kind(&self) -> &ErrorKind
-        // Each error of installing has the kind of one table, and an error of the library its own.
+        // The result is the kind that the table gives for an installation error, and for an error of the
+        // library that error's own kind.
         ensures { result.now ≡ (install_row self.now).kind }
     {
         match self.row() {
@@ -158,7 +157,8 @@ impl InstallFault {
     }
 }
 
-/// The number of the error: of one of the library its own.
+/// Returns the number that the table gives for an installation error, and for an error of the library that
+/// error's own number.
 impl Numbered for InstallFault {
     ghost number_of = { install_number };
 
@@ -170,7 +170,8 @@ impl Numbered for InstallFault {
     }
 }
 
-/// Writes the text of the error, by one table; of an error of the library its own.
+/// Writes the text that the table gives for an installation error, and for an error of the library that
+/// error's own text.
 impl fmt::Display for InstallFault {
     ghost output = { λ e. Some (install_row e).summary };
 
@@ -182,7 +183,7 @@ impl fmt::Display for InstallFault {
     }
 }
 
-/// The error of installing that holds this one.
+/// Wraps an error of the library: the result is `Library` with this error.
 impl From<PError> for InstallFault {
     ghost from_gives = { λ f e. e ≡ Library f };
 
@@ -191,7 +192,7 @@ impl From<PError> for InstallFault {
     }
 }
 
-/// The error of installing that holds the one of this name.
+/// Wraps a named error of the library: the result is `Library` with this error.
 impl From<NamedFault> for InstallFault {
     ghost from_gives = { λ f e. e ≡ Library (Named f) };
 

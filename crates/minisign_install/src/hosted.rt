@@ -138,11 +138,11 @@ impl Installation {
     /// read. One of the two keys must have signed: the one that has the key ID of the signature, and
     /// otherwise `other`.
     pub fn new(key: &PublicKeyValue, other: &PublicKeyValue, choices: Choices) -> Installation
-        // The first call is due: reading the record for a check, and locking otherwise. Nothing was added
-        // to the hash state, and the keys and the choices are stored as given.
+        // The first call is due: reading the record for a check, and taking the lock otherwise. The
+        // installation was fed no data, and the keys and the choices are stored as given.
         ensures begun { IsBegun key.now other.now choices result }
-        // The new installation holds no version number, no error and no judged comment, and no signature of
-        // a comment was found.
+        // The new installation holds no version number, no error, no record and no judged comment, and no
+        // comment counts as signed.
         ensures unused { IsUnused result }
     {
         Installation {
@@ -167,7 +167,8 @@ impl Installation {
 
     /// Returns the call that is due, or `None` for an installation that was never begun.
     pub fn due(&self) -> Option<Due<u32>>
-        // The result is what the stored state says is due.
+        // The result is the call that the stored state says is due, or nothing for an installation that was
+        // not begun.
         ensures { result ≡ due_of self.now }
     {
         if self.mark != BEGUN {
@@ -183,7 +184,8 @@ impl Installation {
     /// Returns the number of the call that is due, in the order of `Due` from 1 on, or 0 for an
     /// installation that was never begun.
     pub fn due_number(&self) -> u32
-        // The result is the number of the call that is due, or 0 if nothing is.
+        // The result is the number of the call that is due, or 0 if none is, for example because the
+        // installation was not begun.
         ensures { MatchOption (due_of self.now) (result ≡ 0) (λ due. result ≡ due_number due) }
     {
         self.due().map_or(0, |due| stored(&due).0)
@@ -206,10 +208,10 @@ impl Installation {
     /// or that end the run. If data was received or copied and has fewer bytes than the signed comment
     /// says, the data is rejected.
     pub fn done(&mut self) -> Result<(), Refusal<InstallFault>>
-        // On success, the call that is due next is the one in the table, and the count of bytes starts
-        // again at 0. An error is API misuse, because no call was due that this call can report, and then
-        // nothing changes; or the data has fewer bytes than the signed comment says, and the run is
-        // rejected for that.
+        // On success, the call that comes next (`Due::next`) is due, and the count of bytes starts again at
+        // 0. It is API misuse if the call that is due cannot be reported as done; then nothing changes. If
+        // data was received or copied and does not have the size that the signed comment says, the run is
+        // rejected.
         ensures gone { OnOk result (CallWasDone self.old self.new) }
         ensures refused { IfErr result (IsDoneRefusal self.old self.new) }
     {
@@ -227,9 +229,9 @@ impl Installation {
     /// Reports that a piece of `len` bytes was received or copied, and there may be more. If the data has
     /// more bytes than the signed comment says, the data is rejected.
     pub fn more(&mut self, len: usize) -> Result<(), Refusal<InstallFault>>
-        // On success, the same call is still due, and the bytes were counted. An error is API misuse,
-        // because no data was to be received or copied, and then nothing changes; or the data has more
-        // bytes than the signed comment says, and the run is rejected for that.
+        // On success, receiving or copying is still due, and the bytes of the piece are counted if the signed
+        // comment says the size. It is API misuse if neither is due; then nothing changes. If the data has
+        // more bytes than the signed comment says, the run is rejected.
         ensures gone { OnOk result (PieceWasTaken len self.old self.new) }
         ensures refused { IfErr result (IsMoreRefusal len self.old self.new) }
     {
@@ -302,9 +304,9 @@ impl Installation {
     /// not be synced, the run's error says so. If another process holds the lock, data that may arrive
     /// slowly is received first.
     pub fn failed(&mut self, error: u32) -> Result<(), Misuse>
-        // On success, the call that is due next is the one in the table; or another process held the lock,
-        // and receiving the data is due first. An error is API misuse, because no call was due that can
-        // fail this way, and then nothing changes.
+        // On success, the call that comes after this failure (`Due::next`) is due or, if the lock was due and
+        // data from a slow source was still to be received, receiving it. It is API misuse if the call that
+        // is due cannot fail with this error; then nothing changes.
         ensures failed { OnOk result (CallHasFailed error self.old self.new) }
         ensures refused { IfErr result (CallIsNotDue (λ due. failure due error ≡ None) self.old self.new) }
     {
@@ -331,10 +333,10 @@ impl Installation {
     /// known. If the clock shows an earlier time than that, it counts as the greatest time, except for the
     /// first installation.
     pub fn record(&mut self, found: Option<&[u8]>, written: u64) -> Result<(), Misuse>
-        // On success, the recorded version for the field is stored with the digest of the data that the
-        // record was written for and the time of the record. If the record holds no version for the field,
-        // or there is no record, the run is rejected unless this is the first installation. An error is API
-        // misuse, because the record was not to be read, and then nothing changes.
+        // On success, judging the comment is due, and the recorded version for the field is stored with the
+        // digest of the data that the record was written for and the time of the record; or, if the record
+        // holds no version for the field or there is no record, and this is not the first installation, the
+        // run is rejected. It is API misuse if reading the record is not due; then nothing changes.
         ensures read { OnOk result
             (RecordWasRead (option_map (λ b. b.now) found.entry) written self.old self.new) }
         ensures refused { IfErr result (CallIsNotDue (λ due. due ≢ ReadRecord) self.old self.new) }
@@ -356,8 +358,9 @@ impl Installation {
     /// Passes in the next bytes of the temporary file, or of the installed file. An empty piece reports the
     /// end of the file.
     pub fn piece(&mut self, piece: &[u8]) -> Result<(), Misuse>
-        // On success, the piece is added to the hash state, and after the last one the scheme's answers are
-        // due. An error is API misuse, because nothing was to be read back, and then nothing changes.
+        // On success, the piece is added to what was read of the installed file or of the temporary file.
+        // After an empty piece, which means the end, the scheme's answers about the file are due. It is API
+        // misuse if no file is being read; then nothing changes.
         ensures read { OnOk result (PieceWasRead piece.now self.old self.new) }
         ensures refused { IfErr result (λ m. (self.new ≡ self.old) × PieceCannotBeFed self.old m) }
     {
@@ -375,8 +378,8 @@ impl Installation {
 
     /// Reports that there is no file at the target, so the update is installed.
     pub fn no_target(&mut self) -> Result<(), Misuse>
-        // On success, the run goes on. An error is API misuse, because the installed file was not to be
-        // read, and then nothing changes.
+        // On success, the run continues without an installed file, and the next file that is read is hashed
+        // from its start. It is API misuse if reading the installed file is not due; then nothing changes.
         ensures gone { OnOk result (TargetIsMissing self.old self.new) }
         ensures refused { IfErr result (λ m. (self.new ≡ self.old) × (m ≡ NotDue)
             × ((kept : ℕ) → ¬ (IsDue self.old (Look kept)))) }
@@ -393,8 +396,9 @@ impl Installation {
     /// the data, each on its own line in hexadecimal. Returns the number of bytes, or 0 if no record is to
     /// be written or `to` is too short.
     pub fn write_record(&self, to: &mut [u8]) -> usize
-        // If a record is due and fits, it is at the front of the buffer, and the result is its length.
-        // Otherwise the result is 0 and nothing is written. The rest of the buffer is unchanged.
+        // If writing the record is due and the buffer is long enough, the record is at its start, and the
+        // result is the length of the record. Otherwise the result is 0 and nothing is written. The rest of
+        // the buffer is unchanged.
         ensures written { 0 < result → (n : ℕ) × IsDue self.now (WriteRecord n) × (result ≤ length to.new)
             × (take result to.new ≡ record_for self.now n) }
         ensures rest { drop result to.new ≡ drop result to.old }
@@ -681,8 +685,9 @@ fn is_device_error(error: u32) -> bool
 
 /// Returns the text of an error number in English. For an error of the library it omits the key IDs.
 pub fn error_text(number: u32) -> &'static str
-    // The result is the text of the API misuse, of the installation error or of the library's error that
-    // has this number, without key IDs. It has fewer than 128 bytes.
+    // The result is the text of the API misuse, of the installation error or of the library's error that has
+    // this number, without key IDs. For 0 it is "no error", and for a number without a meaning "unknown
+    // error". It has fewer than 128 bytes.
     ensures meaning { IsHostMeaning number result.now }
     ensures room { length result.now < 128 }
 {
@@ -698,8 +703,8 @@ pub fn error_text(number: u32) -> &'static str
 /// `to` is too short. Returns the length of the whole text, at most 127 bytes. The bytes after the 0 are
 /// unchanged. If `to` is empty nothing is written.
 pub fn write_error_text(number: u32, to: &mut [u8]) -> usize
-    // The buffer holds the text of `error_text`, truncated if necessary and terminated by a 0, and the
-    // bytes after the 0 are unchanged. The result is the length of the whole text.
+    // The buffer holds as much of the text of `error_text` as fits before a terminating 0 byte, and the bytes
+    // after the 0 are unchanged. The result is the length of the whole text.
     ensures written { (text : List ℕ) × IsHostMeaning number text × (result ≡ length text)
         × WritesCut text to.old to.new }
     ensures room { result < 128 }
@@ -718,7 +723,7 @@ impl Numbering {
 
     /// Returns the field with this number: 0 is the timestamp, 1 the version.
     pub fn of_number(number: u32) -> Option<Numbering>
-        // 0 gives the timestamp, 1 the version, and every other number gives nothing.
+        // The result is the timestamp for 0, the version for 1, and nothing for every other number.
         ensures { MatchOption result (1 < number) (λ numbering. number ≡ numbering_number numbering) }
     {
         match number {
@@ -733,10 +738,10 @@ impl Numbering {
 /// the header, installs only updates, whatever its calls return. This function is a law: it does nothing,
 /// and its contract is what it is for.
 pub fn any_host_installs_only_updates()
-    // An application that makes each call as it is due makes a run of the law
-    // `any_run_installs_only_updates`, with the same call due at the end. So the promises of that law hold:
-    // `safe` wherever the run is cut off, `installed`, `already` and `would` if the installation says so,
-    // and `lets_go` however the run ends.
+    // If an application makes each call that is due and reports how it went, what it does is a run in the
+    // sense of `any_run_installs_only_updates`, and the call that is due at the end is the same. So the
+    // promises of that law hold: `safe` wherever the run is cut off, `installed`, `already` and `would` if
+    // the installation says so, and `lets_go` however the run ends.
     ensures run { (s : Setting) (i i' : Installation) (h h' : Host) (told : List (Installation × Host))
         → HostHasBegun s i h → HostHasObeyed (HostObeys AnyFailure AnyCall s) i h told i' h'
         → SomeRunLeadsTo i' (λ events due. HostRuns s h events due h') }

@@ -467,7 +467,8 @@ impl Installation {
     /// run was then rejected for what the comment says. Returns false between the questions and their
     /// answers.
     pub fn is_vouched(&self) -> bool
-        // The result is true exactly if `answer` found the comment to be signed.
+        // The result is true exactly if `answer` found that the key signed the comment that was last asked
+        // about.
         ensures { result ≡ is_vouched self.now }
     {
         self.is_vouched == 1
@@ -476,8 +477,8 @@ impl Installation {
     /// Returns the version number in the comment once a key was found to have signed it. Before that, or if
     /// the comment has none, returns 0.
     pub fn number(&self) -> u64
-        // If the comment was found to be signed, the result is the version number that was found when it
-        // was judged. Otherwise it is 0.
+        // If `is_vouched` returns true, the result is the version number that was found in the signed
+        // comment. Otherwise it is 0.
         ensures { result ≡ told_number self.now }
     {
         if self.is_vouched() {
@@ -621,9 +622,9 @@ pub fn judge_comment(
     moment: u64,
     kept: u64,
 ) -> Result<u64, InstallFault>
-    // The result is a version number exactly if the comment and the file name are UTF-8 and the comment
-    // names the file, has this number, has not expired, and the number is not below `kept`. Otherwise the
-    // error is the first reason.
+    // If the result is a version number, the comment and the file name are UTF-8, and the comment names the
+    // file, has not expired, and has this version number, which is not below `kept`. Otherwise the error is
+    // the first check that fails.
     ensures { TextsAreRead comment.now file.now (IsWorth (said_by file.now numbering moment) kept comment.now)
         result }
 {

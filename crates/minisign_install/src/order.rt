@@ -17,55 +17,55 @@ ghost use Rattle.minisign_install.specs.Directories.{Run};
 /// update.
 #[derive(Drop)]
 pub enum Due<E> {
-    /// Lock the target, without waiting for another run.
+    /// Lock the lock file of the target, without waiting for another installation.
     Lock,
-    /// Read the record.
+    /// Read the version record.
     ReadRecord,
-    /// Get the scheme's answers to the two questions about the signed comment and the record.
+    /// Check both signatures: that of the trusted comment, and that of the digest in the record.
     Judge(u64),
     /// Read the next piece of the installed file.
     Look(u64),
-    /// Get the scheme's answers to the two questions about the installed file.
+    /// Check both signatures: that of the trusted comment, and that of the installed file.
     JudgeTarget(u64),
-    /// Sync the installed file, which is the update.
+    /// Sync the installed file, which already is the update.
     SyncTarget,
-    /// Sync the directory, so that the installed file keeps its name.
+    /// Sync the directory, so that a crash does not undo the name of the installed file.
     SyncTargetName,
     /// Release the lock.
     Unlock,
-    /// Receive the next piece of the data into a file without a name.
+    /// Receive the next piece of slow data into an unnamed temporary file.
     Receive,
-    /// Remove the temporary files that killed runs have left, as far as possible.
+    /// Remove temporary files that killed runs have left behind, as far as possible.
     Clear(u64),
-    /// Generate a random name, and create the temporary file under it.
+    /// Create the temporary file of the data under a random name.
     Create(u64),
-    /// Copy the next piece of the data to the temporary file.
+    /// Copy the next piece of the data to its temporary file.
     Copy(u64),
-    /// Read back the next piece of the temporary file.
+    /// Read back the next piece of the temporary file of the data.
     ReadBack(u64),
-    /// Get the scheme's answers to the two questions about the temporary file.
+    /// Check both signatures: that of the trusted comment, and that of the data that was read back.
     Answer(u64),
-    /// Give the temporary file the permissions of the installed file.
+    /// Give the temporary file of the data the permissions of the installed file, if there is one.
     TakePermissions(u64),
-    /// Sync the temporary file.
+    /// Sync the temporary file of the data.
     Sync(u64),
-    /// Generate a random name, and create the temporary file of the record under it.
+    /// Create the temporary file of the record under a random name.
     CreateRecord(u64),
     /// Write the record to its temporary file.
     WriteRecord(u64),
-    /// Sync the record's temporary file.
+    /// Sync the temporary file of the record.
     SyncRecord(u64),
-    /// Rename the record's temporary file to the record.
+    /// Rename the temporary file of the record to the record.
     RenameRecord(u64),
-    /// Sync the directory, so that the record keeps its name.
+    /// Sync the directory, so that a crash does not undo this rename.
     SyncRecordName(u64),
-    /// Rename the temporary file to the target.
+    /// Rename the temporary file of the data to the target.
     Rename(u64),
-    /// Sync the directory, so that the target keeps its name.
+    /// Sync the directory, so that a crash does not undo this rename.
     SyncName(u64),
-    /// Remove the record's temporary file: the run is rejected for this error.
+    /// Remove the temporary file of the record, because the run was rejected. The error says why.
     RemoveRecord(E),
-    /// Remove the temporary file: the run is rejected for this error.
+    /// Remove the temporary file of the data, because the run was rejected. The error says why.
     Remove(E),
     /// Nothing: the update is installed.
     Installed,
@@ -73,7 +73,7 @@ pub enum Due<E> {
     Already,
     /// Nothing: the update would be installed.
     WouldInstall,
-    /// Nothing: the run was rejected for this error.
+    /// Nothing: the run was rejected. The error says why.
     Refused(E),
 }
 
@@ -121,7 +121,7 @@ impl<E: Drop> Due<E> {
 
     /// Returns the call that is due next. An outcome that does not fit changes nothing.
     pub fn next(self, outcome: Outcome<E>) -> Due<E>
-        // A single table gives the call that is due after each outcome.
+        // The result is the call that the table gives after this outcome.
         ensures { result ≡ next self outcome }
     {
         match outcome {
@@ -225,7 +225,8 @@ pub fn any_run_installs_only_updates<E: Drop>()
         → HostRuns s h events due h' → RunInstallsOnlyUpdates s.accepts s.terms s.first h.run h'.run }
 
     // If the run ends with the update installed, the target holds the data that was to be installed, and
-    // this survives any crash. The new file was given the permissions of the file before it.
+    // this survives any crash. The application has reported that it gave the new file the permissions of
+    // the old one.
     ensures installed { (s : Setting) (h h' : Host) (events : List (Outcome E × Host))
         → HostRuns s h events Due.Installed h' → (locked : Run) × RunLocksAt h.run locked
         × RunHasInstalled s.accepts s.terms s.first h.ahead locked h'.run }

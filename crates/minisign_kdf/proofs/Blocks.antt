@@ -1,5 +1,5 @@
--- Blocks of a list: those of a list that is joined from two, or from many, and those of two lists taken
--- member by member.
+-- Lemmas about the blocks of a list: of a list joined from two or from many, and of two lists
+-- combined element by element.
 use Rattle.std.proofs.Common.{◌≡◌, ℕ, zero, suc, ◌+◌, ◌-◌, ◌*◌, ◌<◌, ◌≤◌, List, [], ◌∷◌, ◌++◌, length, take}
 use Rattle.std.proofs.Common.{drop, refl, sym, ap, ◌∙◌, arith, inl, inr, add-one, length-drop}
 use Rattle.std.proofs.Math.Nat.{mul-le-mul, mul-suc}
@@ -10,14 +10,14 @@ use Rattle.std.specs.Simd.Lanes.{zip2}
 use Rattle.minisign_kdf.specs.Blocks.{block, joined_lists}
 use Rattle.minisign_kdf.proofs.Joined.{joined_lists_next, length-joined_lists}
 
--- a block before the i-th lies before it whole
+-- A block before block i ends before block i begins.
 pub row_before : (len i k : ℕ) → k < i → len * k + len ≤ len * i
 row_before len i k lt =
     let h : len * suc k ≤ len * i = mul-le-mul {n₁ = len} {m₁ = suc k} {n₂ = len} {m₂ = i} (omega arith)
     (omega arith) in
     rw (← mul-suc len k) h
 
--- a block of the front of a list
+-- One of the first i blocks is a block of the front.
 pub block_front : (len i k : ℕ) (p q : List ℕ) → length p ≡ len * i → k < i
     → block len (p ++ q) k ≡ block len p k
 block_front len i k p q lp lt =
@@ -25,24 +25,24 @@ block_front len i k p q lp lt =
     ap (take len) (drop-append-le (len * k) p q (omega arith))
     ∙ take-append-le len (drop (len * k) p) q (omega (arith, length-drop (len * k) p))
 
--- a block after the front
+-- A block after the first i blocks is a block of the rest.
 pub block_behind : (len i k : ℕ) (p q : List ℕ) → length p ≡ len * i → block len (p ++ q) (i + k)
     ≡ block len q k
 block_behind len i k p q lp =
     let at : len * (i + k) ≡ length p + len * k = grind (arith, lp) in
     ap (λ (m : ℕ). take len (drop m (p ++ q))) at ∙ ap (take len) (drop-append-add p q (len * k))
 
--- a list that is one block
+-- A list of one block is its block number 0.
 pub block_whole : (len : ℕ) (y : List ℕ) → length y ≡ len → block len y 0 ≡ y
 block_whole len y ly =
     let none : len * 0 ≡ 0 = omega arith in
     rw none (take_all len y (omega arith))
 
--- the block that was appended
+-- An appended block is the last block.
 pub block_new : (len i : ℕ) (p y : List ℕ) → length p ≡ len * i → length y ≡ len → block len (p ++ y) i ≡ y
 block_new len i p y lp ly = ap (take len) (drop_at p y (len * i) lp) ∙ take_all len y (omega arith)
 
--- the last block, as what is left of the list from it on
+-- The rest of a list after all blocks except one is its last block.
 pub block_end : (len n m w : ℕ) (xs : List ℕ) → length xs ≡ len * n → 1 ≤ n → m ≡ len * (n - 1)
     → w ≡ length xs - m → take w (drop m xs) ≡ block len xs (n - 1)
 block_end len n m w xs lx some em ew =
@@ -59,7 +59,7 @@ length_end len n m xs lx some em =
     let rest : length (drop m xs) ≡ len = omega (arith, length-drop m xs) in
     length-take-le (length xs - m) (drop m xs) (omega arith) ∙ omega arith
 
--- a member of a joined list
+-- Block number i of joined lists of one length is list number i.
 pub block-joined_lists : (f : ℕ → List ℕ) (len n i : ℕ) → ((j : ℕ) → length (f j) ≡ len) → i < n
     → block len (joined_lists f n) i ≡ f i
 block-joined_lists f len zero i each lt = absurd (omega arith)
@@ -87,7 +87,7 @@ drop-zip2 f (suc n) [] ys e = refl
 drop-zip2 f (suc n) (x ∷ xs) [] e = absurd (omega arith)
 drop-zip2 f (suc n) (x ∷ xs) (y ∷ ys) e = drop-zip2 f n xs ys (omega arith)
 
--- a part of two lists taken member by member
+-- A part of two lists that are combined element by element is the combination of their parts.
 pub cut-zip2 : (f : ℕ → ℕ → ℕ) (n k : ℕ) (xs ys : List ℕ) → length xs ≡ length ys
     → take n (drop k (zip2 f xs ys)) ≡ zip2 f (take n (drop k xs)) (take n (drop k ys))
 cut-zip2 f n k xs ys e = ap (take n) (drop-zip2 f k xs ys e) ∙ take-zip2 f n (drop k xs) (drop k ys)
@@ -99,7 +99,7 @@ zip2-append f [] (y ∷ b) c d e = absurd (omega arith)
 zip2-append f (x ∷ a) [] c d e = absurd (omega arith)
 zip2-append f (x ∷ a) (y ∷ b) c d e = ap (λ (l : List ℕ). f x y ∷ l) (zip2-append f a b c d (omega arith))
 
--- lists joined from blocks of one length, taken member by member
+-- Joining combined blocks of one length is combining the joined blocks.
 pub joined_lists-zip2 : (f : ℕ → ℕ → ℕ) (g h : ℕ → List ℕ) (len n : ℕ) → ((j : ℕ) → length (g j) ≡ len)
     → ((j : ℕ) → length (h j) ≡ len)
     → joined_lists (λ j. zip2 f (g j) (h j)) n ≡ zip2 f (joined_lists g n) (joined_lists h n)

@@ -1,4 +1,4 @@
--- Words as bytes: joining, cutting, xor.
+-- Lemmas about words as bytes: joining, cutting, xor.
 use Rattle.std.proofs.Common.{◌≡◌, ℕ, zero, suc, ◌+◌, ◌*◌, ◌/◌, ◌%◌, ◌^◌, ◌<◌, ◌≤◌, List, [], ◌∷◌, ◌++◌}
 use Rattle.std.proofs.Common.{length, take, drop, slice_index, slice_set, bit_xor, refl, sym, ap, ◌∙◌, arith}
 use Rattle.std.proofs.Common.{append_assoc, lit<}
@@ -23,7 +23,7 @@ length-bytes_of_words32 [] = refl
 length-bytes_of_words32 (x ∷ xs) = let h : length (bytes_of_words32 xs) ≡ 4 * length xs =
     length-bytes_of_words32 xs in omega arith
 
--- cutting after a number of words
+-- The first 4 * n bytes of words are the bytes of the first n words.
 pub take-bytes_of_words32 : (n : ℕ) (xs : List ℕ) → take (4 * n) (bytes_of_words32 xs)
     ≡ bytes_of_words32 (take n xs)
 take-bytes_of_words32 zero xs = refl
@@ -45,7 +45,7 @@ drop-bytes_of_words32 (suc n) (x ∷ xs) =
 xor_byte : (x y k : ℕ) → bit_xor x y / 2 ^ k % 2 ^ 8 ≡ bit_xor (x / 2 ^ k % 2 ^ 8) (y / 2 ^ k % 2 ^ 8)
 xor_byte x y k = ap (λ (n : ℕ). n % 2 ^ 8) (xor_shr x y k) ∙ xor_mod (x / 2 ^ k) (y / 2 ^ k) 8
 
--- xor of two words, byte by byte
+-- The bytes of the xor of two words are the xor of their bytes.
 xor_bytes : (x y : ℕ) → to_le_bytes w32 (bit_xor x y) ≡ zip2 bit_xor (to_le_bytes w32 x) (to_le_bytes w32 y)
 xor_bytes x y = rw (xor_mod x y 8, xor_byte x y 8, xor_byte x y 16, xor_byte x y 24) refl
 
@@ -55,7 +55,7 @@ bytes_of_words32-xor [] ys = refl
 bytes_of_words32-xor (x ∷ xs) [] = refl
 bytes_of_words32-xor (x ∷ xs) (y ∷ ys) = (λ i. xor_bytes x y i ++ bytes_of_words32-xor xs ys i)
 
--- words that are read back
+-- Words are read back unchanged from their bytes.
 pub words32_of-bytes_of_words32 : (xs : List ℕ) → ((i : ℕ) → slice_index xs i < 2 ^ 32)
     → words32_of (bytes_of_words32 xs) ≡ xs
 words32_of-bytes_of_words32 [] fits = refl
@@ -68,7 +68,7 @@ unfolding salsa20_8 salsa_words
 salsa20_8-bytes_of_words32 xs fits = ap (λ (l : List ℕ). bytes_of_words32 (salsa_words l))
     (words32_of-bytes_of_words32 xs fits)
 
--- a block of sixteen words is a block of 64 bytes
+-- A block of sixteen words is a block of 64 bytes.
 pub block-bytes_of_words32 : (xs : List ℕ) (i : ℕ) → block 64 (bytes_of_words32 xs) i
     ≡ bytes_of_words32 (block 16 xs i)
 block-bytes_of_words32 xs i =
@@ -83,7 +83,7 @@ four_fit a b c d ha hb hc hd (suc (suc zero)) = hc
 four_fit a b c d ha hb hc hd (suc (suc (suc zero))) = hd
 four_fit a b c d ha hb hc hd (suc (suc (suc (suc k)))) = lit< tt
 
--- four more members
+-- The first n + 4 elements are the first n and the next four.
 take_four : (xs : List ℕ) (n m : ℕ) → m ≡ n + 4 → m ≤ length xs
     → take m xs ≡ take n xs ++ slice_index xs n ∷ slice_index xs (n + 1) ∷ slice_index xs (n + 2)
     ∷ slice_index xs (n + 3) ∷ []
@@ -101,7 +101,7 @@ take_four xs n m e le =
     (ap (λ (k : ℕ). take k xs) m1 ∙ e1 ∙ ap (λ (l : List ℕ). l ++ slice_index xs (n + 1) ∷ []) e0))
     ∙ simp append_assoc
 
--- one more word is read
+-- If i words are read and then the next one is, i + 1 words are read.
 pub read_next : (words bytes : List ℕ) (i w : ℕ) → bytes_of_words32 (take i words) ≡ take (4 * i) bytes
     → i < length words → length bytes ≡ 4 * length words
     → ((k : ℕ) → slice_index bytes k < 2 ^ 8)
@@ -120,7 +120,7 @@ read_next words bytes i w done lt len fits ew =
     ∙ (λ t. done t ++ (append-nil (to_le_bytes w32 w) ∙ back) t)
     ∙ sym (take_four bytes (4 * i) (4 * (i + 1)) (omega arith) (omega arith))
 
--- one more word is written
+-- If i words are written and then the next one is, i + 1 words are written.
 pub stored_next : (words bytes ys : List ℕ) (i k : ℕ) → take (4 * i) bytes ≡ bytes_of_words32 (take i words)
     → i < length words → length bytes ≡ 4 * length words
     → ys ≡ to_le_bytes w32 (slice_index words i) → take (4 * (i + 1)) (put_mid (4 * i) k bytes ys)
@@ -132,7 +132,7 @@ stored_next words bytes ys i k done lt len ey =
     ∙ sym (ap bytes_of_words32 (take_more words i 0 lt) ∙ bytes_of_words32-append (take i words)
     (slice_index words i ∷ []))
 
--- one more word of an xor
+-- If the first i words are xored and then word number i is, the first i + 1 words are xored.
 pub xored_next : (x y out : List ℕ) (i : ℕ) → take i out ≡ take i (zip2 bit_xor x y) → length x ≡ length out
     → length y ≡ length out → i < length out
     → take (i + 1) (slice_set out i (bit_xor (slice_index x i) (slice_index y i)))
@@ -143,12 +143,12 @@ xored_next x y out i done lx ly lt =
     ∙ (λ t. done t ++ sym (get_or-zip2 bit_xor x y i 0 0 0 (omega arith) (omega arith)) t ∷ [])
     ∙ sym (take_more (zip2 bit_xor x y) i 0 (omega arith))
 
--- a number of 32 bits below other bytes
+-- The number that the bytes of a word and more bytes encode, little endian.
 le_number : (x : ℕ) (l : List ℕ) → x < 2 ^ 32 → number_l 256 (to_le_bytes w32 x ++ l)
     ≡ x + 2 ^ 32 * number_l 256 l
 le_number x l fits = omega arith
 
--- the low 64 bits of at least two words
+-- The low 64 bits of the number that words encode are those of the first two words.
 pub low_words : (x y : ℕ) (l : List ℕ) → x < 2 ^ 32 → y < 2 ^ 32
     → number_l 256 (bytes_of_words32 (x ∷ y ∷ l)) % 2 ^ 64 ≡ x + y * 2 ^ 32 % 2 ^ 64
 low_words x y l fx fy =

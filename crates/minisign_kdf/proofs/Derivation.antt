@@ -1,4 +1,4 @@
--- scrypt from its three steps.
+-- Lemmas about scrypt as its three steps.
 use Rattle.std.proofs.Common.{◌≡◌, ℕ, ◌*◌, ◌^◌, List, ap, ◌∙◌, arith}
 use Rattle.minisign_kdf.specs.Blocks.{block, joined_lists}
 use Rattle.minisign_kdf.specs.Pbkdf2.{pbkdf2}

@@ -1,4 +1,4 @@
--- Joined lists.
+-- Lemmas about joined_lists, the concatenation of the first lists of a sequence.
 use Rattle.std.proofs.Common.{◌≡◌, ℕ, zero, suc, ◌+◌, ◌*◌, ◌<◌, List, [], ◌++◌, length, length-append, refl}
 use Rattle.std.proofs.Common.{sym, ap, ◌∙◌, arith, append_assoc, add-one, add-zero, zero-add}
 use Rattle.std.proofs.Math.Nat.{suc-mul}
@@ -32,7 +32,7 @@ length-joined_lists f k (suc n) each =
     ap (λ (m : ℕ). length (joined_lists f m)) (sym (add-one n)) ∙ ap length (joined_lists_next f n)
     ∙ length-append (joined_lists f n) (f n) ∙ (λ t. before t + each n t) ∙ sym (suc-mul n k)
 
--- the first n members, and the m after them
+-- Joining n + m lists is joining the first n, and then the m after them.
 pub joined_lists_split : (f : ℕ → List ℕ) (n m : ℕ) → joined_lists f (n + m) ≡ joined_lists f n
     ++ joined_lists (λ j. f (n + j)) m
 joined_lists_split f n zero = ap (joined_lists f) (add-zero n) ∙ sym (append-nil (joined_lists f n))
@@ -45,7 +45,7 @@ joined_lists_split f n (suc m) =
     ∙ ap (λ (l : List ℕ). joined_lists f n ++ l) (sym (joined_lists_next (λ (j : ℕ). f (n + j)) m)
     ∙ ap (joined_lists (λ (j : ℕ). f (n + j))) (add-one m))
 
--- members below n that are the same
+-- Functions that agree below n give the same joined list.
 pub joined_lists_same : (f g : ℕ → List ℕ) (n : ℕ) → ((j : ℕ) → j < n → f j ≡ g j)
     → joined_lists f n ≡ joined_lists g n
 joined_lists_same f g zero same = joined_lists_none f ∙ sym (joined_lists_none g)

@@ -1,4 +1,4 @@
--- scryptROMix over the rows that are kept is the standard's.
+-- Proof that scryptROMix from the kept rows is that of the standard.
 use Rattle.std.proofs.Common.{◌≡◌, ℕ, zero, suc, ◌+◌, ◌-◌, ◌*◌, ◌/◌, ◌%◌, ◌<◌, ◌≤◌, List, [], length, get_or}
 use Rattle.std.proofs.Common.{inl, inr, sym, ap, ◌∙◌, arith, add-zero, zero-add}
 use Rattle.std.proofs.Math.Nat.{div-lt_iff_lt-mul, mul_comm, mul-suc}
@@ -13,7 +13,7 @@ use Rattle.minisign_kdf.specs.Kept.{kept_rows, remade_row, rom_mix_from}
 use Rattle.minisign_kdf.specs.Scrypt.{block_mix, mixed_part, rom_mix, row_at}
 use Rattle.minisign_kdf.proofs.RowMixing.{mixed_part_same}
 
--- mixing i times, and then j times
+-- Mixing i times and then j times is mixing i + j times.
 pub row_at-add : (r : ℕ) (b : List ℕ) (i j : ℕ) → row_at r (row_at r b i) j ≡ row_at r b (i + j)
 unfolding row_at
 row_at-add r b i zero = ap (row_at r b) (sym (add-zero i))
@@ -21,7 +21,7 @@ row_at-add r b i (suc j) =
     let e : i + suc j ≡ suc (i + j) = omega arith in
     ap (block_mix r) (row_at-add r b i j) ∙ ap (row_at r b) (sym e)
 
--- the kept rows reach up to row n, and the last one lies before it
+-- The kept rows cover all rows below n, and the last one is below n.
 count_covers : (n k : ℕ) → 1 ≤ k → n ≤ k * div_ceil n k
 count_covers n k some =
     let turned : k * div_ceil n k ≡ div_ceil n k * k = mul_comm k (div_ceil n k) in
@@ -47,7 +47,7 @@ last_before n k some rows =
     let next : k * c ≡ k * (c - 1) + k = ap (λ (m : ℕ). k * m) one ∙ mul-suc k (c - 1) in
     omega arith
 
--- row j is made from a row that is kept
+-- Row j is computed from a row that is kept.
 pub quotient_kept : (n k j : ℕ) → 1 ≤ k → j < n → j / k < div_ceil n k
 quotient_kept n k j some lt =
     let c : ℕ = div_ceil n k in
@@ -55,7 +55,7 @@ quotient_kept n k j some lt =
     let below : j < c * k = grind arith in
     (div-lt_iff_lt-mul {k = k} {x = j} {y = c} (omega arith)).1 below
 
--- the i-th kept row
+-- Kept row number i is row k * i.
 kept_row : (r n k : ℕ) (b : List ℕ) (i : ℕ) → i < div_ceil n k → get_or (kept_rows r n k b) i []
     ≡ row_at r b (k * i)
 unfolding kept_rows
@@ -69,7 +69,7 @@ length-kept_rows : (r n k : ℕ) (b : List ℕ) → length (kept_rows r n k b) �
 unfolding kept_rows
 length-kept_rows r n k b = length-map-range_with_len (λ (i : ℕ). row_at r b (k * i)) 0 (div_ceil n k)
 
--- each row is made again
+-- Each row below n can be computed again from the kept rows.
 remade : (r n k : ℕ) (b : List ℕ) → 1 ≤ k → (j : ℕ) → j < n → remade_row r k (kept_rows r n k b) j
     ≡ row_at r b j
 unfolding remade_row
@@ -79,7 +79,7 @@ remade r n k b some j lt =
     ap (λ (l : List ℕ). row_at r l (j % k)) (kept_row r n k b (j / k) within) ∙ row_at-add r b (k * (j / k))
     (j % k) ∙ ap (row_at r b) all
 
--- the law of kept rows: scryptROMix over them is the standard's, for every k from 1
+-- The law of kept rows: for every k of at least 1, scryptROMix from them is that of the standard.
 pub rom_mix_from-kept_rows : (r n k : ℕ) (b : List ℕ) → 1 ≤ k → 1 ≤ n → rom_mix_from r n k (kept_rows r n k b)
     ≡ rom_mix r n b
 unfolding rom_mix_from rom_mix

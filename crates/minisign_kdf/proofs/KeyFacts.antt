@@ -1,4 +1,4 @@
--- What callers need of a derived key: its length, and that it is bytes.
+-- The facts about a derived key that callers use: its length, and that it consists of bytes.
 use Rattle.std.proofs.Common.{◌≡◌, ℕ, zero, suc, ◌+◌, ◌/◌, ◌^◌, ◌<◌, List, [], ◌∷◌, ◌++◌, length, slice_index}
 use Rattle.std.proofs.Common.{All, mod-lt, lit<, subst, refl, sym, ap, ◌∙◌, arith, add-one}
 use Rattle.std.proofs.lemmas.List.{length-take-le}
@@ -27,7 +27,7 @@ pub length-scrypt : (password salt : List ℕ) (n r p len : ℕ) → length (scr
 unfolding scrypt
 length-scrypt password salt n r p len = length-pbkdf2 password _ len
 
--- ---- what is derived are bytes
+-- == Derived keys consist of bytes ==
 
 abbrev IsByte : ℕ → Type 0
 IsByte b = b < 2 ^ 8

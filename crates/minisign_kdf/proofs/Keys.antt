@@ -1,4 +1,4 @@
--- The key of HMAC, and the keys that PBKDF2 derives.
+-- Lemmas about the key of HMAC and the keys that PBKDF2 derives.
 use Rattle.std.proofs.Common.{◌≡◌, ℕ, ◌+◌, ◌*◌, ◌/◌, ◌<◌, ◌≤◌, List, [], ◌∷◌, ◌++◌, length, take, map}
 use Rattle.std.proofs.Common.{slice_index, slice_set, bit_xor, sym, ap, ◌∙◌, arith}
 use Rattle.std.proofs.Math.Seq.{take-append-add}
@@ -10,7 +10,7 @@ use Rattle.minisign_kdf.specs.Hmac.{hmac}
 use Rattle.minisign_kdf.specs.Pbkdf2.{pbkdf2}
 use Rattle.minisign_kdf.proofs.Joined.{joined_lists_next}
 
--- one more byte is padded
+-- One more byte is padded.
 pub padded_next : (pad i : ℕ) (block out : List ℕ) → take i out ≡ take i (map (λ b. bit_xor b pad) block)
     → i < length out → i < length block
     → take (i + 1) (slice_set out i (bit_xor (slice_index block i) pad))
@@ -21,7 +21,7 @@ padded_next pad i block out done lo lb =
     ∙ (λ t. done t ++ sym (get_or-map f block i 0 0 lb) t ∷ [])
     ∙ sym (take_more (map f block) i 0 (omega (arith, length-map block f)))
 
--- a derived key of whole blocks
+-- The output of PBKDF2 in whole blocks of 32 bytes is the derived key.
 pub pbkdf2_whole : (password salt w rest : List ℕ) (count len : ℕ)
     → w ≡ joined_lists (λ i. hmac password (salt ++ to_be_bytes w32 (i + 1))) count → length w ≡ 32 * count
     → len ≡ 32 * count → length rest ≡ 0 → w ++ rest ≡ pbkdf2 password salt len
@@ -33,7 +33,7 @@ pbkdf2_whole password salt w rest count len ew lw el none =
     ∙ ap (take len) (ew ∙ ap (joined_lists (λ (i : ℕ). hmac password (salt ++ to_be_bytes w32 (i + 1))))
     (sym blocks))
 
--- a derived key whose last block is cut
+-- The same if the last block is cut.
 pub pbkdf2_cut : (password salt w y : List ℕ) (count n len : ℕ)
     → w ≡ joined_lists (λ i. hmac password (salt ++ to_be_bytes w32 (i + 1))) count → length w ≡ 32 * count
     → len ≡ 32 * count + n → 0 < n → n ≤ 32 → y ≡ take n (hmac password (salt ++ to_be_bytes w32 (count + 1)))

@@ -1,3 +1,4 @@
+-- The lemmas that the proofs of minisign_kdf use.
 pub mod Sixteen
 pub mod Diagonal
 pub mod Bytes

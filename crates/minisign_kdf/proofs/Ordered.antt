@@ -1,4 +1,4 @@
--- The bytes of blocks that stand in diagonal order: joining, cutting, xor.
+-- Lemmas about the bytes of blocks in diagonal order: joining, cutting, xor.
 use Rattle.std.proofs.Common.{◌≡◌, ℕ, ◌+◌, ◌*◌, ◌/◌, ◌<◌, ◌≤◌, List, [], ◌++◌, length, take, drop}
 use Rattle.std.proofs.Common.{length-append, length-drop, bit_xor, refl, sym, ap, ◌∙◌, arith}
 use Rattle.std.proofs.Math.Seq.{take-add}
@@ -17,7 +17,7 @@ use Rattle.minisign_kdf.proofs.Diagonal.{length-standard_order, standard_order-x
 use Rattle.minisign_kdf.proofs.Joined.{joined_lists_next, joined_lists_none, joined_lists_same}
 use Rattle.minisign_kdf.proofs.Joined.{joined_lists_split}
 
--- the bytes of block number i
+-- The bytes of block number i.
 abbrev bytes_at : List ℕ → ℕ → List ℕ
 bytes_at xs i = bytes_of_words32 (standard_order (block 16 xs i))
 
@@ -32,7 +32,7 @@ diagonal_bytes_is xs n len =
     let e : length xs / 16 ≡ n = omega arith in
     ap (joined_lists (bytes_at xs)) e
 
--- block number i
+-- Block number i of the bytes is that of the words in the order of the standard.
 pub block-diagonal_bytes : (xs : List ℕ) (n i : ℕ) → length xs ≡ 16 * n → i < n
     → block 64 (diagonal_bytes xs) i ≡ bytes_of_words32 (standard_order (block 16 xs i))
 block-diagonal_bytes xs n i len lt =
@@ -51,7 +51,7 @@ diagonal_bytes-append xs ys n m lx ly =
     (λ j lt. ap (λ (l : List ℕ). bytes_of_words32 (standard_order l)) (block_behind 16 n j xs ys lx)) t)
     ∙ (λ t. sym (diagonal_bytes_is xs n lx) t ++ sym (diagonal_bytes_is ys m ly) t)
 
--- one block
+-- The bytes of a single block are those of its words in the order of the standard.
 pub diagonal_bytes-block : (y : List ℕ) → length y ≡ 16
     → diagonal_bytes y ≡ bytes_of_words32 (standard_order y)
 diagonal_bytes-block y ly =
@@ -59,7 +59,7 @@ diagonal_bytes-block y ly =
     ∙ ap (λ (l : List ℕ). l ++ bytes_at y 0) (joined_lists_none (bytes_at y))
     ∙ ap (λ (l : List ℕ). bytes_of_words32 (standard_order l)) (block_whole 16 y ly)
 
--- the order commutes with xor, block by block
+-- The order commutes with xor, block by block.
 pub diagonal_bytes-xor : (xs ys : List ℕ) (n : ℕ) → length xs ≡ 16 * n → length ys ≡ 16 * n
     → diagonal_bytes (zip2 bit_xor xs ys) ≡ zip2 bit_xor (diagonal_bytes xs) (diagonal_bytes ys)
 diagonal_bytes-xor xs ys n lx ly =
@@ -83,7 +83,8 @@ diagonal_bytes-xor xs ys n lx ly =
 pub diagonal_bytes-none : diagonal_bytes [] ≡ []
 diagonal_bytes-none = diagonal_bytes_is [] 0 refl ∙ joined_lists_none (bytes_at [])
 
--- the first i + 1 blocks of a list
+-- The bytes of the first i + 1 blocks are those of the first i, followed by those of block number
+-- i.
 next_block : (xs : List ℕ) (i m : ℕ) → 16 * i + 16 ≤ length xs → m ≡ 16
     → diagonal_bytes (take (16 * (i + 1)) xs) ≡ diagonal_bytes (take (16 * i) xs)
     ++ bytes_of_words32 (standard_order (take m (drop (16 * i) xs)))
@@ -98,7 +99,7 @@ next_block xs i m fits em =
     (diagonal_bytes-block (take 16 (drop (16 * i) xs)) this
     ∙ ap (λ (k : ℕ). bytes_of_words32 (standard_order (take k (drop (16 * i) xs)))) (sym em))
 
--- one more block is read
+-- If i blocks are read and then the next one is, i + 1 blocks are read.
 pub loaded_next : (words bytes y : List ℕ) (i k m : ℕ) → diagonal_bytes (take (16 * i) words)
     ≡ take (64 * i) bytes → 16 * i + 16 ≤ length words → length bytes ≡ 4 * length words
     → length y ≡ 16 → m ≡ 64 → bytes_of_words32 (standard_order y) ≡ take m (drop (64 * i) bytes)
@@ -111,7 +112,7 @@ loaded_next words bytes y i k m done fits len ly em ey =
     ∙ (λ t. done t ++ (diagonal_bytes-block y ly ∙ ey ∙ ap (λ (j : ℕ). take j (drop (64 * i) bytes)) em) t)
     ∙ sym (ap (λ (j : ℕ). take j bytes) e ∙ take-add (64 * i) 64 bytes)
 
--- one more block is written
+-- If i blocks are written and then the next one is, i + 1 blocks are written.
 pub stored_next : (words bytes ys : List ℕ) (i k m : ℕ) → take (64 * i) bytes
     ≡ diagonal_bytes (take (16 * i) words) → 16 * i + 16 ≤ length words → length bytes ≡ 4 * length words
     → length ys ≡ 64 → m ≡ 16 → ys ≡ bytes_of_words32 (standard_order (take m (drop (16 * i) words)))

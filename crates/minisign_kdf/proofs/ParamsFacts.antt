@@ -1,4 +1,4 @@
--- What the accepted parameters give.
+-- Lemmas about accepted parameters.
 use Rattle.std.proofs.Common.{◌≡◌, ℕ, ◌+◌, ◌*◌, ◌^◌, ◌<◌, ◌≤◌, inl, inr, arith}
 use Rattle.std.proofs.Math.Nat.{mul-le-mul}
 use Rattle.std.proofs.Math.Pow.{pow_mono}
@@ -7,7 +7,7 @@ use Rattle.std.proofs.lemmas.Grind.{div_ceil_times}
 use Rattle.std.specs.Int.{div_ceil}
 use Rattle.minisign_kdf.specs.Params.{IsAccepted, Numbers}
 
--- 64 rows' worth of bits or more have no count
+-- If N is at least 2 ^ 64, the number of bytes in the rows does not fit into 64 bits.
 pub table_full : (n r : ℕ) → 1 ≤ r → 64 ≤ n → 2 ^ 64 ≤ 128 * r * 2 ^ n
 table_full n r some many =
     let power : 2 ^ 64 ≤ 2 ^ n = pow_mono {i = 64} {j = n} many in
@@ -21,7 +21,7 @@ n_log2_small v a = elim (cases_lt v.n_log2 64) [
   | inr h ↦ let full = table_full v.n_log2 v.r a.block_size h in let table = a.table in absurd (omega arith)
 ]
 
--- no more rows are kept than there are
+-- No more rows are kept than there are.
 pub kept_at_most : (n k : ℕ) → 1 ≤ k → div_ceil n k ≤ n
 kept_at_most n k some = elim (cases_lt n (div_ceil n k)) [
   | inl above ↦
@@ -35,7 +35,7 @@ kept_at_most n k some = elim (cases_lt n (div_ceil n k)) [
   | inr within ↦ omega arith
 ]
 
--- the words that are wanted have a number that 64 bits can count
+-- The number of words that are needed fits into 64 bits.
 pub words_small : (v : Numbers) (count : ℕ) → IsAccepted v → count ≤ 2 ^ v.n_log2
     → 32 * v.r * (count + 3) < 2 ^ 63
 words_small v count a few =

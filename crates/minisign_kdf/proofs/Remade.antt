@@ -1,4 +1,4 @@
--- Kept rows in one list of words, and the rows that are made of them.
+-- Lemmas about kept rows in one list of words, and the rows that are computed from them.
 use Rattle.std.proofs.Common.{◌≡◌, ℕ, zero, suc, ◌+◌, ◌-◌, ◌*◌, ◌/◌, ◌%◌, ◌^◌, ◌<◌, ◌≤◌, List, [], ◌∷◌, ◌++◌}
 use Rattle.std.proofs.Common.{length, map, get_or, bit_xor, refl, sym, ap, ◌∙◌, arith, inl, inr, add-one}
 use Rattle.std.proofs.Common.{zero-add, mod-lt, pow_pos}
@@ -17,7 +17,7 @@ use Rattle.minisign_kdf.proofs.Blocks.{block_front, block_new, block_whole, row_
 use Rattle.minisign_kdf.proofs.Kept.{quotient_kept, row_at-add, some_kept}
 use Rattle.minisign_kdf.proofs.RowMixing.{mod_64, row_at_none}
 
--- ---- rows of words
+-- == Rows of words ==
 
 pub row_of : (r count : ℕ) (words : List ℕ) (i : ℕ) → i < count → get_or (rows_of r count words) i []
     ≡ diagonal_bytes (block (32 * r) words i)
@@ -40,7 +40,7 @@ map_same f g (suc n) same =
     ∙ sym (map-range_with_len_more g 0 n n (zero-add n)) ∙ ap (λ (m : ℕ). map g (range_with_len 0 m))
     (add-one n)
 
--- rows that are the kept ones, one by one
+-- Words that hold each kept row hold the list of the kept rows.
 pub kept_rows_of : (r n k : ℕ) (b words : List ℕ)
     → ((i : ℕ) → i < div_ceil n k → diagonal_bytes (block (32 * r) words i) ≡ row_at r b (k * i))
     → rows_of r (div_ceil n k) words ≡ kept_rows r n k b
@@ -48,9 +48,9 @@ unfolding rows_of kept_rows
 kept_rows_of r n k b words each = map_same (λ (i : ℕ). diagonal_bytes (block (32 * r) words i))
     (λ (i : ℕ). row_at r b (k * i)) (div_ceil n k) each
 
--- ---- filling
+-- == Filling ==
 
--- the first row is kept
+-- The first kept row is row 0.
 pub kept_first : (r k i : ℕ) (xs y : List ℕ) → xs ≡ y → length y ≡ 32 * r → i < 1
     → diagonal_bytes (block (32 * r) xs i) ≡ row_at r (diagonal_bytes y) (k * i)
 kept_first r k i xs y ex ly lt =
@@ -58,7 +58,7 @@ kept_first r k i xs y ex ly lt =
     let none : k * 0 ≡ 0 = omega arith in
     rw (e, ex, none) (ap diagonal_bytes (block_whole (32 * r) y ly) ∙ sym (row_at_none r (diagonal_bytes y)))
 
--- one more row is kept
+-- If m rows are kept and then the last one, mixed k times, is appended, m + 1 rows are kept.
 pub kept_next : (r k m i : ℕ) (b xs y : List ℕ)
     → ((j : ℕ) → j < m → diagonal_bytes (block (32 * r) xs j) ≡ row_at r b (k * j)) → length xs ≡ 32 * r * m
     → 1 ≤ m
@@ -75,13 +75,13 @@ kept_next r k m i b xs y done lx some ly ey lt = elim (cases_lt i m) [
       ∙ row_at-add r b (k * (m - 1)) k ∙ ap (row_at r b) up)
 ]
 
--- ---- mixing with rows that are made again
+-- == Mixing with rows that are computed again ==
 
--- the kept row that row j is made of lies within the words
+-- The kept row from which row j is computed is within the words.
 pub kept_within : (r n k j : ℕ) → 1 ≤ k → j < n → 32 * r * (j / k) + 32 * r ≤ 32 * r * div_ceil n k
 kept_within r n k j some lt = row_before (32 * r) (div_ceil n k) (j / k) (quotient_kept n k j some lt)
 
--- one step, with a row that is made of the kept rows
+-- One step of the second loop, with a row that is computed again from the kept rows.
 pub mixed_with_remade : (r lg k seen j : ℕ) (words kept x z : List ℕ) → 1 ≤ k → lg < 64
     → seen ≡ integerify r (diagonal_bytes x) % 2 ^ 64 → j ≡ seen % 2 ^ lg
     → kept ≡ block (32 * r) words (j / k)
@@ -101,12 +101,12 @@ mixed_with_remade r lg k seen j words kept x z some lt es ej ek ez =
     (zip2 bit_xor (diagonal_bytes x)
     (row_at r (get_or (rows_of r (div_ceil (2 ^ lg) k) words) (m / k) []) (m % k)))) named
 
--- the last kept row, mixed up to row n
+-- Row n, computed from the last kept row.
 abbrev pub last_row_mixed : ℕ → ℕ → ℕ → List ℕ → List ℕ
 last_row_mixed r n k words =
     row_at r (diagonal_bytes (block (32 * r) words (div_ceil n k - 1))) (n - k * (div_ceil n k - 1))
 
--- scryptROMix over the kept rows, step by step
+-- The result of all steps with rows from the kept rows is scryptROMix from the kept rows.
 pub mixed_from : (r n k : ℕ) (words y : List ℕ) → 1 ≤ k → 1 ≤ n
     → y ≡ mixed_part r n (remade_row r k (rows_of r (div_ceil n k) words)) (last_row_mixed r n k words) n
     → y ≡ rom_mix_from r n k (rows_of r (div_ceil n k) words)

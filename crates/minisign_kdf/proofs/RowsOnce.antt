@@ -1,31 +1,32 @@
--- scryptROMix with r 1 and N 16, by a form that computes each row V_j and each X once: the checker has the
--- memory for that, and not for the definition's own, which makes a row anew each time that it is named.
+-- scryptROMix with r = 1 and N = 16, in a form that computes each row V_j and each X once. The
+-- checker has enough memory for this form, but not for the definition, which computes a row again
+-- each time it is used.
 use Rattle.std.proofs.Common.{◌≡◌, ◌∙◌, ap, sym, refl, arith, ℕ, zero, suc, ◌<◌, ◌%◌, List, [], ◌∷◌, bit_xor}
 use Rattle.std.specs.Simd.Lanes.{zip2, number_l}
 use Rattle.minisign_kdf.specs.Blocks.{block}
 use Rattle.minisign_kdf.specs.Scrypt.{block_mix, mixed_part, rom_mix, row_at}
 
--- n rows, of which b is the first
+-- n rows, of which b is the first.
 abbrev pub rows : ℕ → List ℕ → List (List ℕ)
 rows zero b = []
 rows (suc n) b = b ∷ rows n (block_mix 1 b)
 
--- row number j
+-- Row number j.
 abbrev pub row : List (List ℕ) → ℕ → List ℕ
 row [] j = []
 row (first ∷ later) zero = first
 row (first ∷ later) (suc j) = row later j
 
--- X after one step
+-- X after one step.
 abbrev pub step : List (List ℕ) → List ℕ → List ℕ
 step v x = block_mix 1 (zip2 bit_xor x (row v (number_l 256 (block 64 x 1) % 16)))
 
--- and after t steps
+-- X after t steps.
 abbrev pub steps : List (List ℕ) → List ℕ → ℕ → List ℕ
 steps v x zero = x
 steps v x (suc t) = step v (steps v x t)
 
--- X begins as row number 16
+-- X begins as row number 16.
 abbrev pub mixed : List (List ℕ) → List ℕ
 mixed v = steps v (row v 16) 16
 

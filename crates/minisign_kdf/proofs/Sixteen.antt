@@ -1,4 +1,4 @@
--- Lists of sixteen words and of four, written out.
+-- Lemmas about lists of four and of sixteen words, as their elements.
 use Rattle.std.proofs.Common.{◌≡◌, ℕ, List, [], ◌∷◌, ◌++◌, length, length-append, slice_index, arith, refl}
 use Rattle.std.proofs.Common.{sym}
 use Rattle.std.specs.Simd.Lanes.{zip2}
@@ -15,7 +15,7 @@ pub four_of : (xs : List ℕ) → length xs ≡ 4 → xs ≡ slice_index xs 0 �
     ∷ slice_index xs 3 ∷ []
 four_of xs h = sym (pick_l_whole 0 xs 4 h)
 
--- four rows of four words, member by member
+-- Combining four rows of four words one by one is combining all sixteen words.
 pub zip2_rows : (f : ℕ → ℕ → ℕ) (a b c d p q r s : List ℕ) → length a ≡ 4 → length b ≡ 4 → length c ≡ 4
     → length d ≡ 4
     → length p ≡ 4 → length q ≡ 4 → length r ≡ 4 → length s ≡ 4

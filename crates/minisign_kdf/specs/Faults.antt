@@ -1,4 +1,4 @@
--- The errors of key derivation.
+-- The texts of the errors of key derivation.
 use Rattle.std.specs.Prelude.{ℕ, List, codes}
 use Rattle.minisign_kdf.specs.declared.errors.KdfError.{KdfError}
 use Rattle.minisign_kdf.specs.declared.errors.KdfError.TheVariants.{OutOfMemory, InvalidOutputLen}

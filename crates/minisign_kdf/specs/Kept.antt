@@ -7,11 +7,12 @@ use Rattle.minisign_kdf.specs.Blocks.{block}
 use Rattle.minisign_kdf.specs.Diagonal.{diagonal_bytes}
 use Rattle.minisign_kdf.specs.Scrypt.{mixed_part, row_at}
 
--- Integerify: the last block of a part as a number, lowest byte first (section 5).
+-- Integerify: the last block of a part as a number, least significant byte first (section 5).
 abbrev pub integerify : ℕ → List ℕ → ℕ
 integerify r x = number_l 256 (block 64 x (2 * r - 1))
 
--- Kept rows, with the block size r and n for N. The rows are bytes in the order of the RFC.
+-- The kept rows as contracts see them: r is the block size, n is N, and the rows V_0, V_k, V_2k, ..
+-- are bytes in the order of the RFC.
 pub record KeptRows : Type 0 where
   pub r : ℕ
   pub n : ℕ
@@ -22,7 +23,7 @@ pub record KeptRows : Type 0 where
 unfoldable pub kept_rows : ℕ → ℕ → ℕ → List ℕ → List (List ℕ)
 kept_rows r n k b = map (λ i. row_at r b (k * i)) (range_with_len 0 (div_ceil n k))
 
--- The first count rows of 2 * r blocks each, from words that are in diagonal order in each block.
+-- The first count rows, of 2 * r blocks each. In the words, each block is in diagonal order.
 unfoldable pub rows_of : ℕ → ℕ → List ℕ → List (List ℕ)
 rows_of r count words = map (λ i. diagonal_bytes (block (32 * r) words i)) (range_with_len 0 count)
 
@@ -30,7 +31,8 @@ rows_of r count words = map (λ i. diagonal_bytes (block (32 * r) words i)) (ran
 unfoldable pub remade_row : ℕ → ℕ → List (List ℕ) → ℕ → List ℕ
 remade_row r k rows j = row_at r (slice_index_or rows (j / k) []) (j % k)
 
--- scryptROMix over kept rows, with n for N. X begins as the last kept row mixed up to row N.
+-- scryptROMix from kept rows, with n for N. X begins as row N, which is computed from the last kept
+-- row.
 unfoldable pub rom_mix_from : ℕ → ℕ → ℕ → List (List ℕ) → List ℕ
 rom_mix_from r n k rows =
     let last = length rows - 1 in

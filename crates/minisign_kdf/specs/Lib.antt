@@ -1,3 +1,4 @@
+-- The definitions that the contracts of minisign_kdf use.
 pub mod Blocks
 pub mod Salsa20
 pub mod Hmac

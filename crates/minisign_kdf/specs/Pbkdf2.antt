@@ -8,8 +8,9 @@ use Rattle.minisign_kdf.specs.Hmac.{hmac}
 abbrev pub longest_key : ℕ
 longest_key = (2 ^ 32 - 1) * 32
 
--- T_1, .., T_l joined and cut to len bytes, with l = len / 32 rounded up. T_i is U_1 only, whose text ends
--- with i as four bytes, highest byte first.
+-- The derived key: T_1, .., T_l joined and cut to len bytes, with l = len / 32 rounded up. With one
+-- iteration, T_i is U_1: the HMAC of the salt followed by i as four bytes, most significant byte
+-- first.
 unfoldable pub pbkdf2 : List ℕ → List ℕ → ℕ → List ℕ
 pbkdf2 password salt len =
     take len (joined_lists (λ i. hmac password (salt ++ to_be_bytes w32 (i + 1))) ((len + 31) / 32))

@@ -1,4 +1,4 @@
-//! scryptBlockMix (RFC 7914, section 4) on blocks whose words stand in diagonal order.
+//! scryptBlockMix (RFC 7914, section 4) on blocks whose words are in diagonal order.
 
 ghost use Rattle.std.specs.Prelude.{◌≡◌, ◌+◌, ◌-◌, ◌*◌, ◌%◌, ◌≤◌, length, bit_xor};
 ghost use Rattle.std.specs.Simd.Lanes.{zip2};
@@ -8,7 +8,8 @@ ghost use Rattle.minisign_kdf.specs.Scrypt.{block_mix, row_at};
 
 use crate::salsa::{Block, salsa20_8, xor_of};
 
-// Mixes the blocks of `from` so many times into `into`. What `into` and `work` held is not read.
+// Applies scryptBlockMix `times` times to `from`, with the result in `into`. The previous contents
+// of `into` and `work` are ignored.
 pub(crate) fn mix_times(r: usize, times: usize, from: &[u32], into: &mut [u32], work: &mut [u32])
     requires some { 1 ≤ r }
     requires times { 1 ≤ times }
@@ -24,7 +25,8 @@ pub(crate) fn mix_times(r: usize, times: usize, from: &[u32], into: &mut [u32], 
     }
 }
 
-// Mixes the blocks once where `times` is odd, and otherwise twice.
+// Applies scryptBlockMix once if `times` is odd, and otherwise twice. An even number of times is
+// then left.
 fn begin_mixing(r: usize, times: usize, from: &[u32], into: &mut [u32], work: &mut [u32])
     requires some { 1 ≤ r }
     requires from_len { length from.now ≡ 32 * r }
@@ -40,7 +42,8 @@ fn begin_mixing(r: usize, times: usize, from: &[u32], into: &mut [u32], work: &m
     }
 }
 
-// Mixes the 2 * r blocks of `from` into `into`: the even ones first, then the odd ones.
+// scryptBlockMix of the 2 * r blocks of `from`: the even blocks of the result come first, then the
+// odd ones.
 pub(crate) fn block_mix(r: usize, from: &[u32], into: &mut [u32])
     requires some { 1 ≤ r }
     requires from_len { length from.now ≡ 32 * r }
@@ -57,7 +60,7 @@ pub(crate) fn block_mix(r: usize, from: &[u32], into: &mut [u32])
     }
 }
 
-// The same of the words of `from`, each xored with that of `row`.
+// scryptBlockMix of the xor of `from` and `row`.
 pub(crate) fn xor_block_mix(r: usize, from: &[u32], row: &[u32], into: &mut [u32])
     requires some { 1 ≤ r }
     requires from_len { length from.now ≡ 32 * r }
@@ -78,7 +81,7 @@ pub(crate) fn xor_block_mix(r: usize, from: &[u32], row: &[u32], into: &mut [u32
     }
 }
 
-// Salsa20/8 of a block xored with another.
+// Salsa20/8 of the xor of two blocks.
 #[inline(always)]
 fn mix_block(x: Block, block: Block) -> Block
     ensures { bytes_of_words32 (block_words result)
@@ -88,7 +91,6 @@ fn mix_block(x: Block, block: Block) -> Block
     salsa20_8(xor_of(x, block))
 }
 
-// The words of a slice, each xored with that of another.
 #[inline(always)]
 fn load_xored(words: &[u32], others: &[u32]) -> Block
     requires words_len { length words.now ≡ 16 }

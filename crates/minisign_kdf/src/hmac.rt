@@ -1,4 +1,4 @@
-//! HMAC with SHA-256 (RFC 2104), of a message in parts.
+//! HMAC with SHA-256 (RFC 2104) of a message in parts.
 
 ghost use Rattle.std.specs.Prelude.{◌≡◌, ◌++◌, ◌-◌, ◌≤◌, length, map, replicate, bit_xor};
 ghost use Rattle.std.specs.List.{flat_map};
@@ -6,7 +6,7 @@ ghost use Rattle.minisign_kdf.specs.Hmac.{hmac, key_block};
 
 use sha2::{Digest, Sha256};
 
-// How many bytes a block of SHA-256 has.
+// The length of a block of SHA-256 in bytes.
 const BLOCK_LEN: usize = 64;
 
 /// Returns HMAC with SHA-256 (RFC 2104, section 2) of the concatenated `parts` under `key`. The key may
@@ -27,7 +27,7 @@ pub fn hmac_sha256(key: &[u8], parts: &[&[u8]]) -> [u8; 32]
     outer.finalize()
 }
 
-// A block, each byte xored with the pad.
+// Xors each byte of a block with the pad.
 fn padded(block: &[u8; 64], pad: u8) -> [u8; 64]
     ensures { result ≡ map (λ b. bit_xor b pad) block.now }
 {
@@ -38,7 +38,7 @@ fn padded(block: &[u8; 64], pad: u8) -> [u8; 64]
     padded
 }
 
-// The key as a block: its digest in its place, where it is longer.
+// Returns the key as a block. A longer key is replaced by its digest.
 #[tactic(auto, unfolding(crate::specs::Hmac::key_block))]
 fn key_block(key: &[u8]) -> [u8; 64]
     ensures { result ≡ key_block key.now }
@@ -50,7 +50,7 @@ fn key_block(key: &[u8]) -> [u8; 64]
     }
 }
 
-// The bytes, filled up with zeros to a block.
+// Pads the key with zeros to the length of a block.
 fn filled(key: &[u8]) -> [u8; 64]
     requires { length key.now ≤ 64 }
     ensures { result ≡ key.now ++ replicate (64 - length key.now) 0 }

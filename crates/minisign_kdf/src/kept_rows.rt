@@ -16,7 +16,7 @@ use crate::row_rooms::RowRoom;
 use std::alloc::{AllocError, Global};
 use std::marker::Model;
 
-// The most words that memory has room for: fewer than 2^63 bytes.
+// The greatest number of words that fit into memory: fewer than 2^63 bytes.
 const MAX_WORDS: usize = 2305843009213693951;
 
 /// Every k-th row of scryptROMix (RFC 7914, section 5) of one block: the rows V_0, V_k, V_2k, .. with
@@ -99,7 +99,7 @@ impl Rows {
     }
 }
 
-// Room for the kept rows and no more, asked for at once.
+// Allocates memory for the kept rows and no more, in one request.
 pub(crate) fn room_for_rows(
     alloc: Global,
     r: usize,
@@ -122,7 +122,7 @@ pub(crate) fn room_for_rows(
     Ok(Vec::with_capacity(alloc, len)?)
 }
 
-// How many rows of 32 * r words these are.
+// Returns the number of rows of 32 * r words.
 pub(crate) fn rows_in(words: &[u32], r: usize) -> u64
     requires some { 1 ≤ r }
     requires small { 32 * r < 2 ^ 64 }
@@ -131,14 +131,13 @@ pub(crate) fn rows_in(words: &[u32], r: usize) -> u64
     (words.len() / (32 * r)) as u64
 }
 
-// A buffer of so many words.
 pub(crate) fn zeros(alloc: Global, len: usize) -> Result<Vec<u32>, AllocError>
     ensures { IfOk result (λ v. vec_len v ≡ len) }
 {
     vec![in alloc; 0u32; len]
 }
 
-// Makes the kept rows of a block. What the rows and `work` held is not read.
+// Computes the kept rows of a block. The previous contents of `rows` and `work` are ignored.
 pub(crate) fn keep_rows<S: RowRoom>(
     block: &[u8],
     n_log2: u8,
@@ -166,7 +165,7 @@ pub(crate) fn keep_rows<S: RowRoom>(
     fill_rows(len / 32, kept_count(n_log2, k), k as usize, rows, x, spare);
 }
 
-// How many rows are kept.
+// Returns the number of kept rows: N / k, rounded up.
 pub(crate) fn kept_count(n_log2: u8, k: u64) -> usize
     requires cost { n_log2 < 64 }
     requires kept { 1 ≤ k }
@@ -175,7 +174,7 @@ pub(crate) fn kept_count(n_log2: u8, k: u64) -> usize
     row_count(n_log2).div_ceil(k as usize)
 }
 
-// N, which is how many rows there are.
+// Returns N, the number of rows.
 pub(crate) fn row_count(n_log2: u8) -> usize
     requires { n_log2 < 64 }
     ensures { result ≡ 2 ^ n_log2 }
@@ -183,8 +182,8 @@ pub(crate) fn row_count(n_log2: u8) -> usize
     1usize << n_log2
 }
 
-// Makes so many kept rows: x, and each further one by mixing the one before it k times. What the
-// rows and `work` held is not read, and x is left with the last row.
+// Computes `count` kept rows: `x`, and each further one by mixing the one before it k times. The
+// previous contents of `rows` and `work` are ignored. Afterwards `x` holds the last row.
 fn fill_rows<S: RowRoom>(
     r: usize,
     count: usize,

@@ -19,7 +19,7 @@ use std::alloc::{AllocError, Global};
 // The greatest length of a derived key: 2^32 - 1 blocks of 32 bytes.
 const LONGEST_KEY: usize = 137438953440;
 
-// What a derivation works in: room for the kept rows, what they are mixed in, and the parts.
+// The memory of a derivation: for the kept rows, for mixing, and for the parts.
 #[derive(Drop)]
 struct Buffers {
     rows: Vec<u32>,
@@ -28,7 +28,7 @@ struct Buffers {
 }
 
 impl Buffers {
-    // Asks for the memory of all three, first for that of the rows.
+    // Allocates all three buffers, first the one for the rows.
     fn new(alloc: Global, params: &Params, k: u64) -> Result<Buffers, KdfError>
         requires kept { 1 ≤ k }
         ensures room { IfOk result
@@ -89,9 +89,10 @@ pub fn scrypt(
     Ok(())
 }
 
-/// Derives the same key as `scrypt` with only every k-th row of a part kept, for k from 1 on. The other
-/// rows are computed again when they are needed, which saves memory and costs time. Returns how many rows
-/// are kept for each part: N / k, rounded up. These rows have fewer than 2^63 bytes in total.
+/// Derives the same key as `scrypt` with only every k-th row of a part kept, k at least 1. The
+/// other rows are computed again when they are needed, which saves memory and costs time. Returns
+/// how many rows are kept for each part: N / k, rounded up. These rows have fewer than 2^63 bytes
+/// in total.
 ///
 /// Returns `InvalidOutputLen` exactly if `out` is empty or longer than 137438953440 bytes, before anything
 /// is allocated. Returns `OutOfMemory` if an allocation failed: 128 * r bytes for each kept row, in one
@@ -147,8 +148,8 @@ pub fn scrypt_keeping(
     Ok(rows_in(&rows, params.r() as usize))
 }
 
-/// Derives the same key as `scrypt_keeping` in memory that the caller provides, with only every k-th row of
-/// a part kept, for k from 1 on. Does not allocate, so it cannot fail.
+/// Derives the same key as `scrypt_keeping` in memory that the caller provides, with only every
+/// k-th row of a part kept, k at least 1. Does not allocate, so it cannot fail.
 ///
 /// `words` must have at least the length that `Params::wanted_words` returns, and `bytes` the length that
 /// `Params::wanted_bytes` returns. Their previous contents are ignored, and both are all zeros afterwards.
@@ -167,8 +168,8 @@ pub fn scrypt_in(
     requires bytes { wanted_bytes params.now ≤ length bytes.old }
     requires len { IsTrue (is_key_length (length out.old)) }
 
-    // For every k from 1 on, whatever the caller's memory held, `out` holds the scrypt output of RFC 7914
-    // for the password, the salt, the parameters and its length.
+    // For every k of at least 1, whatever the caller's memory held, `out` holds the scrypt output
+    // of RFC 7914 for the password, the salt, the parameters and its length.
     ensures derived { out.new ≡ scrypt password.now salt.now
         (2 ^ params.now.n_log2) params.now.r params.now.p (length out.old) }
 
@@ -190,8 +191,8 @@ pub fn clear_memory(words: &mut [u32], bytes: &mut [u8])
     bytes.fill(0);
 }
 
-// Derives the key in memory that was passed in. What that held is not read, and what it is left
-// with is open.
+// Derives the key in the caller's memory. Its previous contents are ignored, and its contents
+// afterwards are unspecified.
 fn derive_in(
     password: &[u8],
     salt: &[u8],
@@ -216,7 +217,7 @@ fn derive_in(
     derive(password, salt, params, k, parts, &mut rows, work, out);
 }
 
-// Rejects a length that no derived key has.
+// Rejects an output length that scrypt does not allow.
 fn check_len(len: usize) -> Result<(), InvalidOutputLen>
     ensures { is_ok result ≡ is_key_length len }
 {
@@ -226,15 +227,14 @@ fn check_len(len: usize) -> Result<(), InvalidOutputLen>
     Ok(())
 }
 
-// A buffer of so many bytes.
 fn bytes(alloc: Global, len: usize) -> Result<Vec<u8>, AllocError>
     ensures { IfOk result (λ v. vec_len v ≡ len) }
 {
     vec![in alloc; 0u8; len]
 }
 
-// Derives the key in buffers whose content is not read. The rows are left as the last part's kept
-// ones.
+// Derives the key. The previous contents of the buffers are ignored. Afterwards `rows` holds the
+// kept rows of the last part.
 fn derive<S: RowRoom>(
     password: &[u8],
     salt: &[u8],
@@ -262,8 +262,8 @@ fn derive<S: RowRoom>(
     pbkdf2_once(password, parts, out);
 }
 
-// scryptROMix of each of the p parts, in place. What the rows and `work` held is not read; the rows
-// are left as the last part's kept ones.
+// Applies scryptROMix to each of the p parts, in place. The previous contents of `rows` and `work`
+// are ignored. Afterwards `rows` holds the kept rows of the last part.
 fn mix_parts<S: RowRoom>(
     r: usize,
     n_log2: u8,
@@ -292,7 +292,7 @@ fn mix_parts<S: RowRoom>(
     }
 }
 
-// scryptROMix of a part, in place. What the rows and `work` held is not read.
+// Applies scryptROMix to a part, in place. The previous contents of `rows` and `work` are ignored.
 fn rom_mix<S: RowRoom>(n_log2: u8, k: u64, part: &mut [u8], rows: &mut S, work: &mut [u32])
     requires some { 0 < length part.old }
     requires whole { length part.old % 128 ≡ 0 }

@@ -1,13 +1,14 @@
-//! The words of a part, from its bytes into diagonal order and back.
+//! Conversion of a part's bytes to words in diagonal order, and back.
 
 ghost use Rattle.std.specs.Prelude.{◌≡◌, ◌+◌, ◌*◌, ◌%◌, length};
 ghost use Rattle.minisign_kdf.specs.Diagonal.{diagonal_bytes, standard_order};
 ghost use Rattle.minisign_kdf.specs.Salsa20.{bytes_of_words32};
 
-// How many words a block has.
+// The number of words in a block.
 const BLOCK_WORDS: usize = 16;
 
-// Reads the words of blocks, low byte first, and puts those of each block into diagonal order.
+// Reads the words of blocks, least significant byte first, and puts those of each block into
+// diagonal order.
 pub(crate) fn load_part(bytes: &[u8], words: &mut [u32])
     requires whole { length words.old % 16 ≡ 0 }
     requires len { length bytes.now ≡ 4 * length words.old }
@@ -19,7 +20,6 @@ pub(crate) fn load_part(bytes: &[u8], words: &mut [u32])
     }
 }
 
-// Reads the words of a block, and puts them into diagonal order.
 fn load_block(bytes: &[u8], words: &mut [u32])
     requires bytes_len { length bytes.now ≡ 64 }
     requires words_len { length words.old ≡ 16 }
@@ -30,7 +30,7 @@ fn load_block(bytes: &[u8], words: &mut [u32])
     words.copy_from_slice(&in_diagonal_order(&plain));
 }
 
-// Reads words, low byte first.
+// Reads words, least significant byte first.
 fn load_words(bytes: &[u8], words: &mut [u32])
     requires { length bytes.now ≡ 4 * length words.old }
     ensures { bytes_of_words32 words.new ≡ bytes.now }
@@ -45,7 +45,7 @@ fn load_words(bytes: &[u8], words: &mut [u32])
     }
 }
 
-// The words of a block in diagonal order.
+// Puts the words of a block into diagonal order.
 fn in_diagonal_order(x: &[u32; 16]) -> [u32; 16]
     ensures { standard_order result ≡ x.now }
 {
@@ -55,7 +55,8 @@ fn in_diagonal_order(x: &[u32; 16]) -> [u32; 16]
     ]
 }
 
-// Puts the words of each block back into the standard's order, and writes them, low byte first.
+// Puts the words of each block back into the standard's order and writes them, least significant
+// byte first.
 pub(crate) fn store_part(words: &[u32], bytes: &mut [u8])
     requires whole { length words.now % 16 ≡ 0 }
     requires len { length bytes.old ≡ 4 * length words.now }
@@ -68,7 +69,7 @@ pub(crate) fn store_part(words: &[u32], bytes: &mut [u8])
     }
 }
 
-// The words of a block that stand in diagonal order, in the standard's order.
+// Puts the words of a block from diagonal order into the standard's order.
 fn in_standard_order(x: &[u32]) -> [u32; 16]
     requires { length x.now ≡ 16 }
     ensures { result ≡ standard_order x.now }
@@ -79,7 +80,7 @@ fn in_standard_order(x: &[u32]) -> [u32; 16]
     ]
 }
 
-// Writes words, low byte first.
+// Writes words, least significant byte first.
 fn store_words(words: &[u32], bytes: &mut [u8])
     requires { length bytes.old ≡ 4 * length words.now }
     ensures { bytes.new ≡ bytes_of_words32 words.now }

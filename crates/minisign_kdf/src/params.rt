@@ -73,9 +73,9 @@ impl Params {
         self.p
     }
 
-    /// Returns how many 32-bit words of memory `scrypt_in` needs with every k-th row kept, for k from 1 on:
-    /// 32 * r for each kept row, of which there are N / k, rounded up, and for three more. Does not
-    /// allocate.
+    /// Returns how many 32-bit words of memory `scrypt_in` needs with every k-th row kept, k at
+    /// least 1: 32 * r for each kept row, of which there are N / k, rounded up, and for three more.
+    /// Does not allocate.
     pub fn wanted_words(&self, k: u64) -> u64
         requires { 1 ≤ k }
 
@@ -95,7 +95,7 @@ impl Params {
     }
 }
 
-// Whether 64 bits can count the bytes of a part's rows.
+// Returns true if the number of bytes in a part's rows fits into 64 bits.
 fn is_countable(n_log2: u8, r: u32) -> bool
     requires { 1 ≤ r }
     ensures { result ≡ nat_lt (128 * r * 2 ^ n_log2) (2 ^ 64) }

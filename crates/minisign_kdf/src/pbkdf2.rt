@@ -8,7 +8,7 @@ ghost use Rattle.minisign_kdf.specs.Pbkdf2.{longest_key, pbkdf2};
 
 use crate::hmac::hmac_sha256;
 
-// How many bytes a block of the derived key has.
+// The length of a block of the derived key in bytes.
 const BLOCK_LEN: usize = 32;
 
 /// Derives a key that fills `out` with PBKDF2 (RFC 8018, section 5.2), using one iteration of HMAC with
@@ -27,7 +27,7 @@ pub fn pbkdf2_once(password: &[u8], salt: &[u8], out: &mut [u8])
     }
 }
 
-// Fills `out` with whole blocks, from T_1 on.
+// Fills `out` with whole blocks: T_1, T_2 and so on.
 fn write_blocks(password: &[u8], salt: &[u8], count: u32, out: &mut [u8])
     requires { length out.old ≡ 32 * count }
     ensures { out.new ≡ joined_lists (λ i. hmac password.now (salt.now ++ to_be_bytes w32 (i + 1))) count }
@@ -38,7 +38,7 @@ fn write_blocks(password: &[u8], salt: &[u8], count: u32, out: &mut [u8])
     }
 }
 
-// T_i.
+// Returns block T_i of the derived key.
 fn derived_block(password: &[u8], salt: &[u8], i: u32) -> [u8; 32]
     ensures { result ≡ hmac password.now (salt.now ++ to_be_bytes w32 i) }
 {

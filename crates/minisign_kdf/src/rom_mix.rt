@@ -19,9 +19,10 @@ use std::simd::u32x4;
 /// is computed by mixing the kept row j / k another j mod k times. With the rows that `Rows::fill` computes
 /// from a block, the result is scryptROMix of that block.
 ///
-/// `out` must have the length of a row, 128 * r bytes for some r from 1 on, and `work` at least 96 * r
-/// words, which is three rows. `n_log2` must be from 1 to 63, and k at least 1. The previous contents of
-/// `out` and `work` are ignored; the contents of `work` afterwards are unspecified. Does not allocate.
+/// `out` must have the length of a row, 128 * r bytes for some r of at least 1, and `work` at least
+/// 96 * r words, which is three rows. `n_log2` must be from 1 to 63, and k at least 1. The previous
+/// contents of `out` and `work` are ignored; the contents of `work` afterwards are unspecified.
+/// Does not allocate.
 pub fn mix_kept(rows: &[u32], n_log2: u8, k: u64, out: &mut [u8], work: &mut [u32])
     requires even { 1 ≤ n_log2 }
     requires cost { n_log2 < 64 }
@@ -49,7 +50,8 @@ pub fn mix_kept(rows: &[u32], n_log2: u8, k: u64, out: &mut [u8], work: &mut [u3
     store_part(x, out);
 }
 
-// scryptROMix over the kept rows, into x. What x, `work` and `row` held is not read.
+// Computes scryptROMix from the kept rows into `x`. The previous contents of `x`, `work` and `row`
+// are ignored.
 fn mix_with_rows(
     r: usize,
     n_log2: u8,
@@ -77,7 +79,8 @@ fn mix_with_rows(
     }
 }
 
-// Mixes the last kept row up to row N, into x. What x and `work` held is not read.
+// Computes row N into `x` by mixing the last kept row. The previous contents of `x` and `work` are
+// ignored.
 fn mix_last_row(r: usize, n_log2: u8, k: u64, rows: &[u32], x: &mut [u32], work: &mut [u32])
     requires some { 1 ≤ r }
     requires cost { n_log2 < 64 }
@@ -94,7 +97,8 @@ fn mix_last_row(r: usize, n_log2: u8, k: u64, rows: &[u32], x: &mut [u32], work:
     mix_times(r, times, &rows[32 * r * last..], x, work);
 }
 
-// Mixes x with the row that it names. What `row` and `out` held is not read.
+// Mixes `x` with the row that Integerify selects, into `out`. The previous contents of `row` and
+// `out` are ignored.
 #[inline(always)]
 fn mix_with_row(
     r: usize,
@@ -121,7 +125,7 @@ fn mix_with_row(
     mix_with_remade(r, kept, j % k as usize, x, row, out);
 }
 
-// The kept row that row j is made of.
+// Returns the kept row from which row j is computed.
 #[inline(always)]
 fn kept_row(r: usize, n_log2: u8, k: u64, rows: &[u32], j: usize) -> &[u32]
     requires some { 1 ≤ r }
@@ -136,7 +140,7 @@ fn kept_row(r: usize, n_log2: u8, k: u64, rows: &[u32], j: usize) -> &[u32]
     &rows[at..at + len]
 }
 
-// Mixes x with the row that is made by mixing `kept` so many times.
+// Mixes `x` with the row that is made by mixing `kept` `times` times.
 #[inline(always)]
 fn mix_with_remade(
     r: usize,
@@ -164,7 +168,7 @@ fn mix_with_remade(
     }
 }
 
-// The low 64 bits of the last block, whose first two words stand at the places 0 and 13.
+// Returns the low 64 bits of the last block. Its first two words are at indices 0 and 13.
 fn integerify(r: usize, x: &[u32]) -> u64
     requires some { 1 ≤ r }
     requires x_len { length x.now ≡ 32 * r }
@@ -174,9 +178,9 @@ fn integerify(r: usize, x: &[u32]) -> u64
     u64::from(x[last]) + (u64::from(x[last + 13]) << 32)
 }
 
-// Reads a vector of each of the row's first r blocks and of its last one, so that what follows
-// waits for memory once and not block by block. What is read goes into `out`, which is written over
-// afterwards.
+// Reads a vector of each of the row's first r blocks and of its last block, so that the mixing
+// afterwards waits for memory once and not block by block. The values go to `out`, which is
+// overwritten afterwards.
 fn touch_row(r: usize, row: &[u32], out: &mut [u32])
     requires some { 1 ≤ r }
     requires row_len { length row.now ≡ 32 * r }

@@ -2,27 +2,27 @@
 
 ghost use Rattle.std.specs.Prelude.{◌≡◌, ℕ, ◌+◌, ◌≤◌, ◌++◌, List, [], length, take, vec_capacity};
 
-/// Room for rows, which are put one behind another.
+/// A buffer for rows, which are appended one after another.
 pub(crate) trait RowRoom {
-    // The words of the rows that it holds, and of how many words it has room for.
+    // The words of the rows in the buffer, and the number of words that the buffer can hold.
     ghost words: { Self → List ℕ };
 
     ghost room: { Self → ℕ };
 
-    // Lets go of all rows. What memory held stays there until it is written over.
+    // Removes all rows. The memory is not overwritten.
     fn clear(&mut self)
         ensures words { words self.new ≡ [] }
         ensures len { length (words self.new) ≡ 0 }
         ensures room { room self.old ≤ room self.new };
 
-    // Puts a row, for which there is room, behind the others.
+    // Appends a row, for which there must be room.
     fn push(&mut self, row: &[u32])
         requires { length (words self.old) + length row.now ≤ room self.old }
         ensures words { words self.new ≡ words self.old ++ row.now }
         ensures len { length (words self.new) ≡ length (words self.old) + length row.now }
         ensures room { room self.old ≤ room self.new };
 
-    // The words of the rows.
+    // Returns the words of the rows.
     fn words(&self) -> &[u32]
         ensures value { result.now ≡ words self.now }
         ensures len { length result.now ≡ length (words self.now) };
@@ -47,7 +47,7 @@ impl RowRoom for Vec<u32> {
     }
 }
 
-/// Memory that was passed in, of which the first so many words are those of rows.
+/// The caller's memory, of which the first `used` words are those of rows.
 #[derive(Drop)]
 pub(crate) struct Passed<'a> {
     memory: &'a mut [u32],
@@ -55,7 +55,7 @@ pub(crate) struct Passed<'a> {
 }
 
 impl<'a> Passed<'a> {
-    // All of it is room.
+    // Returns an empty buffer in this memory.
     pub(crate) fn new(memory: &'a mut [u32]) -> Passed<'a>
         ensures room { ⟦<Passed<'a> as RowRoom>⟧.room result ≡ length memory.old }
     {

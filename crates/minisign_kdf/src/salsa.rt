@@ -1,4 +1,4 @@
-//! The Salsa20/8 Core (RFC 7914, section 3), on blocks whose words stand in diagonal order: both
+//! The Salsa20/8 core (RFC 7914, section 3) on blocks whose words are in diagonal order: both
 //! rounds are then steps on whole rows of four words.
 
 ghost use Rattle.std.specs.Prelude.{◌≡◌, ◌<◌, length, map, bit_xor};
@@ -21,7 +21,7 @@ pub(crate) struct Block {
 }
 
 impl Block {
-    // The words of a slice.
+    // Reads a block from words in diagonal order.
     #[inline(always)]
     pub(crate) fn load(words: &[u32]) -> Block
         requires { length words.now ≡ 16 }
@@ -34,7 +34,7 @@ impl Block {
         Block { a, b, c, d }
     }
 
-    // Writes the words into a slice.
+    // Writes the words in diagonal order.
     #[inline(always)]
     pub(crate) fn store(self, words: &mut [u32])
         requires { length words.old ≡ 16 }
@@ -50,7 +50,7 @@ impl Block {
     }
 }
 
-// Salsa20/8 of a block.
+// Applies Salsa20/8 to a block.
 #[inline(always)]
 pub(crate) fn salsa20_8(x: Block) -> Block
     ensures { block_words result ≡ salsa_words (block_words x) }
@@ -58,7 +58,7 @@ pub(crate) fn salsa20_8(x: Block) -> Block
     sum_of(double_round(double_round(double_round(double_round(x)))), x)
 }
 
-// The words of x, each xored with that of y.
+// Xors two blocks.
 #[inline(always)]
 pub(crate) fn xor_of(x: Block, y: Block) -> Block
     ensures { placed_words result ≡ zip2 bit_xor (placed_words x) (placed_words y) }
@@ -70,7 +70,7 @@ pub(crate) fn xor_of(x: Block, y: Block) -> Block
     Block { a, b, c, d }
 }
 
-// The sums of the words of two blocks.
+// Adds the words of two blocks, modulo 2^32.
 #[inline(always)]
 fn sum_of(x: Block, y: Block) -> Block
     ensures { placed_words result ≡ zip2 add32 (placed_words x) (placed_words y) }
@@ -89,7 +89,7 @@ fn double_round(x: Block) -> Block
     row_round(column_round(x))
 }
 
-// A round on the four columns.
+// The column round.
 #[inline(always)]
 fn column_round(x: Block) -> Block
     ensures { block_words result ≡ column_round (block_words x) }
@@ -101,7 +101,7 @@ fn column_round(x: Block) -> Block
     Block { a, b, c, d }
 }
 
-// A round on the four rows of the standard's order.
+// The row round, on the rows of the standard's order.
 #[inline(always)]
 fn row_round(x: Block) -> Block
     ensures { block_words result ≡ row_round (block_words x) }
@@ -109,7 +109,7 @@ fn row_round(x: Block) -> Block
     transposed(column_round(transposed(x)))
 }
 
-// The block with its rows and columns, in the standard's order, swapped.
+// Swaps rows and columns of the standard's order.
 #[inline(always)]
 fn transposed(x: Block) -> Block
     ensures { block_words result ≡ transposed_square (block_words x) }
@@ -127,7 +127,7 @@ fn transposed(x: Block) -> Block
     Block { a, b, c, d }
 }
 
-// The words of x, each xored with a sum of y and z that is rotated left by so many bits.
+// Xors each word of `x` with the sum of those of `y` and `z`, rotated left by `bits` bits.
 #[inline(always)]
 fn xor_rotated_sum(x: [u32; 4], y: [u32; 4], z: [u32; 4], bits: u32) -> [u32; 4]
     requires low { 0 < bits }

@@ -1,4 +1,4 @@
--- The lookup, as a function and as a relation.
+-- Proof that looking up a name agrees as a function and as a relation.
 use Rattle.std.specs.Prelude.{Result, Ok, Err, filter}
 use Rattle.std.specs.List.{list_any}
 use Rattle.std.proofs.Common.{◌≡◌, ◌∙◌, ℕ, Bool, true, false, List, [], ◌∷◌, ◌++◌, refl, ap, cond}
@@ -10,7 +10,7 @@ use Rattle.minisign_lists.specs.Lines.{Entry, LongDigest}
 use Rattle.minisign_lists.specs.Lists.{IsListed, is_of, listed_entry, read_list, the_only}
 use Rattle.minisign_lists.specs.Names.{is_name, without_dot}
 
--- where the one entry that passes stands
+-- The position of the only entry that passes.
 record Split (p : Entry → Bool) (es : List Entry) (e : Entry) : Type 0 where
   pub before : List Entry
   pub after : List Entry
@@ -69,7 +69,7 @@ joined p (x ∷ before) e after is others = elim (cases_Bool (p x)) [
   | inr other ↦ rw other (joined p before e after is (rw other at others))
 ]
 
--- the entry that was read
+-- The entry that was read.
 abbrev got : Result Entry ListFault → Entry → Entry
 got (Ok e) _ = e
 got (Err f) e = e

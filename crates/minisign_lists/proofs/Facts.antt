@@ -1,6 +1,6 @@
--- Lines that tools write for a file with the bytes "abc", and what they say. The digests are those of
--- FIPS 180-4 and of RFC 7693, appendix A. The lines were written by GNU coreutils 9.1 (sha256sum, sha512sum,
--- b2sum, cksum -a), OpenSSL 3.0 (dgst -r) and shasum 6.02.
+-- Lines that tools write for a file with the bytes "abc", and their entries. The digests are those
+-- of FIPS 180-4 and of RFC 7693, appendix A. The lines were written by GNU coreutils 9.1
+-- (sha256sum, sha512sum, b2sum, cksum -a), OpenSSL 3.0 (dgst -r) and shasum 6.02.
 use Rattle.std.proofs.Common.{◌≡◌, refl, ℕ, true, false, List, [], ◌∷◌, ◌++◌, codes}
 use Rattle.std.specs.Prelude.{Option, Some, Result, Ok, Err}
 use Rattle.hex.specs.Hex.{decode_pairs}
@@ -13,7 +13,7 @@ use Rattle.minisign_lists.specs.declared.lines.LongDigest.TheVariants as long
 use Rattle.minisign_lists.specs.Lists.{read_list}
 use Rattle.minisign_lists.specs.Names.{is_name, is_path}
 
--- FIPS 180-4, example of SHA-256
+-- FIPS 180-4, example of SHA-256.
 abbrev sha256_of_abc : List ℕ
 sha256_of_abc =
     0xBA ∷ 0x78 ∷ 0x16 ∷ 0xBF ∷ 0x8F ∷ 0x01 ∷ 0xCF ∷ 0xEA ∷ 0x41 ∷ 0x41 ∷ 0x40 ∷ 0xDE ∷ 0x5D ∷
@@ -23,7 +23,7 @@ sha256_of_abc =
 abbrev sha256_digits : List ℕ
 sha256_digits = codes "ba7816bf8f01cfea414140de5dae2223b00361a396177a9cb410ff61f20015ad"
 
--- FIPS 180-4, example of SHA-512
+-- FIPS 180-4, example of SHA-512.
 abbrev sha512_of_abc : List ℕ
 sha512_of_abc =
     0xDD ∷ 0xAF ∷ 0x35 ∷ 0xA1 ∷ 0x93 ∷ 0x61 ∷ 0x7A ∷ 0xBA ∷ 0xCC ∷ 0x41 ∷ 0x73 ∷ 0x49 ∷ 0xAE ∷
@@ -37,7 +37,7 @@ sha512_digits =
     codes "ddaf35a193617abacc417349ae20413112e6fa4e89a97ea20a9eeee64b55d39a" ++
     codes "2192992a274fc1a836ba3c23a3feebbd454d4423643ce80e2a9ac94fa54ca49f"
 
--- RFC 7693, appendix A
+-- RFC 7693, appendix A.
 abbrev blake2b_of_abc : List ℕ
 blake2b_of_abc =
     0xBA ∷ 0x80 ∷ 0xA5 ∷ 0x3F ∷ 0x98 ∷ 0x1C ∷ 0x4D ∷ 0x0D ∷ 0x6A ∷ 0x27 ∷ 0x97 ∷ 0xB6 ∷ 0x9F ∷
@@ -51,7 +51,7 @@ blake2b_digits =
     codes "ba80a53f981c4d0d6a2797b69f12f6e94c212f14685ac4b74b12bb6fdbffa2d1" ++
     codes "7d87c5392aab792dc252d5de4533cc9518d38aa8dbf1925ab92386edd4009923"
 
--- the entry of line 1, whose name is written without escapes
+-- The entry of line 1, whose name has no escapes.
 abbrev entry : ListedDigest → List ℕ → ℕ → Result (Option Entry) ListFault
 entry digest name start =
     Ok (Some (record { line = 1; digest = digest; name = name; start = start; escaped = false }))
@@ -68,7 +68,7 @@ pub binary_line : read_line long.Rejected 1 (sha256_digits ++ codes " *a b") ≡
 unfolding decode_pairs
 binary_line = refl
 
--- sha256sum --tag, cksum -a sha256: a name with the letters that end names
+-- sha256sum --tag, cksum -a sha256: a name that contains the characters that end names
 pub tagged_line : read_line long.Rejected 1 (codes "SHA256 (p) = q) = " ++ sha256_digits) ≡
     entry (listed.Sha256 sha256_of_abc) (codes "p) = q") 8
 unfolding decode_pairs
@@ -86,7 +86,7 @@ pub tagged_line_of_blake2b : read_line long.Rejected 1 (codes "BLAKE2b (a b) = "
 unfolding decode_pairs
 tagged_line_of_blake2b = refl
 
--- sha512sum and b2sum: 128 digits are what the caller says
+-- sha512sum and b2sum: the caller says what 128 digits mean
 pub long_line_of_sha512 : read_line long.Sha512 1 (sha512_digits ++ codes "  a") ≡
     entry (listed.Sha512 sha512_of_abc) (codes "a") 130
 unfolding decode_pairs
@@ -128,7 +128,7 @@ pub line_of_short_blake2b : read_line long.Sha512 2 (codes "BLAKE2b-256 (a b) = 
     codes "94964e3bb1cb3e427262c8c068d52319") ≡ Err (MalformedLine 2)
 line_of_short_blake2b = refl
 
--- paths that lead elsewhere, or name a file in a second way
+-- Paths that lead out of the directory, or name a file in a second way.
 pub path_with_two_dots : is_path (codes "a/../b") ≡ false
 path_with_two_dots = refl
 
@@ -150,7 +150,7 @@ name_with_one_dot = refl
 pub name_with_two_dots : is_name (codes "././a") ≡ false
 name_with_two_dots = refl
 
--- the trusted comment that Minisign writes for a file of this name
+-- The trusted comment that Minisign writes for a file of this name.
 pub named_list : names_list (codes "SHA256SUMS") (codes "timestamp:1700000000" ++ 9 ∷ codes "file:SHA256SUMS" ++
     9 ∷ codes "hashed") ≡ true
 named_list = refl

@@ -1,3 +1,4 @@
+-- The definitions that the contracts of minisign_lists use.
 pub mod Faults
 pub mod Names
 pub mod Digests

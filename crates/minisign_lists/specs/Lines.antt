@@ -1,4 +1,4 @@
--- What a line of a list says.
+-- The forms of the lines of a list.
 use Rattle.std.specs.Prelude.{ℕ, ◌+◌, ◌-◌, ◌==◌, ◌||◌, ◌&&◌, Bool, true, false, List, [], ◌∷◌, length}
 use Rattle.std.specs.Prelude.{take, drop}
 use Rattle.std.specs.Prelude.{Option, Some, None, option_map, Result, Ok, Err, bytes_eq, codes}
@@ -12,14 +12,15 @@ use Rattle.minisign_lists.specs.Names.{is_backslash, is_control, is_path, withou
 pub use Rattle.minisign_lists.specs.declared.lines.LongDigest.{LongDigest}
 use Rattle.minisign_lists.specs.declared.lines.LongDigest.TheVariants as long
 
--- a digest, and the name beside it as it is written: start bytes of the line come before it
+-- The digest and the name on a line, as they are written. start is the number of bytes before the
+-- name.
 pub record NamedDigest : Type 0 where
   pub digest : ListedDigest
   pub name : List ℕ
   pub start : ℕ
 
--- a file of a list: the number of its line, the digest, the name without a leading ./, how many bytes of the
--- line come before that, and whether the name is written with escapes
+-- An entry of a list: the number of its line, the digest, the name without a leading ./, the number
+-- of bytes of the line before that name, and whether the name contains escapes.
 pub record Entry : Type 0 where
   pub line : ℕ
   pub digest : ListedDigest
@@ -29,24 +30,24 @@ pub record Entry : Type 0 where
 
 -- == The forms ==
 
--- how many hexadecimal digits write a digest
+-- The number of hexadecimal digits of a digest.
 abbrev pub digit_count : Algorithm → ℕ
 digit_count algorithm.Sha256 = 64
 digit_count algorithm.Sha512 = 128
 digit_count algorithm.Blake2b = 128
 
--- how a line begins that names its function
+-- The beginning of a line that names this hash function.
 abbrev pub label : Algorithm → List ℕ
 label algorithm.Sha256 = codes "SHA256 ("
 label algorithm.Sha512 = codes "SHA512 ("
 label algorithm.Blake2b = codes "BLAKE2b ("
 
--- these digits and this name, where the digits write a digest
+-- The digest and the name, if the digits encode a digest.
 abbrev pub named : Algorithm → List ℕ → List ℕ → ℕ → Option NamedDigest
 named algorithm digits name start =
     option_map (λ d. record { digest = d; name = name; start = start }) (digest_of_digits algorithm digits)
 
--- HEX  NAME or HEX *NAME, as sha256sum writes it
+-- HEX  NAME or HEX *NAME, the form of sha256sum.
 abbrev pub plain_form : Algorithm → List ℕ → Option NamedDigest
 plain_form algorithm line =
     let size = digit_count algorithm in
@@ -55,8 +56,8 @@ plain_form algorithm line =
     then named algorithm (take size line) (drop 2 (drop size line)) (size + 2)
     else None
 
--- SHA256 (NAME) = HEX, as BSD's tools write it; the name ends where the last four letters before the digits
--- begin, so it may contain such letters itself
+-- SHA256 (NAME) = HEX, the form of the BSD tools. The end of the name is found from the end of the
+-- line, so that the name may contain ") = " itself.
 abbrev pub tagged_form : Algorithm → List ℕ → Option NamedDigest
 tagged_form algorithm line =
     let begin = length (label algorithm) in
@@ -68,13 +69,13 @@ tagged_form algorithm line =
     then named algorithm (drop 4 end) (take size rest) begin
     else None
 
--- 128 digits on a line that names no function
+-- 128 digits and a name on a line that does not name its hash function.
 abbrev pub long_form : LongDigest → List ℕ → Option NamedDigest
 long_form long.Rejected line = None
 long_form long.Sha512 line = plain_form algorithm.Sha512 line
 long_form long.Blake2b line = plain_form algorithm.Blake2b line
 
--- the first of these forms that the line has
+-- The first of these forms that the line has.
 abbrev pub written_in : LongDigest → List ℕ → Option NamedDigest
 written_in long line =
     option_or (tagged_form algorithm.Sha256 line)
@@ -85,11 +86,12 @@ written_in long line =
 
 -- == Lines ==
 
--- how many bytes the ./ takes that a name begins with
+-- The number of bytes of a leading ./ in a name.
 abbrev pub dot_size : List ℕ → ℕ
 dot_size name = length name - length (without_dot name)
 
--- the entry of line n, whose name has to be a path; before is 1 where a backslash comes first
+-- The entry of line n, if its name is a relative path. before is 1 if the line begins with a
+-- backslash, and otherwise 0.
 abbrev pub entry_of : ℕ → Bool → ℕ → Option NamedDigest → Result (Option Entry) ListFault
 entry_of n escaped before None = Err (MalformedLine n)
 entry_of n escaped before (Some w) =
@@ -103,24 +105,24 @@ entry_of n escaped before (Some w) =
     }))
     else Err (MalformedLine n)
 
--- only if the name has a backslash
+-- The entry, only if its name contains a backslash.
 abbrev pub if_escaped : Option NamedDigest → Option NamedDigest
 if_escaped None = None
 if_escaped (Some w) = if list_any is_backslash w.name then Some w else None
 
--- the line is empty, or begins with #
+-- The line is empty or begins with #.
 abbrev pub is_comment : List ℕ → Bool
 is_comment [] = true
 is_comment (b ∷ rest) = b == 35
 
--- the line begins with a backslash
+-- The line begins with a backslash.
 abbrev pub is_marked : List ℕ → Bool
 is_marked [] = false
 is_marked (b ∷ rest) = b == 92
 
--- What line n says: nothing, if it is empty or a comment, or an entry. A backslash at its beginning says that
--- the name is written with escapes, which begin with backslashes. A line with a control character, and any
--- other one that is no entry, is malformed.
+-- The entry of line n, or nothing if the line is empty or a comment. A backslash at the beginning
+-- means that the name contains escapes, which begin with backslashes. A line with a control
+-- character is malformed, and so is any other line that is not an entry.
 abbrev pub read_line : LongDigest → ℕ → List ℕ → Result (Option Entry) ListFault
 read_line long n line =
     if list_any is_control line then Err (MalformedLine n)

@@ -1,4 +1,4 @@
--- The entries of a list, and the one entry of a name.
+-- The entries of a list, and the only entry of a name.
 use Rattle.std.specs.Prelude.{◌≡◌, ◌+◌, true, false, ℕ, Bool, List, [], ◌∷◌, ◌++◌, Option, Result, Ok}
 use Rattle.std.specs.Prelude.{Err}
 use Rattle.std.specs.Prelude.{bytes_eq, filter, option_to_list, if◌then◌else◌}
@@ -8,37 +8,38 @@ use Rattle.minisign_lists.specs.Faults.{ListFault, BadName, NotListed, ListedTwi
 use Rattle.minisign_lists.specs.Lines.{Entry, LongDigest, read_line}
 use Rattle.minisign_lists.specs.Names.{is_name, without_dot}
 
--- the entries of lines that are numbered from n on, or the error of the first malformed line
+-- The entries of these lines, which are numbered from n on, or the error of the first malformed
+-- line.
 abbrev pub read_entries : LongDigest → ℕ → List (List ℕ) → Result (List Entry) ListFault
 read_entries long n [] = Ok []
 read_entries long n (line ∷ more) =
     and_then (read_line long n line) (λ entry.
     map_ok (λ entries. option_to_list entry ++ entries) (read_entries long (n + 1) more))
 
--- the entries of a list
+-- The entries of a list, or the error of the first malformed line.
 abbrev pub read_list : LongDigest → List ℕ → Result (List Entry) ListFault
 read_list long list = read_entries long 1 (lines list)
 
--- the entry has the name
+-- The entry has this name.
 abbrev pub is_of : List ℕ → Entry → Bool
 is_of name e = bytes_eq e.name name
 
--- the only entry
+-- The entry, if there is exactly one.
 abbrev pub the_only : List Entry → Result Entry ListFault
 the_only [] = Err NotListed
 the_only (e ∷ []) = Ok e
 the_only (_ ∷ second ∷ _) = Err (ListedTwice second.line)
 
--- The entry of a name in a list, of which every line has to be well formed. A name on two lines is an error,
--- even if both have one digest.
+-- The entry of a name in a list, or the first check that fails. Every line of the list must be well
+-- formed. A name on two lines is an error, even if both lines have the same digest.
 unfoldable pub listed_entry : LongDigest → List ℕ → List ℕ → Result Entry ListFault
 listed_entry long list name =
     if is_name name
     then and_then (read_list long list) (λ entries. the_only (filter (is_of (without_dot name)) entries))
     else Err BadName
 
--- the same as a relation: the name can be looked up, every line of the list is well formed, one entry has the
--- name, and all others have other names
+-- Looking up a name as a relation: the name can be looked up, every line of the list is well
+-- formed, this entry has the name, and all other entries have other names.
 pub record IsListed (long : LongDigest) (list name : List ℕ) (entry : Entry) : Type 0 where
   pub named : is_name name ≡ true
   pub before : List Entry

@@ -1,4 +1,4 @@
--- What contracts say of data that is fed in pieces, and of a list that is read entry by entry.
+-- Data that is fed in pieces, and a list that is read entry by entry, as contracts see them.
 use Rattle.std.specs.Prelude.{◌≡◌, ◌==◌, ⊤, ℕ, Bool, ◌+◌, ◌-◌, ◌≤◌, ◌^◌, false, List, length, filter}
 use Rattle.std.specs.Prelude.{Result, Ok, Err, if◌then◌else◌}
 use Rattle.std.specs.Str.Lines.{lines}
@@ -14,20 +14,20 @@ use Rattle.minisign_lists.specs.declared.digests.FileCheck.TheVariants as check
 use Rattle.minisign_lists.specs.declared.entries.Entries.{Entries}
 use Rattle.minisign_lists.specs.declared.verifying.ListedFile.{ListedFile}
 
--- the check compares with the digest, and was fed the data. Callers cite this and the next word, and open
--- neither
+-- The check compares with this digest and was fed this data. Callers use this definition and
+-- the next one without unfolding them.
 unfoldable pub IsFedCheck : FileCheck → ListedDigest → List ℕ → Type 0
 IsFedCheck (check.Sha256 hasher digest) d m = (d ≡ listed.Sha256 digest) × Holds256 hasher m
 IsFedCheck (check.Sha512 hasher digest) d m = (d ≡ listed.Sha512 digest) × Holds512 hasher m
 IsFedCheck (check.Blake2b hasher digest) d m = (d ≡ listed.Blake2b digest) × IsFed hasher m
 
--- the check takes more data
+-- The check accepts more data.
 unfoldable pub IsUsable : FileCheck → Type 0
 IsUsable (check.Sha256 hasher digest) = ⊤
 IsUsable (check.Sha512 hasher digest) = ⊤
 IsUsable (check.Blake2b hasher digest) = (output_length hasher ≡ 64) × (has_finalized hasher ≡ false)
 
--- the file was fed the data, and its verdict on data is this function
+-- The file was fed this data, and its verdict on data is this function.
 unfoldable pub IsFedFile : ListedFile → (List ℕ → Result (List ℕ) ListFault) → List ℕ → Type 0
 IsFedFile file verdict m =
     (digest : ListedDigest) × IsFedCheck file.check digest m
@@ -36,18 +36,19 @@ IsFedFile file verdict m =
 abbrev pub is_feed : ℕ → Bool
 is_feed b = b == 10
 
--- the entries that are still ahead, or the error of the first malformed line ahead
+-- The entries that were not read yet, or the error of the first malformed line among the unread
+-- ones.
 abbrev pub ahead : Entries → Result (List Entry) ListFault
 ahead s = read_entries s.long (s.line + 1) (lines s.rest.now)
 
--- how many bytes of the list are still ahead
+-- The number of unread bytes of the list.
 abbrev pub left : Entries → ℕ
 left s = length s.rest.now
 
--- the lines ahead can be numbered
+-- The numbers of the unread lines fit into 64 bits.
 abbrev pub IsNumbered : Entries → Type 0
 IsNumbered s = s.line + left s ≤ 2 ^ 64 - 1
 
--- the same of one name
+-- The unread entries with this name, or the error of the first malformed unread line.
 abbrev pub ahead_of : List ℕ → Entries → Result (List Entry) ListFault
 ahead_of name s = map_ok (filter (is_of name)) (ahead s)

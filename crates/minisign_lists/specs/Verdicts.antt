@@ -1,4 +1,4 @@
--- The verdict on a file under a signed list.
+-- The verdict on data under its name in a signed list.
 use Rattle.std.specs.Prelude.{⊤, ℕ, false, List, Option, Some, None, Result, Ok, Err, if◌then◌else◌}
 use Rattle.minisign.specs.Acceptance.{Verifier}
 use Rattle.minisign.specs.Headline.{verdict}
@@ -8,19 +8,19 @@ use Rattle.minisign_lists.specs.Faults.{ListFault, OtherList, DigestMismatch, an
 use Rattle.minisign_lists.specs.Lines.{LongDigest}
 use Rattle.minisign_lists.specs.Lists.{listed_entry}
 
--- the trusted comment names the list, if it has to
+-- The trusted comment names the list, if a name of the list is given.
 abbrev pub check_list_name : Option (List ℕ) → List ℕ → Result ⊤ ListFault
 check_list_name None comment = Ok tt
 check_list_name (Some list_name) comment = if names_list list_name comment then Ok tt else Err OtherList
 
--- the data has the digest
+-- The data has the digest.
 abbrev pub check_digest : ListedDigest → List ℕ → Result ⊤ ListFault
 check_digest digest m = if has_digest digest m then Ok tt else Err DigestMismatch
 
--- The verdict on data under its name in a signed list. It is the trusted comment of the list, if the two
--- texts are those of a public key and of a signature that is valid for the list, the comment names the list,
--- the list has one entry of the name, and the data has the digest of that entry; otherwise the error is the
--- first of these checks that fails. A legacy signature is never accepted.
+-- The verdict on data under its name in a signed list: the trusted comment of the list if the two
+-- texts are those of a public key and of a signature that is valid for the list, the comment names
+-- the list, the list has exactly one entry of the name, and the data has the digest of that entry;
+-- and otherwise the first of these checks that fails. A legacy signature is always rejected.
 unfoldable pub listed_verdict : Verifier → List ℕ → List ℕ → Option (List ℕ) → LongDigest → List ℕ → List ℕ
     → List ℕ → Result (List ℕ) ListFault
 listed_verdict accepts pk_text sig_text list_name long list name m =

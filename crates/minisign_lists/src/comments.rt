@@ -1,4 +1,4 @@
-//! Decides if a trusted comment names a list. Does not allocate.
+//! Checks whether a trusted comment names a list. Does not allocate.
 
 ghost use Rattle.std.specs.Prelude.{◌≡◌, ◌∷◌, ◌<◌, ◌++◌, [], find, bytes_eq, option_copied, take, length};
 ghost use Rattle.std.specs.Prelude.{IfSome, IfNone};
@@ -12,7 +12,7 @@ fn has_label(field: &str) -> bool
     field.as_bytes().starts_with(b"file:")
 }
 
-// Returns the first field of a text, which a tab follows, and what follows the tab.
+// Splits a text at its first tab.
 fn split_field(text: &str) -> Option<(&str, &str)>
     ensures some { IfSome result
         (λ p. slice_split is_tab text.now ≡ p.0.now ∷ slice_split is_tab p.1.now) }
@@ -39,11 +39,11 @@ fn file_field(comment: &str) -> Option<&str>
     if has_label(rest) { Some(rest) } else { None }
 }
 
-/// Returns true if the first field `file:` of the trusted comment, between its tabs, has this name. Signing
-/// writes the last part of the path that was signed into this field. A signed text that only looks like a
-/// list of files has another name there, or none.
+/// Returns true if the first `file:` field of the trusted comment has exactly this name. Fields are
+/// separated by tabs. Signing writes the last part of the signed path into this field. A signed
+/// text that only looks like a list of files has another name there, or none.
 pub fn names_list(comment: &str, list_name: &str) -> bool
-    // The result says whether the first field `file:` of the comment has exactly this name.
+    // The result is true exactly if the first `file:` field of the comment has exactly this name.
     ensures { result ≡ names_list list_name.now comment.now }
 {
     match file_field(comment) {

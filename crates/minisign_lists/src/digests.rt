@@ -1,4 +1,4 @@
-//! The digests that a list has, and data that is compared with them. Nothing here allocates.
+//! The digests in a list, and checks of data against them. Nothing here allocates.
 
 ghost use Rattle.std.specs.Prelude.{◌≡◌, ◌++◌, ℕ, List, [], Option, option_map};
 ghost use Rattle.minisign_lists.specs.Digests.{digest_of_digits, has_digest, hex_bytes};
@@ -19,7 +19,7 @@ pub enum Algorithm {
     Blake2b,
 }
 
-/// A digest of a list, by its hash function.
+/// A digest in a list.
 #[derive(Clone, Copy, Debug, PartialEq, Eq)]
 pub enum ListedDigest {
     /// A digest of SHA-256.
@@ -30,7 +30,7 @@ pub enum ListedDigest {
     Blake2b([u8; 64]),
 }
 
-/// Data in pieces that is compared with a digest.
+/// A check of data that comes in pieces against a digest.
 #[derive(Drop)]
 pub enum FileCheck {
     /// A hasher and a digest of SHA-256.
@@ -41,7 +41,7 @@ pub enum FileCheck {
     Blake2b(Blake2b, [u8; 64]),
 }
 
-// Reads the 32 bytes that hexadecimal digits of either case write.
+// Decodes 32 bytes from hexadecimal digits of either case.
 fn hex_32(digits: &[u8]) -> Option<[u8; 32]>
     ensures { result ≡ hex_bytes 32 digits.now }
 {
@@ -52,7 +52,7 @@ fn hex_32(digits: &[u8]) -> Option<[u8; 32]>
     }
 }
 
-// Reads the 64 bytes that hexadecimal digits of either case write.
+// Decodes 64 bytes from hexadecimal digits of either case.
 fn hex_64(digits: &[u8]) -> Option<[u8; 64]>
     ensures { result ≡ hex_bytes 64 digits.now }
 {
@@ -63,7 +63,7 @@ fn hex_64(digits: &[u8]) -> Option<[u8; 64]>
     }
 }
 
-// Reads the digest that hexadecimal digits of either case write.
+// Decodes a digest from hexadecimal digits of either case.
 pub(crate) fn digest_of_digits(algorithm: Algorithm, digits: &[u8]) -> Option<ListedDigest>
     ensures { result ≡ digest_of_digits algorithm digits.now }
 {
@@ -87,7 +87,7 @@ pub(crate) fn digest_of_digits(algorithm: Algorithm, digits: &[u8]) -> Option<Li
 impl FileCheck {
     /// Begins a check against a digest.
     pub fn new(digest: ListedDigest) -> FileCheck
-        // A new check compares with the digest, was fed nothing, and takes data.
+        // The new check compares with this digest, has been fed no data, and accepts data.
         ensures fed { IsFedCheck result digest [] }
         ensures usable { IsUsable result }
     {
@@ -101,7 +101,7 @@ impl FileCheck {
     /// Feeds the next piece of the data.
     pub fn update(&mut self, piece: &[u8])
         requires { IsUsable self.old }
-        // Each update appends the piece to what the check was fed.
+        // The piece is appended to the data that the check was fed.
         ensures fed { (d : ListedDigest) (m : List ℕ) → IsFedCheck self.old d m
             → IsFedCheck self.new d (m ++ piece.now) }
         ensures usable { IsUsable self.new }
@@ -116,7 +116,7 @@ impl FileCheck {
     /// Returns true if the data that was fed has the digest.
     pub fn finish(self) -> bool
         requires { IsUsable self }
-        // The result says whether everything that was fed has the digest.
+        // The result is true exactly if the data that the check was fed has the digest.
         ensures { (d : ListedDigest) (m : List ℕ) → IsFedCheck self d m → result ≡ has_digest d m }
     {
         match self {
@@ -134,7 +134,7 @@ impl FileCheck {
 impl ListedDigest {
     /// Returns true if data in memory has the digest.
     pub fn matches(self, message: &[u8]) -> bool
-        // The result says whether the data has the digest.
+        // The result is true exactly if the data has the digest.
         ensures { result ≡ has_digest self message.now }
     {
         let mut check = FileCheck::new(self);

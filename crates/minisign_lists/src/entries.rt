@@ -1,4 +1,4 @@
-//! The entries of a list, one after the other. Nothing here allocates.
+//! Reads the entries of a list, one after the other. Nothing here allocates.
 
 ghost use Rattle.std.specs.Prelude.{◌≡◌, ◌<◌, ◌+◌, ◌∷◌, [], Ok, Err, IfErr, IfOk, IfSome, IfNone};
 ghost use Rattle.std.specs.Prelude.{MatchOption, OnSome};
@@ -12,19 +12,20 @@ ghost use Rattle.minisign_lists.specs.Pieces.{IsNumbered, ahead, is_feed, left};
 use crate::faults::Result;
 use crate::lines::{EntryView, LongDigest, read_line};
 
-/// The entries of a list that are still ahead.
+/// The entries of a list that were not read yet.
 #[derive(Drop)]
 pub struct Entries<'a> {
     long: LongDigest,
-    // How many lines were read.
+    // The number of lines read so far.
     line: u64,
     rest: &'a [u8],
 }
 
 impl<'a> Entries<'a> {
-    /// Returns all entries of a list. `long` says what 128 digits mean on a line that names no function.
+    /// Returns all entries of a list. `long` says what 128 digits mean on a line that does not name
+    /// its hash function.
     pub fn new(long: LongDigest, list: &'a str) -> Entries<'a>
-        // All entries of the list are ahead.
+        // No entry has been returned yet: those that are still to come are all entries of the list, in order.
         ensures ahead { ahead result ≡ read_list long list.now }
         ensures numbered { IsNumbered result }
     {
@@ -35,11 +36,13 @@ impl<'a> Entries<'a> {
         }
     }
 
-    /// Returns the next entry, or nothing at the end. A malformed line is the error `MalformedLine`.
+    /// Returns the next entry, or `None` at the end. The error of a malformed line is
+    /// `MalformedLine`.
     pub fn next_entry(&mut self) -> Result<Option<EntryView<'a>>>
         requires { IsNumbered self.old }
-        // The entries come in the order of their lines. At the end none is ahead, and a malformed line is an
-        // error.
+        // The entries are returned in the order of their lines, and nothing at the end of the list. An error
+        // means that one of the remaining lines is malformed. If there is such a line, the end is never
+        // reported.
         ensures entry { IfOk result (λ next. MatchOption next (ahead self.old ≡ Ok [])
             (λ e. ahead self.old ≡ map_ok (λ es. e ∷ es) (ahead self.new))) }
         ensures refused { IfErr result (λ e. ahead self.old ≡ Err e) }
@@ -57,7 +60,7 @@ impl<'a> Entries<'a> {
     }
 }
 
-// Returns the first line of a text, without its line end, and what follows it.
+// Splits off the first line, without its line ending.
 fn next_line(text: &[u8]) -> Option<(&[u8], &[u8])>
     ensures some { IfSome result (λ p. lines text.now ≡ p.0.now ∷ lines p.1.now) }
     ensures shorter { IfSome result (λ p. length p.1.now < length text.now) }
@@ -72,7 +75,7 @@ fn next_line(text: &[u8]) -> Option<(&[u8], &[u8])>
     }
 }
 
-// Returns what comes before the first line feed, and what follows it.
+// Splits a text at its first line feed.
 fn split_line(text: &[u8]) -> Option<(&[u8], &[u8])>
     ensures some { IfSome result
         (λ p. slice_split is_feed text.now ≡ p.0.now ∷ slice_split is_feed p.1.now) }

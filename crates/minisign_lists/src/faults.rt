@@ -1,11 +1,11 @@
-//! Why a file is rejected under a signed list.
+//! The errors of checking a file against a signed list.
 
 ghost use Rattle.std.specs.Prelude.{◌≡◌};
 ghost use Rattle.minisign_lists.specs.Faults.{Library};
 
 use minisign_base::PError;
 
-/// Why a file is rejected.
+/// The reason for which a file is rejected.
 #[derive(Debug, Drop)]
 pub enum ListFault {
     /// An error of the library: the public key, the signature, or the verdict on the list.
@@ -18,7 +18,7 @@ pub enum ListFault {
     MalformedLine { line: u64 },
     /// No line of the list has the name.
     NotListed,
-    /// Two lines of the list have the name; this is the number of the second.
+    /// Two lines of the list have the name. `line` is the number of the second one.
     ListedTwice { line: u64 },
     /// The data does not have the listed digest.
     DigestMismatch,
@@ -27,7 +27,7 @@ pub enum ListFault {
 /// The result of a call of this crate.
 pub type Result<T> = std::result::Result<T, ListFault>;
 
-/// The error of the library.
+/// Wraps an error of the library: the result is `Library` with this error.
 impl From<PError> for ListFault {
     ghost from_gives = { λ e f. f ≡ Library e };
 

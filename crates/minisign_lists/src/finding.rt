@@ -1,4 +1,4 @@
-//! Looks a name up in a list. Nothing here allocates.
+//! Looks up a name in a list. Nothing here allocates.
 
 ghost use Rattle.std.specs.Prelude.{◌≡◌, ℕ, List, [], ◌∷◌, Ok, Err, IfErr, IfOk, IsOk, MatchOption};
 ghost use Rattle.std.specs.Prelude.{OnSome, ◌<◌};
@@ -13,7 +13,8 @@ use crate::faults::{ListFault, Result};
 use crate::lines::{EntryView, LongDigest};
 use crate::names::{is_name, same, without_dot};
 
-/// A law, for which nothing is done: the function that looks a name up agrees with the relation.
+/// States that the function that looks up a name agrees with the relation that defines this. This
+/// function is a law: it does nothing, and its contract is what it is for.
 #[tactic(auto, using(crate::proofs::Deciding::decided))]
 pub fn lists_are_decided()
     // A lookup succeeds with an entry exactly if the name can be looked up, every line of the list is well
@@ -22,7 +23,7 @@ pub fn lists_are_decided()
         → IsReading (IsListed long list name) (listed_entry long list name) }
 {}
 
-// Returns the next entry of a name.
+// Returns the next entry with this name.
 fn next_of<'a>(entries: &mut Entries<'a>, name: &[u8]) -> Result<Option<EntryView<'a>>>
     requires { IsNumbered entries.old }
     ensures entry { IfOk result (λ next. MatchOption next (ahead_of name.now entries.old ≡ Ok [])
@@ -39,7 +40,7 @@ fn next_of<'a>(entries: &mut Entries<'a>, name: &[u8]) -> Result<Option<EntryVie
     Ok(None)
 }
 
-// Reads the list to its end.
+// Reads the rest of the list, and returns the error of a malformed line.
 fn read_to_end(entries: &mut Entries<'_>, name: &[u8]) -> Result<()>
     requires { IsNumbered entries.old }
     ensures { result ≡ checked (ahead_of name.now entries.old) }
@@ -48,21 +49,24 @@ fn read_to_end(entries: &mut Entries<'_>, name: &[u8]) -> Result<()>
     Ok(())
 }
 
-/// Returns the entry of a name, which has to be on exactly one line.
+/// Returns the entry of a name, which must be on exactly one line of the list.
 ///
-/// A list is UTF-8, and its lines end with LF or CR LF. A line is empty; a comment, which begins with `#`; or
-/// an entry, as sha256sum, sha512sum and b2sum write it (`HEX  NAME` or `HEX *NAME`) or as the tools of
-/// BSD do (`SHA256 (NAME) = HEX`, with SHA512 or BLAKE2b). Digits may be of either case. `long` says what 128
-/// digits mean on a line that names no function. A backslash at the beginning of an entry says that its name
-/// is written with escapes; no name that can be looked up matches it. The name of an entry is a relative path
-/// without empty, `.` or `..` parts, but one `./` may stand before it, which is ignored in the list and here.
+/// A list is UTF-8, and its lines end with LF or CR LF. A line is empty, a comment that begins with
+/// `#`, or an entry. An entry has the form of sha256sum, sha512sum and b2sum (`HEX  NAME` or `HEX
+/// *NAME`) or that of the BSD tools (`SHA256 (NAME) = HEX`, or with SHA512 or BLAKE2b). Digits may
+/// have either case. `long` says what 128 digits mean on a line that does not name its hash
+/// function. A backslash at the beginning of an entry means that its name contains escapes; no name
+/// that can be looked up matches it. The name of an entry is a relative path without empty, `.` or
+/// `..` parts. One leading `./` is ignored, in the list and in `name`.
 ///
-/// The errors, in this order: `BadName`, if the name is no such path or has a control character or a
-/// backslash; `MalformedLine`, if a line is none of these or has a control character; `NotListed`;
+/// Errors come in this order: `BadName`, if the name is not such a path, or contains a control
+/// character or a backslash; `MalformedLine`, if a line has none of these forms or contains a
+/// control character; `NotListed`; `ListedTwice`.
 /// `ListedTwice`.
 #[tactic(auto, unfolding(crate::specs::Lists::listed_entry))]
 pub fn find_listed<'a>(long: LongDigest, list: &'a str, name: &str) -> Result<EntryView<'a>>
-    // The result is the only entry of the name in the list, or the first error, a function of the two texts.
+    // The result is the entry with this name if the name can be looked up, every line of the list is well
+    // formed, and exactly one entry has the name. Otherwise the error is the first check that fails.
     ensures { result ≡ listed_entry long list.now name.now }
 {
     if !is_name(name.as_bytes()) {
@@ -72,7 +76,8 @@ pub fn find_listed<'a>(long: LongDigest, list: &'a str, name: &str) -> Result<En
     find_only(&mut entries, without_dot(name.as_bytes()))
 }
 
-// Returns the only entry of a name, and reads the list to its end.
+// Returns the only entry of a name. The list is read to its end, because a malformed line is an
+// error wherever it is.
 fn find_only<'a>(entries: &mut Entries<'a>, name: &[u8]) -> Result<EntryView<'a>>
     requires { IsNumbered entries.old }
     ensures { result ≡ and_then (ahead_of name.now entries.old) the_only }

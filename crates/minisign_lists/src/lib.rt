@@ -1,8 +1,8 @@
 //! Checks files against a signed list, such as `SHA256SUMS` with its signature `SHA256SUMS.minisig`.
 //!
-//! A list has one line for each file, with its digest and its name. [`verify_listed`] verifies the list and
-//! compares data in memory with its entry, and [`ListedFile`] does so with data in pieces. [`Entries`] goes
-//! through all entries. No call allocates.
+//! A list has one line for each file, with its digest and its name. [`verify_listed`] verifies the
+//! list and compares data in memory with its entry, and [`ListedFile`] does so with data in pieces.
+//! [`Entries`] reads all entries. No call allocates.
 
 #![tactic(auto)]
 

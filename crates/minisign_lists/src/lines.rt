@@ -1,4 +1,4 @@
-//! Reads a line of a list. Nothing here allocates.
+//! Parses the lines of a list. Nothing here allocates.
 
 ghost use Rattle.std.specs.Prelude.{◌≡◌, ◌==◌, ◌<◌, ◌+◌, ◌≤◌, ◌-◌, ◌^◌, IfSome, IsTrue, not, ◌&&◌, ◌∷◌};
 ghost use Rattle.std.specs.Prelude.{ℕ, true, false, List, Option};
@@ -16,7 +16,7 @@ use crate::faults::{ListFault, Result};
 use crate::names::{has_backslash, has_control, is_path, same, without_dot};
 use std::marker::Model;
 
-/// What 128 digits mean on a line that does not name its function.
+/// What 128 digits mean on a line that does not name its hash function.
 #[derive(Clone, Copy, Debug, PartialEq, Eq)]
 pub enum LongDigest {
     /// The line is malformed.
@@ -27,7 +27,8 @@ pub enum LongDigest {
     Blake2b,
 }
 
-// A digest, and the name beside it as it is written, which so many bytes of the line come before.
+// The digest and the name on a line, as they are written. `start` is the number of bytes before the
+// name.
 #[derive(Drop)]
 pub(crate) struct NamedDigest<'a> {
     digest: ListedDigest,
@@ -35,18 +36,18 @@ pub(crate) struct NamedDigest<'a> {
     start: usize,
 }
 
-/// A file of a list.
+/// An entry of a list.
 #[derive(Drop)]
 pub struct EntryView<'a> {
     /// The number of its line, from 1 on.
     pub line: u64,
-    /// The digest that the file has to have.
+    /// The digest that the file must have.
     pub digest: ListedDigest,
     /// The name as it is written, without a leading `./`.
     pub name: &'a [u8],
-    /// How many bytes of the line come before the name.
+    /// The number of bytes of the line before the name.
     pub start: usize,
-    /// True if the name is written with escapes, which this library does not resolve.
+    /// True if the name contains escapes, which this library does not resolve.
     pub escaped: bool,
 }
 
@@ -73,7 +74,7 @@ impl<'a> Model for EntryView<'a> {
 }
 
 impl Algorithm {
-    // Returns how many hexadecimal digits write a digest.
+    // Returns the number of hexadecimal digits of a digest.
     pub(crate) fn digit_count(self) -> usize
         ensures { result ≡ digit_count self }
     {
@@ -84,7 +85,7 @@ impl Algorithm {
         }
     }
 
-    // Returns how a line begins that names the function.
+    // Returns the beginning of a line that names this hash function.
     pub(crate) fn label(self) -> &'static [u8]
         ensures { result.now ≡ label self }
     {
@@ -96,7 +97,7 @@ impl Algorithm {
     }
 }
 
-// Returns these digits and this name, if the digits write a digest.
+// Returns the digest and the name, if the digits encode a digest.
 fn named<'a>(
     algorithm: Algorithm,
     digits: &[u8],
@@ -115,7 +116,7 @@ fn named<'a>(
     }
 }
 
-// Reads HEX  NAME or HEX *NAME.
+// Parses `HEX  NAME` or `HEX *NAME`.
 fn plain_form(algorithm: Algorithm, line: &[u8]) -> Option<NamedDigest<'_>>
     ensures value { result ≡ plain_form algorithm line.now }
     ensures within { IfSome result (λ w. w.start + length w.name ≤ length line.now) }
@@ -132,7 +133,7 @@ fn plain_form(algorithm: Algorithm, line: &[u8]) -> Option<NamedDigest<'_>>
     named(algorithm, digits, name, size + 2)
 }
 
-// Reads SHA256 (NAME) = HEX.
+// Parses `SHA256 (NAME) = HEX`.
 fn tagged_form(algorithm: Algorithm, line: &[u8]) -> Option<NamedDigest<'_>>
     ensures value { result ≡ tagged_form algorithm line.now }
     ensures within { IfSome result (λ w. w.start + length w.name ≤ length line.now) }
@@ -151,7 +152,7 @@ fn tagged_form(algorithm: Algorithm, line: &[u8]) -> Option<NamedDigest<'_>>
     named(algorithm, digits, name, label.len())
 }
 
-// Reads 128 digits on a line that names no function.
+// Parses 128 digits and a name on a line that does not name its hash function.
 fn long_form(long: LongDigest, line: &[u8]) -> Option<NamedDigest<'_>>
     ensures value { result ≡ long_form long line.now }
     ensures within { IfSome result (λ w. w.start + length w.name ≤ length line.now) }
@@ -163,7 +164,7 @@ fn long_form(long: LongDigest, line: &[u8]) -> Option<NamedDigest<'_>>
     }
 }
 
-// Reads the digest and the name of a line.
+// Parses the digest and the name on a line of any form.
 fn written_in(long: LongDigest, line: &[u8]) -> Option<NamedDigest<'_>>
     ensures value { result ≡ written_in long line.now }
     ensures within { IfSome result (λ w. w.start + length w.name ≤ length line.now) }
@@ -183,7 +184,7 @@ fn written_in(long: LongDigest, line: &[u8]) -> Option<NamedDigest<'_>>
     long_form(long, line)
 }
 
-// Returns what was found, if its name has a backslash.
+// Returns the entry only if its name contains a backslash.
 fn if_escaped(found: Option<NamedDigest<'_>>) -> Option<NamedDigest<'_>>
     ensures { result ≡ if_escaped found.entry }
 {
@@ -193,7 +194,8 @@ fn if_escaped(found: Option<NamedDigest<'_>>) -> Option<NamedDigest<'_>>
     }
 }
 
-// Returns the entry of a line, whose name has to be a path. before bytes come before the form.
+// Returns the entry of a line if its name is a relative path. `before` is the number of bytes
+// before the form.
 fn entry_of<'a>(
     line: u64,
     escaped: bool,
@@ -219,7 +221,7 @@ fn entry_of<'a>(
     }))
 }
 
-// Returns true if a line is empty or begins with #.
+// Returns true if the line is empty or begins with `#`.
 fn is_comment(line: &[u8]) -> bool
     ensures { result ≡ is_comment line.now }
 {
@@ -229,7 +231,7 @@ fn is_comment(line: &[u8]) -> bool
     }
 }
 
-// Returns true if a line begins with a backslash.
+// Returns true if the line begins with a backslash.
 fn is_marked(line: &[u8]) -> bool
     ensures value { result ≡ is_marked line.now }
     ensures some { IsTrue result → 1 ≤ length line.now }
@@ -240,7 +242,7 @@ fn is_marked(line: &[u8]) -> bool
     }
 }
 
-// Reads an entry behind a backslash.
+// Parses an entry after a backslash.
 fn escaped_entry(long: LongDigest, number: u64, line: &[u8]) -> Result<Option<EntryView<'_>>>
     requires { 1 ≤ length line.now }
     ensures { result ≡ entry_of number true 1 (if_escaped (written_in long (drop 1 line.now))) }
@@ -250,7 +252,7 @@ fn escaped_entry(long: LongDigest, number: u64, line: &[u8]) -> Result<Option<En
     entry_of(number, true, 1, found)
 }
 
-// Reads a line with this number: nothing, or an entry.
+// Parses the line with this number. Returns `None` if it is empty or a comment.
 pub(crate) fn read_line(long: LongDigest, number: u64, line: &[u8]) -> Result<Option<EntryView<'_>>>
     ensures { result ≡ read_line long number line.now }
 {

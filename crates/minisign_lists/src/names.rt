@@ -1,4 +1,4 @@
-//! Names of files: relative paths. Nothing here allocates.
+//! The names of files in a list: relative paths. Nothing here allocates.
 
 ghost use Rattle.std.specs.Prelude.{◌≡◌, ◌==◌, ◌&&◌, ◌||◌, not, bytes_eq, codes, true, false, ◌∷◌, ◌<◌};
 ghost use Rattle.std.specs.Prelude.{[], length, IfSome, IfNone};
@@ -7,35 +7,33 @@ ghost use Rattle.minisign_lists.specs.Names.{is_backslash, is_control, is_name, 
 ghost use Rattle.minisign_lists.specs.Names.{is_slash};
 ghost use Rattle.minisign_lists.specs.Names.{without_dot};
 
-// Returns true if the bytes are the same.
 pub(crate) fn same(one: &[u8], other: &[u8]) -> bool
     ensures { result ≡ bytes_eq one.now other.now }
 {
     one == other
 }
 
-// Returns true if there is a control character of ASCII.
+// Returns true if the text contains an ASCII control character.
 pub(crate) fn has_control(text: &[u8]) -> bool
     ensures { result ≡ list_any is_control text.now }
 {
     text.iter().any(|letter| *letter < 32 || *letter == 127)
 }
 
-// Returns true if there is a backslash.
 pub(crate) fn has_backslash(name: &[u8]) -> bool
     ensures { result ≡ list_any is_backslash name.now }
 {
     name.contains(&b'\\')
 }
 
-// Returns true if a part of a path is neither empty nor . nor ..
+// Returns true if the part of a path is neither empty nor `.` nor `..`.
 fn is_part(part: &[u8]) -> bool
     ensures { result ≡ is_part part.now }
 {
     !(part.is_empty() || same(part, b".") || same(part, b".."))
 }
 
-// Returns the part before the first slash, and what follows the slash.
+// Splits a path at its first slash.
 fn split_part(path: &[u8]) -> Option<(&[u8], &[u8])>
     ensures some { IfSome result
         (λ p. slice_split is_slash path.now ≡ p.0.now ∷ slice_split is_slash p.1.now) }
@@ -48,7 +46,7 @@ fn split_part(path: &[u8]) -> Option<(&[u8], &[u8])>
     }
 }
 
-// Returns true if a name is a relative path without empty, . or .. parts.
+// Returns true if the name is a relative path without empty, `.` or `..` parts.
 pub(crate) fn is_path(name: &[u8]) -> bool
     ensures { result ≡ is_path name.now }
 {
@@ -62,7 +60,7 @@ pub(crate) fn is_path(name: &[u8]) -> bool
     is_part(rest)
 }
 
-// Returns the name without one leading ./
+// Removes one leading `./`.
 pub(crate) fn without_dot(name: &[u8]) -> &[u8]
     ensures { result.now ≡ without_dot name.now }
 {
@@ -72,7 +70,7 @@ pub(crate) fn without_dot(name: &[u8]) -> &[u8]
     }
 }
 
-// Returns true if a name can be looked up.
+// Returns true if the name can be looked up.
 pub(crate) fn is_name(name: &[u8]) -> bool
     ensures { result ≡ is_name name.now }
 {

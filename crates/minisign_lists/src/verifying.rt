@@ -1,4 +1,4 @@
-//! The verdict on a file under its name in a signed list.
+//! Checks a file against the entry of its name in a signed list.
 
 ghost use Rattle.std.specs.Prelude.{◌≡◌, ◌≤◌, ◌++◌, length, [], ℕ, List, Option, option_map, IfOk, IfErr};
 ghost use Rattle.std.specs.Prelude.{Result};
@@ -14,7 +14,7 @@ use crate::finding::find_listed;
 use crate::lines::LongDigest;
 use minisign::{Scheme, verify_in_place};
 
-// Checks that the trusted comment names the list, if it has to.
+// Checks that the trusted comment names the list, if a name of the list is given.
 fn check_list_name(list_name: Option<&str>, comment: &str) -> Result<()>
     ensures { result ≡ check_list_name (option_map (λ n. n.now) list_name.entry) comment.now }
 {
@@ -24,13 +24,13 @@ fn check_list_name(list_name: Option<&str>, comment: &str) -> Result<()>
     }
 }
 
-/// Verifies a list with the texts of a public key and of a signature, and compares data in memory with
-/// the entry of its name. Returns the trusted comment of the list. Does not allocate: `room` has at least as
-/// many bytes as the text of the signature.
+/// Verifies a list with the texts of a public key and a signature, and compares data in memory with
+/// the entry of its name. Returns the trusted comment of the list. Does not allocate. `room` is
+/// scratch space at least as long as the text of the signature.
 ///
-/// The errors, in this order: those of `minisign::verify_in_place` on the list, where a legacy signature is
-/// never accepted; `OtherList`, if `list_name` is given and the trusted comment does not name the list so;
-/// those of [`find_listed`]; `DigestMismatch`.
+/// Errors come in this order: those of `minisign::verify_in_place` for the list, with legacy
+/// signatures always rejected; `OtherList`, if `list_name` is given and the trusted comment does
+/// not name the list so; those of [`find_listed`]; `DigestMismatch`.
 #[tactic(auto, unfolding(crate::specs::Verdicts::listed_verdict))]
 pub fn verify_listed<'a, S: Scheme>(
     scheme: &S,
@@ -44,10 +44,10 @@ pub fn verify_listed<'a, S: Scheme>(
     room: &mut [u8],
 ) -> Result<&'a str>
     requires { length sig_text.now ≤ length room.old }
-    // **For every scheme, all texts and all data: the result is the verdict on the data under its name in the
-    // signed list. It is the list's trusted comment exactly if the signature is valid for the list, the
-    // comment names the list, every line is well formed, the name is on exactly one line, and the data has
-    // the digest of that line. Otherwise it is the error of the first check that fails.**
+    // **For every scheme, all files and all data: the result is the list's trusted comment exactly if the
+    // signature is valid for the list and prehashed, the comment names the list (if a list name is given),
+    // every line is well formed, the name is on exactly one line, and the data has the digest on that line.
+    // Otherwise it is the error of the first check that fails.**
     ensures { map_ok (λ t. t.now) result
         ≡ listed_verdict (S.accepts scheme.now) pk_text.now sig_text.now
         (option_map (λ n. n.now) list_name.entry) long list.now name.now message.now }
@@ -61,7 +61,7 @@ pub fn verify_listed<'a, S: Scheme>(
     Ok(comment)
 }
 
-/// A file in pieces, whose list was verified and has its name.
+/// A file that comes in pieces. Its list was verified and contains its name.
 #[derive(Drop)]
 pub struct ListedFile<'a> {
     comment: &'a str,
@@ -70,7 +70,8 @@ pub struct ListedFile<'a> {
 
 #[tactic(auto, unfolding(crate::specs::Pieces::IsFedFile, crate::specs::Verdicts::listed_verdict))]
 impl<'a> ListedFile<'a> {
-    /// Verifies the list and finds the entry of the name, as [`verify_listed`] does. Then feed the data.
+    /// Verifies the list and finds the entry of the name, as [`verify_listed`] does. Then pass the
+    /// data to `update`.
     pub fn new<S: Scheme>(
         scheme: &S,
         pk_text: &str,
@@ -82,12 +83,13 @@ impl<'a> ListedFile<'a> {
         room: &mut [u8],
     ) -> Result<ListedFile<'a>>
         requires { length sig_text.now ≤ length room.old }
-        // On success, the file was fed nothing, and its verdict on data is that of `verify_listed`.
+        // On success, the file has been fed no data, and its verdict on any data will be that of
+        // `verify_listed`.
         ensures fed { IfOk result (λ file. IsFedFile file (listed_verdict (S.accepts scheme.now) pk_text.now
             sig_text.now (option_map (λ n. n.now) list_name.entry) long list.now name.now) []) }
         ensures usable { IfOk result (λ file. IsUsable file.check) }
 
-        // An error is the verdict on whatever data.
+        // After an error, `verify_listed` would return the same error for all data.
         ensures refused { IfErr result (λ e. (m : List ℕ) → listed_verdict (S.accepts scheme.now)
             pk_text.now sig_text.now (option_map (λ n. n.now) list_name.entry) long list.now name.now
             m ≡ Err e) }
@@ -104,7 +106,7 @@ impl<'a> ListedFile<'a> {
     /// Feeds the next piece of the data.
     pub fn update(&mut self, piece: &[u8])
         requires { IsUsable self.old.check }
-        // Each update appends the piece to what the file was fed.
+        // The piece is appended to the data that the file was fed.
         ensures fed { (verdict : List ℕ → Result (List ℕ) ListFault) (m : List ℕ)
             → IsFedFile self.old verdict m → IsFedFile self.new verdict (m ++ piece.now) }
         ensures usable { IsUsable self.new.check }
@@ -115,7 +117,7 @@ impl<'a> ListedFile<'a> {
     /// Returns the verdict on the data that was fed.
     pub fn finish(self) -> Result<&'a str>
         requires { IsUsable self.check }
-        // The result is the verdict on everything that was fed.
+        // The result is the verdict on all data that the file was fed.
         ensures { (verdict : List ℕ → Result (List ℕ) ListFault) (m : List ℕ)
             → IsFedFile self.entry verdict m → map_ok (λ t. t.now) result ≡ verdict m }
     {

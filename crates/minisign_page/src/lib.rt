@@ -1,6 +1,6 @@
-//! The calls of the page that verifies a download, built for WebAssembly: those of `minisign_c`
-//! that verify, under their contracts and with their numbers. `bindings/javascript/calls.js` calls
-//! them, and says what a caller has to do. None of it allocates.
+//! The calls of the web page that verifies downloads, for WebAssembly. They are the calls of `minisign_c`
+//! that verify, with the same contracts and error numbers. `bindings/javascript/calls.js` makes the calls and
+//! says what a caller has to do. Nothing here allocates.
 
 #![tactic(auto)]
 
@@ -33,9 +33,10 @@ use std::mem::forget;
 /// Returns the length of the whole text.
 #[unsafe(no_mangle)]
 pub extern "C" fn page_error_text(error: u32, text: &mut [u8]) -> usize
-    // The text is that of the API misuse, or that of the library's error
-    // without its key IDs. For any other number but 0 it is "unknown error". It has less than 128 bytes, is
-    // cut to the buffer and ends with a 0 byte. The rest of the buffer is unchanged.
+    // The text is that of the API misuse or of the library's error that has this
+    // number, without key IDs. For 0 it is "no error", and for a number without a meaning "unknown error". It
+    // has fewer than 128 bytes. The buffer holds as much of it as fits before a terminating 0 byte, and the
+    // bytes after the 0 are unchanged. The result is the length of the whole text.
     ensures written { (meaning : List ℕ) × IsMeaning error meaning × (result ≡ length meaning)
         × WritesCut meaning text.old text.new }
     ensures room { result < 128 }
@@ -46,7 +47,7 @@ pub extern "C" fn page_error_text(error: u32, text: &mut [u8]) -> usize
 /// Begins: the state was fed nothing.
 #[unsafe(no_mangle)]
 pub extern "C" fn page_init(state: &mut State)
-    // The new state was fed nothing, and nothing was asked. What the state held before is gone.
+    // The state has been fed no data and nothing was asked, whatever it held before.
     ensures fed { IsFedState state.new [] }
     ensures blank { IsBlank state.new }
 {
@@ -56,9 +57,9 @@ pub extern "C" fn page_init(state: &mut State)
 /// Feeds the next bytes of the data.
 #[unsafe(no_mangle)]
 pub extern "C" fn page_update(state: &mut State, piece: &[u8]) -> u32
-    // On success the piece is appended to the data that the state was fed. What was asked is unchanged. If
-    // the state was never begun, or its digest was returned, the result is the number of that error, and the
-    // state is unchanged.
+    // On success, the piece is appended to the data that the state was fed. What was asked is unchanged. The
+    // call fails only if the digest was already returned, or if the state was never initialized or was
+    // finished by a verdict. Then the result is the number of that error, and the state is unchanged.
     ensures fed { (m : List ℕ) → IsFedState state.old m → (result ≡ 0)
         × IsFedState state.new (m ++ piece.now) }
     ensures asked { KeepsAsked state.old state.new }
@@ -75,8 +76,9 @@ pub extern "C" fn page_update(state: &mut State, piece: &[u8]) -> u32
 /// Tells the digest of the data that was fed. The state then takes no more.
 #[unsafe(no_mangle)]
 pub extern "C" fn page_digest(state: &mut State, digest: &mut [u8; 64]) -> u32
-    // On success the digest is that of all data that the state was fed, and the state takes no more. What was
-    // asked is unchanged. If the state was never begun, or its digest was returned before, the result is the
+    // On success, the digest is the Blake2b digest (64 bytes) of all data that the state was fed, and the
+    // state accepts no more data. What was asked is unchanged. The call fails only if the digest was already
+    // returned, or if the state was never initialized or was finished by a verdict. Then the result is the
     // number of that error, and the state and the digest are unchanged.
     ensures digest { (m : List ℕ) → IsFedState state.old m
         → (result ≡ 0) × (digest.new ≡ blake2b_digest 64 m) × HasToldDigest state.new m }
@@ -94,9 +96,9 @@ pub extern "C" fn page_digest(state: &mut State, digest: &mut [u8; 64]) -> u32
 /// Reads the text of a public key, two lines. Does not allocate.
 #[unsafe(no_mangle)]
 pub extern "C" fn page_read_public_key(pk_text: &[u8], key: &mut PublicKeyValue) -> u32
-    // On success the key has the mark, the 32 bytes and the key ID of the public key in the file. The result
-    // is a function of the bytes, which must be UTF-8: any other number is that of the first check that
-    // fails. After an error the key is unchanged.
+    // On success, `key` holds the key and the key ID of the public key file, and is marked as read. The file
+    // must be UTF-8. Otherwise, or if it does not parse, the result is the number of the first check that
+    // fails, and `key` is unchanged.
     ensures { (result, key.new) ≡ told_key_number (read_utf8 read_public_key pk_text.now) key.old }
 {
     match tell_public_key(pk_text, key) {
@@ -108,7 +110,9 @@ pub extern "C" fn page_read_public_key(pk_text: &[u8], key: &mut PublicKeyValue)
 /// Reads the bare base64 of a public key, as updaters embed it. Does not allocate.
 #[unsafe(no_mangle)]
 pub extern "C" fn page_read_bare_public_key(base64: &[u8], key: &mut PublicKeyValue) -> u32
-    // The same for the base64 of a public key.
+    // On success, `key` holds the key and the key ID of the base64 text, and is marked as read. The text must
+    // be UTF-8. Otherwise, or if it does not parse, the result is the number of the first check that fails,
+    // and `key` is unchanged.
     ensures { (result, key.new) ≡ told_key_number (read_utf8 read_bare_public_key base64.now) key.old }
 {
     match tell_bare_public_key(base64, key) {
@@ -120,9 +124,9 @@ pub extern "C" fn page_read_bare_public_key(base64: &[u8], key: &mut PublicKeyVa
 /// Reads the signature of a text. Does not allocate.
 #[unsafe(no_mangle)]
 pub extern "C" fn page_read_signature(sig_text: &[u8], signature: &mut SignatureValue) -> u32
-    // On success the signature is that of the text, and the trusted comment is in the text where the
-    // signature says. The result is a function of the bytes, which must be UTF-8: any other number is that of
-    // the first check that fails. After an error the signature is unchanged.
+    // On success, `signature` holds the key ID, the algorithm and both signatures of the text, and the
+    // position at which the trusted comment is in the text. The text must be UTF-8. Otherwise, or if it does
+    // not parse, the result is the number of the first check that fails, and `signature` is unchanged.
     ensures number { (result, signature.new)
         ≡ told_signature_value (read_signature_value sig_text.now) signature.old }
     ensures read { result ≡ 0 → (t : SignatureTextRecord) × IsReadFrom signature.new sig_text.now t }
@@ -148,30 +152,33 @@ pub extern "C" fn page_ask(
     questions: &mut Questions,
     message: &mut [u8],
 ) -> u32
-    // The result is a function of the state, the key, the signature, the text, the flag and the buffer size.
-    // The errors are, in this order: `allow_legacy` is above 1; those of `State::ask`; strict Ed25519 rejects
-    // the key or a signature for its bytes.
+    // Errors are checked in this order: `allow_legacy` is above 1; those of `State::ask`; the key or a
+    // signature is weak. The comment signature counts if it has its 64 bytes. If none of them applies, the
+    // result is 0.
     ensures number { result ≡ strict_asking_number state.old key.now signature.now sig_text.now allow_legacy
         (length message.old) }
 
-    // If the signature was read from this text, the result is that of asking about the text and the key.
+    // If the signature was read from this text, and `allow_legacy` is 0 or 1, the result is the same as if
+    // the text were parsed here and checked under this key.
     ensures text { (t : SignatureTextRecord) → IsReadFrom signature.now sig_text.now t → allow_legacy < 2
         → result ≡ asked_number (asked_strictly (is_strict_text key.now t)
         (asking_under state.old key.now sig_text.now (allow_legacy == 1) (length message.old))) }
 
-    // On success the questions are those of the key and the signature text, with zeros for the digest, and
-    // the message of the second one is at the start of the buffer. The state records that they were asked.
-    // The data that it was fed is unchanged.
+    // **On success, if the signature was read from this text, `questions` holds the two questions about the
+    // key and the text, with zeros in place of the digest, and the message of the second question is at the
+    // start of the buffer. The state records that it was asked. The data that it was fed is unchanged.**
     ensures asked { result ≡ 0 → (t : SignatureTextRecord) → IsReadFrom signature.now sig_text.now t
         → (read_under key.now (allow_legacy == 1) sig_text.now ≡ Ok t) × AreAsked questions.new message.new
         key.now t × HasAsked state.new key.now sig_text.now (allow_legacy == 1) }
     ensures fed { (m : List ℕ) → IsFedState state.old m → IsFedState state.new m }
 
-    // On success strict Ed25519 rejects neither the key nor a signature of the text for its bytes.
+    // On success, if the signature was read from this text, neither the key nor a signature in the text is
+    // weak. The comment signature counts if it has its 64 bytes.
     ensures strict { result ≡ 0 → (t : SignatureTextRecord) → IsReadFrom signature.now sig_text.now t
         → is_strict_text key.now t ≡ true }
 
-    // On success the buffer behind the message is unchanged. After an error everything is unchanged.
+    // On success, the buffer after the message is unchanged. After an error, the state, the questions and the
+    // buffer are unchanged.
     ensures rest { result ≡ 0 → drop questions.new.message_len message.new
         ≡ drop questions.new.message_len message.old }
     ensures kept { 0 < result → (state.new ≡ state.old) × (questions.new ≡ questions.old)
@@ -198,22 +205,23 @@ pub extern "C" fn page_ask(
 /// state.
 #[unsafe(no_mangle)]
 pub extern "C" fn page_verdict(state: &mut State, first: u32, second: u32) -> u32
-    // **For every scheme that gives these results for the two questions, and every message: the result is the
-    // number of the verdict on the key, the signature file and the message. It is 0 exactly if the signature
-    // is valid.**
+    // **After a successful `page_ask` and `page_digest`, for every scheme and every message for which
+    // `first` and `second` are the results of the two checks: the result is the number of the verdict on the
+    // key, the signature file and the message. It is 0 exactly if the signature is valid.**
     ensures verdict { (v : PublicKeyValue) (sig_text message : List ℕ) (legacy : Bool) (accepts : Verifier)
         → IsAnswered state.old accepts v sig_text message legacy first second
         → result ≡ verdict_number (verdict_under accepts v sig_text message legacy) }
 
-    // **So for every public key file with this key: 0 exactly if the signature file is a valid signature of
-    // the message under it, otherwise the number of the first check that fails.**
+    // **So for every public key file that contains this key: the result is 0 exactly if the signature file is
+    // a valid signature of the message under that public key. Otherwise it is the number of the first check
+    // that fails.**
     ensures texts { (v : PublicKeyValue) (pk_text sig_text message : List ℕ) (legacy : Bool)
         (accepts : Verifier) → IsAnswered state.old accepts v sig_text message legacy first second
         → IsKeyText pk_text v → GivesNumber accepts pk_text sig_text message legacy result }
 
-    // The result and the new state are a function of the state and the answers. An answer is 7955827 for yes
-    // or 28271 for no; any other number is an error. A verdict ends the state. After API misuse the state is
-    // unchanged.
+    // It is API misuse if a result is neither 7955827 (yes) nor 28271 (no), if nothing was asked or if the
+    // digest was not returned; then the state is unchanged. Otherwise the state is finished, and the result
+    // is 0 exactly if `first` is yes, the comment signature has its 64 bytes and `second` is yes.
     ensures number { (result, state.new) ≡ told_verdict_number state.old first second }
 {
     if !is_answer(first) || !is_answer(second) {
@@ -225,8 +233,8 @@ pub extern "C" fn page_verdict(state: &mut State, first: u32, second: u32) -> u3
     }
 }
 
-// The number of a rejection. It is forgotten and not dropped: it has no memory to give back, and the type of
-// an error, which may have a text of its own, would have the module call for giving memory back.
+// Returns the error number. The error is forgotten instead of dropped: it owns no memory, but dropping its
+// type, which can hold a text, would make the module call the function that frees memory.
 fn number_of(refusal: Refusal) -> u32
     ensures { result ≡ refusal_number fault_number refusal }
 {

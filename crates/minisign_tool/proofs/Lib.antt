@@ -1,2 +1,3 @@
+-- The lemmas that the proofs of minisign_tool use.
 mod Outcomes
 pub mod Unused

@@ -1,4 +1,4 @@
--- What the exit status of a command shows.
+-- The meaning of a command's exit status, and the lines that it writes to the error stream.
 use Rattle.std.specs.Prelude.{◌≡◌, ℕ, ◌≤◌, List, false, ⊤}
 use Rattle.minisign.specs.Members.{SinkOf}
 use Rattle.minisign.specs.Acceptance.{Verifier, status_lines, verified_text}
@@ -12,17 +12,18 @@ use Rattle.minisign_tool.specs.declared.commands.Command.{Command}
 use Rattle.minisign_tool.specs.declared.commands.Command.TheVariants.{Cat, Keygen, Sign, Usage, Verify}
 use Rattle.minisign_tool.specs.declared.commands.Command.TheVariants.{VerifyRaw}
 
--- there are two texts and data for which they vouch, legacy signatures being rejected
+-- There are two texts and data for which they are valid. Legacy signatures are rejected.
 abbrev pub SomeTextsVouch : Verifier → Type 0
 SomeTextsVouch accepts = (pk_text sig_text message : List ℕ)
     × TextsVouchFor accepts pk_text sig_text message false
 
--- there are the bytes of a public key and of a bare signature, and data for which they vouch
+-- There are the bytes of a public key and of a bare signature, and data for which they are valid.
 abbrev pub SomeBytesVouch : Verifier → Type 0
 SomeBytesVouch accepts = (key_file signature_file message : List ℕ)
     × VouchesRaw accepts key_file signature_file message
 
--- what is so where this command ends well
+-- The guarantee if this command succeeds: if it verifies, some texts or files are valid for some
+-- message.
 abbrev pub HoldsAfter : Verifier → Command → Type 0
 HoldsAfter accepts (Keygen pk sk) = ⊤
 HoldsAfter accepts (Sign sk file sig) = ⊤
@@ -31,37 +32,36 @@ HoldsAfter accepts (VerifyRaw pk sig) = SomeBytesVouch accepts
 HoldsAfter accepts (Cat pk file sig) = SomeTextsVouch accepts
 HoldsAfter accepts Usage = ⊥
 
--- the status shows how the command ended: 0 only where it ended well, whatever the scheme accepts
+-- The exit status is 0 only if the command succeeded, whatever the scheme accepts.
 abbrev pub ShowsCommand : Verifier → Command → ℕ → Type 0
 ShowsCommand accepts command status = status ≡ 0 → HoldsAfter accepts command
 
--- what a command says that is quiet where it ends well: the warning, and with status 1 the line of an error
--- after it
+-- The lines of a command that is silent on success: the warning, and with status 1 the error line
+-- after it.
 abbrev pub SaysOnlyFaults : {S : Type 0} → SinkOf S → S → S → ℕ → Type 0
 SaysOnlyFaults sink old new status =
     (status ≡ 0 → TakesOrFails sink old new warning_line)
     × (status ≡ 1 → ShowsOnlyFault sink old new (λ _. ⊤))
 
--- what a command says that verifies: the warning, and with status 0 the status lines of a box after it, with
--- 1 the line of an error at the end
+-- The lines of a verifying command: the warning first; then with status 0 the status lines of a box,
+-- and with status 1 the error line at the end.
 abbrev pub SaysVerdict : {S : Type 0} → SinkOf S → S → S → ℕ → Type 0
 SaysVerdict sink old new status =
     (status ≡ 0 → (box : SignatureBoxRecord) × SaysAfterWarning sink old new (status_lines box))
     × (status ≡ 1 → EndsWithFault sink old new (λ _ _. ⊤))
 
--- what `verify-raw` says: the same, with the one line of a box without comments
+-- The lines of `verify-raw`: the same, with the single line of a box without comments.
 abbrev pub SaysRawVerdict : {S : Type 0} → SinkOf S → S → S → ℕ → Type 0
 SaysRawVerdict sink old new status =
     (status ≡ 0 → SaysAfterWarning sink old new (line verified_text))
     × (status ≡ 1 → EndsWithFault sink old new (λ _ _. ⊤))
 
--- the warning was said, and then the usage
+-- The warning was sent, and then the usage.
 abbrev pub ShowsWarningAndUsage : {S : Type 0} → SinkOf S → S → S → Type 0
 ShowsWarningAndUsage {S = S} sink old new =
     (warned : S) × TakesOrFails sink old warned warning_line × TakesOrFails sink warned new usage_line
 
--- what a run says that this command was asked of: as the command does, with the status 0 or 1, or the usage
--- with the status 2
+-- The lines of this command by its exit status, which is 0 or 1, or 2 for the usage.
 abbrev pub SaysCommand : {S : Type 0} → SinkOf S → Command → S → S → ℕ → Type 0
 SaysCommand sink (Keygen pk sk) old new status = (status ≤ 1) × SaysOnlyFaults sink old new status
 SaysCommand sink (Sign sk file sig) old new status = (status ≤ 1) × SaysOnlyFaults sink old new status

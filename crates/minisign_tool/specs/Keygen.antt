@@ -1,4 +1,4 @@
--- What `keygen` makes.
+-- The results of the command `keygen`.
 use Rattle.std.specs.Prelude.{ℕ, List, None, Ok}
 use Rattle.minisign.specs.DeviceCalls.{PromptCall, RandomCall, SinkCall, TakesPart}
 use Rattle.minisign.specs.Generation.{IsGenuinePair, IsSealedPair, IsSealing, SealedTextsFail}
@@ -8,15 +8,16 @@ use Rattle.minisign.specs.KeyTexts.{public_key_text, secret_key_text}
 use Rattle.minisign.specs.Records.{PublicKeyRecord, SecretKeyRecord}
 use Rattle.minisign_tool.specs.Report.{ShowsOnlyFault}
 
--- no keys were made, and all that is said is why
+-- No keys were made, and nothing was sent except the warning and the error line.
 abbrev pub ShowsNoKeys : {E Z R W P K : Type 0} → SinkOf E → E → E → (List ℕ → List ℕ) → RandomCall Z
     → PromptCall R W → SinkCall P → SinkCall K → Type 0
 ShowsNoKeys sink old new public_of z p pk_sink sk_sink =
     ShowsOnlyFault sink old new (SealedTextsFail public_of z p None pk_sink sk_sink None)
 
--- a pair was made of the random bytes that were drawn, under a password that was typed twice; one sink took
--- the text of its public key, the other that of its secret key with the default comment, and this text
--- opens under the password to the secret key of that public one, and to no other
+-- A key pair was made from bytes of the random source, under a password that was typed twice. One
+-- sink received the text of the public key, the other the text of the secret key with the default
+-- comment. This text decrypts under the password to the secret key that belongs to the public key,
+-- and to no other.
 pub record MakesKeys {Z R W P K : Type 0} (public_of : List ℕ → List ℕ) (z : RandomCall Z)
     (p : PromptCall R W)
     (pk_sink : SinkCall P) (sk_sink : SinkCall K) : Type 0 where

@@ -1,3 +1,4 @@
+-- The definitions that the contracts of minisign_tool use.
 pub mod Commands
 pub mod Copying
 pub mod Endings

@@ -1,22 +1,24 @@
--- What a file is to hold, and why one is not replaced.
+-- The new contents of a file, and the errors of replacing one.
 use Rattle.std.specs.Prelude.{◌≡◌, ◌⊎◌, ℕ, List}
 use Rattle.minisign.specs.Fault.{Fault, Named}
 use Rattle.minisign.specs.NamedFaults.{OutOfMemory, WritingFailed}
 use Rattle.minisign_tool.specs.declared.replacing.Contents.{Contents}
 
--- the permission bits of a new file that all may read and write, 0o666, and of one for its owner alone, 0o600
+-- The permission bits of a new file that everybody may read and write, 0o666, and of one that only
+-- its owner may read and write, 0o600.
 abbrev pub for_all : ℕ
 for_all = 438
 
 abbrev pub for_the_owner : ℕ
 for_the_owner = 384
 
--- the file at this path is to hold these bytes, and has these permission bits where it is new
+-- The contents are for the file at this path: these bytes, and these permission bits if the file is
+-- new.
 pub record HoldsContents (c : Contents) (path : List ℕ) (mode : ℕ) (bytes : List ℕ) : Type 0 where
   pub path_given : c.path.now ≡ path
   pub mode_given : c.mode ≡ mode
   pub bytes_given : c.bytes.now ≡ bytes
 
--- an allocation failed, or a call of the system failed
+-- An allocation or a system call failed.
 abbrev pub IsWriteFault : Fault → Type 0
 IsWriteFault e = (e ≡ Named OutOfMemory) ⊎ (e ≡ Named WritingFailed)

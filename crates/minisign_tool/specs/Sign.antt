@@ -1,4 +1,4 @@
--- How a run that signs with a text file ends.
+-- The results of the command `sign`.
 use Rattle.std.specs.Prelude.{◌≡◌, ℕ, ◌⊎◌, None, Ok, List}
 use Rattle.minisign.specs.Members.{RandomOf, SchemeOf, SinkOf, SourceOf}
 use Rattle.minisign.specs.DeviceCalls.{FailsAtPart, PromptCall, RandomCall, SinkCall, SourceCall, Takes}
@@ -13,22 +13,22 @@ use Rattle.minisign.specs.Signing.{IsGenuine, given_comments, GivesKey, IsKeyOf,
 use Rattle.minisign.specs.Signing.{TextSigningFails}
 use Rattle.minisign_tool.specs.declared.sign.SigningDevices.{SigningDevices}
 
--- where the key is genuine, the text reads as a box that every public key of the same seed and key ID
--- vouches with
+-- If the key is genuine, the text parses to a box that is valid for the message under every public
+-- key with the seed's key bytes and this key ID.
 abbrev pub ReadsBackWhereGenuine : Verifier → (List ℕ → List ℕ) → SecretKeyRecord → List ℕ → List ℕ → Type 0
 ReadsBackWhereGenuine accepts public_of sk message text =
     (seed : List ℕ) → IsGenuine public_of sk seed
     → (x : SignatureBoxRecord) × (read_signature_box text ≡ Ok x)
     × VouchesUnderEachKey accepts (public_of seed) sk.keynum message x
 
--- the devices of signing over a run
+-- The devices of the command `sign`, before and after it.
 pub record SigningCall (K R Z A B : Type 0) : Type 1 where
   pub sk_file : SourceCall K
   pub data_reader : SourceCall R
   pub random : RandomCall Z
   pub prompt : PromptCall A B
 
--- the same as a clause writes it
+-- This record, as a clause writes it.
 abbrev pub signing_call : {K R Z A B : Type 0} → SourceOf K → SourceOf R → RandomOf Z → SourceOf A → SinkOf B
     → SigningDevices K R Z A B → SigningDevices K R Z A B → SigningCall K R Z A B
 signing_call sk_file data_reader random reader writer old new = record {
@@ -38,9 +38,9 @@ signing_call sk_file data_reader random reader writer old new = record {
   prompt = prompt_call reader writer old.prompt new.prompt;
 }
 
--- the key's text gave a key, with a password that was asked for where it is sealed; all the data was read,
--- and this is the text of the box that the key signs it with, the comments being the default ones; where the
--- key is genuine, the text is read back as a box that vouches for the data
+-- The text of the secret key gave a key, with a password that was asked for if it is encrypted. All
+-- the data was read, and this is the text of the box that signing makes for it with the default
+-- comments. If the key is genuine, the text is read back as a box that is valid for the data.
 pub record SignsText {S K R Z A B : Type 0} (s : SchemeOf S) (scheme : S) (d : SigningCall K R Z A B)
     (sk_text : List ℕ) (moment : ℕ) (text : List ℕ) : Type 0 where
   pub key : SecretKeyRecord
@@ -51,15 +51,15 @@ pub record SignsText {S K R Z A B : Type 0} (s : SchemeOf S) (scheme : S) (d : S
       text
   pub vouched : ReadsBackWhereGenuine (s.accepts scheme) (s.public_of scheme) key message text
 
--- the key's file was read whole, and this is the text that signing with its text gives
+-- The key's file was read whole, and this is the text that signing with its text makes.
 pub record MakesSigned {S K R Z A B : Type 0} (s : SchemeOf S) (scheme : S) (d : SigningCall K R Z A B)
     (moment : ℕ) (text : List ℕ) : Type 0 where
   pub sk_text : List ℕ
   pub read : ReadsWhole d.sk_file.source d.sk_file.old d.sk_file.new sk_text
   pub signs : SignsText s scheme d sk_text moment text
 
--- the key's file gave the text of a key, and where that is genuine every public key of its seed and key ID
--- vouches for all of the data with the text that is made
+-- The key's file contains the text of a key. If this key is genuine, the signature text is valid
+-- for all of the data under every public key with the seed's key bytes and the key ID.
 pub record MakesVouched {K R Z A B : Type 0} (accepts : Verifier) (public_of : List ℕ → List ℕ)
     (d : SigningCall K R Z A B) (text : List ℕ) : Type 0 where
   pub sk_text : List ℕ
@@ -70,26 +70,26 @@ pub record MakesVouched {K R Z A B : Type 0} (accepts : Verifier) (public_of : L
   pub given : IsKeyOf sk_text key
   pub vouched : ReadsBackWhereGenuine accepts public_of key message text
 
--- the text of a signature could not be written: a prefix of it was
+-- The signature text was not written completely: the sink received a prefix of it.
 pub record WriteFails {G : Type 0} (g : SinkCall G) (text : List ℕ) (e : Fault) : Type 0 where
   pub fault : e ≡ Named WritingFailed
   pub failed : FailsAtPart g text
 
--- what a genuine key signed was written: every public key of its seed and key ID vouches for all of the
--- data with it
+-- A signature text was written. If the key is genuine, the text is valid for all of the data under
+-- every public key with the seed's key bytes and the key ID.
 abbrev pub HasWrittenVouched : {K R Z A B G : Type 0} → Verifier → (List ℕ → List ℕ) → SigningCall K R Z A B
     → SinkCall G → Type 0
 HasWrittenVouched accepts public_of d g = (text : List ℕ) × MakesVouched accepts public_of d text
     × Takes g text
 
--- the text of the box that the definition of signing makes was written, and nothing failed
+-- The text of the box that signing makes was written and flushed, without an error.
 abbrev pub HasWrittenSigned : {S K R Z A B G : Type 0} → SchemeOf S → S → SigningCall K R Z A B → SinkCall G
     → ℕ
     → Type 0
 HasWrittenSigned s scheme d g moment = (text : List ℕ) × MakesSigned s scheme d moment text × TakesPart g text
 
--- nothing was written: the key's file gave no text, with nothing else touched, or signing with the text
--- failed
+-- No signature was made: the key's file gave no text, and no other device was used; or signing with
+-- the text failed.
 abbrev pub NoSignature : {K R Z A B : Type 0} → SigningCall K R Z A B → Fault → Type 0
 NoSignature d e =
     (IsTextFault d.sk_file.source d.sk_file.old d.sk_file.new e
@@ -97,8 +97,8 @@ NoSignature d e =
     ⊎ ((sk_text : List ℕ) × ReadsWhole d.sk_file.source d.sk_file.old d.sk_file.new sk_text
     × TextSigningFails d.prompt None sk_text d.data_reader d.random e)
 
--- signing a file fails: there is no signature, and nothing was written, or one was made, and its text was not
--- written whole
+-- The command fails: no signature was made, and nothing was written; or one was made, and its text
+-- was not written completely.
 abbrev pub FileSigningFails : {S K R Z A B G : Type 0} → SchemeOf S → S → SigningCall K R Z A B → SinkCall G
     → ℕ
     → Fault → Type 0

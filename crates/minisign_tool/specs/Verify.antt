@@ -1,4 +1,4 @@
--- How a run that verifies with two text files ends.
+-- The results of the commands `verify` and `cat`.
 use Rattle.std.specs.Prelude.{◌≡◌, ℕ, ◌⊎◌, true, false, List, Ok}
 use Rattle.minisign.specs.Fault.{Fault}
 use Rattle.minisign.specs.Members.{SourceOf}
@@ -13,21 +13,23 @@ use Rattle.minisign.specs.Verifying.{HasCopy, VerifyingTextsFails, read_texts}
 use Rattle.minisign_tool.specs.TextFiles.{EitherFails, ReadsBoth}
 use Rattle.minisign_tool.specs.declared.verify.VerifyingDevices.{VerifyingDevices}
 
--- the status is said, nothing is copied, and legacy signatures are rejected
+-- The options of `verify`: status lines are written, nothing is copied, and legacy signatures are
+-- rejected.
 abbrev pub says_only : VerifyOptions
 says_only = options_of false false false
 
--- the status is said, the data is copied, and legacy signatures are rejected
+-- The options of `cat`: status lines are written, the data is copied, and legacy signatures are
+-- rejected.
 abbrev pub says_and_copies : VerifyOptions
 says_and_copies = options_of false true false
 
--- the devices of verifying with two text files over a run
+-- The devices of the commands `verify` and `cat`, before and after them.
 pub record VerifyingCall (P Q R : Type 0) : Type 1 where
   pub pk_file : SourceCall P
   pub sig_file : SourceCall Q
   pub data_reader : RereaderCall R
 
--- the same as a clause writes it
+-- This record, as a clause writes it.
 abbrev pub verifying_call : {P Q R : Type 0} → SourceOf P → SourceOf Q → SourceOf R → (R → Type 0)
     → VerifyingDevices P Q R → VerifyingDevices P Q R → VerifyingCall P Q R
 verifying_call pk_file sig_file data_reader steady old new = record {
@@ -36,13 +38,13 @@ verifying_call pk_file sig_file data_reader steady old new = record {
   data_reader = rereader_call data_reader steady old.data_reader new.data_reader;
 }
 
--- nothing was said, or a prefix of the status lines of the box that the texts read as
+-- Nothing was written, or a prefix of the status lines of the box that the texts parse to.
 abbrev pub SaysFront : {W : Type 0} → SinkCall W → List ℕ → List ℕ → Type 0
 SaysFront status pk_text sig_text =
     (status.new ≡ status.old) ⊎ ((key : PublicKeyRecord) × (box : SignatureBoxRecord)
     × (read_texts pk_text sig_text ≡ Ok (key, box)) × TakesFront status (status_lines box))
 
--- what both files held vouches for all of the data, and its status lines were said as Said says
+-- The texts in both files are valid for all of the data, and Said holds for the status lines.
 pub record FilesVouch {P Q R : Type 0} (accepts : Verifier) (d : VerifyingCall P Q R)
     (Said : List ℕ → Type 0) : Type 0 where
   pub pk_text : List ℕ
@@ -54,7 +56,7 @@ pub record FilesVouch {P Q R : Type 0} (accepts : Verifier) (d : VerifyingCall P
   pub vouched : TextsVouchFor accepts pk_text sig_text message false
   pub said : Said (status_lines vouched.box)
 
--- and the data was copied, as a copy for which what both files held vouches
+-- In addition, the data was copied, and the texts in both files are valid for the copy.
 pub record FilesVouchForCopy {P Q R O : Type 0} (accepts : Verifier) (d : VerifyingCall P Q R)
     (out : SinkCall O)
     (Said : List ℕ → Type 0) : Type 0 where
@@ -63,7 +65,7 @@ pub record FilesVouchForCopy {P Q R O : Type 0} (accepts : Verifier) (d : Verify
       verified.message
   pub copy : CopyIsVouchedFor accepts verified.pk_text verified.sig_text false out
 
--- a file gave no text, with no data read, or verifying with the texts failed
+-- A file gave no text, and no data was read; or verification with the texts failed.
 abbrev pub FilesFail : {P Q R W : Type 0} → Verifier → VerifyingCall P Q R → SinkCall W → Fault → Type 0
 FilesFail accepts d status e =
     (EitherFails d.pk_file d.sig_file e × (d.data_reader.new ≡ d.data_reader.old) × (status.new ≡ status.old))
@@ -71,7 +73,8 @@ FilesFail accepts d status e =
     × VerifyingTextsFails accepts pk_text sig_text says_only d.data_reader status unused e
     × SaysFront status pk_text sig_text)
 
--- a file gave no text, with no data read or copied, or verifying with the texts and copying failed
+-- A file gave no text, and no data was read or copied; or verification with the texts, or copying,
+-- failed.
 abbrev pub FilesFailToCopy : {P Q R O W : Type 0} → Verifier → VerifyingCall P Q R → SinkCall O → SinkCall W
     → Fault
     → Type 0

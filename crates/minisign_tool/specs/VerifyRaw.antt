@@ -1,4 +1,4 @@
--- When `verify-raw` accepts, and why it ends otherwise.
+-- The results of the command `verify-raw`.
 use Rattle.std.specs.Prelude.{◌≡◌, ℕ, ◌<◌, ◌≤◌, ◌⊎◌, false, List, length, take, None}
 use Rattle.minisign.specs.Fault.{Fault, Named}
 use Rattle.minisign.specs.NamedFaults.{RecordTooShort, UnsupportedSignatureAlgorithm}
@@ -12,14 +12,15 @@ use Rattle.minisign.specs.Verifying.{VerifyingFails}
 use Rattle.minisign_tool.specs.TextFiles.{ReadsBoth}
 use Rattle.minisign_tool.specs.Verify.{says_only}
 
--- the two files hold this public key and this bare signature
+-- The two files contain this public key and this bare signature.
 pub record HoldsRaw (key_file signature_file : List ℕ) (key : PublicKeyRecord)
     (signature : SignatureRecord) : Type 0 where
   pub reads_key : ReadsPublicKey key_file key
   pub reads_signature : ReadsSignature signature_file signature
   pub known : IsKnownAlgorithm signature.algorithm
 
--- the first file is too short for a public key, or it holds one and the second holds no bare signature
+-- The first file is too short for a public key; or it contains one, and the second file contains no
+-- bare signature.
 abbrev pub IsFileFault : List ℕ → List ℕ → Fault → Type 0
 IsFileFault key_file signature_file e =
     ((e ≡ Named RecordTooShort) × (length key_file < 42))
@@ -28,19 +29,21 @@ IsFileFault key_file signature_file e =
     ⊎ ((e ≡ Named UnsupportedSignatureAlgorithm) × (74 ≤ length signature_file)
     × ¬ (IsKnownAlgorithm (take 2 signature_file)))))
 
--- the box of a bare signature
+-- The signature box of a bare signature.
 abbrev pub bare_box : SignatureRecord → SignatureBoxRecord
 bare_box signature = record { signature = signature; comments = None }
 
--- the two files hold a public key and a bare signature that vouches for the message under it, by its digest
+-- The two files contain a public key and a bare signature that is valid for the digest of the
+-- message under this key.
 pub record VouchesRaw (accepts : Verifier) (key_file signature_file message : List ℕ) : Type 0 where
   pub key : PublicKeyRecord
   pub signature : SignatureRecord
   pub held : HoldsRaw key_file signature_file key signature
   pub accepted : Vouches accepts key (bare_box signature) message false
 
--- verifying with the bytes of a key and a signature fails: they hold none, with nothing read or said, or it
--- failed at one of its stages with the key and the bare signature that they hold; nothing is to be copied
+-- Verification with the bytes of two files fails: they contain no key or no signature, and nothing
+-- was read or written; or it failed at one of its stages with the key and the bare signature that
+-- they contain. Nothing is to be copied.
 abbrev pub VerifyRawFails : {R W : Type 0} → Verifier → List ℕ → List ℕ → RereaderCall R → SinkCall W → Fault
     → Type 0
 VerifyRawFails accepts key_file signature_file reader status e =
@@ -49,11 +52,12 @@ VerifyRawFails accepts key_file signature_file reader status e =
     × HoldsRaw key_file signature_file key signature
     × VerifyingFails accepts key (bare_box signature) says_only reader status unused e)
 
--- nothing was said, or a prefix of the status line
+-- Nothing was written, or a prefix of the status line.
 abbrev pub SaysLineFront : {W : Type 0} → SinkCall W → Type 0
 SaysLineFront status = (status.new ≡ status.old) ⊎ TakesFront status (line verified_text)
 
--- what both files held vouches for all of the data, and the status line was said as Said says
+-- The key and the signature in both files are valid for all of the data, and Said holds for the
+-- status line.
 pub record RawFilesVouch {P Q R : Type 0} (accepts : Verifier) (pk_file : SourceCall P)
     (sig_file : SourceCall Q)
     (reader : RereaderCall R) (Said : List ℕ → Type 0) : Type 0 where
@@ -65,8 +69,8 @@ pub record RawFilesVouch {P Q R : Type 0} (accepts : Verifier) (pk_file : Source
   pub vouched : VouchesRaw accepts key_file signature_file message
   pub said : Said (line verified_text)
 
--- a file was not read whole, with no data read and, where it is the first, the second left alone; or
--- verifying with the bytes of both failed
+-- A file was not read whole, and no data was read; if it is the first, the second is unchanged. Or
+-- verification with the bytes of both failed.
 abbrev pub RawFilesFail : {P Q R W : Type 0} → Verifier → SourceCall P → SourceCall Q → RereaderCall R
     → SinkCall W
     → Fault → Type 0

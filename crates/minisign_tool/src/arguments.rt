@@ -1,4 +1,4 @@
-//! Reads the program's arguments as words.
+//! Reads the program's arguments.
 
 ghost use Rattle.std.specs.Prelude.{◌≡◌, drop, map, string_bytes, IfErr, IfOk};
 ghost use Rattle.minisign.specs.Fault.{Named};
@@ -10,7 +10,7 @@ use std::env::FillError;
 use std::rt::Env;
 use std::{env, io};
 
-// The environment with an empty text in place of the program's path, which need not be UTF-8.
+// The environment with an empty text as the program's path, which need not be UTF-8.
 #[derive(Drop)]
 struct UnnamedProgram<'a, R>(&'a R);
 

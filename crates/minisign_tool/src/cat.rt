@@ -50,7 +50,7 @@ pub fn run_cat<S: Scheme, P: Source, Q: Source, R: Rereader, O: Sink, W: Sink>(
     }
 }
 
-// Reads both texts, the key's first, and then verifies with them and copies.
+// Reads the texts of the public key and of the signature, and then verifies and copies the data.
 fn copy_with_files<S: Scheme, P: Source, Q: Source, R: Rereader, O: Sink, W: Sink>(
     alloc: Global,
     scheme: &S,

@@ -1,4 +1,4 @@
-//! The command that the arguments ask for.
+//! Parses the arguments to a command.
 
 ghost use Rattle.std.specs.Prelude.{◌≡◌, length, map};
 ghost use Rattle.minisign_tool.specs.Commands.{AsksFor};
@@ -52,7 +52,7 @@ pub fn command_of<'a>(words: &[&'a str]) -> Command<'a>
     }
 }
 
-// The command with two paths that these three words ask for.
+// Parses a command with two paths.
 fn with_two_paths<'a>(words: &[&'a str]) -> Command<'a>
     requires { length words.now ≡ 3 }
     ensures { AsksFor (map (λ w. w.now) words.now) result }
@@ -64,7 +64,7 @@ fn with_two_paths<'a>(words: &[&'a str]) -> Command<'a>
     }
 }
 
-// The command with three paths that these four words ask for.
+// Parses a command with three paths.
 fn with_three_paths<'a>(words: &[&'a str]) -> Command<'a>
     requires { length words.now ≡ 4 }
     ensures { AsksFor (map (λ w. w.now) words.now) result }

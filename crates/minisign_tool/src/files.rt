@@ -68,8 +68,7 @@ pub fn keygen_files<S: Scheme, W: Sink>(
     Ok(end_replacing(errors, replace_both(rt, public, secret)))
 }
 
-// What the two files of a pair are to hold: a new one of the public key is for all, one of the
-// secret key for its owner alone.
+// Returns the new contents of the two files of a key pair.
 fn contents_of_pair<'a>(
     pk: &'a str,
     pk_text: &'a [u8],
@@ -141,7 +140,7 @@ pub fn sign_files<S: Scheme, W: Sink>(
     Ok(end_replacing(errors, replace_file(rt, contents)))
 }
 
-// What the file of a signature is to hold: all that was written as its text. A new one is for all.
+// Returns the new contents of the signature file.
 fn contents_of_signature<'a>(sig: &'a str, text: &'a VecSink) -> Contents<'a>
     // A new signature file is readable for all, and gets the text that was made.
     ensures { (bytes : List ℕ) → ⟦<VecSink as Sink>⟧.taken text.now ≡ Some bytes
@@ -260,8 +259,7 @@ pub fn cat_files<S: Scheme, W: Sink>(
     Ok(run_cat(rt.alloc(), scheme, &mut devices, &mut out, errors))
 }
 
-// The exit status of a command whose body ended well and whose files were replaced, or were not: then
-// the error is shown.
+// Returns the exit status after replacing files. If that failed, reports the error.
 fn end_replacing<W: Sink>(errors: &mut W, replaced: Result<()>) -> u8
     ensures status { result ≤ 1 }
     ensures silent { result ≡ 0 → IsOk replaced × (errors.new ≡ errors.old) }
@@ -286,7 +284,6 @@ fn open_three(
     Ok((open(rt, first)?, open(rt, second)?, open(rt, third)?))
 }
 
-// Opens a file for reading.
 fn open(rt: &HostRuntime, path: &str) -> Result<File>
     ensures { IfErr result (λ e. e ≡ Named ReadingFailed) }
 {
@@ -296,8 +293,8 @@ fn open(rt: &HostRuntime, path: &str) -> Result<File>
     }
 }
 
-// Whether a file is a regular one, and standard output leads into the same. The system tells what
-// standard output is by a name below `/proc`; where there is none the answer is no.
+// Returns true if the file is a regular one and standard output is redirected to the same file. The
+// system shows standard output under `/proc`; if there is no `/proc`, the result is false.
 fn is_output(rt: &HostRuntime, file: &File) -> bool {
     match (file.metadata(), fs::metadata(rt, "/proc/self/fd/1")) {
         (Ok(input), Ok(output)) => input.is_file() && is_same_file(&input, &output),

@@ -1,4 +1,4 @@
-//! The program `minisign_tool`. It signs and verifies with a toy scheme, which is insecure, and says so.
+//! The program `minisign_tool`, which signs and verifies with an insecure toy scheme, and says so.
 #![tactic(auto)]
 
 ghost use Rattle.std.specs.Prelude.{◌≡◌, ◌≤◌, drop, map, option_map, string_bytes, IfOk, IsOk, OnErr, OnOk};
@@ -74,7 +74,7 @@ fn run<S: Scheme, W: Sink>(
     }
 }
 
-// Runs the command that these arguments ask for, of which the first is the program.
+// Runs the command that these arguments ask for. The first argument is the program's path.
 fn run_arguments<S: Scheme, W: Sink>(
     rt: &HostRuntime,
     scheme: &S,
@@ -97,7 +97,6 @@ fn run_arguments<S: Scheme, W: Sink>(
     run_command(rt, scheme, command_of(&words), errors)
 }
 
-// Runs a command.
 fn run_command<S: Scheme, W: Sink>(
     rt: &HostRuntime,
     scheme: &S,

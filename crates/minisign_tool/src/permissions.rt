@@ -12,7 +12,7 @@ use std::os::unix::fs::{MetadataExt, PermissionsExt, fchown};
 // The nine permission bits of a file's mode.
 const ALL: u32 = 0o777;
 
-// The retries of a system call that signals interrupt.
+// The maximum number of retries of a system call that signals interrupt.
 const MAX_INTERRUPTIONS: u32 = 1_000_000;
 
 /// Returns the permission bits for a new file that replaces one with this mode.
@@ -68,7 +68,7 @@ pub fn give_permissions(file: &File, older: &Option<Metadata>) -> io::Result<()>
     file.set_permissions(Permissions::from_mode(wanted))
 }
 
-// Makes a system call, and repeats it each time that a signal interrupts it.
+// Makes a system call, and repeats it if a signal interrupts it.
 fn again<T, F: FnMut() -> io::Result<T>>(mut call: F) -> io::Result<T>
     requires { F.IsAlwaysCallable call }
 {

@@ -18,10 +18,10 @@ pub const FOR_ALL: u32 = 0o666;
 /// Mode of a new file that only its owner may read and write.
 pub const FOR_THE_OWNER: u32 = 0o600;
 
-// How many links are followed one after another, as the system does.
+// The maximum number of links that are followed one after another, which is that of the system.
 const MAX_LINKS: u32 = 40;
 
-// How many names are tried for a stage.
+// The maximum number of names that are tried for a temporary file.
 const MAX_NAMES: u64 = 100;
 
 /// The new contents of a file.
@@ -35,17 +35,17 @@ pub struct Contents<'a> {
     pub bytes: &'a [u8],
 }
 
-// What a path leads to.
+// The target of a path.
 #[derive(Drop)]
 enum Place {
-    // A regular file, or nothing.
+    // A regular file, or no file yet.
     File(FilePlace),
-    // Anything else, as a device, a pipe or a stream of the program's own, which is written as it
-    // is.
+    // Anything else, such as a device, a pipe or a stream of the program itself. It is written
+    // directly.
     Stream,
 }
 
-// The path after all links, and the file that is there.
+// The path after following all links, and the existing file.
 #[derive(Drop)]
 struct FilePlace {
     path: String,
@@ -53,8 +53,8 @@ struct FilePlace {
     keeps_permissions: bool,
 }
 
-// A new file, whole and synced, beside the path that it is to take. It is removed
-// again where it is let go of before it took that.
+// A temporary file beside the target, complete and synced. If it is dropped before it is installed,
+// it is deleted.
 struct Stage {
     rt: HostRuntime,
     staged: String,
@@ -79,7 +79,7 @@ impl Drop for Stage {
 }
 
 impl Stage {
-    // Gives the new file the permissions that are kept, writes all bytes and syncs it.
+    // Gives the temporary file the permissions of the existing file, writes all bytes and syncs it.
     fn fill(&self, file: File, bytes: &[u8]) -> Result<()>
         ensures { IfErr result IsWriteFault }
     {
@@ -92,7 +92,7 @@ impl Stage {
         written(file.sync_all())
     }
 
-    // Takes the path, in one step.
+    // Renames the temporary file to the target, in one step.
     fn install(&mut self) -> Result<()>
         ensures { IfErr result IsWriteFault }
     {
@@ -101,7 +101,7 @@ impl Stage {
         Ok(())
     }
 
-    // Syncs the new name, where the directory can be opened for that and knows how.
+    // Syncs the new name, if the directory could be opened and its file system can sync it.
     fn sync(&self) -> Result<()>
         ensures { IfErr result IsWriteFault }
     {
@@ -117,13 +117,13 @@ impl Stage {
     }
 }
 
-/// Replaces the file at the path, after following links, in one step: creates a new file beside it under a
-/// name of its own, writes and syncs it, and renames it. The new file gets the permissions and, if that is
-/// allowed, the owner and the group of the existing file, or else `mode`. Its group gets no permission that
-/// others do not have. Anything that is not a regular file is written directly.
+/// Replaces the file at the path, after following links, in one step: creates a temporary file
+/// beside it, writes and syncs it, and renames it. The new file gets the permissions and, if that
+/// is allowed, the owner and the group of the existing file, or else `mode`. Its group gets no
+/// permission that others do not have. Anything that is not a regular file is written directly.
 ///
-/// If it fails, with out of memory or `WritingFailed`, the existing file is unchanged and nothing is left
-/// beside it. Only if the directory could not be synced is the new file already there.
+/// If it fails, with out of memory or `WritingFailed`, the existing file is unchanged and no
+/// temporary file is left. Only if the directory could not be synced is the new file already there.
 pub fn replace_file(rt: &HostRuntime, contents: Contents<'_>) -> Result<()>
     // The only errors are `out of memory` and `writing failed`.
     ensures { IfErr result IsWriteFault }
@@ -156,7 +156,8 @@ pub fn replace_both(rt: &HostRuntime, public: Contents<'_>, secret: Contents<'_>
     put_both(rt, public, secret, &mut public_stage, &mut secret_stage)
 }
 
-// Writes what is no regular file, lets both stages take their paths, and then syncs the new names.
+// Writes directly what is not a regular file, installs both temporary files, and then syncs the new
+// names.
 fn put_both(
     rt: &HostRuntime,
     public: Contents<'_>,
@@ -178,7 +179,6 @@ fn put_both(
     sync(secret_stage)
 }
 
-// Takes the path of a stage, where there is one.
 fn install(stage: &mut Option<Stage>) -> Result<()>
     ensures { IfErr result IsWriteFault }
 {
@@ -188,7 +188,6 @@ fn install(stage: &mut Option<Stage>) -> Result<()>
     }
 }
 
-// Syncs the new name of a stage, where there is one.
 fn sync(stage: &Option<Stage>) -> Result<()>
     ensures { IfErr result IsWriteFault }
 {
@@ -199,7 +198,7 @@ fn sync(stage: &Option<Stage>) -> Result<()>
 }
 
 impl Place {
-    // The same place, where no permissions are kept if the other leads to the same file.
+    // Returns the same place. Permissions are not kept if both paths lead to the same file.
     fn apart_from(self, other: &Place) -> Place {
         match self {
             Place::File(place) => Place::File(FilePlace {
@@ -211,7 +210,7 @@ impl Place {
         }
     }
 
-    // Whether a file is the one that is there.
+    // Returns true if the file is the existing one at this place.
     fn leads_to(&self, file: &Option<Metadata>) -> bool {
         match (self, file) {
             (
@@ -233,7 +232,7 @@ pub fn is_same_file(one: &Metadata, other: &Metadata) -> bool {
     one.dev() == other.dev() && one.ino() == other.ino()
 }
 
-// What a path leads to.
+// Finds the target of a path.
 fn find_place(rt: &HostRuntime, path: &str) -> Result<Place>
     ensures { IfErr result IsWriteFault }
 {
@@ -253,7 +252,7 @@ fn find_place(rt: &HostRuntime, path: &str) -> Result<Place>
     })
 }
 
-// The path after all links, or none where a link stands for a stream of the program's own, as
+// Follows all links. Returns `None` if a link stands for a stream of the program itself, such as
 // `/dev/stdout`.
 fn follow_links(rt: &HostRuntime, path: &str) -> Result<Option<String>>
     ensures { IfErr result IsWriteFault }
@@ -275,7 +274,7 @@ fn follow_links(rt: &HostRuntime, path: &str) -> Result<Option<String>>
     Err(NamedFault::WritingFailed.into())
 }
 
-// Whether a link is one of those by which the system shows what a process has open.
+// Returns true if the link is one by which the system shows the open files of a process.
 fn is_of_processes(rt: &HostRuntime, link: &Metadata) -> bool {
     match fs::metadata(rt, "/proc") {
         Ok(processes) => processes.dev() == link.dev(),
@@ -283,7 +282,8 @@ fn is_of_processes(rt: &HostRuntime, link: &Metadata) -> bool {
     }
 }
 
-// Makes the new file of a place beside it and writes it; none where the place is no regular file.
+// Creates and fills the temporary file for a place. Returns `None` if the place is not a regular
+// file.
 fn make_stage(rt: &HostRuntime, place: Place, contents: Contents<'_>) -> Result<Option<Stage>>
     ensures { IfErr result IsWriteFault }
 {
@@ -311,7 +311,7 @@ fn make_stage(rt: &HostRuntime, place: Place, contents: Contents<'_>) -> Result<
     Ok(Some(stage))
 }
 
-// Makes a file of its own name in the directory of a path.
+// Creates a temporary file with a new name in the directory of a path.
 fn create_beside(rt: &HostRuntime, path: &str, mode: u32) -> Result<(File, String)>
     ensures { IfErr result IsWriteFault }
 {
@@ -335,7 +335,7 @@ fn create_beside(rt: &HostRuntime, path: &str, mode: u32) -> Result<(File, Strin
     Err(NamedFault::WritingFailed.into())
 }
 
-// Writes what is no regular file.
+// Writes directly to something that is not a regular file.
 fn write_stream(rt: &HostRuntime, contents: Contents<'_>) -> Result<()>
     ensures { IfErr result IsWriteFault }
 {
@@ -351,8 +351,8 @@ fn write_stream(rt: &HostRuntime, contents: Contents<'_>) -> Result<()>
     }
 }
 
-// What the system returns from a call of writing: each error, except a
-// failed allocation, is `WritingFailed`.
+// Maps the error of a system call that writes: a failed allocation is `OutOfMemory`, and any other
+// error is `WritingFailed`.
 fn written<T>(answer: io::Result<T>) -> Result<T>
     ensures { IfErr result IsWriteFault }
 {
@@ -365,7 +365,7 @@ fn written<T>(answer: io::Result<T>) -> Result<T>
     }
 }
 
-// A path from the directory of another one on.
+// Returns a path that is relative to the directory of another path.
 fn beside(rt: &HostRuntime, path: &str, other: &str) -> Result<String>
     ensures { IfErr result IsWriteFault }
 {
@@ -377,7 +377,7 @@ fn beside(rt: &HostRuntime, path: &str, other: &str) -> Result<String>
     }
 }
 
-// The directory that a path leads into.
+// Returns the directory of a path.
 fn directory_of(path: &str) -> &str {
     match path.rsplit_once('/') {
         Some(("", _)) => "/",

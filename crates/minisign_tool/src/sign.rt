@@ -24,7 +24,7 @@ use std::alloc::Global;
 pub struct SigningDevices<K, R, Z, A, B> {
     /// Holds the text of the secret key.
     pub sk_file: K,
-    /// Has the data to sign ahead.
+    /// Provides the data to sign.
     pub data_reader: R,
     /// Provides the 128 random bytes for the two signatures.
     pub random: Z,
@@ -77,8 +77,8 @@ pub fn run_sign<
         (FileSigningFails S.Scheme scheme.now (signing_call K.Source R.Source Z.RandomSource A.Source B.Sink
         devices.old devices.new) (sink_call G.Sink signature.old signature.new) moment) }
 
-    // The bytes still ahead of the source and of the random source are suffixes of those that were ahead
-    // before the call, whatever the result.
+    // The unread bytes of the source and of the random source are suffixes of those before the
+    // call, whatever the result.
     ensures given { HasGiven (R.ahead devices.old.data_reader) (R.ahead devices.new.data_reader) }
     ensures drawn { HasGiven (Z.random_ahead devices.old.random) (Z.random_ahead devices.new.random) }
 {
@@ -89,7 +89,7 @@ pub fn run_sign<
     }
 }
 
-// Makes the text of the signature, and then hands it to `signature`.
+// Makes the signature text, and then writes it to `signature`.
 fn write_signature<S: Scheme, K: Source, R: Source, Z: RandomSource, A: Source, B: Sink, G: Sink>(
     alloc: Global,
     scheme: &S,
@@ -113,8 +113,7 @@ fn write_signature<S: Scheme, K: Source, R: Source, Z: RandomSource, A: Source, 
     write_text(signature, &text)
 }
 
-// Reads the key's text, and makes the text of the signature with it. The comments are the default
-// ones.
+// Reads the text of the secret key, and makes the signature text with it and the default comments.
 fn make_text<S: Scheme, K: Source, R: Source, Z: RandomSource, A: Source, B: Sink>(
     alloc: Global,
     scheme: &S,
@@ -149,7 +148,6 @@ fn make_text<S: Scheme, K: Source, R: Source, Z: RandomSource, A: Source, B: Sin
     )
 }
 
-// Hands a text to a sink, which is flushed.
 fn write_text<G: Sink>(sink: &mut G, text: &str) -> Result<()>
     ensures written { OnOk result (TakesPart (sink_call G.Sink sink.old sink.new) text.now) }
     ensures refused { IfErr result (WriteFails (sink_call G.Sink sink.old sink.new) text.now) }

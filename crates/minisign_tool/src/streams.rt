@@ -24,7 +24,7 @@ pub fn hold_closed_streams(rt: &HostRuntime) -> io::Result<HeldStreams> {
     })
 }
 
-// A directory, which gets the lowest number that is free, in place of a stream that is closed.
+// Opens a directory in place of a closed stream. It gets the lowest free descriptor.
 fn hold<F: AsFd + Drop>(rt: &HostRuntime, stream: F) -> io::Result<Option<File>> {
     match stream.as_fd().try_clone_to_owned() {
         Ok(_open) => Ok(None),

@@ -1,4 +1,4 @@
-//! The texts of keys and signatures, read from files.
+//! Reads the texts of keys and signatures from files.
 
 ghost use Rattle.std.specs.Prelude.{string_bytes, IfOk, IfErr};
 ghost use Rattle.minisign.specs.DeviceCalls.{source_call};
@@ -16,7 +16,7 @@ pub fn read_both_texts<P: Source, Q: Source>(
     first: &mut P,
     second: &mut Q,
 ) -> Result<(String, String)>
-    // On success, each text is all the bytes that were ahead of its source.
+    // On success, each text consists of all the unread bytes of its source.
     ensures texts { IfOk result (λ both. ReadsBoth (source_call P.Source first.old first.new)
         (source_call Q.Source second.old second.new) (string_bytes both.0) (string_bytes both.1)) }
 

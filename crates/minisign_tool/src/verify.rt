@@ -21,7 +21,7 @@ pub struct VerifyingDevices<P, Q, R> {
     pub pk_file: P,
     /// Holds the text of the signature.
     pub sig_file: Q,
-    /// Has the data to verify ahead.
+    /// Provides the data to verify.
     pub data_reader: R,
 }
 
@@ -58,7 +58,8 @@ pub fn run_verify<S: Scheme, P: Source, Q: Source, R: Rereader, W: Sink>(
     }
 }
 
-// Reads both texts, the key's first, and then verifies with them. Nothing is copied.
+// Reads the texts of the public key and of the signature, and then verifies the data. Nothing is
+// copied.
 fn verify_with_files<S: Scheme, P: Source, Q: Source, R: Rereader, W: Sink>(
     alloc: Global,
     scheme: &S,

@@ -19,10 +19,11 @@ use minisign::reading::read_to_end;
 use minisign::{PublicKey, Result, SignatureBones, SignatureBox, verify};
 use std::alloc::Global;
 
-/// Verifies the data ahead of `data_reader` with the public key of 42 bytes in `pk_file` and the signature
-/// of 74 bytes in `sig_file`; later bytes of both are ignored. Both files are read whole, the key first,
-/// before the data is read. The warning, and after it the status line or the line of an error, go to
-/// `errors`. Returns the exit status: 0 if the signature is valid, otherwise 1.
+/// Verifies all the unread data of `data_reader` with the public key of 42 bytes in `pk_file` and
+/// the signature of 74 bytes in `sig_file`; later bytes of both are ignored. Both files are read
+/// whole, the key first, before the data is read. The warning, and after it the status line or the
+/// line of an error, go to `errors`. Returns the exit status: 0 if the signature is valid,
+/// otherwise 1.
 pub fn run_verify_raw<S: Scheme, P: Source, Q: Source, R: Rereader, W: Sink>(
     alloc: Global,
     scheme: &S,
@@ -57,7 +58,7 @@ pub fn run_verify_raw<S: Scheme, P: Source, Q: Source, R: Rereader, W: Sink>(
     }
 }
 
-// Reads both files whole, the key first, and then verifies with what they held.
+// Reads the public key and the signature, and then verifies the data.
 fn verify_with_files<S: Scheme, P: Source, Q: Source, R: Rereader, W: Sink>(
     alloc: Global,
     scheme: &S,
@@ -80,11 +81,11 @@ fn verify_with_files<S: Scheme, P: Source, Q: Source, R: Rereader, W: Sink>(
     verify_raw(alloc, scheme, &key, &signature, data_reader, errors)
 }
 
-/// Verifies the data ahead of `data_reader` with the public key in the first 42 bytes of `key` and the bare
-/// signature in the first 74 bytes of `signature`; later bytes of both are ignored. A key or a signature
-/// that is too short, or a signature of an unknown algorithm, is rejected before any data is read, the key
-/// first. On success `errors` receives the status line. After a failing `errors` it may have received a
-/// prefix of that line. After any other error it is unchanged.
+/// Verifies all the unread data of `data_reader` with the public key in the first 42 bytes of `key`
+/// and the bare signature in the first 74 bytes of `signature`; later bytes of both are ignored. A
+/// key or a signature that is too short, or a signature of an unknown algorithm, is rejected before
+/// any data is read, the key first. On success `errors` receives the status line. If `errors`
+/// fails, it may have received a prefix of that line. After any other error it is unchanged.
 pub fn verify_raw<S: Scheme, R: Rereader, W: Sink>(
     alloc: Global,
     scheme: &S,
@@ -93,8 +94,8 @@ pub fn verify_raw<S: Scheme, R: Rereader, W: Sink>(
     data_reader: &mut R,
     errors: &mut W,
 ) -> Result<()>
-    // On success, the bytes begin with a public key and a bare signature of a known algorithm, and the
-    // signature is valid for the digest of all the data that was ahead. Legacy signatures are rejected.
+    // On success, the bytes begin with a public key and a bare signature of a known algorithm, and
+    // the signature is valid for the digest of all the unread data. Legacy signatures are rejected.
     ensures accepted { OnOk result ((message : List ℕ)
         × ReadsWhole R.Source data_reader.old data_reader.new message
         × VouchesRaw (S.accepts scheme.now) key.now signature.now message) }

@@ -1,1 +1,2 @@
+-- The lemmas that the proofs of minisign_vectors use.
 mod Facts

@@ -1,4 +1,4 @@
-//! Devices, prompts and errors.
+//! Tests of devices, prompts and errors.
 
 mod devices;
 mod faults;

@@ -1,4 +1,5 @@
-//! The calls for callers and the examples over them, run on the worked texts under the toy.
+//! Tests of the calls for callers and of the example callers, with precomputed texts and the toy
+//! scheme.
 
 use crate::passwords::sign_with_password;
 use crate::signatures::calls::{SIGNED_BY_DEFAULT, key_a, key_of, tells};
@@ -27,17 +28,16 @@ use std::alloc::Global;
 
 const REFUSED: Outcome = Refused(SignatureRefused);
 
-// The worked texts, which vouch for `abc` with the comment `t`.
+// The precomputed texts, which are valid for `abc` with the comment `t`.
 const WORKED: (&str, &str) = (KEY_TEXT, SIGNATURE_TEXT);
 
-// Verifies the bytes with two texts.
 fn verified(alloc: Global, texts: (&str, &str), message: &[u8]) -> Result<String> {
     let (pk_text, sig_text) = texts;
     verify_bytes(alloc, &ToyScheme::new(), pk_text, sig_text, message)
 }
 
-// The texts of a key and of a signature, what they are to vouch for, whether a legacy signature may, and
-// what comes of it.
+// The texts of a key and of a signature, the message, whether legacy signatures are allowed, and
+// the expected outcome.
 type Told = (&'static str, &'static str, &'static str, bool, Outcome);
 
 const TOLD: [Told; 7] = [
@@ -62,12 +62,13 @@ const TOLD: [Told; 7] = [
     ("", "", "abc", false, Refused(MissingPublicKeyComment)),
 ];
 
-// The rows, so that no proof looks into all of them.
+// Hides the table from proofs, which would otherwise unfold all of it.
 fn told() -> &'static [Told] {
     &TOLD
 }
 
-// Whether a row comes out without allocating, in a buffer as long as the text of the signature.
+// Returns true if `verify_in_place` has the expected outcome, with a buffer as long as the text of
+// the signature.
 fn is_told_in_place(alloc: Global, row: &Told) -> bool {
     let (pk_text, sig_text, message, allow_legacy, expected) = *row;
     let Ok(mut room) = vec![in alloc; 0u8; sig_text.len()] else {
@@ -81,7 +82,8 @@ fn is_told_in_place(alloc: Global, row: &Told) -> bool {
     }
 }
 
-// Whether a row comes out so, and of the call that accepts no legacy signature too, where it says so.
+// Returns true if all calls for this row have the expected outcome. `verify_bytes` always rejects
+// legacy signatures.
 fn is_told(alloc: Global, row: &Told) -> bool {
     let in_place = is_told_in_place(alloc, row);
     let (pk_text, sig_text, message, allow_legacy, expected) = *row;
@@ -93,6 +95,7 @@ fn is_told(alloc: Global, row: &Told) -> bool {
     in_place && told
 }
 
+// Verifying data in memory returns the trusted comment, or the expected error.
 #[test]
 fn the_comment_of_bytes_is_told(rt: HostRuntime) {
     for row in told() {
@@ -100,7 +103,7 @@ fn the_comment_of_bytes_is_told(rt: HostRuntime) {
     }
 }
 
-// Whether this comes of copying the data if the worked texts vouch for it, and this is what was copied.
+// Returns true if copying with the precomputed texts has this outcome and writes these bytes.
 fn is_copied<R: Rereader>(alloc: Global, data: &mut R, expected: Outcome, left: &[u8]) -> bool {
     let mut out = VecSink::new(alloc);
     let toy = ToyScheme::new();
@@ -109,7 +112,7 @@ fn is_copied<R: Rereader>(alloc: Global, data: &mut R, expected: Outcome, left: 
     told && out.as_slice() == left
 }
 
-// A source that cannot go back is not copied.
+// A source that cannot go back is rejected.
 #[test]
 fn what_is_vouched_for_is_copied(rt: HostRuntime) {
     let alloc = rt.alloc();
@@ -120,7 +123,7 @@ fn what_is_vouched_for_is_copied(rt: HostRuntime) {
     assert!(rt; copied && rejected && unmarked);
 }
 
-// The text over the bytes that the key of a text signs, with random bytes that are zeros.
+// Signs the bytes with the key in a text, with random bytes that are all zero.
 fn signed_with(
     alloc: Global,
     (sk_text, password): (&str, &str),
@@ -134,29 +137,28 @@ fn signed_with(
     sign_bytes(alloc, &toy, &sk, message, Some(comment), &mut random, 0)
 }
 
-// Whether the key of the text signs `abc` as it was worked out.
+// Returns true if the key in the text signs `abc` as precomputed.
 fn signs(alloc: Global, sk_text: &str) -> bool {
     let text = signed_with(alloc, (sk_text, "password"), b"abc", "t");
     gives_text(text, SIGNED_BY_DEFAULT)
 }
 
+// A key that was never encrypted and a decrypted one make the same signature.
 #[test]
 fn opened_keys_sign_bytes(rt: HostRuntime) {
     assert!(rt; signs(rt.alloc(), SECRET_TEXT));
     assert!(rt; signs(rt.alloc(), SEALED));
 }
 
-// Opens the sealed key in little memory.
 fn opened_in_little(alloc: Global, password: &str) -> Result<SecretKey> {
     open_in_little_memory(alloc, SEALED, password)
 }
 
-// The record of a key that was opened.
 fn record(alloc: Global, opened: Result<SecretKey>) -> Result<Vec<u8>> {
     opened?.to_bytes(alloc)
 }
 
-// Whether the sealed key is the same in little memory.
+// Returns true if decrypting in little memory gives the same key.
 fn is_opened_alike(alloc: Global) -> bool {
     let Ok(whole) = record(alloc, key_of(alloc, SEALED, "password")) else {
         return false;
@@ -164,7 +166,7 @@ fn is_opened_alike(alloc: Global) -> bool {
     gives_record(record(alloc, opened_in_little(alloc, "password")), &whole)
 }
 
-// Another password is rejected by the same error.
+// A wrong password gives the same error.
 #[test]
 fn keys_are_opened_alike_in_little_memory(rt: HostRuntime) {
     let alloc = rt.alloc();
@@ -173,14 +175,14 @@ fn keys_are_opened_alike_in_little_memory(rt: HostRuntime) {
     assert!(rt; ends_in(opened_in_little(alloc, "passwore"), Refused(WrongPassword)));
 }
 
-/// What comes of the update under this name.
+/// Checks the update under this name.
 pub fn checked(alloc: Global, texts: (&str, &str), update: &[u8], name: &str) -> Result<()> {
     let (pk_text, sig_text) = texts;
     check_update(alloc, &ToyScheme::new(), pk_text, sig_text, update, name)
 }
 
-// The update and its name, and what comes of it; or none, where it is an error that has no name of the
-// library's.
+// The update, its name and the expected outcome. `None` stands for the caller's own error, which
+// has no name.
 type Update = (&'static str, &'static str, Option<Outcome>);
 
 const UPDATES: [Update; 6] = [
@@ -192,12 +194,12 @@ const UPDATES: [Update; 6] = [
     ("abd", "t", Some(REFUSED)),
 ];
 
-// The rows, so that no proof looks into all of them.
+// Hides the table from proofs, which would otherwise unfold all of it.
 fn updates() -> &'static [Update] {
     &UPDATES
 }
 
-// Whether the update is rejected for its name, by an error that has no name of the library's.
+// Returns true if the update is rejected because of its name, by the caller's own error.
 fn is_refused_for_its_name(answer: &Result<()>) -> bool {
     match answer {
         Ok(()) => false,
@@ -205,7 +207,7 @@ fn is_refused_for_its_name(answer: &Result<()>) -> bool {
     }
 }
 
-// Whether the update is taken so.
+// Returns true if checking the update has the expected outcome.
 fn is_taken(alloc: Global, row: &Update) -> bool {
     let (update, name, expected) = *row;
     let answer = checked(alloc, WORKED, update.as_bytes(), name);
@@ -215,6 +217,7 @@ fn is_taken(alloc: Global, row: &Update) -> bool {
     }
 }
 
+// An update is accepted only under the name that its trusted comment gives.
 #[test]
 fn an_update_is_taken_under_its_name_alone(rt: HostRuntime) {
     for row in updates() {
@@ -222,7 +225,8 @@ fn an_update_is_taken_under_its_name_alone(rt: HostRuntime) {
     }
 }
 
-// Whether this comes of the update under a new key, which this text has to vouch for.
+// Returns true if checking the update with a new key, whose text has this signature, has this
+// outcome.
 fn is_checked(alloc: Global, sig_text: &str, update: &[u8], expected: Outcome) -> bool {
     let new_key = NewKey {
         pk_text: KEY_TEXT,
@@ -233,7 +237,7 @@ fn is_checked(alloc: Global, sig_text: &str, update: &[u8], expected: Outcome) -
     comes_to(&answer, expected)
 }
 
-// Whether this comes of the update with a new key that the old one signed.
+// Returns true if checking the update with a new key that the old one signed has this outcome.
 fn is_vouched_by_the_old(alloc: Global, update: &[u8], expected: Outcome) -> bool {
     let old = (SECRET_TEXT, "");
     let text = signed_with(alloc, old, KEY_TEXT.as_bytes(), "key of 2027");
@@ -243,6 +247,7 @@ fn is_vouched_by_the_old(alloc: Global, update: &[u8], expected: Outcome) -> boo
     is_checked(alloc, text.as_str(), update, expected)
 }
 
+// A new key is accepted only if the old key signed its text.
 #[test]
 fn a_new_key_is_vouched_for_by_the_old_one(rt: HostRuntime) {
     assert!(rt; is_vouched_by_the_old(rt.alloc(), b"abc", Accepted));
@@ -250,7 +255,7 @@ fn a_new_key_is_vouched_for_by_the_old_one(rt: HostRuntime) {
     assert!(rt; is_checked(rt.alloc(), SIGNATURE_TEXT, b"abc", REFUSED));
 }
 
-// The text over `abc` that the sealed key signs under a password, with random bytes that are zeros.
+// Signs `abc` with the encrypted key under a password, with random bytes that are all zero.
 fn signed_under(alloc: Global, password: &str) -> Result<String> {
     let password = String::from_str(alloc, password)?;
     let zeros = [0u8; 128];
@@ -259,7 +264,7 @@ fn signed_under(alloc: Global, password: &str) -> Result<String> {
     sign_with_password(alloc, &toy, SEALED, password, b"abc", &mut random, 7)
 }
 
-// Whether what it signs verifies under the key's public text, with the moment as the comment.
+// Returns true if the signature is valid under the key's public key, with the time as the comment.
 fn is_signed_to_verify(alloc: Global) -> bool {
     let Ok(text) = signed_under(alloc, "password") else {
         return false;
@@ -268,14 +273,14 @@ fn is_signed_to_verify(alloc: Global) -> bool {
     gives_text(comment, "timestamp:7")
 }
 
-// It signs nothing under another password.
+// A wrong password signs nothing.
 #[test]
 fn what_a_sealed_key_signs_verifies(rt: HostRuntime) {
     assert!(rt; is_signed_to_verify(rt.alloc()));
     assert!(rt; ends_in(signed_under(rt.alloc(), "passwore"), Refused(WrongPassword)));
 }
 
-/// What the example of a caller returns for `abc` with key A and these bytes of a public key.
+/// Runs the example caller on `abc` with key A and these bytes of a public key.
 pub fn example(alloc: Global, public_bytes: &[u8; 32]) -> Result<String> {
     let sk = key_a()?;
     let pk = PublicKey::from_bytes(&public_record(&KEY_ID, public_bytes))?;
@@ -291,11 +296,11 @@ pub fn example(alloc: Global, public_bytes: &[u8; 32]) -> Result<String> {
     )
 }
 
-// The text that the example gives with its own public key.
+// The text that the example returns for key A's own public key.
 const EXAMPLE_TEXT: &str =
     "untrusted comment: signature from rsign secret key\nRUQBAgMEBQYHCAAAAAAAAAAAAAAAAAAAAAAAAAAAAAAAAAAAAAAAAAAAnV06XOjtbnryLxgygHtgJg6o/+bp8Qy3qGtn2FWlYag=\ntrusted comment: timestamp:1555779966\nAAAAAAAAAAAAAAAAAAAAAAAAAAAAAAAAAAAAAAAAAACzbg1jwcNVTdhPc13vFA1LbcuTirOrVu3yMT2CD/878g==\n";
 
-// The example of a caller, with its own public key and with another one.
+// The example succeeds with the matching public key and fails with another one.
 #[test]
 fn the_example_signs_and_verifies(rt: HostRuntime) {
     let alloc = rt.alloc();

@@ -1,4 +1,4 @@
-//! Files that are verified and signed by their names.
+//! Tests of verifying and signing files by their paths.
 
 use crate::signatures::calls::{SIGNED_BY_DEFAULT, key_of, tells};
 use crate::unasked::sealed_pair_key;
@@ -16,7 +16,7 @@ use std::{fs, io};
 
 const ZEROS: [u8; 128] = [0; 128];
 
-// The files of a signature and of the data, and what comes of verifying with them.
+// The files of a signature and of the data, and the expected outcome of verifying.
 const TOLD: [(&str, &str, Outcome); 4] = [
     ("abc.sig", "abc", Accepted),
     ("missing", "abc", Refused(ReadingFailed)),
@@ -24,12 +24,12 @@ const TOLD: [(&str, &str, Outcome); 4] = [
     ("abc.sig", "abc.sig", Refused(SignatureRefused)),
 ];
 
-// The rows, so that no proof looks into all of them.
+// Hides the table from proofs, which would otherwise unfold all of it.
 fn told() -> &'static [(&'static str, &'static str, Outcome)] {
     &TOLD
 }
 
-// Verifies a file with key A and the text in another one.
+// Verifies a file with key A and the signature in another file.
 fn file_verified(rt: &HostRuntime, sig: &str, data: &str) -> Result<String> {
     let sig_path = path_of(rt, sig)?;
     let data_path = path_of(rt, data)?;
@@ -44,18 +44,17 @@ fn file_verified(rt: &HostRuntime, sig: &str, data: &str) -> Result<String> {
     )
 }
 
-// Whether this comes of verifying a file.
 fn is_told(rt: &HostRuntime, row: &(&str, &str, Outcome)) -> bool {
     let (sig, data, expected) = *row;
     let answer = file_verified(rt, sig, data);
     tells(&answer, "t", expected)
 }
 
-// The text of a secret key, or none for the key of a pair that is sealed; the file that it is to sign,
-// with how many random bytes, and what comes of it.
+// The text of a secret key, empty for an encrypted key that was generated; the file to sign; the
+// number of random bytes; and the expected outcome.
 type Signed = (&'static str, &'static str, usize, Outcome);
 
-// A sealed key rejects each file, and first of all.
+// An encrypted key is rejected before any file is opened.
 const SIGNED: [Signed; 6] = [
     (SECRET_TEXT, "abc", 128, Accepted),
     (SEALED, "abc", 128, Accepted),
@@ -65,12 +64,12 @@ const SIGNED: [Signed; 6] = [
     ("", "abc", 128, Refused(EncryptedKeyRefused)),
 ];
 
-// The rows, so that no proof looks into all of them.
+// Hides the table from proofs, which would otherwise unfold all of it.
 fn signed() -> &'static [Signed] {
     &SIGNED
 }
 
-// The key of a row.
+// Returns the key of a row.
 fn key_of_row(rt: &HostRuntime, sk_text: &str) -> Result<SecretKey> {
     if sk_text.is_empty() {
         return sealed_pair_key(rt.alloc());
@@ -78,7 +77,7 @@ fn key_of_row(rt: &HostRuntime, sk_text: &str) -> Result<SecretKey> {
     key_of(rt.alloc(), sk_text, "password")
 }
 
-// What the key of a row signs of a file with these random bytes.
+// Signs a file with the key of a row and these random bytes.
 fn file_signed(rt: &HostRuntime, sk_text: &str, name: &str, random: &[u8]) -> Result<String> {
     let sk = key_of_row(rt, sk_text)?;
     let path = path_of(rt, name)?;
@@ -87,14 +86,14 @@ fn file_signed(rt: &HostRuntime, sk_text: &str, name: &str, random: &[u8]) -> Re
     sign_file(rt, rt.alloc(), &toy, &sk, path, Some("t"), &mut random, 0)
 }
 
-// Whether this comes of signing a file.
+// Returns true if signing a file has the expected outcome.
 fn is_signed(rt: &HostRuntime, row: &Signed) -> bool {
     let (sk_text, name, drawn, expected) = *row;
     let answer = file_signed(rt, sk_text, name, front(&ZEROS, drawn));
     tells(&answer, SIGNED_BY_DEFAULT, expected)
 }
 
-// Whether all of it comes of the files.
+// Returns true if all rows have the expected outcomes.
 fn come_out(rt: &HostRuntime) -> bool {
     for row in told() {
         if !is_told(rt, row) {
@@ -109,8 +108,8 @@ fn come_out(rt: &HostRuntime) -> bool {
     true
 }
 
-// Makes a file with a signature and one with the data, and removes them: whether all of it comes of these
-// files, and no signature stands beside what was signed.
+// Writes a signature file and a data file, checks all rows with them and removes them. Signing must
+// not have written a signature file beside the data.
 fn are_right(rt: &HostRuntime, sig_path: &str, path: &str, beside: &str) -> io::Result<bool> {
     fs::write(rt, sig_path, SIGNATURE_TEXT)?;
     fs::write(rt, path, "abc")?;
@@ -121,7 +120,7 @@ fn are_right(rt: &HostRuntime, sig_path: &str, path: &str, beside: &str) -> io::
     Ok(right && !stands)
 }
 
-// Whether it is so in the directory for passing files.
+// Runs this check in the directory for temporary files.
 fn are_right_in_passing(rt: &HostRuntime) -> Result<bool> {
     let sig_path = path_of(rt, "abc.sig")?;
     let path = path_of(rt, "abc")?;

@@ -1,6 +1,6 @@
-//! The names of `minisign_hash` through the library: a state that is stored, sizes, numbers in little endian
-//! bytes, copying, and writers of numbers. `tests/rows/hashing.py` has the digests, and how bytes are
-//! compared.
+//! Tests of the names of `minisign_hash` through the library: stored states, sizes, little endian
+//! numbers, copying, and writers of numbers. `tests/rows/hashing.py` has the digests and the
+//! comparison of bytes.
 
 use minisign::minisign_hash::{
     BLAKE2B_BLOCKBYTES, BLAKE2B_KEYBYTES, BLAKE2B_OUTBYTES, BLAKE2B_PERSONALBYTES,
@@ -25,7 +25,7 @@ fn numbers_are_little_endian(rt: HostRuntime) {
     assert!(rt; are_read_and_written());
 }
 
-// Whether two numbers are read, and written again.
+// Returns true if two numbers are read and written again.
 fn are_read_and_written() -> bool {
     let bytes = [
         1, 0, 0, 0, 0, 0, 0, 0, 255, 255, 255, 255, 255, 255, 255, 255,
@@ -38,7 +38,7 @@ fn are_read_and_written() -> bool {
     are_read && sixteen == bytes
 }
 
-// Whether a writer takes a number of each width.
+// Returns true if a writer receives a number of each width.
 fn are_taken(alloc: Global) -> bool {
     let mut bytes: Vec<u8> = Vec::new(alloc);
     let one = bytes.write_u8(0xab).is_ok();
@@ -56,7 +56,7 @@ const WRITTEN: [u8; 13] = [
     0xab, 4, 3, 2, 1, 0x18, 0x17, 0x16, 0x15, 0x14, 0x13, 0x12, 0x11,
 ];
 
-// Whether the answer is that of a writer that is full.
+// Returns true if the error is that of a full writer.
 fn is_full(answer: &io::Result<()>) -> bool {
     match answer {
         Ok(()) => false,
@@ -64,14 +64,14 @@ fn is_full(answer: &io::Result<()>) -> bool {
     }
 }
 
-// Whether the writer takes a number of one byte and one of four, and then none.
+// Returns true if the writer accepts a number of one byte and one of four bytes, and then no more.
 fn has_room_for_two(writer: &mut &mut [u8]) -> bool {
     let first = writer.write_u8(1);
     let second = writer.write_u32_le(2);
     first.is_ok() && second.is_ok() && has_no_room(writer)
 }
 
-// Whether the writer is full for numbers of each width.
+// Returns true if the writer is full for numbers of each width.
 fn has_no_room(writer: &mut &mut [u8]) -> bool {
     let one = is_full(&writer.write_u8(3));
     let four = is_full(&writer.write_u32_le(3));
@@ -79,7 +79,7 @@ fn has_no_room(writer: &mut &mut [u8]) -> bool {
     one && four && eight
 }
 
-// Room for five bytes: one, four, and then none.
+// The writer has space for five bytes.
 #[test]
 fn full_writers_take_no_numbers(rt: HostRuntime) {
     let mut room = [9u8; 5];
@@ -87,7 +87,7 @@ fn full_writers_take_no_numbers(rt: HostRuntime) {
     assert!(rt; room == [1, 2, 0, 0, 0]);
 }
 
-// RFC 7693, 2.1 and 2.5.
+// RFC 7693, sections 2.1 and 2.5.
 #[test]
 fn sizes_of_blake2b(rt: HostRuntime) {
     assert!(rt; BLAKE2B_BLOCKBYTES == 128 && BLAKE2B_KEYBYTES == 64 && BLAKE2B_OUTBYTES == 64);

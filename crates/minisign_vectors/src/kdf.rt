@@ -1,5 +1,5 @@
-//! HMAC, PBKDF2, and scrypt where no request to `minisign_compare` says it: parameters, rows that are not
-//! kept, and failed allocations. `tests/rows/deriving.py` has the keys.
+//! Tests of HMAC, PBKDF2 and scrypt that no request to `minisign_compare` can describe: parameters,
+//! rows that are not kept, and failed allocations. `tests/rows/deriving.py` has the keys.
 
 mod kept_rows;
 mod key_derivation;

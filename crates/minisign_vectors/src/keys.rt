@@ -1,4 +1,4 @@
-//! Keys: their boxes and records, sealed ones, and pairs that are made.
+//! Tests of keys: their texts and records, encrypted keys, and generated pairs.
 
 mod generated;
 pub mod refused_allocations;

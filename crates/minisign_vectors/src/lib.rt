@@ -1,10 +1,11 @@
-//! Tests where no request to `minisign_compare` says it: calls that no request makes, devices that fail in
-//! ways that none describes, failed allocations, and callers. All else of the library is rows of
-//! `tests/rows/`, what stands over a scheme outside is called from C in `tests/c`, and installing is tried
-//! over real files by `tests/installer`.
+//! Tests that no request to `minisign_compare` can describe: calls that no request makes, devices
+//! that fail in other ways, failed allocations, and callers. All other tests of the library are
+//! rows of `tests/rows/`. The calls for a scheme outside the library are tested from C in
+//! `tests/c`, and installing is tested on real files by `tests/installer`.
 //!
-//! Each expected value comes from outside: from a standard, from Python's hashlib, from the upstream tool, or
-//! worked out by hand from a definition. None is what a crate of this repository answered.
+//! Each expected value comes from outside: from a standard, from Python's hashlib, from the
+//! upstream tool, or worked out by hand from a definition. None is the output of a crate of this
+//! repository.
 
 #![tactic(auto)]
 

@@ -1,6 +1,7 @@
-//! The names at the roots of the crates that a caller of `minisign` writes: its own, the devices,
-//! the scheme and the parameters, and `minisign_base` through it. Each is called, and gives the
-//! worked values. `hash` has those of `minisign_hash`, and `signatures::calls` those that sign and verify.
+//! Tests of the names at the roots of the crates that a caller of `minisign` uses: those of
+//! `minisign`, the devices, the scheme and the parameters, and `minisign_base` through it. Each is
+//! called and gives a precomputed value. `hash` tests those of `minisign_hash`, and
+//! `signatures::calls` those that sign and verify.
 
 use crate::shown::says;
 use crate::signatures::calls::{signed_text, verified_texts};
@@ -22,10 +23,10 @@ use minisign_fixtures::texts::{KEY_TEXT, SAID, SECRET_TEXT, SIGNATURE_TEXT};
 use std::alloc::Global;
 use std::io::Cursor;
 
-// The random bytes of the text.
+// The random bytes of the precomputed signatures.
 const ZEROS: [u8; 128] = [0; 128];
 
-// The names of files and of a folder, and what they are.
+// Constants with the names of files, of a directory and of its variable, and their values.
 const NAMES: [(&str, &str); 6] = [
     (SIG_DEFAULT_CONFIG_DIR_ENV_VAR, "RSIGN_CONFIG_DIR"),
     (SIG_DEFAULT_CONFIG_DIR, ".rsign"),
@@ -35,7 +36,7 @@ const NAMES: [(&str, &str); 6] = [
     (DEFAULT_COMMENT, "signature from rsign secret key"),
 ];
 
-// The rows, so that no proof looks into all of them.
+// Hides the table from proofs, which would otherwise unfold all of it.
 fn names() -> &'static [(&'static str, &'static str)] {
     &NAMES
 }
@@ -47,7 +48,7 @@ fn the_names_of_files_and_of_a_folder(rt: HostRuntime) {
     }
 }
 
-// Key A signs the data, with the comments `c` and `t`.
+// Returns true if key A signs the data as precomputed, with the comments `c` and `t`.
 fn signed<R: Source, Z: RandomSource>(alloc: Global, data: &mut R, random: &mut Z) -> bool {
     let mut prompt = Prompt::new(SliceSource::new(b""), VecSink::new(alloc));
     let text = signed_text(alloc, SECRET_TEXT, None, &mut prompt, data, random);
@@ -65,14 +66,14 @@ fn data_is_signed_over_each_source(rt: HostRuntime) {
     holds_at(&rt, by_source, &"random bytes of a source");
 }
 
-// The status is said, the data is copied, and legacy signatures are not accepted.
+// Status lines are written, the data is copied, and legacy signatures are rejected.
 const STRICT: VerifyOptions = VerifyOptions {
     quiet: false,
     output: true,
     allow_legacy: false,
 };
 
-// Verifies and copies a file, over a status that is a writer.
+// Verifies and copies a file, with a writer as the status sink.
 fn copied(alloc: Global, said: &mut Vec<u8>, out: &mut VecSink) -> Result<()> {
     let mut data = FileSource::new(Cursor::new(b"abc".as_slice()));
     let mut status = WriterSink::new(said);
@@ -80,7 +81,7 @@ fn copied(alloc: Global, said: &mut Vec<u8>, out: &mut VecSink) -> Result<()> {
     verified_texts(alloc, texts, &mut data, STRICT, &mut status, out)
 }
 
-// Whether a file is verified, and what is said and copied of it.
+// Returns true if the file is verified, with the expected status lines and copy.
 fn is_copied(alloc: Global) -> bool {
     let mut said = Vec::new(alloc);
     let mut out = VecSink::new(alloc);
@@ -95,7 +96,7 @@ fn data_is_verified_and_copied(rt: HostRuntime) {
     assert!(rt; is_copied(rt.alloc()));
 }
 
-// Whether a table accepts its triple alone.
+// Returns true if a table accepts its triple and no other.
 fn is_in_the_table() -> bool {
     let triples = [Triple {
         message: b"m",
@@ -114,7 +115,7 @@ fn a_table_and_a_reader(rt: HostRuntime) {
     assert!(rt; is_in_the_table() && marked == Err(DeviceFault));
 }
 
-// Whether the usual limits give the usual parameters.
+// Returns true if the default limits give the default parameters.
 fn limits_are_usual() -> bool {
     let Ok(limits) = raw_scrypt_params(33554432, 1048576, 20) else {
         return false;
@@ -122,7 +123,7 @@ fn limits_are_usual() -> bool {
     Params::new(15, 8, 1) == Ok(limits)
 }
 
-// Whether a number is stored, and loaded again.
+// Returns true if a number is stored and loaded again.
 fn is_stored() -> bool {
     let stored = store_u64_le(255);
     stored == [255, 0, 0, 0, 0, 0, 0, 0] && load_u64_le(&stored) == 255
@@ -137,7 +138,7 @@ fn the_helpers_through_the_library(rt: HostRuntime) {
     assert!(rt; is_asked(rt.alloc()));
 }
 
-// Whether the moment is told, and comes after one in 2023.
+// Returns true if the clock returns a time after November 2023.
 fn is_past(moment: &Result<u64>) -> bool {
     match moment {
         Ok(moment) => *moment > 1700000000,
@@ -145,14 +146,14 @@ fn is_past(moment: &Result<u64>) -> bool {
     }
 }
 
-// Whether a buffer is filled from a source.
+// Returns true if a buffer is filled from a source.
 fn is_filled() -> bool {
     let mut front = [0u8; 2];
     let filled = fill_from(&mut SliceSource::new(b"abc"), &mut front);
     filled.is_ok() && front == *b"ab"
 }
 
-// Whether a password is asked for, and what is put after the question.
+// Returns true if a password is asked for, and later writes come after the prompt.
 fn is_asked(alloc: Global) -> bool {
     let mut prompt = Prompt::new(SliceSource::new(b"p\n"), VecSink::new(alloc));
     let password = get_password(alloc, &mut prompt, "Password: ");

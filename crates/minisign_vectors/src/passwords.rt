@@ -1,4 +1,4 @@
-//! A caller that signs with the text of a sealed key and its password. `callers` runs it.
+//! A caller that signs with the text of an encrypted key and its password. `callers` tests it.
 
 ghost use Rattle.std.specs.Prelude.{◌≡◌, None, Ok, string_bytes, IfOk};
 ghost use Rattle.minisign.specs.Signing.{SigningHeadline, given_comments};
@@ -12,9 +12,9 @@ use minisign_base::prompt::Prompt;
 use minisign_base::scheme::Scheme;
 use std::alloc::Global;
 
-/// Signs the message with the key that a sealed text gives under the password, and returns the text
-/// of the signature. It verifies under the public key of the very key that the password opens:
-/// nothing is left open about which password that was.
+/// Signs the message with the key that an encrypted text gives under the password, and returns the
+/// signature text. The signature is valid under the public key of exactly the key that this
+/// password decrypts.
 pub fn sign_with_password<S: Scheme, Z: RandomSource>(
     alloc: Global,
     scheme: &S,

@@ -1,5 +1,4 @@
-//! Runs the small signing tool: the texts of a pair sealed under a password, and what its key
-//! signed.
+//! Tests of the example caller that makes a key pair under a password and signs a release.
 
 use crate::callers::checked;
 use crate::signatures::calls::text_has_comments;
@@ -13,7 +12,7 @@ use minisign_fixtures::outcomes::{counted, ends_in, is_so};
 use minisign_fixtures::texts::COUNTED_PUBLIC_TEXT;
 use std::alloc::Global;
 
-// The release that is signed with these random bytes.
+// Makes a release with these random bytes.
 fn released(alloc: Global, random: &[u8]) -> Result<Release> {
     sign_release(
         alloc,
@@ -25,8 +24,8 @@ fn released(alloc: Global, random: &[u8]) -> Result<Release> {
     )
 }
 
-// Whether the two texts are those of the release: it has the default comments, those of second 0, and its
-// update alone is accepted.
+// Returns true if the two texts are those of the release: default comments with the time 0, and
+// valid for the update only.
 fn are_released(alloc: Global, texts: (&str, &str)) -> bool {
     let dated = is_so(text_has_comments(alloc, texts.1, "timestamp:0"));
     let taken = checked(alloc, texts, b"lorem ipsum", "timestamp:0");
@@ -36,7 +35,7 @@ fn are_released(alloc: Global, texts: (&str, &str)) -> bool {
     dated && is_taken && is_refused && texts.0 == COUNTED_PUBLIC_TEXT
 }
 
-// Whether it is so of the texts that are made.
+// Returns true if a release was made and its texts are as expected.
 fn are_made(alloc: Global, made: &Result<Release>) -> bool {
     match made {
         Ok(made) => are_released(alloc, (made.pk_text.as_str(), made.sig_text.as_str())),
@@ -44,7 +43,7 @@ fn are_made(alloc: Global, made: &Result<Release>) -> bool {
     }
 }
 
-// It is verified with its texts, and wants all its random bytes.
+// The release is valid with its texts. Too few random bytes are an error.
 #[test]
 fn a_release_is_made(rt: HostRuntime) {
     let made = released(rt.alloc(), &counted());

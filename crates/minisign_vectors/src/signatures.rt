@@ -1,4 +1,4 @@
-//! Signatures: their texts, signing and verifying.
+//! Tests of signatures: their texts, signing and verifying.
 
 pub mod calls;
 mod devices;

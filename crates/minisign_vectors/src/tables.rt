@@ -1,9 +1,9 @@
-//! Asserting what has several rows.
+//! Assertions over tables.
 
 use std::fmt::Debug;
 use std::process::Abort;
 
-/// Asserts that it is right, and says at which row where it is not. A row may be a name.
+/// Asserts that the condition holds, and names the row if it does not.
 pub fn holds_at<T: Debug>(rt: &impl Abort, right: bool, row: &T) {
     assert!(rt; right, "at {row:?}");
 }

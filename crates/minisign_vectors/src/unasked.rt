@@ -1,5 +1,5 @@
-//! Calls for callers that prompt nobody: signing what a reader has, making pairs under a password, and the
-//! silent prompt. `files` signs files.
+//! Tests of the calls for callers that never prompt: signing data from a reader, generating pairs
+//! under a password, and the silent prompt. `files` has signing of files.
 
 use crate::keys::refused_allocations::{has_sealed_text, public_text};
 use crate::keys::sealed::calls::{Way, opened};
@@ -23,19 +23,19 @@ use std::alloc::Global;
 
 const ZEROS: [u8; 128] = [0; 128];
 
-// The pair of these random bytes.
+// Generates a pair with these random bytes.
 fn pair_under(alloc: Global, password: &str, random: &[u8]) -> Result<KeyPair> {
     let mut random = FixedRandom::new(random);
     KeyPair::generate_with_password(alloc, &ToyScheme::new(), &mut random, password)
 }
 
-/// The sealed key of the pair under the empty password.
+/// Returns the encrypted key of the pair with the empty password.
 pub fn sealed_pair_key(alloc: Global) -> Result<SecretKey> {
     let pair = pair_under(alloc, "", &counted())?;
     Ok(pair.sk)
 }
 
-// What key A signs of what a reader has ahead.
+// Signs the data of a reader with key A.
 fn reader_signed<R: Source>(alloc: Global, data: &mut R) -> Result<String> {
     let sk = key_of(alloc, SECRET_TEXT, "password")?;
     let mut random = FixedRandom::new(&ZEROS);
@@ -43,7 +43,7 @@ fn reader_signed<R: Source>(alloc: Global, data: &mut R) -> Result<String> {
     sign_reader(alloc, &toy, &sk, data, Some("t"), &mut random, 0)
 }
 
-// It signs a reader that gives one byte a read, as it was worked out.
+// A reader that returns one byte for each read is signed as precomputed.
 #[test]
 fn what_a_reader_has_is_signed(rt: HostRuntime) {
     let whole = reader_signed(rt.alloc(), &mut OneByOne::new(b"abc"));
@@ -52,7 +52,7 @@ fn what_a_reader_has_is_signed(rt: HostRuntime) {
     assert!(rt; ends_in(cut, Refused(ReadingFailed)));
 }
 
-// Whether the texts of the pair under the empty password are the known ones.
+// Returns true if the texts of the pair with the empty password are the precomputed ones.
 fn is_known_pair(alloc: Global) -> bool {
     let Ok(pair) = pair_under(alloc, "", &counted()) else {
         return false;
@@ -67,7 +67,7 @@ fn a_pair_under_a_password_has_the_known_texts(rt: HostRuntime) {
     assert!(rt; is_known_pair(rt.alloc()));
 }
 
-// A password of so many letters.
+// Returns a password of this length.
 fn letters_of(alloc: Global, count: usize) -> Result<String> {
     let mut password = String::new(alloc);
     for _ in 0..count {
@@ -76,7 +76,8 @@ fn letters_of(alloc: Global, count: usize) -> Result<String> {
     Ok(password)
 }
 
-// How many letters a password has, how many random bytes there are, and what comes of making a pair.
+// The length of the password, the number of random bytes, and the expected outcome of generating a
+// pair.
 type Made = (usize, usize, Outcome);
 
 const MADE: [Made; 4] = [
@@ -86,7 +87,7 @@ const MADE: [Made; 4] = [
     (1024, 71, Refused(RandomSourceFailed)),
 ];
 
-// Whether a pair comes out so.
+// Returns true if generating a pair has the expected outcome.
 fn is_made(alloc: Global, row: &Made) -> bool {
     let (letters, drawn, expected) = *row;
     let Ok(password) = letters_of(alloc, letters) else {
@@ -106,7 +107,7 @@ fn a_password_of_a_pair_has_1024_bytes_at_most(rt: HostRuntime) {
     }
 }
 
-// What opening the sealed key comes to with a silent prompt.
+// Decrypts the encrypted key with a silent prompt.
 fn opened_silently(alloc: Global, password: Option<&str>) -> Result<SecretKey> {
     let sk_box = SecretKeyBox::from_string(alloc, SEALED);
     opened(
@@ -118,7 +119,7 @@ fn opened_silently(alloc: Global, password: Option<&str>) -> Result<SecretKey> {
     )
 }
 
-// Whether the prompt has no line for the question.
+// Returns true if the prompt has no input.
 fn is_not_answered<R: Source, W: Sink>(
     alloc: Global,
     prompt: &mut Prompt<R, W>,

@@ -1,4 +1,4 @@
-//! Sources of random bytes.
+//! Sources of random bytes: the trait and its implementations.
 
 ghost use Rattle.std.specs.Prelude.{Option, ◌≡◌, ℕ, ◌≤◌, ◌↔◌, List, length, Some, IsSomeAnd, IsOk, OnOk};
 ghost use Rattle.std.specs.Prelude.{OnErr, ◌⊎◌};
@@ -32,7 +32,7 @@ pub struct FixedRandom<'a> {
 }
 
 impl<'a> FixedRandom<'a> {
-    /// Returns a random source with all the bytes of the slice ahead.
+    /// Returns a random source that will return the bytes of the slice.
     pub fn new(bytes: &'a [u8]) -> FixedRandom<'a>
         ensures ahead { ⟦<FixedRandom<'a> as RandomSource>⟧.random_ahead result ≡ Some bytes.now }
         ensures faults { ⟦<FixedRandom<'a> as RandomSource>⟧.random_faults result ≡ 0 }
@@ -78,7 +78,7 @@ pub struct SourceRandom<S> {
 }
 
 impl<S: Source> SourceRandom<S> {
-    /// Returns a random source with all the bytes ahead that are ahead of `source`.
+    /// Returns a random source that will return the unread bytes of `source`.
     pub fn new(source: S) -> SourceRandom<S>
         ensures ahead { ⟦<SourceRandom<S> as RandomSource>⟧.random_ahead result ≡ S.ahead source }
         ensures faults { ⟦<SourceRandom<S> as RandomSource>⟧.random_faults result ≡ 0 }

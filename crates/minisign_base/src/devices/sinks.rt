@@ -1,4 +1,4 @@
-//! Sinks, to which bytes are written.
+//! Sinks, to which bytes are written: the trait, its implementations, and calls that write.
 
 ghost use Rattle.std.specs.Prelude.{Option, ◌≡◌, ◌⊎◌, ℕ, ◌<◌, List, [], ◌∷◌, ◌++◌, length, None, Some, IsOk};
 ghost use Rattle.std.specs.Prelude.{IfOk, IfErr, OnOk, OnErr};
@@ -113,7 +113,6 @@ impl Sink for NoSink {
 
     ghost sink_faults = { λ _. 0 };
 
-    // Accepts all of the bytes.
     fn write(&mut self, bytes: &[u8]) -> Result<usize, DeviceFault> {
         Ok(bytes.len())
     }
@@ -237,7 +236,7 @@ pub fn write_all<S: Sink>(sink: &mut S, bytes: &[u8]) -> Result<(), DeviceFault>
     Ok(())
 }
 
-// A label, a text and a line feed.
+// Returns the label, the text and a line feed as one line.
 fn line_of(alloc: Global, label: &[u8], text: &[u8]) -> errors::Result<Vec<u8>>
     ensures line { IfOk result (λ v. v.items ≡ label.now ++ text.now ++ 10 ∷ []) }
     ensures refused { IfErr result (λ e. e ≡ Named OutOfMemory) }

@@ -1,4 +1,4 @@
-//! Sources, from which bytes are read.
+//! Sources, from which bytes are read: the trait, its implementations, and a call that reads.
 
 ghost use Rattle.std.specs.Prelude.{Bool, true, false, IsTrue, Option, ◌≡◌, ◌==◌, ℕ, ◌+◌, ◌-◌, ◌<◌, ◌≤◌, ◌^◌};
 ghost use Rattle.std.specs.Prelude.{◌↔◌, min, List, [], length, take, drop, Some, None, IsOk, IsErr, IsOkAnd};
@@ -12,10 +12,10 @@ use std::io::{Read, Seek, SeekFrom};
 
 /// A source of bytes, of which there are finitely many.
 pub trait Source {
-    // The bytes that will be read next ("the bytes ahead"), if they are known.
+    // The bytes that will be read next ("the unread bytes"), if they are known.
     ghost ahead: { Self → Option (List ℕ) };
 
-    // The bytes that would be ahead after going back to the mark, if they are known.
+    // The bytes that would be unread after going back to the mark, if they are known.
     ghost behind: { Self → Option (List ℕ) } = { λ _. None };
 
     // The bytes read since the mark was set or gone back to, if they are known.
@@ -30,16 +30,17 @@ pub trait Source {
     // The number of errors so far.
     ghost faults: { Self → ℕ };
 
-    /// Moves the next bytes to the start of `buf`, any number of them up to the length of `buf`, and
-    /// returns that number. It is 0 only if `buf` is empty or no bytes are left. After an error the bytes
-    /// ahead are unchanged or no longer known.
+    /// Moves the next bytes to the start of `buf`, any number of them up to the length of `buf`,
+    /// and returns that number. It is 0 only if `buf` is empty or no bytes are left. After an error
+    /// The unread bytes are unchanged or no longer known.
     fn read(&mut self, buf: &mut [u8]) -> Result<usize, DeviceFault>
         // On success, the result is the number of bytes moved from the front of the source to `buf`. It is
         // at most the length of `buf`, and 0 only if `buf` is empty or the source has ended.
         //
-        // On success, the mark and the error count are unchanged. After an error, the error count has
-        // risen, and the bytes ahead are unchanged or no longer known; nothing is promised then about what
-        // going back would restore. In both cases a place is marked exactly if one was marked before.
+        // On success, the mark and the error count are unchanged. After an error, the error count
+        // has risen, and the unread bytes are unchanged or no longer known; nothing is promised
+        // then about what going back would restore. In both cases a place is marked exactly if one
+        // was marked before.
         //
         // If the bytes read since the mark was set or gone back to are known, each read adds to them. They
         // are known for slices, but not for readers and files.
@@ -48,14 +49,14 @@ pub trait Source {
 
 /// A source that can be read again from a place that was marked.
 pub trait Rereader: Source {
-    // Going back restores the bytes that were ahead when the mark was set.
+    // Holds if going back restores the bytes that were unread when the mark was set.
     ghost steady: { Self → Type 0 };
 
-    /// Marks the current place. The bytes ahead are unchanged. After an error they are unchanged or no
-    /// longer known, and no place is marked.
+    /// Marks the current place. The unread bytes are unchanged. After an error they are unchanged
+    /// or no longer known, and no place is marked.
     fn mark(&mut self) -> Result<(), DeviceFault>
-        // On success, the place is marked, the bytes ahead are unchanged, and a steady source remembers
-        // them. After an error, the error count has risen and no place is marked.
+        // On success, the place is marked, the unread bytes are unchanged, and a steady source
+        // remembers them. After an error, the error count has risen and no place is marked.
         //
         // On success, no byte has been read since the mark.
         ensures { HasMarked steady Self.ahead Self.behind Self.since Self.is_marked Self.faults self.old
@@ -64,9 +65,9 @@ pub trait Rereader: Source {
     /// Goes back to the place that was marked last, which remains marked. Fails if no place is marked.
     /// After an error no place is marked.
     fn back(&mut self) -> Result<(), DeviceFault>
-        // On success, the bytes ahead are those that were remembered at the mark, as far as they are known,
-        // and the mark is unchanged, so that going back again restores the same bytes. After an error, the
-        // error count has risen.
+        // On success, the unread bytes are those that were remembered at the mark, as far as they
+        // are known, and the mark is unchanged, so that going back again restores the same bytes.
+        // After an error, the error count has risen.
         //
         // Going back without a mark always fails. After an error, no place is marked. On success, no byte
         // has been read since going back.
@@ -87,7 +88,7 @@ pub struct SliceSource<'a> {
 }
 
 impl<'a> SliceSource<'a> {
-    /// Returns a source with all the bytes of the slice ahead and no place marked.
+    /// Returns a source of all the bytes of the slice, with no place marked.
     pub fn new(bytes: &'a [u8]) -> SliceSource<'a>
         ensures ahead { ⟦<SliceSource<'a> as Source>⟧.ahead result ≡ Some bytes.now }
         ensures behind { ⟦<SliceSource<'a> as Source>⟧.behind result ≡ None }
@@ -154,7 +155,7 @@ impl<'a> Rereader for SliceSource<'a> {
         Ok(())
     }
 
-    // Fails exactly if no place is marked. After an error, the bytes ahead are unchanged.
+    // Fails exactly if no place is marked. After an error, the unread bytes are unchanged.
     fn back(&mut self) -> Result<(), DeviceFault>
         ensures succeeds { IsOk result ↔ IsTrue (⟦<SliceSource<'a> as Source>⟧.is_marked self.old) }
         ensures back { HasGoneBack ⟦<SliceSource<'a> as Source>⟧.ahead ⟦<SliceSource<'a> as Source>⟧.behind
@@ -202,7 +203,7 @@ pub struct ReaderSource<R> {
 }
 
 impl<R: Read> ReaderSource<R> {
-    /// Returns a source with all the bytes ahead that the reader has left.
+    /// Returns a source of all the bytes that the reader has left.
     pub fn new(reader: R) -> ReaderSource<R>
         ensures ahead { ⟦<ReaderSource<R> as Source>⟧.ahead result ≡ R.remaining reader }
         ensures left { ⟦<ReaderSource<R> as Source>⟧.left result ≡ 2 ^ 63 - 1 }
@@ -241,7 +242,7 @@ impl<R: Read> Source for ReaderSource<R> {
 impl<R: Read> Rereader for ReaderSource<R> {
     ghost steady = { λ _. ⊥ };
 
-    // Always fails. Afterwards the bytes ahead are no longer known.
+    // Always fails. Afterwards the unread bytes are no longer known.
     fn mark(&mut self) -> Result<(), DeviceFault>
         ensures fails { IsErr result }
         ensures refused { Rose (⟦<ReaderSource<R> as Source>⟧.faults self.old)
@@ -252,7 +253,7 @@ impl<R: Read> Rereader for ReaderSource<R> {
         Err(no_way_back)
     }
 
-    // Always fails. Afterwards the bytes ahead are no longer known.
+    // Always fails. Afterwards the unread bytes are no longer known.
     fn back(&mut self) -> Result<(), DeviceFault>
         ensures fails { IsErr result }
         ensures refused { Rose (⟦<ReaderSource<R> as Source>⟧.faults self.old)
@@ -273,7 +274,7 @@ pub struct FileSource<F> {
 }
 
 impl<F: Read + Seek> FileSource<F> {
-    /// Returns a source with all the bytes ahead from the file's current position on, and no place marked.
+    /// Returns a source of the file's bytes from its current position on, with no place marked.
     pub fn new(file: F) -> FileSource<F>
         ensures ahead { ⟦<FileSource<F> as Source>⟧.ahead result ≡ None }
         ensures unmarked { ⟦<FileSource<F> as Source>⟧.is_marked result ≡ false }
@@ -286,7 +287,7 @@ impl<F: Read + Seek> FileSource<F> {
         }
     }
 
-    // One more error, and no place is marked.
+    // Counts one more error and removes the mark.
     fn lose_mark(&mut self) -> DeviceFault
         ensures unmarked { self.new.marked ≡ None }
         ensures raised { self.new.reader.faults.0 ≡ min (self.old.reader.faults.0 + 1) (2 ^ 64 - 1) }
@@ -323,8 +324,8 @@ impl<F: Read + Seek> Rereader for FileSource<F> {
         }
     }
 
-    // Where nothing is marked, the file is left where it is. It is an error too where the file is
-    // not at the marked place after seeking it.
+    // Without a mark, the file stays at its position. It is also an error if seeking succeeds but
+    // ends at another position than the marked one.
     fn back(&mut self) -> Result<(), DeviceFault> {
         if let Some(marked) = self.marked {
             if let Ok(place) = self.reader.reader.seek(SeekFrom::Start(marked)) {

@@ -1,20 +1,21 @@
-//! Random bytes that cannot be drawn.
+//! A random source that fails once.
 
 use crate::devices::turn::Turn;
 use minisign_base::devices::DeviceFault;
 use minisign_base::devices::random_sources::{FixedRandom, RandomSource};
 
-/// The bytes of a slice, drawn in their order. One of its draws fails, and it goes on after that.
+/// A random source that returns the bytes of a slice, in order. One of its fills fails, and it goes
+/// on after that.
 #[derive(Drop)]
 pub struct FailingRandom<'a> {
-    /// What is drawn.
+    /// The source of the bytes.
     pub random: FixedRandom<'a>,
     turn: Turn,
     faults: u64,
 }
 
 impl<'a> FailingRandom<'a> {
-    /// All of the slice can be drawn, and so many draws pass before the one that fails.
+    /// Returns a random source of the slice that fails after this number of fills.
     pub fn new(bytes: &'a [u8], calls: usize) -> FailingRandom<'a> {
         FailingRandom {
             random: FixedRandom::new(bytes),

@@ -1,5 +1,5 @@
-//! A sink that takes only so much or fails, one that passes on only what is flushed, and one that
-//! keeps nothing.
+//! Sinks for tests: one that accepts a limited number of bytes or fails, one with a buffer that a
+//! flush passes on, and one that only counts.
 
 ghost use Rattle.std.specs.Prelude.{◌≡◌, Some, None, [], ◌++◌, ◌<◌};
 
@@ -8,8 +8,8 @@ use minisign_base::devices::DeviceFault;
 use minisign_base::devices::sinks::{Sink, VecSink};
 use std::alloc::Global;
 
-/// A buffer with room for so many bytes, that takes at most so many a write, is flushed so many
-/// times, and may fail at one call more. What it took can be seen whatever happens.
+/// A buffer with limits on its size, on the bytes of each write and on the number of flushes. It
+/// may also fail at one call. The bytes that it received can always be read.
 #[derive(Drop)]
 pub struct LimitedSink {
     taken: VecSink,
@@ -21,8 +21,7 @@ pub struct LimitedSink {
 }
 
 impl LimitedSink {
-    /// Nothing is taken, and there is room for so many bytes, at once or in parts. It is flushed as
-    /// often as it is asked to.
+    /// Returns an empty sink with space for `room` bytes and no limit on writes and flushes.
     pub fn new(alloc: Global, room: usize) -> LimitedSink
         ensures taken { ⟦<LimitedSink as Sink>⟧.taken result ≡ Some [] }
         ensures faults { ⟦<LimitedSink as Sink>⟧.sink_faults result ≡ 0 }
@@ -37,7 +36,7 @@ impl LimitedSink {
         }
     }
 
-    /// The same, but a write takes at most so many bytes.
+    /// Limits each write to this number of bytes.
     pub fn by(mut self, most: usize) -> LimitedSink
         ensures taken { ⟦<LimitedSink as Sink>⟧.taken result ≡ ⟦<LimitedSink as Sink>⟧.taken self }
     {
@@ -45,7 +44,7 @@ impl LimitedSink {
         self
     }
 
-    /// The same, but each flush after so many fails.
+    /// Makes each flush fail after this number of flushes.
     pub fn flushed(mut self, times: usize) -> LimitedSink
         ensures taken { ⟦<LimitedSink as Sink>⟧.taken result ≡ ⟦<LimitedSink as Sink>⟧.taken self }
     {
@@ -53,7 +52,7 @@ impl LimitedSink {
         self
     }
 
-    /// The same, but the call after so many writes and flushes fails, and those after it pass.
+    /// Makes the call after this number of writes and flushes fail. Later calls succeed.
     pub fn failing_after(mut self, calls: usize) -> LimitedSink
         ensures taken { ⟦<LimitedSink as Sink>⟧.taken result ≡ ⟦<LimitedSink as Sink>⟧.taken self }
     {
@@ -61,7 +60,7 @@ impl LimitedSink {
         self
     }
 
-    /// The bytes taken so far.
+    /// Returns the bytes received so far.
     pub fn as_slice(&self) -> &[u8]
         ensures { ⟦<LimitedSink as Sink>⟧.taken self.now ≡ Some result.now }
     {
@@ -97,8 +96,8 @@ impl Sink for LimitedSink {
     }
 }
 
-/// A buffer in front of another: what is taken waits, and a flush passes it on, as a buffered file
-/// does. It fails only where an allocation does.
+/// A buffer in front of another one, like a buffered file: bytes wait until a flush passes them on.
+/// It fails only if an allocation fails.
 #[derive(Drop)]
 pub struct BufferedSink {
     passed_on: Vec<u8>,
@@ -107,7 +106,7 @@ pub struct BufferedSink {
 }
 
 impl BufferedSink {
-    /// Nothing is taken, and nothing is flushed.
+    /// Returns an empty sink.
     pub fn new(alloc: Global) -> BufferedSink
         ensures taken { ⟦<BufferedSink as Sink>⟧.taken result ≡ Some [] }
         ensures flushed { ⟦<BufferedSink as Sink>⟧.flushed result ≡ Some [] }
@@ -120,14 +119,14 @@ impl BufferedSink {
         }
     }
 
-    /// The bytes that were flushed.
+    /// Returns the bytes that were flushed.
     pub fn passed_on(&self) -> &[u8]
         ensures { ⟦<BufferedSink as Sink>⟧.flushed self.now ≡ Some result.now }
     {
         self.passed_on.as_slice()
     }
 
-    /// The bytes that were taken since the last flush.
+    /// Returns the bytes that were received since the last flush.
     pub fn waiting(&self) -> &[u8] {
         self.waiting.as_slice()
     }
@@ -164,10 +163,10 @@ impl Sink for BufferedSink {
     }
 }
 
-/// What takes all and keeps nothing but the number of bytes, so that it asks for no memory.
+/// A sink that accepts everything and only counts the bytes, so it does not allocate.
 #[derive(Drop)]
 pub struct Counting {
-    /// How many bytes were taken.
+    /// The number of bytes received.
     pub bytes: usize,
 }
 

@@ -1,4 +1,5 @@
-//! Sources that cut bytes as finely as they can, fail, or give others when they are read again.
+//! Sources for tests: they return one byte for each read, fail, or return other bytes when they are
+//! read again.
 
 ghost use Rattle.std.specs.Prelude.{⊤};
 
@@ -6,14 +7,13 @@ use crate::devices::turn::Turn;
 use minisign_base::devices::DeviceFault;
 use minisign_base::devices::sources::{Rereader, SliceSource, Source};
 
-/// The bytes of a slice, one byte a read.
+/// A source of the bytes of a slice, one byte for each read.
 #[derive(Drop)]
 pub struct OneByOne<'a> {
     source: SliceSource<'a>,
 }
 
 impl<'a> OneByOne<'a> {
-    /// All of the slice is ahead.
     pub fn new(bytes: &'a [u8]) -> OneByOne<'a> {
         OneByOne {
             source: SliceSource::new(bytes),
@@ -52,8 +52,8 @@ impl<'a> Rereader for OneByOne<'a> {
     }
 }
 
-/// The bytes of a slice, one byte a read. One of its calls fails, and it goes on after that, or all fail from
-/// that one on.
+/// A source of the bytes of a slice, one byte for each read. One of its calls fails, and it goes on
+/// after that; or all calls fail from that one on.
 #[derive(Drop)]
 pub struct FailingSource<'a> {
     source: OneByOne<'a>,
@@ -63,17 +63,16 @@ pub struct FailingSource<'a> {
 }
 
 impl<'a> FailingSource<'a> {
-    /// All of the slice is ahead, and so many calls pass before the one that fails.
+    /// Returns a source of the slice whose call after this number of calls fails.
     pub fn new(bytes: &'a [u8], calls: usize) -> FailingSource<'a> {
         FailingSource::by(bytes, Turn::after(calls))
     }
 
-    /// All of the slice is ahead, and so many calls pass before all others fail.
+    /// Returns a source of the slice whose calls all fail after this number of calls.
     pub fn for_good(bytes: &'a [u8], calls: usize) -> FailingSource<'a> {
         FailingSource::by(bytes, Turn::from(calls))
     }
 
-    // All of the slice is ahead, and these calls fail.
     fn by(bytes: &'a [u8], turn: Turn) -> FailingSource<'a> {
         FailingSource {
             source: OneByOne::new(bytes),
@@ -135,8 +134,8 @@ impl<'a> Rereader for FailingSource<'a> {
     }
 }
 
-/// The bytes of a slice, and those of another one once it went back. It fails only in `back`
-/// without a mark.
+/// A source of the bytes of a slice, and of another slice after it went back. It fails only in
+/// `back` without a mark.
 #[derive(Drop)]
 pub struct Changes<'a> {
     source: SliceSource<'a>,
@@ -146,7 +145,6 @@ pub struct Changes<'a> {
 }
 
 impl<'a> Changes<'a> {
-    /// All of the first slice is ahead.
     pub fn new(first: &'a [u8], second: &'a [u8]) -> Changes<'a> {
         Changes {
             source: SliceSource::new(first),

@@ -1,6 +1,6 @@
-//! Which call of a device fails.
+//! Decides which call of a device fails.
 
-/// How many calls pass before the one that fails; all calls after that one pass, or all fail.
+/// The number of calls that succeed before one fails, and whether all later calls fail too.
 #[derive(Drop)]
 pub struct Turn {
     passing: Option<usize>,
@@ -8,7 +8,7 @@ pub struct Turn {
 }
 
 impl Turn {
-    /// So many calls pass, and then one fails.
+    /// Returns a turn with which this number of calls succeeds, one fails, and all later ones succeed.
     pub fn after(calls: usize) -> Turn {
         Turn {
             passing: Some(calls),
@@ -16,7 +16,7 @@ impl Turn {
         }
     }
 
-    /// So many calls pass, and then all fail.
+    /// Returns a turn with which this number of calls succeeds, and then all fail.
     pub fn from(calls: usize) -> Turn {
         Turn {
             passing: Some(calls),
@@ -24,7 +24,7 @@ impl Turn {
         }
     }
 
-    /// No call fails.
+    /// Returns a turn with which no call fails.
     pub fn never() -> Turn {
         Turn {
             passing: None,
@@ -32,7 +32,7 @@ impl Turn {
         }
     }
 
-    /// Whether this call passes.
+    /// Returns true if this call succeeds.
     pub fn passes(&mut self) -> bool {
         match self.passing {
             Some(0) => {

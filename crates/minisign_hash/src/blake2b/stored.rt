@@ -19,7 +19,7 @@ pub struct StoredBlake2b {
     pub count_high: u64,
     /// The number of bytes in the buffer.
     pub used: u64,
-    /// The last bytes that were added, which are not yet compressed.
+    /// The last bytes that were fed, which are not yet compressed.
     pub buffer: [u8; BUFFER_BYTES],
 }
 
@@ -39,8 +39,8 @@ impl StoredBlake2b {
         }
     }
 
-    /// Returns a state for a digest of 64 bytes, not finalized, with the data that was added to the stored
-    /// one. Returns `None` only if the stored numbers are those of no state.
+    /// Returns a state for a digest of 64 bytes, not finalized, with the data that the stored one was fed.
+    /// Returns `None` only if the stored numbers are those of no state.
     ///
     /// That is the case if the stored length of the buffer is greater than the buffer.
     pub fn restore(&self) -> Option<Blake2b>

@@ -1,4 +1,4 @@
-//! The devices that bytes come from and go to.
+//! Tests of sources, sinks and random sources.
 
 use super::reading::Call::{self, FailsToRead, GoesBack, Marks, Reads};
 use super::reading::{FailsOnce, follows};
@@ -9,7 +9,7 @@ use minisign_fixtures::outcomes::front;
 use std::alloc::Global;
 use std::io::Cursor;
 
-// What comes of the calls on `abcde`, by a source that goes back.
+// The results of calls on `abcde`, for a source that can go back.
 const READ_AGAIN: [Call; 11] = [
     GoesBack(false),
     Reads(2, *b"ab"),
@@ -24,7 +24,7 @@ const READ_AGAIN: [Call; 11] = [
     GoesBack(true),
 ];
 
-// The same of `abc`, by a source that does not.
+// The results of calls on `abc`, for a source that cannot go back.
 const READ_ONCE: [Call; 5] = [
     Reads(2, *b"ab"),
     Reads(1, *b"cb"),
@@ -33,7 +33,7 @@ const READ_ONCE: [Call; 5] = [
     GoesBack(false),
 ];
 
-// The same by a reader that fails.
+// The results of reads from a reader that fails once.
 const FAILING: [Call; 3] = [Reads(1, [1, 0]), FailsToRead, Reads(1, [3, 0])];
 
 #[test]
@@ -43,14 +43,14 @@ fn slices_and_files_are_read_again_from_the_mark(rt: HostRuntime) {
     assert!(rt; follows(&mut file, &READ_AGAIN));
 }
 
-// They go on behind a fault.
+// A reader can still be read after an error.
 #[test]
 fn readers_are_read_and_never_go_back(rt: HostRuntime) {
     assert!(rt; follows(&mut ReaderSource::new(b"abc".as_slice()), &READ_ONCE));
     assert!(rt; follows(&mut ReaderSource::new(FailsOnce::new(None)), &FAILING));
 }
 
-// Whether a file whose place is sought so is marked, and goes back or not.
+// Returns true if a file whose seek reports this position goes back, or does not, as expected.
 fn is_reached(place: Option<u64>, reached: bool) -> bool {
     let mut source = FileSource::new(FailsOnce::new(place));
     follows(&mut source, &[Marks(true), GoesBack(reached)])
@@ -64,7 +64,7 @@ fn a_place_that_is_not_reached_is_a_fault(rt: HostRuntime) {
     assert!(rt; is_sought && is_other && is_place);
 }
 
-// Whether the sink takes each of the parts, and is flushed.
+// Returns true if the sink accepts all parts and a flush.
 fn takes<S: Sink>(sink: &mut S, parts: &[&[u8]]) -> bool {
     for part in parts {
         if write_all(sink, part).is_err() {
@@ -74,7 +74,7 @@ fn takes<S: Sink>(sink: &mut S, parts: &[&[u8]]) -> bool {
     sink.flush().is_ok()
 }
 
-// Whether a buffer shows and gives what it took.
+// Returns true if the buffer returns the bytes that it received.
 fn is_kept(alloc: Global) -> bool {
     let mut sink = VecSink::new(alloc);
     let taken = takes(&mut sink, &[b"abc", b"", b"de"]);
@@ -84,7 +84,7 @@ fn is_kept(alloc: Global) -> bool {
     taken && shown && given
 }
 
-// Whether a writer takes it behind what it has.
+// Returns true if a writer receives the bytes after those that it already has.
 fn is_written(alloc: Global) -> bool {
     let Ok(mut held) = vec![in alloc; b'a'; 1] else {
         return false;
@@ -100,15 +100,16 @@ fn sinks_take_all_that_is_put(rt: HostRuntime) {
     assert!(rt; is_written(rt.alloc()));
 }
 
-// What is drawn in turn, three bytes at the most; where it is empty, three bytes are not drawn.
+// Expected fills of a source of five bytes, up to three bytes each. An empty one is a fill of three
+// bytes that fails.
 const OF_FIVE: [&[u8]; 3] = [b"abc", b"", b"de"];
 
 const OF_FOUR: [&[u8]; 2] = [b"abc", b""];
 
-// A source that fails once goes on.
+// A source that fails once can be read afterwards.
 const BEHIND_A_FAULT: [&[u8]; 2] = [b"", &[3, 4, 5]];
 
-// Whether each of these is drawn in turn.
+// Returns true if the fills are as expected.
 fn draws<R: RandomSource>(random: &mut R, draws: &[&[u8]]) -> bool {
     for expected in draws {
         if !is_drawn(random, expected) {
@@ -118,7 +119,7 @@ fn draws<R: RandomSource>(random: &mut R, draws: &[&[u8]]) -> bool {
     true
 }
 
-// Whether these bytes are drawn, or none where these are none.
+// Returns true if these bytes are returned, or if they are empty and a fill of three bytes fails.
 fn is_drawn<R: RandomSource>(random: &mut R, expected: &[u8]) -> bool {
     let len = if expected.is_empty() {
         3

@@ -1,5 +1,5 @@
-//! Errors as they are shown, and what errors of others become. `tests/rows/named_errors.txt` has every named
-//! error with its number, its kind and its text.
+//! Tests of the texts of errors, and of the conversions from errors of other crates.
+//! `tests/rows/named_errors.txt` has every named error with its number, its kind and its text.
 
 use crate::shown::says;
 use crate::tables::holds_at;
@@ -22,8 +22,8 @@ use std::{fmt, io};
 const ENCRYPTED: &str =
     "Cannot sign with an encrypted secret key. The key must be decrypted first. Options include: SecretKeyBox::into_secret_key(password), SecretKey::from_box(box, password), SecretKey::from_file(path, password), or use KeyPair::generate_unencrypted_keypair() for passwordless keys.";
 
-// Errors of each form, and their texts: one that is fixed, the longest, and those with one and with two key
-// IDs.
+// Errors of each form and their texts: a constant one, the longest, and those with one and with two
+// key IDs.
 const SHOWN: [(NamedFault, &str); 4] = [
     (OutOfMemory, "out of memory"),
     (EncryptedKeyRefused, ENCRYPTED),
@@ -40,18 +40,19 @@ const SHOWN: [(NamedFault, &str); 4] = [
     ),
 ];
 
-// The rows, so that no proof looks into all of them.
+// Hides the table from proofs, which would otherwise unfold all of it.
 fn shown() -> &'static [(NamedFault, &'static str)] {
     &SHOWN
 }
 
-// Whether this is its text, without allocating.
+// Returns true if the error has this text, without allocating.
 fn is_text(fault: &PError, text: &str) -> bool {
     let mut room = [0u8; TEXT_ROOM];
     fault.text(&mut room) == text.as_bytes()
 }
 
-// Whether the error and the one that calls return, which tells its name, say the same.
+// Returns true if the named error and the error made from it have the same text, and the latter
+// still has its name.
 fn is_shown(alloc: Global, row: &(NamedFault, &str)) -> bool {
     let (named, text) = *row;
     let named_says = says(alloc, &named, text);
@@ -68,7 +69,6 @@ fn named_errors_are_shown(rt: HostRuntime) {
     }
 }
 
-// Whether the error is this one.
 fn is(fault: PError, named: NamedFault) -> bool {
     fault.named() == Some(named)
 }
@@ -84,7 +84,7 @@ fn faults_of_std_become_named_ones(rt: HostRuntime) {
     assert!(rt; is_no_text(rt.alloc()));
 }
 
-// Whether 0xff is no text, which is such an error.
+// Returns true if the error for the byte 0xff as a text becomes the expected one.
 fn is_no_text(alloc: Global) -> bool {
     let Ok(bytes) = vec![in alloc; 0xffu8; 1] else {
         return false;
@@ -111,7 +111,7 @@ fn faults_of_key_derivation_and_of_base64_become_named_ones(rt: HostRuntime) {
     assert!(rt; no_base64 && memory);
 }
 
-// Whether the error says what reading says where it fails, and is not the named one.
+// Returns true if the error has the text of `ReadingFailed` but not its name.
 fn is_only_worded(alloc: Global, fault: PError) -> bool {
     let worded = says(alloc, &fault, "reading failed");
     let is_so = *fault.kind() == Io && fault.named() == None;
@@ -120,7 +120,7 @@ fn is_only_worded(alloc: Global, fault: PError) -> bool {
     worded && is_so && !named
 }
 
-// Whether it is so of an error that a caller makes with a text of its own.
+// Returns true for an error that the caller makes with a text of its own.
 fn is_only_worded_by_a_caller(alloc: Global) -> bool {
     let Ok(text) = String::from_str(alloc, "reading failed") else {
         return false;
@@ -128,7 +128,7 @@ fn is_only_worded_by_a_caller(alloc: Global) -> bool {
     is_only_worded(alloc, PError::new(Io, text))
 }
 
-// The words of a named error make none.
+// The text of a named error does not make an error a named one.
 #[test]
 fn callers_make_faults_without_a_name(rt: HostRuntime) {
     assert!(rt; is_only_worded_by_a_caller(rt.alloc()));

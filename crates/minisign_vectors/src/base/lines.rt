@@ -1,4 +1,4 @@
-//! Lines that are written to a sink, and a writer that takes nothing.
+//! Tests of writing lines to a sink, also over a writer that accepts nothing.
 
 use minisign_base::devices::sinks::{Sink, VecSink, WriterSink, put_line, write_all};
 use minisign_base::faults::NamedFault::WritingFailed;
@@ -8,8 +8,8 @@ use std::alloc::Global;
 use std::io;
 use std::io::Write;
 
-// A writer that counts its calls, and fails once it was called so often. It takes all, or nothing; then
-// it is not flushed.
+// A writer that counts its calls and fails after a number of them. It accepts everything, or
+// nothing, and then a flush fails too.
 #[derive(Drop)]
 struct Counting {
     calls: u8,
@@ -41,7 +41,7 @@ impl Write for Counting {
     }
 }
 
-// A writer that was not called, and may be so often.
+// Returns a writer without calls so far, which allows this many.
 fn uncalled(allowed: u8, takes: bool) -> Counting {
     Counting {
         calls: 0,
@@ -51,7 +51,7 @@ fn uncalled(allowed: u8, takes: bool) -> Counting {
     }
 }
 
-// Whether putting a line comes to this.
+// Returns true if writing a line has this outcome.
 fn is_put<W: Sink>(
     alloc: Global,
     sink: &mut W,
@@ -62,7 +62,7 @@ fn is_put<W: Sink>(
     comes_to(&answer, expected)
 }
 
-// Whether three lines are put one after another.
+// Returns true if three lines are written one after another.
 fn lines_are_put(alloc: Global) -> bool {
     let mut sink = VecSink::new(alloc);
     let first = is_put(alloc, &mut sink, ("error: ", "reading failed"), Accepted);
@@ -72,7 +72,8 @@ fn lines_are_put(alloc: Global) -> bool {
     first && second && third && told
 }
 
-// Whether a line is one write: of two lines a writer that fails at its second call takes the first.
+// Returns true if a line is written in one write: a writer that fails at its second call receives
+// the first of two lines.
 fn is_one_write(alloc: Global) -> bool {
     let mut writer = uncalled(1, true);
     let mut sink = WriterSink::new(&mut writer);
@@ -82,14 +83,14 @@ fn is_one_write(alloc: Global) -> bool {
     first && second && writer.calls == 2 && writer.last == b'\n'
 }
 
-// A line is a label, a text and a line feed, in one write.
 #[test]
 fn lines_are_put_at_once(rt: HostRuntime) {
     assert!(rt; lines_are_put(rt.alloc()));
     assert!(rt; is_one_write(rt.alloc()));
 }
 
-// Whether a sink over a writer that takes nothing takes nothing but nothing, and is not flushed.
+// Returns true if a sink over a writer that accepts nothing fails for every write that is not
+// empty, and for a flush.
 fn is_a_fault() -> bool {
     let mut nothing = WriterSink::new(uncalled(9, false));
     let unwritten = write_all(&mut nothing, b"a").is_err();

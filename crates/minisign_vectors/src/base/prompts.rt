@@ -1,5 +1,5 @@
-//! Passwords that no line feed ends, and lines that are not UTF-8. `tests/rows/passwords.py` has
-//! all other lines.
+//! Tests of passwords without a line feed and of lines that are not UTF-8.
+//! `tests/rows/passwords.py` has all other lines.
 
 use crate::tables::holds_at;
 use minisign_base::devices::sinks::{Sink, VecSink};
@@ -14,7 +14,7 @@ use minisign_fixtures::outcomes::comes_to;
 use minisign_fixtures::prompts::bytes_left;
 use std::alloc::{AllocError, Global};
 
-// How many of which letter are typed, and what after them; what comes of it.
+// The number and the value of the typed bytes, what follows them, and the expected outcome.
 type Line = (usize, u8, &'static str, Outcome);
 
 const LINES: [Line; 8] = [
@@ -28,12 +28,12 @@ const LINES: [Line; 8] = [
     (1, b'\r', "", Accepted),
 ];
 
-// The rows, so that no proof looks into all of them.
+// Hides the table from proofs, which would otherwise unfold all of it.
 fn lines() -> &'static [Line] {
     &LINES
 }
 
-// The bytes that are typed.
+// Returns the typed bytes.
 fn typed(alloc: Global, row: &Line) -> std::result::Result<Vec<u8>, AllocError> {
     let (count, letter, tail, _) = *row;
     let mut bytes = vec![in alloc; letter; count]?;
@@ -41,12 +41,11 @@ fn typed(alloc: Global, row: &Line) -> std::result::Result<Vec<u8>, AllocError> 
     Ok(bytes)
 }
 
-// What comes of asking for a password.
 fn asked<R: Source, W: Sink>(alloc: Global, prompt: &mut Prompt<R, W>) -> Result<String> {
     get_password(alloc, prompt, "Password: ")
 }
 
-// Whether this comes of asking: a password of all the letters, or an error.
+// Returns true if the result is as expected: the password of all these bytes, or an error.
 fn is_expected(answer: &Result<String>, row: &Line) -> bool {
     let (count, _, _, expected) = *row;
     match answer {
@@ -55,7 +54,7 @@ fn is_expected(answer: &Result<String>, row: &Line) -> bool {
     }
 }
 
-// Whether this comes of asking for a password, which leaves nothing unread.
+// Returns true if the result is as expected and all of the input was read.
 fn comes_so<R: Source + Drop>(alloc: Global, reader: R, row: &Line) -> bool {
     let mut prompt = Prompt::new(reader, VecSink::new(alloc));
     let answer = asked(alloc, &mut prompt);
@@ -64,7 +63,8 @@ fn comes_so<R: Source + Drop>(alloc: Global, reader: R, row: &Line) -> bool {
     came && is_read && prompt.writer.as_slice() == b"Password: ".as_slice()
 }
 
-// The same of a reader that gives the line at once, and of one that gives one byte a read.
+// Does the same with a reader that returns the whole line and with one that returns one byte for
+// each read.
 fn both_come_so(alloc: Global, row: &Line) -> bool {
     let Ok(line) = typed(alloc, row) else {
         return false;

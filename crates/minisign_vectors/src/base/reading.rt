@@ -1,11 +1,11 @@
-//! Calls on a source, and what comes of them.
+//! Calls on a source with their expected results.
 
 use minisign_base::devices::sources::{Rereader, Source};
 use std::io;
 use std::io::{Read, Seek, SeekFrom};
 
-/// A reader that gives one byte a read, fails at its second read, and then goes on. A place of it is
-/// told but can't be sought, or is sought but not reached.
+/// A reader that returns one byte for each read, fails at its second read, and then goes on. It says
+/// that its position is 5. Seeking to a position reports `place`, or fails if there is none.
 #[derive(Drop)]
 pub struct FailsOnce {
     reads: u8,
@@ -13,7 +13,7 @@ pub struct FailsOnce {
 }
 
 impl FailsOnce {
-    /// Nothing is read, and this place is reached, if any is.
+    /// Returns a reader of which nothing was read.
     pub fn new(place: Option<u64>) -> FailsOnce {
         FailsOnce { reads: 0, place }
     }
@@ -43,10 +43,11 @@ impl Seek for FailsOnce {
     }
 }
 
-/// A call on a source, and what comes of it.
+/// A call on a source and its expected result.
 #[derive(Clone, Copy)]
 pub enum Call {
-    /// A read into a buffer of two bytes gives so many, and leaves the buffer with these.
+    /// A read into a buffer of two bytes returns this number, and the buffer then holds these
+    /// bytes.
     Reads(usize, [u8; 2]),
     /// A read fails.
     FailsToRead,
@@ -56,8 +57,8 @@ pub enum Call {
     GoesBack(bool),
 }
 
-/// Whether all of this comes of the calls, one after another. The reads share a buffer, of zeros at
-/// first.
+/// Returns true if all calls, one after another, have the expected results. The reads share a
+/// buffer, which is zero at first.
 pub fn follows<R: Rereader>(source: &mut R, calls: &[Call]) -> bool {
     let mut buf = [0u8; 2];
     for call in calls {
@@ -68,7 +69,7 @@ pub fn follows<R: Rereader>(source: &mut R, calls: &[Call]) -> bool {
     true
 }
 
-// Whether this comes of the call.
+// Returns true if the call has the expected result.
 fn comes_so<R: Rereader>(source: &mut R, buf: &mut [u8; 2], call: Call) -> bool {
     match call {
         Call::Reads(count, left) => reads(source, buf, count, left),
@@ -78,7 +79,7 @@ fn comes_so<R: Rereader>(source: &mut R, buf: &mut [u8; 2], call: Call) -> bool 
     }
 }
 
-// Whether a read into the buffer gives so many bytes, and leaves it with these.
+// Returns true if a read returns this number and the buffer then holds these bytes.
 fn reads<R: Source>(source: &mut R, buf: &mut [u8; 2], count: usize, left: [u8; 2]) -> bool {
     let answer = source.read(buf);
     answer == Ok(count) && *buf == left

@@ -1,7 +1,8 @@
-//! scrypt with every k-th row kept: published vectors for many k, and how many rows are kept.
+//! Tests of scrypt with every k-th row kept: published vectors for many k, and the number of kept
+//! rows.
 //!
-//! The block and what becomes of it: RFC 7914, sections 9 and 10. Keys: RFC 7914, section 12, and
-//! Python's hashlib (OpenSSL).
+//! The block and its results are from RFC 7914, sections 9 and 10. The keys are from RFC 7914,
+//! section 12, and from Python's hashlib (OpenSSL).
 
 ghost use Rattle.std.specs.Prelude.{◌≡◌, ◌≤◌, length};
 
@@ -12,7 +13,7 @@ use minisign_kdf::KdfError::{self, InvalidOutputLen, OutOfMemory};
 use minisign_kdf::{Params, Rows, mix_kept, scrypt_keeping};
 use std::alloc::Global;
 
-// A part with r 1.
+// A part for r = 1.
 const BLOCK: [u8; 128] = [
     0xf7, 0xce, 0x0b, 0x65, 0x3d, 0x2d, 0x72, 0xa4, 0x10, 0x8c, 0xf5, 0xab, 0xe9, 0x12, 0xff, 0xdd,
     0x77, 0x76, 0x16, 0xdb, 0xbb, 0x27, 0xa7, 0x0e, 0x82, 0x04, 0xf3, 0xae, 0x2d, 0x0f, 0x6f, 0xad,
@@ -24,20 +25,19 @@ const BLOCK: [u8; 128] = [
     0x7f, 0x4d, 0x1c, 0xad, 0x6a, 0x52, 0x3c, 0xda, 0x77, 0x0e, 0x67, 0xbc, 0xea, 0xaf, 0x7e, 0x89,
 ];
 
-// scryptBlockMix of it.
+// scryptBlockMix of this part.
 const MIXED: &str =
     "a41f859c6608cc993b81cacb020cef05044b2181a2fd337dfd7b1c6396682f29b4393168e3c9e6bcfe6bc5b7a06d96bae424cc102c91745c24ad673dc7618f8120edc975323881a80540f64c162dcd3c21077cfe5f8d5fe2b1a4168f953678b77d3b3d803b60e4ab920996e59b4d53b65d2a225877d5edf5842cb9f14eefe425";
 
-// scryptROMix of it with N 16.
+// scryptROMix of this part with N = 16.
 const ROM_MIXED: &str =
     "79ccc193629debca047f0b70604bf6b62ce3dd4a9626e355fafc6198e6ea2b46d58413673b99b029d665c357601fb426a0b2f4bba200ee9f0a43d19b571a9c71ef1142e65d5a266fddca832ce59faa7cac0b9cf1be2bffca300d01ee387619c4ae12fd4438f203a0e4e1c47ec314861f4e9087cb33396a6873e8f9d2539a4b8e";
 
-// The key of no password at the usual cost.
+// The key of an empty password with the default cost.
 const OF_USUAL_COST: &str =
     "2c804bf5d0ccb28051f20fb0b99bf7e9a45a67496650536018dd8839d9370748f1ac548a44dde14ef07f306c5fc7fe091054c6374d73d1a4f917a0fbcd8b88b8";
 
-// The password, the salt and the parameters, every how many-th row is kept, how many rows these are, and
-// the key.
+// The password, the salt, the parameters, k, the number of kept rows, and the key.
 type Key = (
     &'static str,
     &'static str,
@@ -47,8 +47,8 @@ type Key = (
     &'static str,
 );
 
-// The smallest vector, that of several parts, and the usual cost, also with numbers that are no divisors
-// of N.
+// The smallest vector, the one with several parts, and the default cost, also for k that do not
+// divide N.
 const KEYS: [Key; 12] = [
     ("", "", (4, 1, 1), 1, 16, OF_NOTHING),
     ("", "", (4, 1, 1), 2, 8, OF_NOTHING),
@@ -64,12 +64,12 @@ const KEYS: [Key; 12] = [
     ("", "", (15, 8, 1), 7, 4682, OF_USUAL_COST),
 ];
 
-// The rows, so that no proof looks into all of them.
+// Hides the table from proofs, which would otherwise unfold all of it.
 fn keys() -> &'static [Key] {
     &KEYS
 }
 
-// Whether the key is this where every k-th row is kept, of so many.
+// Returns true if the key and the number of kept rows are as expected.
 fn keeps(alloc: Global, row: &Key) -> bool {
     let (password, salt, (n_log2, r, p), k, count, expected) = *row;
     let Ok(params) = Params::new(n_log2, r, p) else {
@@ -81,6 +81,7 @@ fn keeps(alloc: Global, row: &Key) -> bool {
     kept == Ok(count) && shows(alloc, &key, expected)
 }
 
+// The key is the same for every k, and the expected number of rows is kept.
 #[test]
 fn keys_where_rows_are_left_out(rt: HostRuntime) {
     for row in keys() {
@@ -88,7 +89,8 @@ fn keys_where_rows_are_left_out(rt: HostRuntime) {
     }
 }
 
-// Whether mixing over every k-th row of the published block, of 16, gives what is published.
+// Returns true if mixing with every k-th row of the published block kept, N = 16, gives the
+// published result.
 fn mixes(alloc: Global, k: u64) -> bool
     requires { 1 ≤ k }
 {
@@ -108,7 +110,7 @@ fn rows_of_rfc_7914(rt: HostRuntime) {
     }
 }
 
-// The bytes of a row with r 1 whose words stand in diagonal order.
+// Returns the bytes of a row for r = 1 from words in diagonal order.
 fn bytes_of(row: &[u32]) -> [u8; 128]
     requires { length row.now ≡ 32 }
 {
@@ -123,7 +125,8 @@ fn bytes_of(row: &[u32]) -> [u8; 128]
     bytes
 }
 
-// Whether the words are so many rows, in diagonal order: the block, and what comes of mixing it.
+// Returns true if the words are this number of rows in diagonal order: the block, and its
+// scryptBlockMix.
 fn are_first(alloc: Global, words: &[u32], count: u64) -> bool {
     if words.len() == 32 {
         return count == 1 && bytes_of(words) == BLOCK;
@@ -135,11 +138,12 @@ fn are_first(alloc: Global, words: &[u32], count: u64) -> bool {
     count == 2 && bytes_of(first) == BLOCK && shows(alloc, &bytes_of(second), MIXED)
 }
 
-// The logarithm of N, every how many-th row is kept, and how many rows these are: none where no memory can
-// hold them.
+// The base-2 logarithm of N, k, and the number of kept rows. 0 stands for rows that do not fit into
+// memory.
 type Filled = (u8, u64, u64);
 
-// Rows that no memory can hold are rejected before any mixing, and where one is kept, none is mixed.
+// Rows that do not fit into memory are rejected before any mixing. If only one row is kept, nothing
+// is mixed.
 const FILLED: [Filled; 5] = [
     (1, 1, 2),
     (1, 3, 1),
@@ -148,7 +152,7 @@ const FILLED: [Filled; 5] = [
     (63, 18446744073709551615, 1),
 ];
 
-// Whether so many rows of the published block are kept.
+// Returns true if this number of rows of the published block is kept.
 fn fills(alloc: Global, row: &Filled) -> bool {
     let (n_log2, k, count) = *row;
     match Rows::fill(alloc, &BLOCK, n_log2.clamp(1, 63), k.max(1)) {
@@ -164,10 +168,11 @@ fn rows_of_the_least_and_the_greatest_cost(rt: HostRuntime) {
     }
 }
 
-// Every how many-th row is kept, the length of the output, and the error.
+// The k, the length of the output, and the error.
 type Refused = (u64, usize, KdfError);
 
-// An output that no key can have is rejected whatever is kept, and then rows that no memory can hold.
+// An output length that scrypt does not allow is rejected for every k, before rows that do not fit
+// into memory.
 const REFUSED: [Refused; 5] = [
     (1, 0, InvalidOutputLen),
     (3, 0, InvalidOutputLen),
@@ -176,7 +181,7 @@ const REFUSED: [Refused; 5] = [
     (1000, 32, OutOfMemory),
 ];
 
-// Whether deriving a key is rejected so, which leaves the output.
+// Returns true if deriving a key fails with this error and leaves the output unchanged.
 fn is_refused(alloc: Global, row: &Refused) -> bool {
     let (k, len, fault) = *row;
     let Ok(params) = Params::new(53, 8, 1) else {

@@ -1,6 +1,6 @@
-//! Published vectors of HMAC (RFC 4231, sections 4.2 to 4.8) and PBKDF2 (RFC 7914, section 11, the vector
-//! with one iteration), and which parameters scrypt takes. The key of 100 bytes is of Python's hashlib
-//! (OpenSSL).
+//! Tests of HMAC (RFC 4231, sections 4.2 to 4.8), of PBKDF2 (RFC 7914, section 11, the vector with
+//! one iteration), and of the parameters that scrypt accepts. The key of 100 bytes is from Python's
+//! hashlib (OpenSSL).
 
 use crate::shown::shows;
 use crate::tables::holds_at;
@@ -19,7 +19,7 @@ const LARGER_TEXT: &[u8] =
 
 const OF_JEFE: &str = "5bdcc146bf60754e6a042426089575c75a003f089d2739839dec58b964ec3843";
 
-// The section of RFC 4231, the key, the text in its parts, and the code, as much of it as is shown.
+// The section of RFC 4231, the key, the parts of the text, and the published bytes of the code.
 type Code = (
     &'static str,
     &'static [u8],
@@ -27,8 +27,8 @@ type Code = (
     &'static str,
 );
 
-// The text of section 4.3 is joined from two and from four parts too, and of the code in 4.6 the first
-// 16 bytes are shown.
+// The text of section 4.3 also comes in two and in four parts. Section 4.6 has only the first 16
+// bytes of the code.
 const CODES: [Code; 9] = [
     (
         "4.2",
@@ -81,12 +81,12 @@ const CODES: [Code; 9] = [
     ),
 ];
 
-// The rows, so that no proof looks into all of them.
+// Hides the table from proofs, which would otherwise unfold all of it.
 fn codes() -> &'static [Code] {
     &CODES
 }
 
-// Whether the key and the parts of the text have this code, as far as it is shown.
+// Returns true if the code is the published one, as far as that is published.
 fn is_code(alloc: Global, row: &Code) -> bool {
     let (_, key, parts, expected) = *row;
     let code = hmac_sha256(key, parts);
@@ -100,7 +100,7 @@ fn hmac_of_rfc_4231(rt: HostRuntime) {
     }
 }
 
-// RFC 7914, 11, the vector with one iteration.
+// RFC 7914, section 11, the vector with one iteration.
 const OF_PASSWD: &str =
     "55ac046e56e3089fec1691c22544b605f94185216dde0465e68b9d57c20dacbc49ca9cccf179b645991664b39d77ef317c71b845b1e30bd509112041d3a19783";
 
@@ -111,7 +111,7 @@ fn pbkdf2_of_rfc_7914(rt: HostRuntime) {
     assert!(rt; shows(rt.alloc(), &key, OF_PASSWD));
 }
 
-// Whether the parameters are accepted and kept.
+// Returns true if the parameters are accepted and returned unchanged.
 fn is_accepted(n_log2: u8, r: u32, p: u32) -> bool {
     match Params::new(n_log2, r, p) {
         Ok(params) => params.n_log2() == n_log2 && params.r() == r && params.p() == p,
@@ -119,7 +119,7 @@ fn is_accepted(n_log2: u8, r: u32, p: u32) -> bool {
     }
 }
 
-// The logarithm of N, r and p.
+// The base-2 logarithm of N, r and p.
 const PARAMETERS: [(u8, u32, u32); 11] = [
     (1, 1, 1),
     (15, 1, 1),
@@ -134,7 +134,7 @@ const PARAMETERS: [(u8, u32, u32); 11] = [
     (1, 8, 134217727),
 ];
 
-// The rows, so that no proof looks into all of them.
+// Hides the table from proofs, which would otherwise unfold all of it.
 fn parameters() -> &'static [(u8, u32, u32)] {
     &PARAMETERS
 }

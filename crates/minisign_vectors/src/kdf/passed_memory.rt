@@ -1,7 +1,7 @@
-//! scrypt in memory that is passed in: published vectors over memory that holds anything, and what it is left
-//! with.
+//! Tests of scrypt in the caller's memory: published vectors with any previous contents, and memory
+//! that is zero afterwards.
 //!
-//! Keys: RFC 7914, section 12.
+//! The keys are from RFC 7914, section 12.
 
 ghost use Rattle.std.specs.Prelude.{◌≡◌, IfOk, vec_len};
 
@@ -10,28 +10,28 @@ use crate::tables::holds_at;
 use minisign_kdf::{Params, scrypt_in};
 use std::alloc::{AllocError, Global};
 
-// The smallest vector and that of several parts.
+// The smallest vector, and the one with several parts.
 pub const OF_NOTHING: &str =
     "77d6576238657b203b19ca42c18a0497f16b4844e3074ae8dfdffa3fede21442fcd0069ded0948f8326a753a0fc81f17e8d3e0fb2e0d3628cf35e20c38d18906";
 
 pub const OF_PASSWORD: &str =
     "fdbabe1c9d3472007856e7190d01e9fe7c6ad7cbc8237830e77376634b3731622eaf30d92e22a3886ff109279d9830dac727afb94a83ee6d8360cbdfa2cc0640";
 
-/// So many words, none of them 0.
+/// Returns this number of words, none of them 0.
 pub fn words(alloc: Global, len: usize) -> Result<Vec<u32>, AllocError>
     ensures { IfOk result (λ v. vec_len v ≡ len) }
 {
     vec![in alloc; 0x5c5c5c5cu32; len]
 }
 
-/// So many bytes, none of them 0.
+/// Returns this number of bytes, none of them 0.
 pub fn bytes(alloc: Global, len: usize) -> Result<Vec<u8>, AllocError>
     ensures { IfOk result (λ v. vec_len v ≡ len) }
 {
     vec![in alloc; 0x5cu8; len]
 }
 
-/// Whether all of the memory holds zeros.
+/// Returns true if all of the memory is zero.
 pub fn are_zeros(words: &[u32], bytes: &[u8]) -> bool {
     for word in words {
         if *word != 0 {
@@ -46,7 +46,7 @@ pub fn are_zeros(words: &[u32], bytes: &[u8]) -> bool {
     true
 }
 
-// The password, the salt and the parameters, every how many-th row is kept, and the key.
+// The password, the salt, the parameters, k, and the key.
 type Row = (
     &'static str,
     &'static str,
@@ -62,12 +62,12 @@ const ROWS: [Row; 4] = [
     ("password", "NaCl", (10, 8, 16), 3, OF_PASSWORD),
 ];
 
-// The rows, so that no proof looks into all of them.
+// Hides the table from proofs, which would otherwise unfold all of it.
 fn rows() -> &'static [Row] {
     &ROWS
 }
 
-// Whether the key is this where every k-th row is kept, and all of the memory then holds zeros.
+// Returns true if the key is as expected and all of the memory is zero afterwards.
 fn derives(alloc: Global, row: &Row) -> bool {
     let (password, salt, (n_log2, r, p), k, expected) = *row;
     let Ok(params) = Params::new(n_log2, r, p) else {

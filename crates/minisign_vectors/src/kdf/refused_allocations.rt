@@ -1,8 +1,8 @@
-//! Key derivation whose result is right or is out of memory, whichever allocation fails: with
-//! ample memory each test sees its call succeed, and `tests/library/refused_memory.py` runs it with each of
-//! its requests failing in turn, and counts them.
+//! Tests that key derivation gives the right key or out of memory, whichever allocation fails. With
+//! enough memory each call succeeds. `tests/library/refused_memory.py` runs each test with each of
+//! its allocations failing in turn, and counts them.
 //!
-//! The keys are those of RFC 7914, section 12.
+//! The keys are from RFC 7914, section 12.
 
 use minisign_kdf::{KdfError, Params, Rows, scrypt, scrypt_keeping};
 use std::alloc::Global;
@@ -10,7 +10,7 @@ use std::alloc::Global;
 // The first bytes of the smallest vector.
 const FRONT: [u8; 8] = [0x77, 0xd6, 0x57, 0x62, 0x38, 0x65, 0x7b, 0x20];
 
-// Two requests: the rows in one, and what they are mixed in.
+// There are two requests: one for all rows, and one for the buffers for mixing.
 #[test]
 fn rows_are_reserved_in_one_request(rt: HostRuntime) {
     match Rows::fill(rt.alloc(), &[7; 128], 10, 3) {
@@ -19,7 +19,7 @@ fn rows_are_reserved_in_one_request(rt: HostRuntime) {
     }
 }
 
-// Whether the key was derived, or an allocation failed and the buffer stays.
+// Returns true if the key was derived, or an allocation failed and the output is unchanged.
 fn is_right(fault: Option<KdfError>, key: &[u8; 8]) -> bool {
     match fault {
         None => *key == FRONT,
@@ -27,7 +27,7 @@ fn is_right(fault: Option<KdfError>, key: &[u8; 8]) -> bool {
     }
 }
 
-// Whether scrypt comes out so.
+// Does this check for scrypt.
 fn is_derived(alloc: Global) -> bool {
     let Ok(params) = Params::new(4, 1, 1) else {
         return false;
@@ -37,7 +37,7 @@ fn is_derived(alloc: Global) -> bool {
     is_right(derived.err(), &key)
 }
 
-// Whether scrypt with every third row kept comes out so, of which there are six.
+// Does this check for scrypt with every third row kept, which is six rows.
 fn is_derived_with_every_third_row(alloc: Global) -> bool {
     let Ok(params) = Params::new(4, 1, 1) else {
         return false;

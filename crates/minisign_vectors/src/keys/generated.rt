@@ -1,6 +1,6 @@
-//! Pairs of keys that are made over devices that no request to the program `minisign_compare` describes:
-//! they take one byte at once, or fail at each byte, each read and each flush, one after the other. All
-//! else is rows of `tests/rows/made_pairs.py` and `tests/rows/failing_devices.py`.
+//! Tests of generating key pairs with devices that no request to `minisign_compare` can describe:
+//! they accept one byte at a time, or fail at each byte, each read and each flush in turn.
+//! `tests/rows/made_pairs.py` and `tests/rows/failing_devices.py` have all other cases.
 
 use crate::tables::holds_at;
 use minisign::{KeyPair, Result};
@@ -21,22 +21,23 @@ const UNREAD: Outcome = Refused(ReadingFailed);
 
 const UNWRITTEN: Outcome = Refused(WritingFailed);
 
-// Sealed under `p` by Python's hashlib.
+// Encrypted under `p` with Python's hashlib.
 const SECRET_TEXT: &str =
     "untrusted comment: rsign encrypted secret key\nRWRTY0IyKCkqKywtLi8wMTIzNDU2Nzg5Ojs8PT4/QEFCQ0RFRkcAABAAAAAAAAAAAAIAAAAAXsrUPdVfRwB5KzWs1gxMpeWRV1NwSl+wvS3yfJHSuB4R/Pz7fjWZ0NuIvbOTYzc06tcjZcma8YW35LizX+hn4HmrLBaZfd3HwOv+fYOu+VKlFvoXb5KyfQcAcM++/0OlXTsF5mCWdJA=\n";
 
-// All that is shown where `p` is typed twice: texts of 51, 10, 26, 71 and 5 bytes.
+// All that the prompt shows if `p` is typed twice: texts of 51, 10, 26, 71 and 5 bytes.
 const SHOWN: &str =
     "Please enter a password to protect the secret key.\nPassword: Password (one more time): Deriving a key from the password in order to encrypt the secret key... done\n";
 
 type Typed<'a> = Prompt<FailingSource<'a>, LimitedSink>;
 
-// A prompt that gives these bytes, one a read, until a read after so many fails.
+// Returns a prompt that returns one byte for each read and whose reader fails after this number of
+// reads.
 fn prompt_of<'a>(typed: &'a [u8], reads: usize, writer: LimitedSink) -> Typed<'a> {
     Prompt::new(FailingSource::for_good(typed, reads), writer)
 }
 
-/// Makes a sealed pair of random bytes that count up from 0, and writes both texts.
+/// Generates an encrypted pair from random bytes that count up from 0, and writes both texts.
 pub fn wrote_sealed_over<R: Source, W: Sink, K: Sink>(
     alloc: Global,
     prompt: &mut Prompt<R, W>,
@@ -55,7 +56,7 @@ pub fn wrote_sealed_over<R: Source, W: Sink, K: Sink>(
     )
 }
 
-// Whether a sink takes its text however few bytes at once, and is flushed once.
+// Returns true if a sink that accepts one byte at a time receives the whole text and one flush.
 fn is_taken(alloc: Global) -> bool {
     let mut public = LimitedSink::new(alloc, 114).by(1).flushed(1);
     let mut secret = LimitedSink::new(alloc, 259).by(1).flushed(1);
@@ -73,13 +74,14 @@ fn key_sinks_that_take_one_byte_a_write(rt: HostRuntime) {
     assert!(rt; is_taken(rt.alloc()));
 }
 
-// What is typed, after how many reads its reader fails, the room of the prompt's writer, how often that
-// is flushed, how much it then shows, and what comes of it.
+// The typed bytes, the number of reads before the reader fails, the space in the prompt's writer,
+// the number of flushes before it fails, the number of bytes that it then shows, and the expected
+// outcome.
 type Fails = (&'static [u8], usize, usize, usize, usize, Outcome);
 
-// The writer fails at each flush before the derivation: the text before it is whole. It fails after the
-// derivation too: the pair that was made is not written. The reader fails at each of its reads, or gives
-// what is not UTF-8.
+// The writer fails at each flush before the derivation, after it received the whole text. It also
+// fails after the derivation, and then the pair is not written. The reader fails at each of its
+// reads, or returns bytes that are not UTF-8.
 const FAILING: [Fails; 12] = [
     (b"p\np\n", 9, 300, 0, 51, UNWRITTEN),
     (b"p\np\n", 9, 300, 1, 61, UNWRITTEN),
@@ -95,13 +97,13 @@ const FAILING: [Fails; 12] = [
     (b"\xff\n", 9, 300, 9, 61, Refused(NotUtf8)),
 ];
 
-// The rows, so that no proof looks into all of them.
+// Hides the table from proofs, which would otherwise unfold all of it.
 fn failing() -> &'static [Fails] {
     &FAILING
 }
 
-// Whether generation is rejected so, with so much shown and no key written. A writer that is to fail
-// takes nine bytes a write.
+// Returns true if generation fails as expected, with this many bytes shown and no key written. A
+// writer that will fail accepts nine bytes for each write.
 fn is_refused(alloc: Global, row: &Fails) -> bool {
     let (typed, reads, room, flushes, length, expected) = *row;
     let most = if expected == UNWRITTEN { 9 } else { usize::MAX };
@@ -122,7 +124,7 @@ fn prompts_that_fail(rt: HostRuntime) {
     }
 }
 
-// The prompt's writer fails at each byte before the derivation: it holds what comes before.
+// The prompt's writer fails at each byte before the derivation, and holds the bytes before that.
 #[test]
 fn prompts_that_cannot_be_written_to(rt: HostRuntime) {
     for room in 0..158usize {

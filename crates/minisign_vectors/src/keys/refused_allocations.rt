@@ -1,7 +1,7 @@
-//! Calls on keys whose result is right or is out of memory, whichever allocation fails: with ample
-//! memory each test sees its call succeed, and `tests/library/refused_memory.py` runs it with each of its
-//! requests failing in turn. A buffer that cannot grow is a sink that fails, so that a call with
-//! one may fail to write too.
+//! Tests that calls on keys give the right result or out of memory, whichever allocation fails.
+//! With enough memory each call succeeds. `tests/library/refused_memory.py` runs each test with
+//! each of its allocations failing in turn. A buffer that cannot grow is a sink that fails, so a
+//! call with one may also return `WritingFailed`.
 
 use crate::keys::generated::wrote_sealed_over;
 use crate::keys::sealed::calls::{Way, opened};
@@ -21,24 +21,24 @@ use minisign_fixtures::texts::{
 };
 use std::alloc::Global;
 
-/// A prompt into which these bytes are typed, that asks for no memory.
+/// Returns a prompt with this input that does not allocate.
 pub fn typed<'a>(bytes: &'a [u8]) -> Prompt<SliceSource<'a>, Counting> {
     Prompt::new(SliceSource::new(bytes), Counting { bytes: 0 })
 }
 
-/// The text of a public key.
+/// Returns the text of a public key.
 pub fn public_text(alloc: Global, key: &PublicKey) -> Result<String> {
     let pk_box = key.to_box(alloc)?;
     Ok(pk_box.into_string())
 }
 
-/// The text of a secret key, with the default comment.
+/// Returns the text of a secret key with the default comment.
 pub fn secret_text(alloc: Global, key: &SecretKey) -> Result<String> {
     let sk_box = key.to_box(alloc, None)?;
     Ok(sk_box.into_string())
 }
 
-// Whether a pair that is not sealed is made as it should be, and a copy has both its keys.
+// Returns true if an unencrypted pair is generated as expected and its copy has the same keys.
 fn made_raw(alloc: Global) -> Result<bool> {
     let scheme = ToyScheme::new();
     let pair = KeyPair::generate_unencrypted_keypair(&scheme, &mut FixedRandom::new(&counted()))?;
@@ -47,7 +47,7 @@ fn made_raw(alloc: Global) -> Result<bool> {
     Ok(public && copy.sk == pair.sk)
 }
 
-// The same, written to two buffers.
+// Does the same with the pair written to two buffers.
 fn wrote_raw(alloc: Global) -> Result<bool> {
     let mut public = VecSink::new(alloc);
     let mut secret = VecSink::new(alloc);
@@ -61,19 +61,19 @@ fn wrote_raw(alloc: Global) -> Result<bool> {
     has_records(&pair, public.as_slice(), secret.as_slice())
 }
 
-// Whether the keys of these records are those of the pair.
+// Returns true if these records are those of the pair.
 fn has_records(pair: &KeyPair, public: &[u8], secret: &[u8]) -> Result<bool> {
     let pk = PublicKey::from_bytes(public)?;
     let sk = SecretKey::from_bytes(secret)?;
     Ok(pk == pair.pk && sk == pair.sk)
 }
 
-/// Whether the key has the text of the pair that is sealed under the empty password.
+/// Returns true if the key has the text of the pair that is encrypted under the empty password.
 pub fn has_sealed_text(alloc: Global, key: &SecretKey) -> Result<bool> {
     has_text(secret_text(alloc, key), COUNTED_SEALED_UNDER_NOTHING)
 }
 
-// Whether a sealed pair is made with an empty password that is typed.
+// Returns true if an encrypted pair is generated with an empty password that is typed.
 fn made_sealed(alloc: Global) -> Result<bool> {
     let pair = KeyPair::generate_encrypted_keypair(
         alloc,
@@ -85,7 +85,7 @@ fn made_sealed(alloc: Global) -> Result<bool> {
     has_sealed_text(alloc, &pair.sk)
 }
 
-// The same, written to two buffers.
+// Does the same with the pair written to two buffers.
 fn wrote_sealed(alloc: Global) -> Result<bool> {
     let mut public = VecSink::new(alloc);
     let mut secret = VecSink::new(alloc);
@@ -94,27 +94,27 @@ fn wrote_sealed(alloc: Global) -> Result<bool> {
     Ok(written && secret.as_slice() == COUNTED_SEALED_UNDER_NOTHING.as_bytes())
 }
 
-// Whether the key is key A, which is sealed no more.
+// Returns true if the key is key A, decrypted.
 fn is_opened(key: &SecretKey) -> Result<bool> {
     let opened = SecretKey::from_bytes(&secret_record(b"Sc", &CHECKSUM))?;
     Ok(*key == opened && !key.is_encrypted())
 }
 
-// Whether the text of key A, sealed, opens so with a typed password.
+// Returns true if the encrypted text of key A decrypts with a typed password.
 fn opens(alloc: Global, text: &str, way: Way) -> Result<bool> {
     let sk_box = SecretKeyBox::from_string(alloc, text);
     let key = opened(alloc, sk_box, None, &mut typed(b"password\n"), way)?;
     is_opened(&key)
 }
 
-// Whether the text of key A's public half comes out as it was worked out.
+// Returns true if the text of key A's public key is as precomputed.
 fn public_written(alloc: Global) -> Result<bool> {
     let secret = SecretKey::from_bytes(&secret_record(&[0, 0], &CHECKSUM))?;
     let public = PublicKey::from_secret_key(&secret)?;
     has_text(public_text(alloc, &public), KEY_TEXT)
 }
 
-// Whether the text of key A comes out again as it was read.
+// Returns true if the text of key A is the same after parsing and writing it.
 fn secret_written_again(alloc: Global) -> Result<bool> {
     let sk_box = SecretKeyBox::from_string(alloc, SECRET_TEXT)?;
     let sk = sk_box.into_unencrypted_secret_key()?;

@@ -1,6 +1,6 @@
-//! Secret keys that are sealed under a password. `tests/rows/sealed_keys.py` has what a request to
-//! the program `minisign_compare` can try of them; here is the rest: a bound on the work, rows that
-//! are not kept, and prompts that fail or are no lines of UTF-8.
+//! Tests of encrypted secret keys that no request to `minisign_compare` can describe: a bound on
+//! the work, rows that are not kept, and prompts that fail or return bytes that are not UTF-8.
+//! `tests/rows/sealed_keys.py` has all other cases.
 
 pub mod calls;
 mod faults;

@@ -1,4 +1,4 @@
-//! Boxes and records of keys and signatures.
+//! Tests of texts and records of keys and signatures.
 
 mod boxes;
 mod records;

@@ -1,4 +1,4 @@
-//! Signs and verifies for all tests, and tells what the call returned and what the sinks took.
+//! Signs and verifies for all tests, and compares results and the contents of sinks.
 
 use minisign::{
     Prompt, PublicKey, RandomSource, Rereader, Result, SecretKey, SignatureBox, Sink, Source,
@@ -10,18 +10,18 @@ use minisign_fixtures::outcomes::Outcome::{self, Accepted};
 use minisign_fixtures::outcomes::{comes_to, ends_in};
 use std::alloc::Global;
 
-/// The worked text of the signature over `abc`, with the default untrusted comment.
+/// The precomputed text of the signature of `abc`, with the default untrusted comment.
 pub const SIGNED_BY_DEFAULT: &str =
     "untrusted comment: signature from rsign secret key\nRUQBAgMEBQYHCAAAAAAAAAAAAAAAAAAAAAAAAAAAAAAAAAAAAAAAAAAAnV06XOjtbnryLxgygHtgJg6o/+bp8Qy3qGtn2FWlYag=\ntrusted comment: t\nAAAAAAAAAAAAAAAAAAAAAAAAAAAAAAAAAAAAAAAAAACzB2AGsrc0IKh1QmjaITp8VPKlvLOrVu3yMT2CD/878g==\n";
 
-/// The status is said, the data is copied, and legacy signatures are accepted.
+/// Status lines are written, the data is copied, and legacy signatures are accepted.
 pub const COPYING: VerifyOptions = VerifyOptions {
     quiet: false,
     output: true,
     allow_legacy: true,
 };
 
-/// What verifying is wanted to come to: the outcome, what is said, and what is copied.
+/// The expected result of verifying: the outcome, the status lines, and the copy.
 #[derive(Clone, Copy)]
 pub struct Wanted<'a> {
     pub outcome: Outcome,
@@ -29,14 +29,14 @@ pub struct Wanted<'a> {
     pub copied: &'a [u8],
 }
 
-/// The sinks of verifying.
+/// The sinks for verifying.
 #[derive(Drop)]
 pub struct Sinks {
     pub status: LimitedSink,
     pub out: LimitedSink,
 }
 
-/// Sinks that take all.
+/// Returns sinks that accept everything.
 pub fn ample(alloc: Global) -> Sinks {
     Sinks {
         status: LimitedSink::new(alloc, usize::MAX),
@@ -44,7 +44,7 @@ pub fn ample(alloc: Global) -> Sinks {
     }
 }
 
-/// Whether the sinks hold what was wanted, and the outcome is this one.
+/// Returns true if the outcome and the contents of the sinks are as expected.
 fn is_wanted(answer: Result<()>, sinks: &Sinks, wanted: Wanted) -> bool {
     let came = ends_in(answer, wanted.outcome);
     came && sinks.status.as_slice() == wanted.said && sinks.out.as_slice() == wanted.copied
@@ -74,7 +74,7 @@ pub fn verified_texts<R: Rereader, W: Sink, O: Sink>(
     )
 }
 
-/// Whether verifying the data with two texts comes out as wanted.
+/// Returns true if verifying the data with two texts has the expected result.
 pub fn texts_come_out<R: Rereader>(
     alloc: Global,
     texts: (&str, &str),
@@ -95,8 +95,8 @@ pub fn texts_come_out<R: Rereader>(
     is_wanted(answer, &sinks, wanted)
 }
 
-/// Whether verifying the data under key A with the box that a text reads as comes out as wanted,
-/// where it is copied and legacy signatures are accepted.
+/// Returns true if verifying the data under key A with the box in a text has the expected result.
+/// The data is copied, and legacy signatures are accepted.
 pub fn box_comes_out<R: Rereader>(
     alloc: Global,
     text: &str,
@@ -109,7 +109,7 @@ pub fn box_comes_out<R: Rereader>(
     is_wanted(answer, &sinks, wanted)
 }
 
-// Verifies the data under key A with the box that a text reads as.
+// Verifies the data under key A with the box in a text.
 fn verified_box<R: Rereader>(
     alloc: Global,
     text: &str,
@@ -143,22 +143,23 @@ fn verified<R: Rereader>(
     )
 }
 
-/// Key A.
+/// Returns key A, which is not encrypted.
 pub fn key_a() -> Result<SecretKey> {
     SecretKey::from_bytes(&secret_record(&[0, 0], &CHECKSUM))
 }
 
-/// Key A's public key.
+/// Returns the public key of key A.
 pub fn public_a() -> Result<PublicKey> {
     PublicKey::from_bytes(&public_record(&KEY_ID, &PUBLIC_BYTES))
 }
 
-/// The key of a text, with this password where it is sealed.
+/// Returns the key in a text, decrypted with this password if it is encrypted.
 pub fn key_of(alloc: Global, sk_text: &str, password: &str) -> Result<SecretKey> {
     open_with_password(alloc, sk_text, password)
 }
 
-/// Signs the data under the toy with the default comments; a public key that is passed in is tested.
+/// Signs the data with the toy scheme and the default comments. A public key that is given is
+/// tested.
 pub fn signed_from<R: Source, Z: RandomSource>(
     alloc: Global,
     pk: Option<&PublicKey>,
@@ -180,8 +181,8 @@ pub fn signed_from<R: Source, Z: RandomSource>(
     )
 }
 
-/// Signs the data under the toy with the text of a secret key, with the comments `t` and `c` and the
-/// moment 7.
+/// Signs the data with the toy scheme and the text of a secret key, with the comments `t` and `c`
+/// and the time 7.
 pub fn signed_text<P: Source, Q: Sink, R: Source, Z: RandomSource>(
     alloc: Global,
     sk_text: &str,
@@ -204,12 +205,11 @@ pub fn signed_text<P: Source, Q: Sink, R: Source, Z: RandomSource>(
     )
 }
 
-/// The box that a text holds.
 pub fn read_box(alloc: Global, text: &str) -> Result<SignatureBox> {
     SignatureBox::from_string(alloc, text)
 }
 
-/// Whether this comes of a call: the text where it is accepted, or an error.
+/// Returns true if the result is the expected one: this text, or an error.
 pub fn tells(answer: &Result<String>, text: &str, expected: Outcome) -> bool {
     match answer {
         Ok(told) => expected == Accepted && told.as_str() == text,
@@ -217,19 +217,19 @@ pub fn tells(answer: &Result<String>, text: &str, expected: Outcome) -> bool {
     }
 }
 
-/// Whether this is the text that a call returned, or its error.
+/// Returns whether a call returned this text, or its error.
 pub fn has_text(returned: Result<String>, text: &str) -> Result<bool> {
     let returned = returned?;
     Ok(returned.as_str() == text)
 }
 
-/// The text of a copy of the box.
+/// Returns the text of a copy of the box.
 pub fn copy_text(alloc: Global, signature_box: &SignatureBox) -> Result<String> {
     let copy = signature_box.try_clone(alloc)?;
     copy.into_string(alloc)
 }
 
-// Whether this is the trusted comment of the box, and its untrusted one is the default one.
+// Returns true if the box has this trusted comment and the default untrusted comment.
 fn has_comments(alloc: Global, signature_box: &SignatureBox, trusted: &str) -> Result<bool> {
     if !has_text(signature_box.trusted_comment(alloc), trusted)? {
         return Ok(false);
@@ -238,8 +238,7 @@ fn has_comments(alloc: Global, signature_box: &SignatureBox, trusted: &str) -> R
     has_text(untrusted, "signature from rsign secret key")
 }
 
-/// Whether this is the trusted comment of the box that a text holds, and its untrusted one is the
-/// default one.
+/// Returns true if the box in a text has this trusted comment and the default untrusted comment.
 pub fn text_has_comments(alloc: Global, sig_text: &str, trusted: &str) -> Result<bool> {
     let signature_box = read_box(alloc, sig_text)?;
     has_comments(alloc, &signature_box, trusted)

@@ -1,4 +1,4 @@
-//! Devices that fail, and failed allocations.
+//! Tests of devices that fail, and of failed allocations.
 
 mod failing;
 mod refused_allocations;

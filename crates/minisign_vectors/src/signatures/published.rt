@@ -1,5 +1,5 @@
-//! The published legacy signature, verified over a reader that cannot seek. The data of a legacy signature
-//! is kept while it is read, so that it is copied without a second reading.
+//! Tests of the published legacy signature, with a reader that cannot seek. The data of a legacy
+//! signature is kept in memory, so it is copied without a second reading.
 
 use crate::signatures::calls::{Sinks, ample};
 use crate::tables::holds_at;
@@ -11,15 +11,15 @@ use minisign_fixtures::outcomes::Outcome::{self, Accepted, Refused};
 use minisign_fixtures::outcomes::ends_in;
 use std::alloc::Global;
 
-// The public key of the signature below, as the upstream crate publishes it.
+// The public key of this signature, as the upstream crate publishes it.
 const KEY_TEXT: &str =
     "untrusted comment: minisign public key: E7620F1842B4E81F\nRWQf6LRCGA9i53mlYecO4IzT51TGPpvWucNSCh1CBM0QTaLn73Y7GFO3\n";
 
-// A legacy signature over `test`, which the upstream crate publishes.
+// A legacy signature of `test`, which the upstream crate publishes.
 const LEGACY_TEXT: &str =
     "untrusted comment: signature from minisign secret key\nRWQf6LRCGA9i59SLOFxz6NxvASXDJeRtuZykwQepbDEGt87ig1BNpWaVWuNrm73YiIiJbq71Wi+dP9eKL8OC351vwIasSSbXxwA=\ntrusted comment: timestamp:1555779966\tfile:test\nQtKMXWyYcwdpZAlPF7tE2ENJkRd1ujvKjlj1m9RtHTBnZPa5WKU5uWRs5GoP5M/VqE81QFuMKI5k/SfNQUaOAA==";
 
-// The 32 bytes of the key, the signature, the trusted comment, and the comment signature.
+// The key bytes, the signature, the trusted comment and the comment signature.
 const KEY: [u8; 32] = [
     0x79, 0xa5, 0x61, 0xe7, 0x0e, 0xe0, 0x8c, 0xd3, 0xe7, 0x54, 0xc6, 0x3e, 0x9b, 0xd6, 0xb9, 0xc3,
     0x52, 0x0a, 0x1d, 0x42, 0x04, 0xcd, 0x10, 0x4d, 0xa2, 0xe7, 0xef, 0x76, 0x3b, 0x18, 0x53, 0xb7,
@@ -49,7 +49,8 @@ const UNACCEPTED: Outcome = Refused(LegacyNotAccepted);
 
 const REFUSED: Outcome = Refused(SignatureRefused);
 
-// The data, whether it is copied, whether legacy signatures are accepted, the outcome, and the copy.
+// The data, whether it is copied, whether legacy signatures are allowed, the expected outcome, and
+// the copy.
 type Row = (&'static str, bool, bool, Outcome, &'static str);
 
 const ROWS: [Row; 5] = [
@@ -60,13 +61,13 @@ const ROWS: [Row; 5] = [
     ("test2", true, true, REFUSED, ""),
 ];
 
-// The rows, so that no proof looks into all of them.
+// Hides the table from proofs, which would otherwise unfold all of it.
 fn rows() -> &'static [Row] {
     &ROWS
 }
 
-// Verifies the data of a row from a reader that cannot seek, under a scheme that accepts both signatures of
-// the published text.
+// Verifies the data of a row from a reader that cannot seek, with a scheme that accepts both
+// signatures of the published text.
 fn verified(alloc: Global, row: &Row, sinks: &mut Sinks) -> Result<()> {
     let (message, output, allow_legacy, _, _) = *row;
     let mut signed = [0u8; 94];

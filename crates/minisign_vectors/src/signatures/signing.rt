@@ -1,5 +1,5 @@
-//! Signing with the text of a secret key: what is rejected before anything is read, and what the prompt is
-//! told.
+//! Tests of signing with the text of a secret key: what is rejected before anything is read, and
+//! what the prompt shows.
 
 use crate::signatures::calls::signed_text;
 use crate::tables::holds_at;
@@ -22,10 +22,10 @@ use std::alloc::Global;
 const SAID: &str =
     "Password: Deriving a key from the password and decrypting the secret key... done\n";
 
-// The random bytes of the texts here.
+// The random bytes of the precomputed signatures.
 const ZEROS: [u8; 128] = [0; 128];
 
-// Key A's secret texts with a checksum of zeros: under the key derivations `Xx` and `SC`, and under
+// Key A's secret texts with a checksum of zeros: with the key derivations `Xx` and `SC`, and with
 // none.
 const UNDER_XX: &str =
     "c\nRWRYeEIyAAAAAAAAAAAAAAAAAAAAAAAAAAAAAAAAAAAAAAAAAAAAAAAAAAAAAAAAAAAAAAAAAQIDBAUGBwgAAAAAAAAAAAAAAAAAAAAAAAAAAAAAAAAAAAAAAAAAAFpaWlpaWlpaWlpaWlpaWlpaWlpaWlpaWlpaWlpaWlpaAAAAAAAAAAAAAAAAAAAAAAAAAAAAAAAAAAAAAAAAAAA=\n";
@@ -36,8 +36,8 @@ const UNDER_SC: &str =
 const CORRUPTED: &str =
     "c\nRWQAAEIyAAAAAAAAAAAAAAAAAAAAAAAAAAAAAAAAAAAAAAAAAAAAAAAAAAAAAAAAAAAAAAAAAQIDBAUGBwgAAAAAAAAAAAAAAAAAAAAAAAAAAAAAAAAAAAAAAAAAAFpaWlpaWlpaWlpaWlpaWlpaWlpaWlpaWlpaWlpaWlpaAAAAAAAAAAAAAAAAAAAAAAAAAAAAAAAAAAAAAAAAAAA=\n";
 
-// The text of a secret key, after how many reads the data fails, what comes of it, and what the prompt is
-// told.
+// The text of a secret key, the number of reads before the data fails, the error, and what the
+// prompt shows.
 type Row = (&'static str, usize, NamedFault, &'static str);
 
 const ROWS: [Row; 7] = [
@@ -50,12 +50,12 @@ const ROWS: [Row; 7] = [
     (SEALED, 2, ReadingFailed, SAID),
 ];
 
-// The rows, so that no proof looks into all of them.
+// Hides the table from proofs, which would otherwise unfold all of it.
 fn rows() -> &'static [Row] {
     &ROWS
 }
 
-// Signs `abc`, of which a read fails after so many.
+// Signs `abc`, whose source fails after this number of reads.
 fn signed<P: Source, Q: Sink>(
     alloc: Global,
     sk_text: &str,
@@ -69,8 +69,8 @@ fn signed<P: Source, Q: Sink>(
     signed_text(alloc, sk_text, password, prompt, &mut data, &mut random)
 }
 
-// Whether signing is rejected so where a password is typed, and the prompt is told this, and read where
-// it is told anything.
+// Returns true if signing fails as expected. The prompt must show this text, and be unread if it
+// shows nothing.
 fn is_refused(alloc: Global, password: Option<&str>, row: &Row) -> bool {
     let (sk_text, reads, fault, told) = *row;
     let mut prompt = typed(alloc, b"password\n");
@@ -81,7 +81,8 @@ fn is_refused(alloc: Global, password: Option<&str>, row: &Row) -> bool {
     came && left && prompt.writer.as_slice() == told.as_bytes()
 }
 
-// A text is rejected before anything is read, and a failing source comes after the prompt.
+// A text is rejected before anything is read, and the error of a failing source comes after the
+// prompt.
 #[test]
 fn refusals_come_in_their_order(rt: HostRuntime) {
     for row in rows() {
@@ -89,7 +90,7 @@ fn refusals_come_in_their_order(rt: HostRuntime) {
     }
 }
 
-// So is a wrong password that is passed in.
+// A wrong password that is given is rejected before the data is read.
 #[test]
 fn a_wrong_password_is_refused_before_the_data(rt: HostRuntime) {
     let row = (SEALED, 0, WrongPassword, "");

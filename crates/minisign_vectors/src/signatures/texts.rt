@@ -1,6 +1,7 @@
-//! Signatures shown, and texts of boxes that are taken and given in other ways than the common one.
+//! Tests of signatures as base64, and of the less common ways to make boxes from texts and texts
+//! from boxes.
 //!
-//! The letters are those of Python's base64 module.
+//! The expected base64 is from Python's base64 module.
 
 use crate::shown::says;
 use crate::signatures::calls::copy_text;
@@ -12,18 +13,18 @@ use minisign_fixtures::outcomes::{ends_in, gives_record, gives_text};
 use minisign_fixtures::texts::SIGNATURE_TEXT;
 use std::alloc::Global;
 
-// The second line of that text.
+// The second line of the precomputed text.
 const SIGNED: &str =
     "RUQBAgMEBQYHCAAAAAAAAAAAAAAAAAAAAAAAAAAAAAAAAAAAAAAAAAAAnV06XOjtbnryLxgygHtgJg6o/+bp8Qy3qGtn2FWlYag=";
 
-// What the 64 letters of RFC 4648, section 4, in their order, are the base64 of.
+// The bytes whose base64 is the 64 characters of RFC 4648, section 4, in order.
 const LETTERS: [u8; 48] = [
     0x00, 0x10, 0x83, 0x10, 0x51, 0x87, 0x20, 0x92, 0x8b, 0x30, 0xd3, 0x8f, 0x41, 0x14, 0x93, 0x51,
     0x55, 0x97, 0x61, 0x96, 0x9b, 0x71, 0xd7, 0x9f, 0x82, 0x18, 0xa3, 0x92, 0x59, 0xa7, 0xa2, 0x9a,
     0xab, 0xb2, 0xdb, 0xaf, 0xc3, 0x1c, 0xb3, 0xd3, 0x5d, 0xb7, 0xe3, 0x9e, 0xbb, 0xf3, 0xdf, 0xbf,
 ];
 
-// Whether the signature of a record is shown by these letters, and by no blank.
+// Returns true if `Display` writes exactly these characters for the signature of a record.
 fn is_shown(alloc: Global, record: &[u8; 74], letters: &str) -> bool {
     let Ok(signature) = Signature::from_bytes(record) else {
         return false;
@@ -31,7 +32,8 @@ fn is_shown(alloc: Global, record: &[u8; 74], letters: &str) -> bool {
     says(alloc, &signature, letters)
 }
 
-// A signature is shown as the second line, and the letters of base64 stand in their order.
+// A signature is written as in the second line, and the characters of base64 are in the right
+// order.
 #[test]
 fn a_signature_is_shown_in_base64(rt: HostRuntime) {
     let alloc = rt.alloc();
@@ -44,13 +46,13 @@ fn a_signature_is_shown_in_base64(rt: HostRuntime) {
     assert!(rt; is_shown(alloc, &record, letters));
 }
 
-// The box that is read from a text that is passed on.
+// Parses a text by the call that takes ownership of it.
 fn taken(alloc: Global) -> Result<SignatureBox> {
     let text = String::from_str(alloc, SIGNATURE_TEXT)?;
     SignatureBox::try_from_string(alloc, text)
 }
 
-// Whether that box gives its text as bytes and as a copy does.
+// Returns true if this box gives its text as bytes and from a copy.
 fn is_its_text(alloc: Global) -> bool {
     let Ok(read) = taken(alloc) else {
         return false;
@@ -62,7 +64,7 @@ fn is_its_text(alloc: Global) -> bool {
 
 const INCOMPLETE: Outcome = Refused(SignatureBoxIncomplete);
 
-// Whether a box from bones has no text as bytes or as a copy.
+// Returns true if a box of a bare signature has no text, neither as bytes nor from a copy.
 fn has_no_text(alloc: Global) -> bool {
     let record = signature_record(b"ED", &KEY_ID, &TIED_TO_ABC);
     let Ok(bones) = SignatureBones::from_bytes(&record) else {

@@ -1,5 +1,5 @@
-//! Two texts verified over data that cannot be read again, and over outputs that have a buffer; and what a
-//! rejected text leaves of the data.
+//! Tests of verifying with two texts: data that cannot be read again, outputs with a buffer, and
+//! data that is unread if a text is rejected.
 
 use crate::signatures::calls::{COPYING, Wanted, ample, texts_come_out, verified_texts};
 use crate::tables::holds_at;
@@ -19,14 +19,14 @@ use minisign_fixtures::texts::{
 };
 use std::alloc::Global;
 
-// Key A's bytes under another key ID.
+// Key A's bytes with another key ID.
 const OTHER_KEY: &str =
     "untrusted comment: minisign public key: E7620F1842B4E81F\nRWQf6LRCGA9i51paWlpaWlpaWlpaWlpaWlpaWlpaWlpaWlpaWlpaWlpa\n";
 
 const CHANGED: Outcome = Refused(DataChanged);
 
-// Whether verifying `abc` comes to this over an output with a buffer, where a second reading gives
-// `second`, and this much of the copy is passed on and waits.
+// Returns true if verifying `abc` has this outcome with a buffered output, when the second reading
+// gives `second`. These are the bytes of the copy that were flushed, and those that were not.
 fn is_buffered(
     alloc: Global,
     second: &[u8],
@@ -45,12 +45,12 @@ fn is_buffered(
     came && unsaid && copied
 }
 
-// Whether a sink passed this on, and this waits.
+// Returns true if the sink flushed these bytes and still holds those.
 fn has_taken(sink: &BufferedSink, passed_on: &[u8], waiting: &[u8]) -> bool {
     sink.passed_on() == passed_on && sink.waiting() == waiting
 }
 
-// The copy is flushed once the digests are compared, and the status never.
+// The copy is flushed only after the digests were compared, and the status is never flushed.
 #[test]
 fn data_that_changed_is_not_flushed(rt: HostRuntime) {
     let alloc = rt.alloc();
@@ -59,9 +59,9 @@ fn data_that_changed_is_not_flushed(rt: HostRuntime) {
     assert!(rt; is_buffered(alloc, b"", CHANGED, b"", b""));
 }
 
-// The texts of a key and of a signature, the data, whether it is copied, and whether a legacy signature
-// may vouch for it; what comes of it, what is copied, and what it leaves of the data. What is accepted
-// is said.
+// The texts of a key and of a signature, the data, whether it is copied, and whether legacy
+// signatures are allowed; then the expected outcome, the copy, and the unread data. The status
+// lines are written on success.
 type ReadOnce = (
     &'static str,
     &'static str,
@@ -83,8 +83,9 @@ const NO_KEY: Outcome = Refused(MissingPublicKeyComment);
 
 const NO_SIGNATURE: Outcome = Refused(MissingUntrustedComment);
 
-// What cannot be read again is rejected at the mark, before a byte is read, and only where it would
-// be read again. A text that is rejected, the key's before the signature's, leaves all of the data.
+// Data that cannot be read again is rejected when it is marked, before anything is read, and only
+// if it would be read again. If a text is rejected, the key before the signature, all of the data
+// is unread.
 const READ_ONCE: [ReadOnce; 15] = [
     (KEY, SIGNED, "abc", true, true, UNMARKED, "", "abc"),
     (OTHER_KEY, SIGNED, "abc", true, true, UNMARKED, "", "abc"),
@@ -103,12 +104,12 @@ const READ_ONCE: [ReadOnce; 15] = [
     (OTHER_KEY, "", "abc", true, true, NO_SIGNATURE, "", "abc"),
 ];
 
-// The rows, so that no proof looks into all of them.
+// Hides the table from proofs, which would otherwise unfold all of it.
 fn read_once() -> &'static [ReadOnce] {
     &READ_ONCE
 }
 
-// Whether verifying data that cannot be read again comes out so.
+// Returns true if verifying data that cannot be read again has the expected result.
 fn is_read_once(alloc: Global, row: &ReadOnce) -> bool {
     let (pk_text, sig_text, message, output, allow_legacy, outcome, copied, left) = *row;
     let mut data = ReaderSource::new(message.as_bytes());

@@ -1,3 +1,4 @@
+-- Proves the goals of `decode_front` that the prover leaves open.
 use Rattle.std.proofs.Common.{◌≡◌, ◌%◌, ◌*◌, ◌/◌, ◌++◌, length, sym, ◌∙◌, arith, length-append, take_at}
 use Rattle.minisign.specs.Texts.{base64_bytes}
 use Rattle.minisign.proofs.Base64Texts.{reads, joined, piece_refused, piece_padded, rest_refused, rejoined}

@@ -1,3 +1,4 @@
+-- Proves the goals of `decode_piece` that the prover leaves open.
 use Rattle.std.proofs.Common.{length, take, drop, sym, ap, ◌∙◌, arith, take_at, length-append}
 use Rattle.minisign.proofs.Common.{standard, decoded_bytes_of}
 use Rattle.minisign.proofs.Base64Texts.{piece_read, piece_unread}

@@ -1,3 +1,4 @@
+-- Proves the goals of `is_base64` that the prover leaves open.
 use Rattle.std.proofs.Common.{◌≡◌, ◌*◌, ◌/◌, length, sym, ◌∙◌, arith}
 use Rattle.minisign.proofs.Base64Texts.{judged, piece_judged, piece_refused, piece_padded, rejoined}
 use Rattle.minisign.proofs.base64_front.is_base64.Goals as goal

@@ -1,3 +1,4 @@
+-- The loop invariant and termination measure of `is_base64`.
 use Rattle.std.proofs.Common.{◌≡◌, length}
 use Rattle.minisign.specs.Texts.{is_base64}
 use Rattle.minisign.proofs.base64_front.is_base64.Given as goal

@@ -1,3 +1,4 @@
+-- Proves the goals of `copy_verified` that the prover leaves open.
 use Rattle.std.proofs.Common.{arith}
 use Rattle.minisign.proofs.Common.{rereader_call, sink_call}
 use Rattle.minisign.proofs.VouchedTexts.{copied_with, copy_refused, silent}

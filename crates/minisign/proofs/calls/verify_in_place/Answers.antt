@@ -1,3 +1,4 @@
+-- Proves the goals of `verify_in_place` that the prover leaves open.
 use Rattle.std.proofs.Common.{ap, sym, ◌∙◌, Ok}
 use Rattle.minisign.proofs.Verdicts.{key_refused, mapped_of, read_verdict, signature_refused, unmapped}
 use Rattle.minisign.proofs.Beginnings.{err_is}

@@ -1,3 +1,4 @@
+-- Proves the goal of `verify_opened_file` that the prover leaves open.
 use Rattle.std.proofs.Common.{string_bytes}
 use Rattle.minisign.proofs.Common.{rereader_call}
 use Rattle.minisign.proofs.VouchedTexts.{file_verdict}

@@ -1,3 +1,4 @@
+-- Proves the goals of `verify_reader` that the prover leaves open.
 use Rattle.std.proofs.Common.{arith, string_bytes}
 use Rattle.minisign.proofs.Common.{rereader_call}
 use Rattle.minisign.proofs.VouchedTexts.{ahead_refused, ahead_vouched, reader_refused, silent}

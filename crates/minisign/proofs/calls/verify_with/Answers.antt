@@ -1,3 +1,4 @@
+-- Proves the goals of `verify_with` that the prover leaves open.
 use Rattle.minisign.proofs.Verdicts.{text_refused, told_refusal, told_success}
 use Rattle.minisign.proofs.ReadTexts.{read_value}
 use Rattle.minisign.proofs.Beginnings.{err_is}

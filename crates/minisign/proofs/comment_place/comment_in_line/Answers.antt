@@ -1,3 +1,4 @@
+-- Proves the goal of `comment_in_line` that the prover leaves open.
 use Rattle.std.proofs.Common.{ap, take, sym, ◌∙◌}
 use Rattle.minisign.proofs.CommentPlaces.{in_line}
 use Rattle.minisign.proofs.comment_place.comment_in_line.Goals as goal

@@ -1,3 +1,4 @@
+-- Proves the goal of `trusted_comment_place` that the prover leaves open.
 use Rattle.std.proofs.Common.{ap, ◌∙◌}
 use Rattle.minisign.proofs.CommentPlaces.{in_text}
 use Rattle.minisign.proofs.SignatureTexts.{read_as}

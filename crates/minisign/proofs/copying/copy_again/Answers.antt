@@ -1,3 +1,4 @@
+-- Proves the goals of `copy_again` that the prover leaves open.
 use Rattle.std.proofs.Common.{[], ◌∷◌, inl, inr, refl, sym, ◌∙◌, true≢false}
 use Rattle.minisign.proofs.Common.{bytes_eq-Decides, rereader_call, sink_call, unused}
 use Rattle.minisign.specs.Verifying.{Compare, Copy, Devices, Flush, Return}

@@ -1,3 +1,4 @@
+-- Proves the goal of `copy_hashed` that the prover leaves open.
 use Rattle.std.proofs.Common.{[], refl, rules}
 use Rattle.minisign.proofs.Common.{AppendsFront-keeps}
 use Rattle.minisign.proofs.Beginnings.{passed_up}

@@ -1,3 +1,4 @@
+-- Proves the goal of `copy_out` that the prover leaves open.
 use Rattle.std.proofs.Common.{[], ◌∷◌, refl}
 use Rattle.minisign.proofs.Common.{rereader_call, sink_call, unused}
 use Rattle.minisign.specs.Verifying.{Flush, Put}

@@ -1,3 +1,4 @@
+-- Proves the goals of `copy_pieces` that the prover leaves open.
 use Rattle.std.proofs.Common.{◌∙◌, append_assoc, inr, rules}
 use Rattle.minisign.proofs.Common.{Appends-trans, Consumes-trans, AppendsFront-after}
 use Rattle.minisign.proofs.Beginnings.{consumed, passed_up}

@@ -1,3 +1,4 @@
+-- The loop invariant and termination measure of `copy_pieces`.
 use Rattle.std.proofs.Common.{◌≡◌, ℕ, List, ◌++◌, false}
 use Rattle.minisign.proofs.Common.{Appends, Consumes, IsFed, has_finalized, output_length}
 use Rattle.minisign.specs.Reading.{IsAhead}

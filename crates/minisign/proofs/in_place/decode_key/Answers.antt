@@ -1,3 +1,4 @@
+-- Proves the goal of `decode_key` that the prover leaves open.
 use Rattle.minisign.proofs.SignatureTexts.{front_read}
 use Rattle.minisign.proofs.in_place.decode_key.Goals as goal
 

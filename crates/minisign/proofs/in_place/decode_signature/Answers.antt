@@ -1,3 +1,4 @@
+-- Proves the goal of `decode_signature` that the prover leaves open.
 use Rattle.std.proofs.Common.{List, ℕ, subst, inr, arith}
 use Rattle.minisign.proofs.Common.{MatchResult-weaker}
 use Rattle.minisign.specs.Texts.{IsBase64Of}

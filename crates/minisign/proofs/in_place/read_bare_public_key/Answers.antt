@@ -1,3 +1,4 @@
+-- Proves the goals of `read_bare_public_key` that the prover leaves open.
 use Rattle.std.proofs.Common.{length, ap, sym, ◌∙◌}
 use Rattle.minisign.proofs.PublicKeyTexts.{bare_length, other_bare_length}
 use Rattle.minisign.proofs.in_place.read_bare_public_key.Goals as goal

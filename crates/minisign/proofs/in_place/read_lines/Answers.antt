@@ -1,3 +1,4 @@
+-- Proves the goals of `read_lines` that the prover leaves open.
 use Rattle.std.proofs.Common.{◌≡◌, true, false, rules, arith, drop, length, sym, ap, ◌∙◌, ⊎_elim}
 use Rattle.std.proofs.Common.{length-append}
 use Rattle.minisign.proofs.Common.{trim, drop-append_seam}

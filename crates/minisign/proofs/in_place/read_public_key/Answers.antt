@@ -1,3 +1,4 @@
+-- Proves the goals of `read_public_key` that the prover leaves open.
 use Rattle.std.proofs.Common.{◌∷◌, ap, sym, ◌∙◌}
 use Rattle.minisign.proofs.Common.{lines}
 use Rattle.minisign.proofs.PublicKeyTexts.{of_lines}

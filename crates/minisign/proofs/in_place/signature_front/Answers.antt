@@ -1,3 +1,4 @@
+-- Proves the goal of `signature_front` that the prover leaves open.
 use Rattle.std.proofs.Common.{ap, sym, ◌∙◌}
 use Rattle.minisign.specs.SignatureText.{first_64}
 use Rattle.minisign.proofs.Base64Texts.{bytes_read}

@@ -1,3 +1,4 @@
+-- Proves the goal of `open_with_password` that the prover leaves open.
 use Rattle.minisign.proofs.Openings.{with_password}
 use Rattle.minisign.proofs.key_calls.open_with_password.Goals as goal
 

@@ -1,3 +1,4 @@
+-- Proves the goal of `sign_bytes` that the prover leaves open.
 use Rattle.std.proofs.Common.{subst, sym}
 use Rattle.minisign.proofs.Common.{IfOk-weaker}
 use Rattle.minisign.specs.Reading.{IsAhead}

@@ -1,10 +1,11 @@
+-- Proves the goals of `ask_and_seal` that the prover leaves open.
 use Rattle.std.proofs.Common.{Result, Ok, Err, IfOk, OnOk, string_bytes}
 use Rattle.minisign.proofs.Common.{IfErr-weaker, prompt_call, second_ended, stopped_first}
 use Rattle.minisign.proofs.Beginnings.{passed_up}
 use Rattle.minisign.specs.Generation.{choosing_steps, sealing_steps}
 use Rattle.minisign.proofs.keypair.ask_and_seal.Goals as goal
 
--- what holds of an answer, with a fact about the prompt
+-- What holds for a result, together with a fact about the prompt.
 told_of : {T E : Type 0} (r : Result T E) (A : Type 0) (P Q : T → Type 0) → ((t : T) → A → P t → Q t)
     → OnOk r A → IfOk r P → IfOk r Q
 told_of (Ok t) A P Q f a p = f t a p

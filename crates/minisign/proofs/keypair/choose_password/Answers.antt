@@ -1,3 +1,4 @@
+-- Proves the goals of `choose_password` that the prover leaves open.
 use Rattle.std.proofs.Common.{Ok, Err, Bool, true, false, not, ◌≡◌, ◌∷◌, ◌++◌, [], string_bytes, sym, inl}
 use Rattle.std.proofs.Common.{inr, refl, ℕ, List, None, Some, bytes_eq}
 use Rattle.minisign.proofs.Common.{bytes_eq-Decides, prompt_call, second_ended, stopped_first, typed_is, Test}
@@ -7,7 +8,7 @@ use Rattle.minisign.specs.Generation.{difference, purpose_line, second_question}
 use Rattle.minisign.specs.Sealing.{asking_text}
 use Rattle.minisign.proofs.keypair.choose_password.Goals as goal
 
--- what a test that is turned round says
+-- If one check is the negation of another, then the other is the negation of the one.
 unturned : (b c : Bool) → c ≡ not b → b ≡ not c
 unturned true true h = absurd (cc)
 unturned true false h = refl

@@ -1,3 +1,4 @@
+-- Proves the goal of `make_sealed_pair` that the prover leaves open.
 use Rattle.std.proofs.Common.{◌∙◌}
 use Rattle.minisign.proofs.Beginnings.{passed_up}
 use Rattle.minisign.proofs.GeneratedKeys.{only_memory}

@@ -1,3 +1,4 @@
+-- Proves the goals of `seal_aloud` that the prover leaves open.
 use Rattle.std.proofs.Common.{inl, inr, refl}
 use Rattle.minisign.proofs.Beginnings.{passed_up}
 use Rattle.minisign.specs.Generation.{sealing_text}

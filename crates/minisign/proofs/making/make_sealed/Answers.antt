@@ -1,3 +1,4 @@
+-- Proves the goal of `make_sealed` that the prover leaves open.
 use Rattle.std.proofs.Common.{arith}
 use Rattle.minisign.proofs.GeneratedKeys.{made_sealed, of_text}
 use Rattle.minisign.proofs.making.make_sealed.Goals as goal

@@ -1,3 +1,4 @@
+-- Proves the goal of `make_secret_key` that the prover leaves open.
 use Rattle.minisign.proofs.GeneratedKeys.{made_unsealed, of_text}
 use Rattle.minisign.proofs.making.make_secret_key.Goals as goal
 

@@ -1,11 +1,11 @@
+-- Proves the goal of `times` that the prover leaves open.
 use Rattle.std.proofs.Common.{arith, ◌≡◌, ℕ, ◌-◌, ◌*◌, ◌/◌, ◌^◌, ◌<◌, ◌≤◌, min, nat_lt}
 use Rattle.std.proofs.Math.Nat.{div-lt_iff_lt-mul, mul-le-mul, mul_comm}
 use Rattle.std.proofs.lemmas.Bool.{lt-ltb, ltb-true, ltb_from_iff}
 use Rattle.std.proofs.lemmas.Nat.{pow_pos}
 use Rattle.minisign.proofs.opening.times.Goals as goal
 
--- no more rows than so many are made exactly where they are made no more often than the quotient says, cut to
--- 32 bits
+-- At most this many rows are computed exactly if p is at most the quotient, limited to 32 bits.
 same_test : (most n p m : ℕ) → p < 2 ^ 30 → m ≡ min (most / 2 ^ n) (2 ^ 32 - 1)
     → nat_lt m p ≡ nat_lt most (2 ^ n * p)
 same_test most n p m small is =
@@ -22,7 +22,7 @@ same_test most n p m small is =
           lt-ltb m p (omega (arith, is, within)),
     )
 
--- a parallelization that is accepted is below 2 ^ 30
+-- An accepted parallelization is below 2 ^ 30.
 few_parts : (r p : ℕ) → 1 ≤ r → r * p < 2 ^ 30 → p < 2 ^ 30
 few_parts r p some small =
     let one = mul-le-mul {n₁ = 1} {m₁ = p} {n₂ = r} {m₂ = p} some (omega arith) in

@@ -1,3 +1,4 @@
+-- Proves the goal of `feed` that the prover leaves open.
 use Rattle.std.proofs.Common.{◌∙◌, append_assoc}
 use Rattle.minisign.proofs.Common.{Consumes-trans}
 use Rattle.minisign.proofs.reading.feed.Goals as goal

@@ -1,3 +1,4 @@
+-- The loop invariant and termination measure of `feed`.
 use Rattle.std.proofs.Common.{◌≡◌, ℕ, List, ◌++◌, false}
 use Rattle.minisign.proofs.Common.{Consumes, IsFed, has_finalized, output_length}
 use Rattle.minisign.proofs.reading.feed.Given as goal

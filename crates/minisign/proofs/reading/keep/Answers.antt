@@ -1,3 +1,4 @@
+-- Proves the goal of `keep` that the prover leaves open.
 use Rattle.std.proofs.Common.{◌∙◌, append_assoc, refl}
 use Rattle.minisign.proofs.Common.{Consumes-trans}
 use Rattle.minisign.proofs.reading.keep.Goals as goal

@@ -1,3 +1,4 @@
+-- The loop invariant and termination measure of `keep`.
 use Rattle.std.proofs.Common.{◌≡◌, ℕ, List, ◌++◌}
 use Rattle.minisign.proofs.Common.{Consumes}
 use Rattle.minisign.proofs.reading.keep.Given as goal

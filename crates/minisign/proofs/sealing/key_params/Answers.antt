@@ -1,3 +1,4 @@
+-- Proves the goals of `key_params` that the prover leaves open.
 use Rattle.std.proofs.Common.{rules, length, take, sym, ap, ◌∙◌, arith, w64}
 use Rattle.minisign.proofs.Common.{from_le_bytes}
 use Rattle.minisign.proofs.SealingLimits.{read_limits}

@@ -1,3 +1,4 @@
+-- Proves the goals of `xor_bytes` that the prover leaves open.
 use Rattle.std.proofs.Common.{◌≢◌, bit_xor, sym, ◌∙◌, arith, get_or-set_other, take_all}
 use Rattle.minisign.proofs.Common.{length-zip2}
 use Rattle.minisign.proofs.SealedParts.{xored_next}

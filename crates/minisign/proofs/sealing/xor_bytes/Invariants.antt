@@ -1,3 +1,4 @@
+-- The loop invariant of `xor_bytes`.
 use Rattle.std.proofs.Common.{◌≡◌, ℕ, ◌≤◌, get_or, take, bit_xor}
 use Rattle.minisign.proofs.Common.{zip2}
 use Rattle.minisign.proofs.sealing.xor_bytes.Given as goal

@@ -1,3 +1,4 @@
+-- Proves the goals of `decode_record` that the prover leaves open.
 use Rattle.std.proofs.Common.{Ok, ap, sym, ◌∙◌}
 use Rattle.minisign.specs.KeyTexts.{secret_key_of_bytes}
 use Rattle.minisign.proofs.SecretKeyTexts.{front_read, front_refused}

@@ -1,3 +1,4 @@
+-- Proves the goal of `joined` that the prover leaves open.
 use Rattle.std.proofs.Common.{◌≡◌, ◌++◌, arith}
 use Rattle.minisign.proofs.Common.{common_steps}
 use Rattle.minisign.proofs.Base64Texts.{both_bytes}

@@ -1,3 +1,4 @@
+-- Proves the goals of `four_lines` that the prover leaves open.
 use Rattle.std.proofs.Common.{◌∷◌, length, arith, ap, sym, ◌∙◌}
 use Rattle.minisign.proofs.Common.{lines}
 use Rattle.minisign.proofs.SignatureTexts.{of_lines}

@@ -1,3 +1,4 @@
+-- Proves the goal of `read_text` that the prover leaves open.
 use Rattle.std.proofs.Common.{Some, Ok, inl, ap, sym, ◌∙◌}
 use Rattle.minisign.specs.SignatureText.{box_of}
 use Rattle.minisign.specs.Texts.{map_ok}

@@ -1,3 +1,4 @@
+-- Proves the goals of `written` that the prover leaves open.
 use Rattle.std.proofs.Common.{◌∙◌, ap, sym}
 use Rattle.minisign.specs.Records.{ReadsSignature, signature_bytes}
 use Rattle.minisign.specs.Texts.{base64_of, Encodes}

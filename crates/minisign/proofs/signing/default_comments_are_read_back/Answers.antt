@@ -1,3 +1,4 @@
+-- Proves the goal of `default_comments_are_read_back` that the prover leaves open.
 use Rattle.std.proofs.Common.{arith, ℕ, ◌^◌, ◌<◌, List, [], ◌∷◌, None, codes, refl}
 use Rattle.std.specs.Str.Parse.{AllDigits}
 use Rattle.std.proofs.lemmas.Fmt.{decimal_is_IsNumeral}

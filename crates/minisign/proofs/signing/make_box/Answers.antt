@@ -1,3 +1,4 @@
+-- Proves the goal of `make_box` that the prover leaves open.
 use Rattle.std.proofs.Common.{◌≡◌, ℕ, List, ◌++◌, length, string_bytes, arith, ap, ◌∙◌, rules}
 use Rattle.minisign.proofs.Common.{common_steps}
 use Rattle.minisign_base.specs.Scheme.{IsBytes}

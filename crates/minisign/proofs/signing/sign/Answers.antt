@@ -1,3 +1,4 @@
+-- Proves the goal of `sign` that the prover leaves open.
 use Rattle.std.proofs.Common.{◌≡◌, false, inl, inr}
 use Rattle.minisign.specs.Sealing.{is_encrypted}
 use Rattle.minisign.proofs.Beginnings.{passed_up}

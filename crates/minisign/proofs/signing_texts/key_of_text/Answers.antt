@@ -1,3 +1,4 @@
+-- Proves the goals of `key_of_text` that the prover leaves open.
 use Rattle.std.proofs.Common.{bytes_eq, ap, refl, sym, ◌∙◌}
 use Rattle.minisign.specs.Sealing.{no_kdf}
 use Rattle.minisign.proofs.Openings.{sealed_key, unread_key, unsealed_key, untouched, unencrypted_refused}

@@ -1,3 +1,4 @@
+-- Proves the goal of `sign_opened` that the prover leaves open.
 use Rattle.std.proofs.Common.{ap, string_bytes}
 use Rattle.minisign.proofs.Common.{IfOk-weaker}
 use Rattle.minisign.proofs.SignedBoxes.{vouched_back, written_text}

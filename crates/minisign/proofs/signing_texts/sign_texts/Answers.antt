@@ -1,3 +1,4 @@
+-- Proves the goals of `sign_texts` that the prover leaves open.
 use Rattle.std.proofs.Common.{Ok, subst}
 use Rattle.minisign.proofs.Common.{IfOk-weaker, prompt_call}
 use Rattle.minisign.proofs.Openings.{key_of_given}

@@ -1,3 +1,4 @@
+-- Proves the goals of `decode` that the prover leaves open.
 use Rattle.std.proofs.Common.{◌∙◌, sym, refl}
 use Rattle.minisign.specs.Texts.{base64_of}
 use Rattle.minisign.proofs.Base64Texts.{not_read}

@@ -1,3 +1,4 @@
+-- Proves the goals of `next_line` that the prover leaves open.
 use Rattle.minisign.proofs.WrittenLines.{lines_first}
 use Rattle.minisign.proofs.texts.next_line.Goals as goal
 

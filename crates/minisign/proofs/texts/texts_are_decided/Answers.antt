@@ -1,3 +1,4 @@
+-- Proves the goals of `texts_are_decided` that the prover leaves open.
 use Rattle.minisign.proofs.RecordFields.{one_public_key, one_signature}
 use Rattle.minisign.proofs.texts.texts_are_decided.Goals as goal
 

@@ -1,3 +1,4 @@
+-- Proves the goals of `read_data` that the prover leaves open.
 use Rattle.std.proofs.Common.{[], refl}
 use Rattle.minisign.proofs.Common.{MatchResult-weaker}
 use Rattle.minisign.proofs.Beginnings.{passed_up}

@@ -1,15 +1,16 @@
+-- Proves the goals of `say_lines` that the prover leaves open.
 use Rattle.std.proofs.Common.{◌≡◌, List, ℕ, [], ◌∷◌, ◌++◌, None, Some, codes, ap, sym, ◌∙◌, refl}
 use Rattle.minisign.specs.Records.{CommentsRecord, SignatureBoxRecord}
 use Rattle.minisign.specs.Acceptance.{verified_text, trusted_comment_text, status_lines}
 use Rattle.minisign.proofs.verifying.say_lines.Goals as goal
 
--- the two lines of a box with comments
+-- The two status lines of a box with comments.
 both_lines : (x : SignatureBoxRecord) (c : CommentsRecord) (t : List ℕ) → x.comments ≡ Some c → t ≡ c.trusted
     → codes "Signature and comment signature verified\nTrusted comment: " ++ t ++ 10 ∷ [] ≡ status_lines x
 unfolding verified_text trusted_comment_text
 both_lines x c t both same = rw (both, same) refl
 
--- the line of a box with no comments
+-- The status line of a box without comments.
 one_line : (x : SignatureBoxRecord) → x.comments ≡ None → codes "Signature and comment signature verified"
     ++ [] ++ 10 ∷ [] ≡ status_lines x
 unfolding verified_text

@@ -1,3 +1,4 @@
+-- Proves the goals of `verify` that the prover leaves open.
 use Rattle.minisign.proofs.Common.{rereader_call, sink_call, AppendsFront-keeps}
 use Rattle.minisign.specs.Acceptance.{options_of}
 use Rattle.minisign.proofs.Beginnings.{on_err_of, passed_up}

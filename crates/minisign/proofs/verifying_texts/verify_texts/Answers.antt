@@ -1,3 +1,4 @@
+-- Proves the goals of `verify_texts` that the prover leaves open.
 use Rattle.minisign.proofs.Common.{sink_call}
 use Rattle.minisign.proofs.Verdicts.{kept_refusal, text_refused, told_nothing}
 use Rattle.minisign.proofs.VouchedTexts.{copy_vouched, fails_with, succeeds_with}

@@ -1,3 +1,4 @@
+-- Proves the goals of `cost_log2` that the prover leaves open.
 use Rattle.std.proofs.Common.{◌+◌}
 use Rattle.minisign_base.proofs.LeastCost.{cost_log2_next, cost_log2_unique}
 use Rattle.minisign_base.proofs.helpers.cost_log2.Goals as goal

@@ -1,3 +1,4 @@
+-- Proves the goals of `get_password` that the prover leaves open.
 use Rattle.std.proofs.Common.{[], Ok, Err, inl, inr, refl, sym, ap, subst, ⊎_elim}
 use Rattle.std.specs.Result.{result_err}
 use Rattle.minisign_base.specs.DeviceCalls.{prompt_call}

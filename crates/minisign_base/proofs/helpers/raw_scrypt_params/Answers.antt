@@ -1,15 +1,16 @@
+-- Proves the goals of `raw_scrypt_params` that the prover leaves open.
 use Rattle.std.proofs.Common.{◌≡◌, ℕ, ◌/◌, ◌<◌, max, refl, arith}
 use Rattle.std.proofs.lemmas.Bool.{le-ltb, lt-ltb}
 use Rattle.minisign_base.specs.Limits.{IsCostLog2, cost_log2, numbers}
 use Rattle.minisign_base.proofs.helpers.raw_scrypt_params.Goals as goal
 
--- few operations bound the cost
+-- Few operations determine the cost.
 few_numbers : (memlimit opslimit : ℕ) → max 32768 opslimit < memlimit / 32
     → numbers memlimit opslimit ≡ record { n_log2 = cost_log2 (max 32768 opslimit / 32); r = 8; p = 1 }
 unfolding numbers
 few_numbers memlimit opslimit few = rw (lt-ltb (max 32768 opslimit) (memlimit / 32) few) refl
 
--- the least number is the one that is found
+-- The number that meets the description is the one that is found.
 least_found : (measure n : ℕ) → IsCostLog2 measure n → n ≡ cost_log2 measure
     → IsCostLog2 measure (cost_log2 measure)
 least_found measure n least value = rw (← value) least

@@ -1,3 +1,4 @@
+-- The loop invariant and termination measure of `sixteen_digits`.
 use Rattle.std.proofs.Common.{◌≡◌, ◌≤◌, [], length, drop}
 use Rattle.minisign_base.specs.KeyIds.{last_digits}
 use Rattle.minisign_base.proofs.key_ids.sixteen_digits.Given as goal

@@ -1,3 +1,4 @@
+-- Proves the goals of `accepted_line` that the prover leaves open.
 use Rattle.std.proofs.Common.{◌≡◌, Err, string_bytes, sym, ap, ◌∙◌, arith}
 use Rattle.std.proofs.lemmas.Str.{IsUtf8-string_bytes}
 use Rattle.minisign_base.specs.Passwords.{accepted_line}

@@ -1,3 +1,4 @@
+-- Proves the goals of `conversations_are_written` that the prover leaves open.
 use Rattle.minisign_base.specs.DeviceCalls.{prompt_call}
 use Rattle.minisign_base.proofs.ConversationTexts.{held_no_new_fault, held_taken, stopped_taken}
 use Rattle.minisign_base.proofs.prompt.conversations_are_written.Goals as goal

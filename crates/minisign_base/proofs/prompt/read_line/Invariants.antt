@@ -1,3 +1,4 @@
+-- The loop invariant and termination measure of `read_line`.
 use Rattle.std.proofs.Common.{◌≡◌, ◌+◌, ◌-◌, ◌≤◌, length, take}
 use Rattle.std.specs.Io.KnownBytes.{Consumes}
 use Rattle.minisign_base.specs.Passwords.{line_length}

@@ -1,3 +1,4 @@
+-- Proves the goals of `fold` that the prover leaves open.
 use Rattle.std.proofs.Common.{◌≡◌, ℕ, take, arith, ap, ◌∙◌, refl, length-set}
 use Rattle.std.proofs.lemmas.List.{take_all, get_or-replicate}
 use Rattle.minisign_base.specs.Toy.{column}

@@ -1,3 +1,4 @@
+-- The loop invariant of `fold`.
 use Rattle.std.proofs.Common.{◌≡◌, ℕ, ◌<◌, length, take, slice_index}
 use Rattle.minisign_base.specs.Toy.{column}
 use Rattle.minisign_base.proofs.toy.fold.Given as goal

@@ -1,3 +1,4 @@
+-- The loop invariant of `is_listed`.
 use Rattle.std.proofs.Common.{◌≡◌, false, take}
 use Rattle.minisign_base.specs.Toy.{is_listed}
 use Rattle.minisign_base.proofs.toy.is_listed.Given as goal

@@ -1,3 +1,4 @@
+-- Proves the goal of `masked` that the prover leaves open.
 use Rattle.std.proofs.Common.{◌≡◌, length, bit_xor, arith}
 use Rattle.std.proofs.lemmas.Simd.{zip2_splat}
 use Rattle.minisign_base.proofs.toy.masked.Goals as goal

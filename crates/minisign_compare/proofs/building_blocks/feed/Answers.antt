@@ -1,3 +1,4 @@
+-- Proves the goal of `feed` that the prover leaves open.
 use Rattle.std.proofs.Common.{◌≡◌, ℕ, List, ◌++◌, ◌∙◌, sym, ap, append_assoc}
 use Rattle.std.proofs.lemmas.List.{take-append-drop}
 use Rattle.minisign_compare.proofs.building_blocks.feed.Goals as goal

@@ -1,3 +1,4 @@
+-- The loop invariant of `feed`.
 use Rattle.std.proofs.Common.{◌≡◌, ℕ, List, ◌++◌, false}
 use Rattle.minisign_hash.specs.Fed.{IsFed, has_finalized, output_length}
 use Rattle.minisign_compare.proofs.building_blocks.feed.Given as goal

@@ -1,3 +1,4 @@
+-- Proves the goals of `open_asking` that the prover leaves open.
 use Rattle.std.proofs.Common.{refl}
 use Rattle.minisign_examples.proofs.AskedAgain.{answered, asked_again, last_time}
 use Rattle.minisign_examples.proofs.asking.+open_asking.Goals as goal

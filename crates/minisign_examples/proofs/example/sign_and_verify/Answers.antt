@@ -1,3 +1,4 @@
+-- Proves the goals of `sign_and_verify` that the prover leaves open.
 use Rattle.std.proofs.Common.{◌≡◌, Ok, inl, false, subst, sym, ◌∙◌}
 use Rattle.minisign.specs.Headline.{TextsVouchFor}
 use Rattle.minisign.specs.KeyTexts.{read_public_key, public_key_text}

@@ -1,3 +1,4 @@
+-- Proves the goals of `sign_release` that the prover leaves open.
 use Rattle.std.proofs.Common.{◌≡◌, Ok, None, string_bytes, false, inl, subst, sym}
 use Rattle.minisign.specs.Generation.{IsGenuinePair}
 use Rattle.minisign.specs.Sealing.{OpensTo}

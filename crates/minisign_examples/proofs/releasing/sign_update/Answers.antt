@@ -1,3 +1,4 @@
+-- Proves the goal of `sign_update` that the prover leaves open.
 use Rattle.std.proofs.Common.{string_bytes}
 use Rattle.minisign.specs.DeviceCalls.{random_call}
 use Rattle.minisign_examples.proofs.SignedPairs.{signed_by_pair}

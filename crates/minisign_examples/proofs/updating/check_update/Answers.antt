@@ -1,9 +1,10 @@
+-- Proves the goal of `check_update` that the prover leaves open.
 use Rattle.std.proofs.Common.{◌≡◌, Bool, true, false, not, refl, inl}
 use Rattle.minisign_examples.specs.Updating.{another_name}
 use Rattle.minisign_examples.proofs.Refusals.{function_given}
 use Rattle.minisign_examples.proofs.updating.check_update.Goals as goal
 
--- the names differ
+-- If the check for different names is true, the comparison of the names is false.
 differ : (same : Bool) → true ≡ not same → same ≡ false
 differ true h = absurd (cc)
 differ false h = refl

@@ -1,3 +1,4 @@
+-- Proves the goals of `after_blocks` that the prover leaves open.
 use Rattle.std.proofs.Common.{◌≡◌, ◌+◌, ◌-◌, ◌*◌, ◌/◌, ℕ, List, arith, length, refl, take, drop, ◌∙◌}
 use Rattle.std.proofs.lemmas.List.{take_all}
 use Rattle.minisign_hash.proofs.Feeding.{state_next}

@@ -1,3 +1,4 @@
+-- The loop invariant of `after_blocks`.
 use Rattle.std.proofs.Common.{◌≡◌, ◌+◌, ◌*◌, ◌%◌, ◌^◌, ◌++◌, ℕ, List, drop, false, length}
 use Rattle.minisign_hash.specs.Blake2b.{compress, state_after}
 use Rattle.minisign_hash.specs.Words.{words64_of}

@@ -1,3 +1,4 @@
+-- Proves the goal of `compress` that the prover leaves open.
 use Rattle.std.proofs.Common.{◌≡◌, ◌+◌, ℕ, List, ap, bit_xor, map, refl, slice_index}
 use Rattle.std.specs.List.{range_with_len}
 use Rattle.minisign_hash.specs.Blake2b.{compress, rounds, work_vector}

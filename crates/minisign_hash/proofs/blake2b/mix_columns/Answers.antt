@@ -1,3 +1,4 @@
+-- Proves the goal of `mix_columns` that the prover leaves open.
 use Rattle.std.proofs.Common.{arith}
 use Rattle.minisign_hash.proofs.Lanes.{lanes_mixed}
 use Rattle.minisign_hash.proofs.blake2b.mix_columns.Goals as goal

@@ -1,9 +1,10 @@
+-- Proves the goals of `mix_round` that the prover leaves open.
 use Rattle.std.proofs.Common.{◌≡◌, length, refl, arith}
 use Rattle.minisign_hash.specs.Blake2b.{mix, round}
 use Rattle.minisign_hash.proofs.Lanes.{sixteen_of}
 use Rattle.minisign_hash.proofs.blake2b.mix_round.Goals as goal
 
--- each number of a word is below sixteen
+-- Each index in a row of the schedule is below sixteen.
 pub offset_bounds-m-s : goal.offset_bounds-m-s
 offset_bounds-m-s c = omega (arith, c.requires 0)
 

@@ -1,3 +1,4 @@
+-- Proves the goals of `order` that the prover leaves open.
 use Rattle.std.proofs.Common.{◌%◌, refl, lit<}
 use Rattle.minisign_hash.specs.Blake2b.{sigma}
 use Rattle.minisign_hash.proofs.Lists.{below_all}

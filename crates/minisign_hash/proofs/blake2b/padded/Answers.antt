@@ -1,3 +1,4 @@
+-- Proves the goal of `padded` that the prover leaves open.
 use Rattle.std.proofs.Common.{◌++◌, ◌∙◌, ap₂, length}
 use Rattle.std.proofs.lemmas.List.{drop-replicate}
 use Rattle.minisign_hash.proofs.blake2b.padded.Goals as goal

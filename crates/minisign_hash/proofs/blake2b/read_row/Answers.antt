@@ -1,3 +1,4 @@
+-- Proves the goal of `read_row` that the prover leaves open.
 use Rattle.minisign_hash.proofs.Lanes.{words_read}
 use Rattle.minisign_hash.proofs.blake2b.read_row.Goals as goal
 

@@ -1,3 +1,4 @@
+-- Proves the goal of `read_words` that the prover leaves open.
 use Rattle.std.proofs.Common.{refl, lit<}
 use Rattle.minisign_hash.specs.Words.{words64_of}
 use Rattle.minisign_hash.proofs.blake2b.read_words.Goals as goal

@@ -1,3 +1,4 @@
+-- Proves the goal of `twelve_rounds` that the prover leaves open.
 use Rattle.std.proofs.Common.{refl}
 use Rattle.minisign_hash.specs.Blake2b.{rounds}
 use Rattle.minisign_hash.proofs.blake2b.twelve_rounds.Goals as goal

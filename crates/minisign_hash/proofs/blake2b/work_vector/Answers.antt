@@ -1,3 +1,4 @@
+-- Proves the goal of `work_vector` that the prover leaves open.
 use Rattle.std.proofs.Common.{◌≡◌, length, refl, arith}
 use Rattle.minisign_hash.specs.Blake2b.{iv, work_vector}
 use Rattle.minisign_hash.proofs.Lists.{eight_of}

@@ -1,3 +1,4 @@
+-- Proves the goal of `xor_rotated` that the prover leaves open.
 use Rattle.std.proofs.Common.{arith}
 use Rattle.minisign_hash.proofs.Lanes.{shifts_rotate}
 use Rattle.minisign_hash.proofs.blake2b.xor_rotated.Goals as goal

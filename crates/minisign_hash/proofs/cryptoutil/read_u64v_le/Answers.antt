@@ -1,3 +1,4 @@
+-- Proves the goal of `read_u64v_le` that the prover leaves open.
 use Rattle.std.proofs.Common.{◌*◌, ◌/◌, drop, length, take, w64, arith}
 use Rattle.std.specs.Int.{from_le_bytes}
 use Rattle.std.proofs.lemmas.List.FromFn.{fill_by_all}

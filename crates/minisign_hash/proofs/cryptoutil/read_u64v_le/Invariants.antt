@@ -1,3 +1,4 @@
+-- The loop invariant of `read_u64v_le`.
 use Rattle.std.proofs.Common.{◌≡◌, ℕ, ◌*◌, ◌<◌, drop, slice_index, take}
 use Rattle.std.specs.Int.{w64, from_le_bytes}
 use Rattle.minisign_hash.proofs.cryptoutil.read_u64v_le.Given as goal

@@ -1,3 +1,4 @@
+-- The loop invariant of `write_u64v_le`.
 use Rattle.std.proofs.Common.{◌≡◌, ◌*◌, take}
 use Rattle.minisign_hash.specs.Words.{bytes_of_words64}
 use Rattle.minisign_hash.proofs.cryptoutil.write_u64v_le.Given as goal

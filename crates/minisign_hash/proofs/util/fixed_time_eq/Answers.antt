@@ -1,3 +1,4 @@
+-- Proves the goals of `fixed_time_eq` that the prover leaves open.
 use Rattle.std.proofs.Common.{◌≡◌, ℕ, List, bytes_eq, bit_xor, nat_eq, inl, inr, slice_index, refl, ap, arith}
 use Rattle.std.proofs.lemmas.Bool.{cases_lt}
 use Rattle.std.proofs.lemmas.Bool.Decides.{Decides-eqb, same_from_decides}

@@ -1,3 +1,4 @@
+-- The loop invariant of `fixed_time_eq`.
 use Rattle.std.proofs.Common.{◌≡◌, ℕ, ◌<◌, slice_index}
 use Rattle.minisign_hash.proofs.util.fixed_time_eq.Given as goal
 

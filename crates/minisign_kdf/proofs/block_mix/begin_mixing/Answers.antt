@@ -1,3 +1,4 @@
+-- Proves the goals of `begin_mixing` that the prover leaves open.
 use Rattle.std.proofs.Common.{◌≡◌, ℕ, List, ◌-◌, ◌%◌, sym, ap, ◌∙◌, arith}
 use Rattle.minisign_kdf.specs.Diagonal.{diagonal_bytes}
 use Rattle.minisign_kdf.specs.Scrypt.{row_at}

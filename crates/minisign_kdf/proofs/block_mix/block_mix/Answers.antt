@@ -1,3 +1,4 @@
+-- Proves the goals of `block_mix` that the prover leaves open.
 use Rattle.std.proofs.Common.{◌≡◌, ℕ, List, ◌+◌, ◌*◌, refl, sym, ap, ◌∙◌, arith}
 use Rattle.minisign_kdf.specs.Diagonal.{block_words, diagonal_bytes}
 use Rattle.minisign_kdf.specs.Salsa20.{bytes_of_words32}

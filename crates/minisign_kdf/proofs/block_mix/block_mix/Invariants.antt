@@ -1,3 +1,4 @@
+-- The loop invariant of `block_mix`.
 use Rattle.std.proofs.Common.{◌≡◌, ◌+◌, ◌*◌, take}
 use Rattle.minisign_kdf.specs.Blocks.{joined_lists}
 use Rattle.minisign_kdf.specs.Diagonal.{block_words, diagonal_bytes}

@@ -1,3 +1,4 @@
+-- Proves the goal of `mix_block` that the prover leaves open.
 use Rattle.std.proofs.Common.{rules, ◌≡◌, ◌<◌, ◌^◌, ℕ, length, slice_index, bit_xor, ap, sym, ◌∙◌, arith}
 use Rattle.std.specs.Simd.Lanes.{zip2}
 use Rattle.minisign_kdf.specs.Diagonal.{block_words, placed_words, standard_order}

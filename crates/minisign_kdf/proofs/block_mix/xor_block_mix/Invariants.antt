@@ -1,3 +1,4 @@
+-- The loop invariant of `xor_block_mix`.
 use Rattle.std.proofs.Common.{◌≡◌, ◌+◌, ◌*◌, take, bit_xor}
 use Rattle.std.specs.Simd.Lanes.{zip2}
 use Rattle.minisign_kdf.specs.Blocks.{joined_lists}

@@ -1,3 +1,4 @@
+-- Proves the goal of `filled` that the prover leaves open.
 use Rattle.std.proofs.Common.{◌≡◌, ◌-◌, ◌++◌, length, replicate, ◌∙◌}
 use Rattle.std.proofs.lemmas.List.{drop-replicate}
 use Rattle.minisign_kdf.proofs.hmac.filled.Goals as goal

@@ -1,3 +1,4 @@
+-- Proves the goal of `hmac_sha256` that the prover leaves open.
 use Rattle.std.proofs.Common.{◌≡◌, ℕ, List, ◌++◌, map, take, bit_xor, ap, ◌∙◌, arith}
 use Rattle.std.proofs.lemmas.List.{take_all}
 use Rattle.std.specs.List.{flat_map}

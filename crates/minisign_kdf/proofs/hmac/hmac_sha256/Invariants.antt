@@ -1,3 +1,4 @@
+-- The loop invariant of `hmac_sha256`.
 use Rattle.std.proofs.Common.{◌++◌, take, map, bit_xor}
 use Rattle.std.specs.List.{flat_map}
 use Rattle.sha2.specs.Hashers.{Holds256}

@@ -1,3 +1,4 @@
+-- Proves the goals of `padded` that the prover leaves open.
 use Rattle.std.proofs.Common.{ℕ, map, bit_xor, sym, ◌∙◌, arith}
 use Rattle.std.proofs.lemmas.List.{length-map, length-set, take_all}
 use Rattle.minisign_kdf.proofs.Keys.{padded_next}

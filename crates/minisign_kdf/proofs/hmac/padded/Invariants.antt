@@ -1,3 +1,4 @@
+-- The loop invariant of `padded`.
 use Rattle.std.proofs.Common.{◌≡◌, length, take, map, bit_xor}
 use Rattle.minisign_kdf.proofs.hmac.padded.Given as goal
 

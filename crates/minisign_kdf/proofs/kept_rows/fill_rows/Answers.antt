@@ -1,3 +1,4 @@
+-- Proves the goals of `fill_rows` that the prover leaves open.
 use Rattle.std.proofs.Common.{◌≡◌, ℕ, List, ◌+◌, ◌-◌, ◌*◌, ◌≤◌, ◌++◌, length, sym, ap, ◌∙◌, refl, arith}
 use Rattle.minisign_kdf.specs.Blocks.{block}
 use Rattle.minisign_kdf.specs.Diagonal.{diagonal_bytes}
@@ -18,7 +19,7 @@ rows-init g c =
       room = omega arith;
     }
 
--- the row before lies within the rows that were made
+-- The row before is within the rows that were computed.
 row_made : (r i : ℕ) → 1 ≤ i → 32 * r * (i - 1) + 32 * r ≤ 32 * r * i
 row_made r i some = row_before (32 * r) i (i - 1) (omega arith)
 

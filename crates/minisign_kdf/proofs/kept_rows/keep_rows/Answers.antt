@@ -1,3 +1,4 @@
+-- Proves the goals of `keep_rows` that the prover leaves open.
 use Rattle.std.proofs.Common.{◌≡◌, ℕ, ◌*◌, ◌/◌, ◌<◌, ◌^◌, List, length, ap, ◌∙◌, arith}
 use Rattle.std.specs.Int.{div_ceil}
 use Rattle.minisign_kdf.specs.Blocks.{block}

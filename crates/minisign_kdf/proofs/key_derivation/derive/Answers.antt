@@ -1,3 +1,4 @@
+-- Proves the goals of `derive` that the prover leaves open.
 use Rattle.std.proofs.Common.{◌*◌, ◌<◌, sym, ◌∙◌, arith}
 use Rattle.minisign_kdf.proofs.Derivation.{scrypt_is}
 use Rattle.minisign_kdf.proofs.ParamsFacts.{n_log2_small}

@@ -1,3 +1,4 @@
+-- Proves the goals of `mix_parts` that the prover leaves open.
 use Rattle.std.proofs.Common.{◌≡◌, ℕ, ◌+◌, ◌-◌, ◌*◌, ◌/◌, ◌^◌, ◌<◌, ◌≤◌, List, length, take, drop, ap, ◌∙◌}
 use Rattle.std.proofs.Common.{arith, length-drop}
 use Rattle.std.proofs.lemmas.List.{length-take-le}
@@ -10,7 +11,7 @@ use Rattle.minisign_kdf.proofs.key_derivation.mix_parts.Goals as goal
 pub parts-init : goal.parts-init
 parts-init g c = (changed_none _ _ _, omega arith, λ some. absurd (omega arith))
 
--- a part lies within the parts, and has their length
+-- A part is within the parts, and has the length of a part.
 part_size : (len i p : ℕ) (parts : List ℕ) → length parts ≡ len * p → i < p
     → length (take (len * i + len - len * i) (drop (len * i) parts)) ≡ len
 part_size len i p parts whole lt =

@@ -1,3 +1,4 @@
+-- The loop invariant of `mix_parts`.
 use Rattle.std.proofs.Common.{◌≡◌, ◌^◌, ◌*◌, ◌<◌, ◌≤◌, length}
 use Rattle.std.specs.Int.{div_ceil}
 use Rattle.minisign_kdf.specs.Scrypt.{rom_mix}

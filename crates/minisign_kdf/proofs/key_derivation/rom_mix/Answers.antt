@@ -1,3 +1,4 @@
+-- Proves the goals of `rom_mix` that the prover leaves open.
 use Rattle.std.proofs.Common.{◌≡◌, ℕ, ◌*◌, ◌/◌, ◌^◌, length, ap, ◌∙◌, arith}
 use Rattle.std.specs.Int.{div_ceil}
 use Rattle.minisign_kdf.specs.Kept.{rows_of}

@@ -1,3 +1,4 @@
+-- Proves the goals of `scrypt_keeping` that the prover leaves open.
 use Rattle.std.proofs.Common.{length, ap, ◌∙◌, arith}
 use Rattle.minisign_kdf.proofs.key_derivation.scrypt_keeping.Goals as goal
 

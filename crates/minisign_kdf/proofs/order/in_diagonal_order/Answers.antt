@@ -1,3 +1,4 @@
+-- Proves the goal of `in_diagonal_order` that the prover leaves open.
 use Rattle.std.proofs.Common.{◌≡◌, length, refl, arith}
 use Rattle.minisign_kdf.specs.Diagonal.{standard_order}
 use Rattle.minisign_kdf.proofs.Sixteen.{sixteen_of}

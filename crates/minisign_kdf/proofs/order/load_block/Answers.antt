@@ -1,3 +1,4 @@
+-- Proves the goal of `load_block` that the prover leaves open.
 use Rattle.std.proofs.Common.{ℕ, List, ap, ◌∙◌}
 use Rattle.minisign_kdf.specs.Diagonal.{standard_order}
 use Rattle.minisign_kdf.specs.Salsa20.{bytes_of_words32}

@@ -1,3 +1,4 @@
+-- The loop invariant of `load_part`.
 use Rattle.std.proofs.Common.{◌≡◌, ◌*◌, take}
 use Rattle.minisign_kdf.specs.Diagonal.{diagonal_bytes}
 use Rattle.minisign_kdf.proofs.order.load_part.Given as goal

@@ -1,3 +1,4 @@
+-- The loop invariant of `load_words`.
 use Rattle.std.proofs.Common.{◌≡◌, ◌*◌, take}
 use Rattle.minisign_kdf.specs.Salsa20.{bytes_of_words32}
 use Rattle.minisign_kdf.proofs.order.load_words.Given as goal

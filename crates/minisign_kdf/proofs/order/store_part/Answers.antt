@@ -1,3 +1,4 @@
+-- Proves the goals of `store_part` that the prover leaves open.
 use Rattle.std.proofs.Common.{◌*◌, sym, ap, ◌∙◌, arith}
 use Rattle.std.proofs.lemmas.List.{take_all}
 use Rattle.minisign_kdf.specs.Diagonal.{diagonal_bytes}

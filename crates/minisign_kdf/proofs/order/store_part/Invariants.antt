@@ -1,3 +1,4 @@
+-- The loop invariant of `store_part`.
 use Rattle.std.proofs.Common.{◌≡◌, ◌*◌, take}
 use Rattle.minisign_kdf.specs.Diagonal.{diagonal_bytes}
 use Rattle.minisign_kdf.proofs.order.store_part.Given as goal

@@ -1,3 +1,4 @@
+-- Proves the goals of `store_words` that the prover leaves open.
 use Rattle.std.proofs.Common.{◌*◌, sym, ap, ◌∙◌, arith}
 use Rattle.std.proofs.lemmas.List.{take_all}
 use Rattle.minisign_kdf.specs.Salsa20.{bytes_of_words32}

@@ -1,3 +1,4 @@
+-- Proves the goal of `is_countable` that the prover leaves open.
 use Rattle.std.proofs.Common.{◌*◌, ◌^◌, sym, arith}
 use Rattle.std.proofs.lemmas.Bool.{le-ltb}
 use Rattle.minisign_kdf.proofs.ParamsFacts.{table_full}

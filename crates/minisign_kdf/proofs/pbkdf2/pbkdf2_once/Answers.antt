@@ -1,3 +1,4 @@
+-- Proves the goals of `pbkdf2_once` that the prover leaves open.
 use Rattle.std.proofs.Common.{◌≡◌, ℕ, ◌/◌, ◌<◌, List, length, take, ap, ◌∙◌, arith}
 use Rattle.std.proofs.lemmas.Bool.Decides.{nat_tests}
 use Rattle.minisign_kdf.proofs.Keys.{pbkdf2_cut, pbkdf2_whole}

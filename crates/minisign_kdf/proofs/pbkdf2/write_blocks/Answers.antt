@@ -1,3 +1,4 @@
+-- Proves the goals of `write_blocks` that the prover leaves open.
 use Rattle.std.proofs.Common.{◌≡◌, ℕ, ◌+◌, ◌*◌, ◌++◌, sym, ap, ◌∙◌, arith}
 use Rattle.std.proofs.lemmas.List.{take_all}
 use Rattle.minisign_kdf.specs.Blocks.{joined_lists}

@@ -1,3 +1,4 @@
+-- The loop invariant of `write_blocks`.
 use Rattle.std.proofs.Common.{◌≡◌, ◌+◌, ◌*◌, ◌++◌, take}
 use Rattle.minisign_kdf.specs.Blocks.{joined_lists}
 use Rattle.std.specs.Int.{w32, to_be_bytes}

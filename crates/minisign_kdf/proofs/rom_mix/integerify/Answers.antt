@@ -1,3 +1,4 @@
+-- Proves the goal of `integerify` that the prover leaves open.
 use Rattle.std.proofs.Common.{rules, ℕ, ◌<◌, ◌^◌, slice_index}
 use Rattle.minisign_kdf.proofs.RowMixing.{integerify_low}
 use Rattle.minisign_kdf.proofs.rom_mix.integerify.Goals as goal

@@ -1,3 +1,4 @@
+-- Proves the goals of `kept_row` that the prover leaves open.
 use Rattle.std.proofs.Common.{◌+◌, ◌*◌, ◌/◌, ◌^◌, ◌≤◌, arith}
 use Rattle.std.specs.Int.{div_ceil}
 use Rattle.minisign_kdf.proofs.Remade.{kept_within}

@@ -1,3 +1,4 @@
+-- Proves the goals of `mix_kept` that the prover leaves open.
 use Rattle.std.proofs.Common.{◌≡◌, ℕ, ◌*◌, ◌/◌, ◌^◌, ◌<◌, length, ap, ◌∙◌, arith, pow_pos}
 use Rattle.std.specs.Int.{div_ceil}
 use Rattle.minisign_kdf.specs.Kept.{rom_mix_from, rows_of}

@@ -1,3 +1,4 @@
+-- Proves the goals of `mix_last_row` that the prover leaves open.
 use Rattle.std.proofs.Common.{◌≡◌, ℕ, ◌+◌, ◌-◌, ◌*◌, ◌^◌, ◌<◌, ◌≤◌, ap, ◌∙◌, List, refl, arith, pow_pos}
 use Rattle.std.specs.Int.{div_ceil}
 use Rattle.minisign_kdf.specs.Blocks.{block}
@@ -7,7 +8,7 @@ use Rattle.minisign_kdf.proofs.Blocks.{block_end, length_end, row_before}
 use Rattle.minisign_kdf.proofs.Kept.{last_before, some_kept}
 use Rattle.minisign_kdf.proofs.rom_mix.mix_last_row.Goals as goal
 
--- the last kept row is one of the N, and lies within the words
+-- The last kept row is one of the N rows, and within the words.
 last_below : (n k count : ℕ) → 1 ≤ k → 0 < n → count ≡ div_ceil n k → k * (count - 1) < n
 last_below n k count some rows e = rw e (last_before n k some rows)
 

@@ -1,3 +1,4 @@
+-- Proves the goals of `mix_with_remade` that the prover leaves open.
 use Rattle.std.proofs.Common.{ℕ, List, ◌*◌, bit_xor, sym, ap, ◌∙◌, arith}
 use Rattle.std.specs.Simd.Lanes.{zip2}
 use Rattle.minisign_kdf.specs.Diagonal.{diagonal_bytes}

@@ -1,3 +1,4 @@
+-- Proves the goal of `mix_with_row` that the prover leaves open.
 use Rattle.std.proofs.Common.{◌≡◌, ℕ, ◌%◌, ◌^◌, ap}
 use Rattle.minisign_kdf.proofs.Remade.{mixed_with_remade}
 use Rattle.minisign_kdf.proofs.rom_mix.mix_with_row.Goals as goal

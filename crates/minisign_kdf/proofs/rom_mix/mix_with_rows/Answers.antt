@@ -1,3 +1,4 @@
+-- Proves the goals of `mix_with_rows` that the prover leaves open.
 use Rattle.std.proofs.Common.{◌≡◌, ℕ, List, ◌+◌, ◌*◌, ◌/◌, ◌^◌, ◌<◌, sym, ap, ◌∙◌, arith, pow_pos}
 use Rattle.std.specs.Int.{div_ceil}
 use Rattle.minisign_kdf.specs.Kept.{remade_row, rows_of}

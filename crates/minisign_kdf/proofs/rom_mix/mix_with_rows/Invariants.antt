@@ -1,3 +1,4 @@
+-- The loop invariant of `mix_with_rows`.
 use Rattle.std.proofs.Common.{◌≡◌, ◌*◌, ◌^◌}
 use Rattle.std.specs.Int.{div_ceil}
 use Rattle.minisign_kdf.specs.Diagonal.{diagonal_bytes}

@@ -1,3 +1,4 @@
+-- Proves the goal of `column_round` that the prover leaves open.
 use Rattle.std.proofs.Common.{◌≡◌, length, refl, arith}
 use Rattle.minisign_kdf.specs.Diagonal.{column_round, standard_order}
 use Rattle.minisign_kdf.specs.Salsa20.{quarter_at, quarter_round}

@@ -1,3 +1,4 @@
+-- Proves the goal of `double_round` that the prover leaves open.
 use Rattle.std.proofs.Common.{ap, ◌∙◌}
 use Rattle.minisign_kdf.specs.Diagonal.{column_round, row_round}
 use Rattle.minisign_kdf.specs.Salsa20.{double_round}

@@ -1,3 +1,4 @@
+-- Proves the goal of `row_round` that the prover leaves open.
 use Rattle.std.proofs.Common.{◌∙◌, ap, sym}
 use Rattle.minisign_kdf.specs.Diagonal.{column_round, placed_words, transposed_square}
 use Rattle.minisign_kdf.proofs.Diagonal.{length-standard_order, row_round-transposed_square}

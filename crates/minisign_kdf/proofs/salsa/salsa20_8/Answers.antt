@@ -1,3 +1,4 @@
+-- Proves the goal of `salsa20_8` that the prover leaves open.
 use Rattle.std.proofs.Common.{◌≡◌, length, ap, ◌∙◌, arith}
 use Rattle.minisign_kdf.specs.Diagonal.{placed_words, standard_order}
 use Rattle.minisign_kdf.specs.Salsa20.{double_round}

@@ -1,3 +1,4 @@
+-- Proves the goal of `sum_of` that the prover leaves open.
 use Rattle.std.proofs.Common.{arith}
 use Rattle.minisign_kdf.specs.Salsa20.{add32}
 use Rattle.minisign_kdf.proofs.Sixteen.{zip2_rows}

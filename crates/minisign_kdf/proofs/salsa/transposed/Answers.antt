@@ -1,3 +1,4 @@
+-- Proves the goal of `transposed` that the prover leaves open.
 use Rattle.std.proofs.Common.{◌≡◌, length, refl, arith}
 use Rattle.minisign_kdf.specs.Diagonal.{standard_order, transposed_square}
 use Rattle.minisign_kdf.proofs.Sixteen.{four_of}

@@ -1,3 +1,4 @@
+-- Proves the goal of `xor_of` that the prover leaves open.
 use Rattle.std.proofs.Common.{bit_xor, arith}
 use Rattle.minisign_kdf.proofs.Sixteen.{zip2_rows}
 use Rattle.minisign_kdf.proofs.salsa.xor_of.Goals as goal

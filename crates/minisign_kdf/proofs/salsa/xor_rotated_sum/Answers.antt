@@ -1,3 +1,4 @@
+-- Proves the goal of `xor_rotated_sum` that the prover leaves open.
 use Rattle.std.proofs.Common.{◌≡◌, ◌-◌, ◌%◌, length, refl, arith}
 use Rattle.minisign_kdf.proofs.Sixteen.{four_of}
 use Rattle.minisign_kdf.proofs.salsa.xor_rotated_sum.Goals as goal

@@ -1,3 +1,4 @@
+-- The loop invariant and termination measure of `file_field`.
 use Rattle.std.specs.Prelude.{find}
 use Rattle.std.specs.List.{slice_split}
 use Rattle.std.proofs.Common.{◌≡◌, length}

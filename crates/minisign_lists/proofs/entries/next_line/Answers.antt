@@ -1,3 +1,4 @@
+-- Proves the goals of `next_line` that the prover leaves open.
 use Rattle.std.proofs.Common.{◌≡◌, ◌∙◌, ◌∷◌, ◌<◌, ◌==◌, ℕ, List, [], false, ap, arith, length, cond, refl}
 use Rattle.std.proofs.Common.{rules}
 use Rattle.std.proofs.lemmas.Bool.{ne_eqb}
@@ -7,7 +8,7 @@ use Rattle.std.specs.Str.Lines.{lines_of_parts, strip_carriage_return}
 use Rattle.minisign_lists.specs.Pieces.{is_feed}
 use Rattle.minisign_lists.proofs.entries.next_line.Goals as goal
 
--- a part that others follow is a line
+-- A part that others follow is a line.
 first : (x : List ℕ) (parts : List (List ℕ)) → 0 < length parts
     → lines_of_parts (x ∷ parts) ≡ strip_carriage_return x ∷ lines_of_parts parts
 first x [] l = absurd (omega arith)

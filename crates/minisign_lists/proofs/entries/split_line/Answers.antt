@@ -1,3 +1,4 @@
+-- Proves the goals of `split_line` that the prover leaves open.
 use Rattle.std.proofs.Common.{◌≡◌, ◌+◌, ◌<◌, ◌∙◌, length, take, drop, ap, sym, arith, rules}
 use Rattle.std.proofs.lemmas.List.Sums.{position_or_len_is, fails_before_first}
 use Rattle.std.proofs.lemmas.List.{take_rest}

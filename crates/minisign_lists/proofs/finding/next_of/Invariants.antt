@@ -1,3 +1,4 @@
+-- The loop invariant and termination measure of `next_of`.
 use Rattle.std.proofs.Common.{◌≡◌, ◌≤◌}
 use Rattle.minisign_lists.specs.Pieces.{IsNumbered, ahead_of, left}
 use Rattle.minisign_lists.proofs.finding.next_of.Given as goal

@@ -1,3 +1,4 @@
+-- The loop invariant and termination measure of `read_to_end`.
 use Rattle.std.proofs.Common.{◌≡◌}
 use Rattle.minisign_lists.specs.Faults.{checked}
 use Rattle.minisign_lists.specs.Pieces.{IsNumbered, ahead_of, left}

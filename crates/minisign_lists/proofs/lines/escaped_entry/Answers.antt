@@ -1,3 +1,4 @@
+-- Proves the goal of `escaped_entry` that the prover leaves open.
 use Rattle.std.proofs.Common.{ap, true, ◌∙◌}
 use Rattle.minisign_lists.specs.Lines.{entry_of, if_escaped, written_in}
 use Rattle.minisign_lists.proofs.lines.escaped_entry.Goals as goal

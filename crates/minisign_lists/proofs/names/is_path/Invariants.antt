@@ -1,3 +1,4 @@
+-- The loop invariant and termination measure of `is_path`.
 use Rattle.std.proofs.Common.{◌≡◌, length}
 use Rattle.minisign_lists.specs.Names.{is_path}
 use Rattle.minisign_lists.proofs.names.is_path.Given as goal

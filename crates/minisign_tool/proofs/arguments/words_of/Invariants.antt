@@ -1,3 +1,4 @@
+-- The loop invariant of `words_of`.
 use Rattle.std.proofs.Common.{◌≡◌, map, string_bytes, take}
 use Rattle.minisign_tool.proofs.arguments.words_of.Given as goal
 

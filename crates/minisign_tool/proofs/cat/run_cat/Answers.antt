@@ -1,3 +1,4 @@
+-- Proves the goal of `run_cat` that the prover leaves open.
 use Rattle.minisign_tool.proofs.cat.run_cat.Goals as goal
 
 pub returns-in-Ok-clause-accepted : goal.returns-in-Ok-clause-accepted

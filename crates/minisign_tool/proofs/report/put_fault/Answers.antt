@@ -1,3 +1,4 @@
+-- Proves the goals of `put_fault` that the prover leaves open.
 use Rattle.std.proofs.Common.{[], ◌∷◌, codes}
 use Rattle.std.proofs.lemmas.Result.{on_err_weaker}
 use Rattle.minisign.specs.Texts.{line}

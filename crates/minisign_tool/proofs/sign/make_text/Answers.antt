@@ -1,3 +1,4 @@
+-- Proves the goals of `make_text` that the prover leaves open.
 use Rattle.std.proofs.Common.{inr}
 use Rattle.std.proofs.lemmas.Result.{IfOk-weaker, MatchResult-weaker}
 use Rattle.minisign.specs.Reading.{ReadsWhole}

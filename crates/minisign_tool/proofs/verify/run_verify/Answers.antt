@@ -1,3 +1,4 @@
+-- Proves the goal of `run_verify` that the prover leaves open.
 use Rattle.minisign_tool.proofs.verify.run_verify.Goals as goal
 
 pub returns-in-Ok-clause-accepted : goal.returns-in-Ok-clause-accepted

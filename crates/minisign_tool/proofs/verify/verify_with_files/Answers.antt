@@ -1,3 +1,4 @@
+-- Proves the goals of `verify_with_files` that the prover leaves open.
 use Rattle.std.proofs.Common.{inr}
 use Rattle.std.proofs.lemmas.Result.{MatchResult-weaker, on_ok_weaker}
 use Rattle.minisign_tool.proofs.Outcomes.{if_err_both}

@@ -1,3 +1,4 @@
+-- Proves the goal of `run_verify_raw` that the prover leaves open.
 use Rattle.minisign_tool.proofs.verify_raw.run_verify_raw.Goals as goal
 
 pub returns-in-Ok-clause-accepted : goal.returns-in-Ok-clause-accepted

@@ -1,3 +1,4 @@
+-- Proves the goal of `verify_raw` that the prover leaves open.
 use Rattle.std.proofs.Common.{inr, subst}
 use Rattle.std.proofs.lemmas.Result.{IfErr-weaker}
 use Rattle.minisign.specs.DeviceCalls.{rereader_call, sink_call, unused}

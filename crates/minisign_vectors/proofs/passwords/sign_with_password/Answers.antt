@@ -1,3 +1,4 @@
+-- Proves the goal of `sign_with_password` that the prover leaves open.
 use Rattle.std.proofs.Common.{◌≡◌, ◌⊎◌, ◌∙◌, ℕ, true, false, List, None, string_bytes, inl, inr, subst, sym}
 use Rattle.std.specs.declared.result.Result.TheVariants.{Ok}
 use Rattle.std.proofs.lemmas.Result.{IfOk-weaker}
@@ -13,8 +14,8 @@ same_read : (text : List ℕ) (sk key : SecretKeyRecord) → IsOpenedOrNoMemory 
 same_read text sk key (inl same) = cc same
 same_read text sk key (inr memory) = cc memory.0
 
--- the key that signed is the one that the text gives under the password: `GivesKey` of a password that is
--- passed in
+-- The key that signed is the one that the text gives under the password. This is `GivesKey` for a
+-- given password.
 same_key : {P : Type 0} (old new : P) (text password : List ℕ) (sk key : SecretKeyRecord)
     → ((is_sealed_text text ≡ true)
     × ((new ≡ old) × IsOpenedOrNoMemory text None (Ok sk) (open_key text password None)))

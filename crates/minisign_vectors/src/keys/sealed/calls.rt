@@ -1,4 +1,4 @@
-//! Opens sealed keys for all tests, and tells what the call returned and what became of the prompt.
+//! Decrypts keys for all tests, and compares the result and the use of the prompt.
 
 use crate::keys::refused_allocations::secret_text;
 use minisign::{Result, SecretKey, SecretKeyBox};
@@ -9,8 +9,8 @@ use minisign_fixtures::outcomes::{Outcome, ends_in, gives_text};
 use minisign_fixtures::prompts::{bytes_left, handed, typed};
 use std::alloc::Global;
 
-/// How a box is opened: in any number of parts, in so many at most, or with every so many-th row
-/// kept.
+/// How a key is decrypted: without a bound on the parallelization, with one, or with only every
+/// k-th row kept.
 #[derive(Clone, Copy)]
 pub enum Way {
     AnyParts,
@@ -18,8 +18,8 @@ pub enum Way {
     Keeping(u64),
 }
 
-/// What is wanted of an opening: the outcome, what the prompt is told, and how many of the typed
-/// bytes are left, ten at most.
+/// The expected result of decrypting: the outcome, what the prompt shows, and the number of unread
+/// typed bytes, counted up to ten.
 #[derive(Clone, Copy)]
 pub struct Wanted<'a> {
     pub outcome: Outcome,
@@ -27,7 +27,7 @@ pub struct Wanted<'a> {
     pub unread: usize,
 }
 
-/// The key of the box that is opened with this prompt, if there is one.
+/// Decrypts the key in the box, with this prompt.
 pub fn opened<R: Source, W: Sink>(
     alloc: Global,
     sk_box: Result<SecretKeyBox>,
@@ -44,7 +44,7 @@ pub fn opened<R: Source, W: Sink>(
     }
 }
 
-/// Whether opening comes out as wanted.
+/// Returns true if decrypting has the expected result.
 pub fn comes_out(
     alloc: Global,
     sk_box: Result<SecretKeyBox>,
@@ -60,7 +60,8 @@ pub fn comes_out(
     came && left == wanted.unread && prompt.writer.as_slice() == wanted.told.as_bytes()
 }
 
-/// Whether opening with a password that is passed in has this outcome, and leaves the prompt alone.
+/// Returns true if decrypting with a given password has this outcome and leaves the prompt
+/// unchanged.
 pub fn has_outcome(
     alloc: Global,
     sk_box: Result<SecretKeyBox>,
@@ -76,8 +77,8 @@ pub fn has_outcome(
     comes_out(alloc, sk_box, Some(password), b"typed\n", way, wanted)
 }
 
-/// Whether opening what is sealed gives a key that is sealed no more, and whose text is this one. The
-/// password is passed in, or typed where none is.
+/// Returns true if decrypting gives a decrypted key with this text. The password is given, or typed
+/// if it is `None`.
 pub fn gives(
     alloc: Global,
     sealed: &str,
@@ -92,7 +93,7 @@ pub fn gives(
     has_text(alloc, &answer, text)
 }
 
-// Whether the key that was opened is sealed no more, and has this text.
+// Returns true if the key is decrypted and has this text.
 fn has_text(alloc: Global, answer: &Result<SecretKey>, text: &str) -> bool {
     match answer {
         Ok(key) => !key.is_encrypted() && gives_text(secret_text(alloc, key), text),

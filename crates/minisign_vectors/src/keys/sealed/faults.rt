@@ -1,5 +1,5 @@
-//! Each error of a prompt, by each of the calls that open a box: with ample memory none of them is reported
-//! as being out of memory. `tests/rows/sealed_keys.py` has those of texts.
+//! Tests of each error of a prompt, for each call that decrypts a key. With enough memory none of
+//! them is reported as out of memory. `tests/rows/sealed_keys.py` has the errors of texts.
 
 use crate::keys::sealed::calls::{Way, opened};
 use crate::tables::holds_at;
@@ -15,10 +15,11 @@ use minisign_fixtures::outcomes::ends_in;
 use minisign_fixtures::texts::SEALED;
 use std::alloc::Global;
 
-// A line without an end.
+// A line without a line feed.
 const LONG: &[u8] = &[b'a'; 1026];
 
-// What is typed, after how many reads its reader fails, the room of the writer, and what comes of it.
+// The typed bytes, the number of reads before the reader fails, the space in the writer, and the
+// expected outcome.
 type Row = (&'static [u8], usize, usize, Outcome);
 
 const ROWS: [Row; 7] = [
@@ -31,12 +32,12 @@ const ROWS: [Row; 7] = [
     (b"p\n", 9, 99, Refused(WrongPassword)),
 ];
 
-// The rows, so that no proof looks into all of them.
+// Hides the table from proofs, which would otherwise unfold all of it.
 fn rows() -> &'static [Row] {
     &ROWS
 }
 
-// Whether this call rejects the sealed key so.
+// Returns true if this call rejects the encrypted key as expected.
 fn is_refused_by(alloc: Global, way: Way, row: &Row) -> bool {
     let (typed, reads, room, expected) = *row;
     let sk_box = SecretKeyBox::from_string(alloc, SEALED);

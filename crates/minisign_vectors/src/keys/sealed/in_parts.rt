@@ -1,4 +1,4 @@
-//! Keys that are sealed in many parts: both limits are 0, so that N is 2, r is 8 and p is 512.
+//! Tests of keys with a high parallelization: both limits are 0, so N is 2, r is 8 and p is 512.
 
 use crate::keys::sealed::calls::{Way, gives, has_outcome};
 use crate::tables::holds_at;
@@ -10,15 +10,15 @@ use std::alloc::Global;
 
 const TOO_MUCH_WORK: Outcome = Refused(WorkTooHigh);
 
-/// Key A, whose salt and limits are zeros, sealed under `password` by Python's hashlib.
+/// Key A with a salt and limits of zeros, encrypted under `password` with Python's hashlib.
 pub const SEALED_IN_PARTS: &str =
     "c\nRWRTY0IyAAAAAAAAAAAAAAAAAAAAAAAAAAAAAAAAAAAAAAAAAAAAAAAAAAAAAAAAAAAAAAAA2WJDahgPnk+50DhxreJRd9hoM2iVXjCf6NmwZwaGnlxvZz7Z3W9lublG1jeVK2pso+Uiu/bavTPvrJyAWS9J0ecRWRfUH3m9+qALBiU7o32H+PLLCuWUc0KaO1rrXxnq2f3DAMdo25o=\n";
 
-// The text of that key once it is opened.
+// The text of this key, decrypted.
 const OPENED: &str =
     "untrusted comment: rsign encrypted secret key\nRWRTY0IyAAAAAAAAAAAAAAAAAAAAAAAAAAAAAAAAAAAAAAAAAAAAAAAAAAAAAAAAAAAAAAAAAQIDBAUGBwgAAAAAAAAAAAAAAAAAAAAAAAAAAAAAAAAAAAAAAAAAAFpaWlpaWlpaWlpaWlpaWlpaWlpaWlpaWlpaWlpaWlpazoeDdHm2Hr/pRluKO3DYzP11U/WDPdZWSdZKEnx6ifg=\n";
 
-// Whether the key in many parts opens with every k-th row kept.
+// Returns true if this key decrypts with every k-th row kept.
 fn opens(alloc: Global, k: u64) -> bool {
     let way = Way::Keeping(k);
     gives(alloc, SEALED_IN_PARTS, Some("password"), b"", way, OPENED)
@@ -31,10 +31,10 @@ fn a_key_in_many_parts_opens(rt: HostRuntime) {
     }
 }
 
-// The text of a key, its password, a bound on the parts, and what opening comes to.
+// The text of a key, its password, a bound on the parallelization, and the expected outcome.
 type Bounded = (&'static str, &'static str, u32, Outcome);
 
-// As many parts as the bound, and one more; a key that is made is sealed in one part.
+// Bounds of p and of p - 1. A generated key has p = 1.
 const BOUNDED: [Bounded; 6] = [
     (SEALED_IN_PARTS, "password", 0, TOO_MUCH_WORK),
     (SEALED_IN_PARTS, "password", 511, TOO_MUCH_WORK),
@@ -44,12 +44,12 @@ const BOUNDED: [Bounded; 6] = [
     (COUNTED_SEALED_UNDER_NOTHING, "", 1, Accepted),
 ];
 
-// The rows, so that no proof looks into all of them.
+// Hides the table from proofs, which would otherwise unfold all of it.
 fn bounded() -> &'static [Bounded] {
     &BOUNDED
 }
 
-// Whether the text opens so with a password that is passed in and this bound.
+// Returns true if decrypting with a given password and this bound has the expected outcome.
 fn is_bounded(alloc: Global, row: &Bounded) -> bool {
     let (text, password, max_p, expected) = *row;
     let sk_box = SecretKeyBox::from_string(alloc, text);

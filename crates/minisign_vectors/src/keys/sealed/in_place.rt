@@ -1,4 +1,4 @@
-//! Opening a sealed key in memory of the caller.
+//! Tests of decrypting a key in the caller's memory.
 
 use crate::kdf::passed_memory::{are_zeros, bytes, words};
 use crate::keys::refused_allocations::secret_text;
@@ -10,12 +10,12 @@ use minisign_fixtures::outcomes::Outcome::{self, Accepted, Refused};
 use minisign_fixtures::outcomes::{comes_to, gives_text};
 use std::alloc::Global;
 
-// The key as it is sealed.
+// Returns the encrypted key.
 fn sealed() -> Result<SecretKey> {
     SecretKey::from_bytes(&read_secret_key(MADE)?)
 }
 
-// A password, a bound on the parts, and what opening comes to.
+// A password, a bound on the parallelization, and the expected outcome.
 type Row = (&'static str, u32, Outcome);
 
 const ROWS: [Row; 3] = [
@@ -24,12 +24,13 @@ const ROWS: [Row; 3] = [
     ("password", 0, Refused(WorkTooHigh)),
 ];
 
-// The rows, so that no proof looks into all of them.
+// Hides the table from proofs, which would otherwise unfold all of it.
 fn rows() -> &'static [Row] {
     &ROWS
 }
 
-// Whether the key comes out so, with every 16th row kept, and all of the memory then holds zeros.
+// Returns true if decrypting with every 16th row kept has the expected outcome, and all of the
+// memory is zero afterwards.
 fn comes_out(alloc: Global, row: &Row) -> bool {
     let (password, max_p, outcome) = *row;
     let Ok(key) = sealed() else {
@@ -48,7 +49,7 @@ fn comes_out(alloc: Global, row: &Row) -> bool {
     are_left_zeros && came
 }
 
-// Whether this comes of opening, and the key that is opened has the text that is wanted.
+// Returns true if the result has this outcome, and a decrypted key has the expected text.
 fn is_opened(alloc: Global, answer: &Result<SecretKey>, outcome: Outcome) -> bool {
     match answer {
         Ok(key) => outcome == Accepted && gives_text(secret_text(alloc, key), OPENED),

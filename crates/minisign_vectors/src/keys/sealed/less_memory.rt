@@ -1,4 +1,4 @@
-//! Sealed keys, opened with every k-th row kept.
+//! Tests of decrypting keys with every k-th row kept.
 
 use crate::keys::sealed::calls::{Wanted, Way, comes_out, gives};
 use crate::tables::holds_at;
@@ -13,17 +13,17 @@ const WRONG: Outcome = Refused(WrongPassword);
 const TOLD: &str =
     "Password: Deriving a key from the password and decrypting the secret key... done\n";
 
-// The pair of random bytes that are all 9, sealed under `password` by Python's hashlib. N is 32768
-// and p is 1.
+// A pair from random bytes that are all 9, encrypted under `password` with Python's hashlib. N is
+// 32768 and p is 1.
 pub const MADE: &str =
     "c\nRWRTY0IyCQkJCQkJCQkJCQkJCQkJCQkJCQkJCQkJCQkJCQkJCQkAABAAAAAAAAAAAAIAAAAAdY1HWKBn010LeW41YGMTziKGY5Pm20tfKSqKx1RaT1NVOm7mrYQStRXjCDlaDbjJt6my7s8HA1hNnc81ePgmYR40irkegWz1I4xX4mKUEhI8fTRSfYSEcdd1W1ItYg79QyqNCekYjxw=\n";
 
-// The text of that key once it is opened.
+// The text of this key, decrypted.
 pub const OPENED: &str =
     "untrusted comment: rsign encrypted secret key\nRWRTY0IyCQkJCQkJCQkJCQkJCQkJCQkJCQkJCQkJCQkJCQkJCQkAABAAAAAAAAAAAAIAAAAACQkJCQkJCQkJCQkJCQkJCQkJCQkJCQkJCQkJCQkJCQkJCQkJCQkJCVNTU1NTU1NTU1NTU1NTU1NTU1NTU1NTU1NTU1NTU1NTl01hHj4yTh1EA1233vng2mdcEMYAlvnZumxtDRWM800=\n";
 
-// Whether it opens to the same key with every k-th row kept, with a password that is passed in and with
-// a typed one.
+// Returns true if it decrypts to the same key with every k-th row kept, with a given and with a
+// typed password.
 fn opens(alloc: Global, k: u64) -> bool {
     let way = Way::Keeping(k);
     let passed = gives(alloc, MADE, Some("password"), b"", way, OPENED);
@@ -38,7 +38,8 @@ fn opens_to_the_same_key(rt: HostRuntime) {
     }
 }
 
-// Whether another key, that `from_box` opens in other tests, comes out so with what is typed.
+// Returns true if another key, which other tests decrypt with `from_box`, has this outcome with the
+// typed bytes.
 fn comes_out_typed(alloc: Global, k: u64, bytes: &[u8], outcome: Outcome) -> bool {
     let sk_box = SecretKeyBox::from_string(alloc, SEALED);
     let wanted = Wanted {

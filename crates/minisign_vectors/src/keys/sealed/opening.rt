@@ -1,4 +1,5 @@
-//! Sealed secret keys, opened within a bound, in less memory, and over prompts that cannot be written to.
+//! Tests of decrypting keys within a bound, in less memory, and with prompts that cannot be written
+//! to.
 
 use crate::keys::sealed::calls::{Wanted, Way, comes_out, gives, has_outcome, opened};
 use crate::tables::holds_at;
@@ -15,14 +16,14 @@ use minisign_fixtures::outcomes::{ends_in, front};
 use minisign_fixtures::texts::{SEALED_AS_MINISIGN, SEALED_AS_USUAL};
 use std::alloc::Global;
 
-// What a prompt is told up to the derivation, and in all.
+// The prompt's output up to the derivation, and in total.
 const DERIVING: &str =
     "Password: Deriving a key from the password and decrypting the secret key... ";
 
 const DONE: &str =
     "Password: Deriving a key from the password and decrypting the secret key... done\n";
 
-// The texts of the two keys with the usual limits and those of the C program, once they are opened.
+// The decrypted texts of the keys with the default limits and with those of the C program.
 const OPENED_AS_USUAL: &str =
     "untrusted comment: rsign encrypted secret key\nRWRTY0IyICEiIyQlJicoKSorLC0uLzAxMjM0NTY3ODk6Ozw9Pj8AABAAAAAAAAAAAAIAAAAAAQIDBAUGBwgAAAAAAAAAAAAAAAAAAAAAAAAAAAAAAAAAAAAAAAAAAFpaWlpaWlpaWlpaWlpaWlpaWlpaWlpaWlpaWlpaWlpazoeDdHm2Hr/pRluKO3DYzP11U/WDPdZWSdZKEnx6ifg=\n";
 
@@ -41,7 +42,8 @@ const ENDED: Outcome = Refused(EndOfInput);
 
 const UNWRITTEN: Outcome = Refused(WritingFailed);
 
-// The box of key A's record with these limits, which restores no checksum as it is not sealed.
+// Returns a box with key A's record with these limits. It is not encrypted, so decrypting does not
+// restore its checksum.
 fn limited_box(alloc: Global, memory: u64, operations: u64) -> Result<SecretKeyBox> {
     let mut record = secret_record(b"Sc", &CHECKSUM);
     let (operations, memory) = (operations.to_le_bytes(), memory.to_le_bytes());
@@ -52,7 +54,7 @@ fn limited_box(alloc: Global, memory: u64, operations: u64) -> Result<SecretKeyB
     SecretKey::from_bytes(&record)?.to_box(alloc, None)
 }
 
-// The limits of memory and of operations, a bound on the parts, and what opening comes to.
+// The memory limit, the operations limit, a bound on the parallelization, and the expected outcome.
 type Limits = (u64, u64, u32, Outcome);
 
 const LIMITS: [Limits; 12] = [
@@ -70,12 +72,12 @@ const LIMITS: [Limits; 12] = [
     (1073741824, 0, 0, TOO_MUCH_WORK),
 ];
 
-// The rows, so that no proof looks into all of them.
+// Hides the table from proofs, which would otherwise unfold all of it.
 fn limits() -> &'static [Limits] {
     &LIMITS
 }
 
-// Whether opening with these limits and this bound has this outcome.
+// Returns true if decrypting with these limits and this bound has the expected outcome.
 fn is_bounded(alloc: Global, row: &Limits) -> bool {
     let (memory, operations, max_p, expected) = *row;
     let sk_box = limited_box(alloc, memory, operations);
@@ -89,6 +91,7 @@ fn limits_and_work_are_bounded(rt: HostRuntime) {
     }
 }
 
+// The default limits give p = 1.
 #[test]
 fn a_key_with_the_usual_limits_opens_within_one_part(rt: HostRuntime) {
     let (alloc, way) = (rt.alloc(), Way::Within(1));
@@ -96,7 +99,7 @@ fn a_key_with_the_usual_limits_opens_within_one_part(rt: HostRuntime) {
     assert!(rt; gives(alloc, SEALED_AS_USUAL, Some("password"), b"", way, text));
 }
 
-// The limits that the C program writes take 1 GiB of rows; with every 16th kept it is 64 MiB.
+// The limits of the C program need 1 GiB for rows. With every 16th row kept, 64 MiB are enough.
 #[test]
 fn a_key_of_the_c_program_opens_in_less_memory(rt: HostRuntime) {
     let (alloc, way) = (rt.alloc(), Way::Keeping(16));
@@ -110,7 +113,8 @@ const LATE: [Limits; 3] = [
     (0, u64::MAX, 16, TOO_MUCH_WORK),
 ];
 
-// Whether they are so where the password is typed: once it is there, and before the derivation.
+// Returns true if a typed password gives the expected outcome: the limits are checked after the
+// password and before the derivation.
 fn is_bounded_late(alloc: Global, row: &Limits) -> bool {
     let (memory, operations, max_p, outcome) = *row;
     let sk_box = limited_box(alloc, memory, operations);
@@ -122,6 +126,7 @@ fn is_bounded_late(alloc: Global, row: &Limits) -> bool {
     comes_out(alloc, sk_box, None, b"p\n", Way::Within(max_p), wanted)
 }
 
+// Limits are rejected only after the password was typed.
 #[test]
 fn limits_are_refused_behind_a_typed_password(rt: HostRuntime) {
     for row in &LATE {
@@ -129,9 +134,9 @@ fn limits_are_refused_behind_a_typed_password(rt: HostRuntime) {
     }
 }
 
-// The room for what the prompt is told, the limit of memory, what is typed, and what opening comes to. A
-// writer that fails at the line after the derivation is told before a wrong password, and after the
-// limits.
+// The space in the prompt's writer, the memory limit, the typed bytes, and the expected outcome. If
+// the writer fails at the line after the derivation, this error comes before that of a wrong
+// password, and after those of the limits.
 const ROOMS: [(usize, u64, &str, Outcome); 9] = [
     (4, 1048576, "p\n", UNWRITTEN),
     (10, 1048576, "p\n", UNWRITTEN),
@@ -144,12 +149,12 @@ const ROOMS: [(usize, u64, &str, Outcome); 9] = [
     (10, 1048576, "", ENDED),
 ];
 
-// The rows, so that no proof looks into all of them.
+// Hides the table from proofs, which would otherwise unfold all of it.
 fn rooms() -> &'static [(usize, u64, &'static str, Outcome)] {
     &ROOMS
 }
 
-// Whether opening with so much room has this outcome, and the room is filled.
+// Returns true if decrypting with this much space has the expected outcome and fills the space.
 fn fills(alloc: Global, row: &(usize, u64, &str, Outcome)) -> bool {
     let (room, memory, line, outcome) = *row;
     let sk_box = limited_box(alloc, memory, 0);
@@ -160,6 +165,7 @@ fn fills(alloc: Global, row: &(usize, u64, &str, Outcome)) -> bool {
     came && prompt.writer.as_slice() == front(DONE.as_bytes(), room)
 }
 
+// The error of a failing writer comes in its place among the other errors.
 #[test]
 fn failing_writers_are_told_in_their_place(rt: HostRuntime) {
     for row in rooms() {

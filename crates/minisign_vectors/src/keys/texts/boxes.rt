@@ -1,5 +1,5 @@
-//! The texts of boxes of keys. `tests/rows/public_keys.py` and `tests/rows/secret_keys.py` have
-//! what is read from a text, and written to it.
+//! Tests of key boxes as texts. `tests/rows/public_keys.py` and `tests/rows/secret_keys.py` have
+//! parsing and writing.
 
 use crate::shown::says;
 use minisign::{PublicKeyBox, Result, SecretKeyBox};
@@ -7,14 +7,14 @@ use minisign_fixtures::outcomes::{gives_record, gives_text};
 use minisign_fixtures::texts::{KEY_TEXT, SECRET_TEXT};
 use std::alloc::Global;
 
-// The text of a copy of the box.
+// Returns the text of a copy of the box.
 fn public_copy(alloc: Global, pk_box: &PublicKeyBox) -> Result<String> {
     let copy = pk_box.try_clone(alloc)?;
     Ok(copy.into_string())
 }
 
-// Whether the box of this text is the text as its bytes, as a copy that turns into its text, as it is
-// shown, and as it turns into it.
+// Returns true if a box of this text gives the text as bytes, from a copy, by `Display` and by
+// conversion.
 fn is_public_text(alloc: Global, text: &str) -> bool {
     let Ok(made_of) = String::from_str(alloc, text) else {
         return false;
@@ -27,13 +27,13 @@ fn is_public_text(alloc: Global, text: &str) -> bool {
     bytes && copy && shown && turned
 }
 
-// The text of a copy of a secret key's box.
+// Returns the text of a copy of a secret key's box.
 fn secret_copy(alloc: Global, sk_box: &SecretKeyBox) -> Result<String> {
     let copy = sk_box.try_clone(alloc)?;
     Ok(copy.into_string())
 }
 
-// The same of a secret key's box.
+// Does the same for a secret key's box.
 fn is_secret_text(alloc: Global, text: &str) -> bool {
     let Ok(made_of) = String::from_str(alloc, text) else {
         return false;

@@ -1,5 +1,5 @@
-//! The signature of zeros, and how keys with a key ID are compared. `tests/rows/records.py` has the
-//! rest.
+//! Tests of the default signature, and of comparing keys with key IDs. `tests/rows/records.py` has
+//! the other records.
 
 use minisign::keynum::{KeynumPK, KeynumSK};
 use minisign::{Signature, SignatureBones};
@@ -12,7 +12,7 @@ fn signatures_of_zeros_and_their_sizes(rt: HostRuntime) {
     assert!(rt; Signature::BYTES == 74 && SignatureBones::BYTES == 74);
 }
 
-// A public key of key A's bytes, under this key ID.
+// Returns a public key with key A's bytes and this key ID.
 fn named(keynum: [u8; 8]) -> KeynumPK {
     KeynumPK {
         keynum,
@@ -20,7 +20,7 @@ fn named(keynum: [u8; 8]) -> KeynumPK {
     }
 }
 
-// The 32 bytes of a public key count, and its key ID too.
+// Both the 32 key bytes and the key ID are compared.
 #[test]
 fn identified_keys_are_equal_by_both(rt: HostRuntime) {
     let changed = KeynumPK {
@@ -32,7 +32,7 @@ fn identified_keys_are_equal_by_both(rt: HostRuntime) {
     assert!(rt; named(KEY_ID) != changed);
 }
 
-// A secret key of one byte many times, and a checksum of another one.
+// Returns a secret key of one repeated byte, with a checksum of another one.
 fn secret(keynum: [u8; 8], byte: u8, checksum: u8) -> KeynumSK {
     KeynumSK {
         keynum,
@@ -41,7 +41,7 @@ fn secret(keynum: [u8; 8], byte: u8, checksum: u8) -> KeynumSK {
     }
 }
 
-// Of a secret key the checksum does not count.
+// The checksum of a secret key is not compared.
 #[test]
 fn identified_secret_keys_are_equal_by_both(rt: HostRuntime) {
     let one = secret(KEY_ID, 3, 1);

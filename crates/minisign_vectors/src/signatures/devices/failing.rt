@@ -1,7 +1,7 @@
-//! Devices that fail at one of their calls and go on after it, where no request of
-//! `minisign_compare` can say it: each call of the library with each of its devices failing at each
-//! of its calls in turn, until a run meets no error. Data that fails at a read, for `sign`,
-//! `verify` and `verify_texts`, is in `tests/rows/failing_devices.py`.
+//! Tests of devices that fail at one of their calls and go on after it, which no request to
+//! `minisign_compare` can describe. Each device of each call fails at each of its calls in turn,
+//! until a run has no error. `tests/rows/failing_devices.py` has data that fails at a read, for
+//! `sign`, `verify` and `verify_texts`.
 
 use crate::keys::sealed::calls::{Way, opened};
 use crate::signatures::calls::{
@@ -36,22 +36,22 @@ const UNDRAWN: Outcome = Refused(RandomSourceFailed);
 
 const CHANGED: Outcome = Refused(DataChanged);
 
-// What a prompt says where a password is typed: 10 bytes, 66 and 5.
+// The prompt's output if a password is typed: texts of 10, 66 and 5 bytes.
 const ASKED_AND_DONE: &[u8] =
     b"Password: Deriving a key from the password and decrypting the secret key... done\n";
 
-// The same where nothing is typed.
+// The prompt's output if an empty password is typed.
 const MARKED_AND_DONE: &[u8] =
     b"Password: <empty>\nDeriving a key from the password and decrypting the secret key... done\n";
 
-// The random bytes of the texts here.
+// The random bytes of the precomputed signatures.
 const ZEROS: [u8; 128] = [0; 128];
 
 // More calls than are made.
 const ALL: usize = 1000;
 
-// Whether verifying `abc` by both calls, where the data fails after so many calls, is rejected where it
-// would go back, says so much, copies nothing, and leaves this.
+// Returns true if verifying `abc` by both calls fails with `GoingBackFailed` when the data fails
+// after this number of calls, with this many status bytes, no copy, and these bytes unread.
 fn cannot_go_back(alloc: Global, calls: usize, said: usize, left: &[u8]) -> bool {
     let wanted = Wanted {
         outcome: Refused(GoingBackFailed),
@@ -68,20 +68,22 @@ fn cannot_go_back(alloc: Global, calls: usize, said: usize, left: &[u8]) -> bool
     by_texts && of_texts && by_box && of_box
 }
 
-// Calls of data that is copied, in their order: the mark, four reads, going back, four reads. A mark
-// that fails leaves all of the data, and going back comes once all of it was read.
+// The calls on copied data are, in order: marking, four reads, going back, four reads. If marking
+// fails, all of the data is unread. Going back comes after all of it was read.
 #[test]
 fn a_mark_and_going_back_fail(rt: HostRuntime) {
     assert!(rt; cannot_go_back(rt.alloc(), 0, 0, b"abc"));
     assert!(rt; cannot_go_back(rt.alloc(), 5, 60, b""));
 }
 
-// The text of a signature, what a second reading gives, how many bytes the status takes a write where
-// that fails, or else none, how many calls of what fails are made, and what comes of it after them.
+// The text of a signature, the data of a second reading, the bytes of each write to the status if
+// that fails (0 if the output fails), the number of calls of the failing sink, and the outcome
+// after them.
 type Failing = (&'static str, &'static [u8], usize, usize, Outcome);
 
-// The status is written and never flushed: 60 bytes one by one, or all at once. The output is written,
-// one byte a write, and then flushed, but for data that changed: the flush would be its fourth call.
+// The status is written and never flushed: 60 bytes one at a time, or all at once. The output is
+// written one byte at a time and then flushed. Data that changed is not flushed; the flush would be
+// the fourth call.
 const FAILING: [Failing; 7] = [
     (SIGNATURE_TEXT, b"abc", 1, 60, Accepted),
     (SIGNATURE_TEXT, b"abc", 100, 1, Accepted),
@@ -92,12 +94,12 @@ const FAILING: [Failing; 7] = [
     (SIGNATURE_TEXT, b"abd", 0, 3, CHANGED),
 ];
 
-// The rows, so that no proof looks into all of them.
+// Hides the table from proofs, which would otherwise unfold all of it.
 fn failing() -> &'static [Failing] {
     &FAILING
 }
 
-// Sinks of which the one that is to fail does so after so many calls.
+// Returns sinks, one of which fails after this number of calls.
 fn sinks(alloc: Global, most: usize, calls: usize) -> Sinks {
     let mut sinks = ample(alloc);
     if most == 0 {
@@ -108,8 +110,8 @@ fn sinks(alloc: Global, most: usize, calls: usize) -> Sinks {
     sinks
 }
 
-// What is wanted where it fails after so many calls. A legacy signature is over what is read first, and
-// the output of another one is what is read again.
+// Returns the expected result if the sink fails after this number of calls. A legacy signature is
+// for the first reading, and the copy of prehashed data is the second reading.
 fn wanted(row: &Failing, calls: usize) -> Wanted<'static> {
     let (text, second, most, writes, answer) = *row;
     let whole = if text == LEGACY_TEXT {
@@ -133,7 +135,7 @@ fn wanted(row: &Failing, calls: usize) -> Wanted<'static> {
     }
 }
 
-// Whether verifying `abc` comes out so by both calls.
+// Returns true if verifying `abc` by both calls has the expected result.
 fn comes_out(alloc: Global, row: &Failing, calls: usize) -> bool {
     let (text, second, most, _, _) = *row;
     let wanted = wanted(row, calls);
@@ -147,7 +149,7 @@ fn comes_out(alloc: Global, row: &Failing, calls: usize) -> bool {
     by_texts && by_box
 }
 
-// It fails at each of its calls, of which there are 60 at the most, and then at none.
+// The sink fails at each of its calls, at most 60, and then at none.
 #[test]
 fn the_status_and_the_output_fail(rt: HostRuntime) {
     for row in failing() {
@@ -159,18 +161,18 @@ fn the_status_and_the_output_fail(rt: HostRuntime) {
 
 type Typed<'a> = Prompt<FailingSource<'a>, LimitedSink>;
 
-// Of what signing with a text meets: after how many calls the reader of its prompt fails and how often
-// its writer is flushed and after how many calls it fails; after how many reads the data fails, and
-// after how many draws the random bytes.
+// When the devices of signing with a text fail: the number of calls of the prompt's reader, the
+// number of flushes and the number of calls of its writer, the number of reads of the data, and the
+// number of fills of the random source.
 type Fails = (usize, usize, usize, usize, usize);
 
-// What comes of it, how much the prompt is told, how many bytes are left of what is typed and of the
-// data, and whether nothing was drawn.
+// The expected outcome, the number of bytes that the prompt shows, the unread bytes of the typed
+// input and of the data, and whether no random bytes were taken.
 type Comes = (Outcome, usize, usize, usize, bool);
 
-// Until a sealed key is opened its prompt alone is used. The reader is read up to the line feed, so
-// that an `x` after it is left, and the writer writes and flushes three texts; one that is never
-// flushed has room for four bytes. Signing then reads four times and draws twice.
+// Only the prompt is used until an encrypted key is decrypted. Its reader is read up to the line
+// feed, so the `x` after it is unread. Its writer writes and flushes three texts; one that is never
+// flushed has space for four bytes. Then signing reads four times and fills twice.
 const SIGNINGS: [(Fails, Comes); 23] = [
     ((0, ALL, ALL, ALL, ALL), (UNREAD, 10, 10, 3, true)),
     ((1, ALL, ALL, ALL, ALL), (UNREAD, 10, 9, 3, true)),
@@ -197,13 +199,13 @@ const SIGNINGS: [(Fails, Comes); 23] = [
     ((ALL, ALL, 6, 4, 2), (Accepted, 81, 1, 0, false)),
 ];
 
-// The rows, so that no proof looks into all of them.
+// Hides the table from proofs, which would otherwise unfold all of it.
 fn signings() -> &'static [(Fails, Comes)] {
     &SIGNINGS
 }
 
-// A prompt into which these bytes are typed. Its reader fails after so many calls, and its writer is flushed
-// so often, and fails after so many calls.
+// Returns a prompt with this input. Its reader fails after a number of calls, and its writer after
+// a number of flushes or calls.
 fn prompt_of<'a>(
     alloc: Global,
     typed: &'a [u8],
@@ -218,7 +220,7 @@ fn prompt_of<'a>(
     Prompt::new(FailingSource::new(typed, reads), writer)
 }
 
-// Whether the devices of signing are left so.
+// Returns true if the devices of signing are as expected afterwards.
 fn are_left(
     prompt: &mut Typed,
     data: &mut FailingSource,
@@ -233,7 +235,7 @@ fn are_left(
     is_told && typed && read && undrawn == is_undrawn
 }
 
-// Whether signing comes out so.
+// Returns true if signing has the expected result.
 fn is_signed(alloc: Global, row: &(Fails, Comes)) -> bool {
     let ((reads, flushes, writes, data_reads, draws), comes) = *row;
     let mut prompt = prompt_of(alloc, b"password\nx", reads, flushes, writes);
@@ -251,7 +253,8 @@ fn each_device_of_signing_fails(rt: HostRuntime) {
     }
 }
 
-// Whether signing with a raw key is rejected where random bytes fail after so many draws.
+// Returns true if signing with a raw key fails when the random source fails after this number of
+// fills.
 fn is_undrawn(alloc: Global, draws: usize) -> bool {
     let Ok(secret) = key_a() else {
         return false;
@@ -264,25 +267,25 @@ fn is_undrawn(alloc: Global, draws: usize) -> bool {
     came && undrawn == (draws == 0)
 }
 
-// A draw that fails is not tried again.
+// A fill that failed is not repeated.
 #[test]
 fn the_random_bytes_of_a_raw_key_fail(rt: HostRuntime) {
     assert!(rt; is_undrawn(rt.alloc(), 0));
     assert!(rt; is_undrawn(rt.alloc(), 1));
 }
 
-// A sealed key, what is typed, and what is then told in all.
+// An encrypted key, the typed input, and all that the prompt then shows.
 const TYPED: (&str, &str, &[u8]) = (SEALED, "password\n", ASKED_AND_DONE);
 
-// The same where nothing is typed: it is told that it is empty, in a fourth text.
+// The same for an empty password, which the prompt reports in a fourth text.
 const NOTHING: (&str, &str, &[u8]) = (SEALED_WITH_NOTHING, "\n", MARKED_AND_DONE);
 
-// Whether a password is typed, after how many calls the prompt's reader fails and its writer, what comes
-// of opening, and how much the writer was told.
+// Whether a password is typed, the numbers of calls before the prompt's reader and its writer fail,
+// the expected outcome, and the number of bytes that the writer shows.
 type Opening = (bool, usize, usize, Outcome, usize);
 
-// The reader is read up to the line feed, and the writer writes and flushes three texts, or four. After
-// the last call the key opens.
+// The reader is read up to the line feed, and the writer writes and flushes three texts, or four.
+// If no call fails, the key is decrypted.
 const OPENINGS: [Opening; 28] = [
     (true, 0, ALL, UNREAD, 10),
     (true, 1, ALL, UNREAD, 10),
@@ -314,12 +317,12 @@ const OPENINGS: [Opening; 28] = [
     (false, ALL, 8, Accepted, 89),
 ];
 
-// The rows, so that no proof looks into all of them.
+// Hides the table from proofs, which would otherwise unfold all of it.
 fn openings() -> &'static [Opening] {
     &OPENINGS
 }
 
-// Whether opening comes out so.
+// Returns true if decrypting has the expected result.
 fn opens(alloc: Global, row: &Opening) -> bool {
     let (is_typed, reads, writes, expected, told) = *row;
     let (text, typed, whole) = if is_typed { TYPED } else { NOTHING };

@@ -1,7 +1,7 @@
-//! Calls whose result is right or is out of memory, whichever allocation fails: with ample memory
-//! each test sees its call succeed, and `tests/library/refused_memory.py` runs it with each of its requests
-//! failing in turn. A buffer that cannot grow is a sink that fails, so that a call with one may
-//! fail to write too.
+//! Tests that calls give the right result or out of memory, whichever allocation fails. With enough
+//! memory each call succeeds. `tests/library/refused_memory.py` runs each test with each of its
+//! allocations failing in turn. A buffer that cannot grow is a sink that fails, so a call with one
+//! may also return `WritingFailed`.
 
 use crate::callers::example;
 use crate::keys::refused_allocations::typed;
@@ -20,10 +20,11 @@ use minisign_fixtures::outcomes::{is_so_or_out_of_memory, is_so_or_unwritten};
 use minisign_fixtures::texts::{KEY_TEXT, LEGACY_TEXT, SAID, SEALED, SECRET_TEXT, SIGNATURE_TEXT};
 use std::alloc::Global;
 
-// The random bytes of the texts here.
+// The random bytes of the precomputed signatures.
 const ZEROS: [u8; 128] = [0; 128];
 
-// Whether verifying `abc` with the text under key A tells the status 60 bytes, and the output three.
+// Returns true if verifying `abc` with the text under key A writes 60 bytes to the status and three
+// to the output.
 fn copied(alloc: Global, sig_text: &str) -> Result<bool> {
     let mut data = SliceSource::new(b"abc");
     let mut status = Counting { bytes: 0 };
@@ -33,7 +34,7 @@ fn copied(alloc: Global, sig_text: &str) -> Result<bool> {
     Ok(status.bytes == 60 && out.bytes == 3)
 }
 
-// Whether signing with the text and a typed password gives the text that was worked out.
+// Returns true if signing with the text and a typed password gives the precomputed text.
 fn signed(alloc: Global, sk_text: &str) -> Result<bool> {
     let mut prompt = typed(b"password\n");
     let mut data = SliceSource::new(b"abc");
@@ -42,7 +43,7 @@ fn signed(alloc: Global, sk_text: &str) -> Result<bool> {
     has_text(text, SIGNATURE_TEXT)
 }
 
-// The box that is made with a public key to test, and with the default comments.
+// Makes a box with a public key to test and with the default comments.
 fn made_by_default(alloc: Global) -> Result<SignatureBox> {
     let secret = key_a()?;
     let public = PublicKey::from_secret_key(&secret)?;
@@ -51,15 +52,14 @@ fn made_by_default(alloc: Global) -> Result<SignatureBox> {
     signed_from(alloc, Some(&public), &secret, &mut data, &mut random, 7)
 }
 
-// Whether the text of a copy of a box that is made with a public key to test, and with the default
-// comments, has its own.
+// Returns true if the text of a copy of such a box has its comments.
 fn made(alloc: Global) -> Result<bool> {
     let made = made_by_default(alloc)?;
     let text = copy_text(alloc, &made)?;
     text_has_comments(alloc, text.as_str(), "timestamp:7")
 }
 
-// Whether the bones of the box of the text have the record that was worked out.
+// Returns true if the bare signature of the box in the text has the precomputed record.
 fn has_record(alloc: Global, sig_text: &str) -> Result<bool> {
     let signature_box = read_box(alloc, sig_text)?;
     let bytes = SignatureBones::from(signature_box).to_bytes(alloc)?;
@@ -67,7 +67,8 @@ fn has_record(alloc: Global, sig_text: &str) -> Result<bool> {
     Ok(bytes.as_slice() == record.as_slice())
 }
 
-// Whether signing and verifying with raw keys, as the example of a caller does, gives what was worked out.
+// Returns true if the example caller, which signs and verifies with raw keys, gives the precomputed
+// signature.
 fn signed_and_verified(alloc: Global) -> Result<bool> {
     let sig_text = example(alloc, &PUBLIC_BYTES)?;
     if !text_has_comments(alloc, sig_text.as_str(), "timestamp:1555779966")? {
@@ -76,7 +77,7 @@ fn signed_and_verified(alloc: Global) -> Result<bool> {
     has_record(alloc, sig_text.as_str())
 }
 
-// Whether signing with a sealed key tells a prompt over a buffer that grows, and gives the text.
+// Returns true if signing with an encrypted key and a prompt over a growing buffer gives the text.
 fn signed_and_told(alloc: Global) -> Result<bool> {
     let mut prompt = Prompt::new(SliceSource::new(b"password\n"), VecSink::new(alloc));
     let mut data = SliceSource::new(b"abc");
@@ -86,7 +87,7 @@ fn signed_and_told(alloc: Global) -> Result<bool> {
     Ok(is_signed && prompt.writer.as_slice().len() == 81)
 }
 
-// Whether the status and the output are taken by buffers that grow.
+// Returns true if growing buffers receive the status and the output.
 fn copied_and_kept(alloc: Global) -> Result<bool> {
     let mut data = SliceSource::new(b"abc");
     let mut status = VecSink::new(alloc);
@@ -96,7 +97,7 @@ fn copied_and_kept(alloc: Global) -> Result<bool> {
     Ok(status.as_slice() == SAID && out.as_slice() == b"abc".as_slice())
 }
 
-// Whether it was found out, and holds, or an allocation failed, of each of the calls that derive no key.
+// Returns true if each call that derives no key gives the right result or out of memory.
 fn are_right(alloc: Global) -> bool {
     let copied_so = is_so_or_out_of_memory(copied(alloc, SIGNATURE_TEXT));
     let legacy = is_so_or_out_of_memory(copied(alloc, LEGACY_TEXT));
@@ -116,7 +117,7 @@ fn signing_with_a_sealed_key(rt: HostRuntime) {
     assert!(rt; is_so_or_out_of_memory(signed(rt.alloc(), SEALED)));
 }
 
-// The buffers that grow are sinks that fail where they cannot.
+// A buffer that cannot grow is a sink that fails.
 #[test]
 fn signing_and_verifying_into_buffers_that_grow(rt: HostRuntime) {
     assert!(rt; is_so_or_unwritten(signed_and_told(rt.alloc())));

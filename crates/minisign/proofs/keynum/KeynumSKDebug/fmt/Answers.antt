@@ -1,3 +1,4 @@
+-- Proves the goals of `fmt` that the prover leaves open.
 use Rattle.std.proofs.Common.{◌≡◌, ℕ, ◌+◌, ◌<◌, List, [], ◌∷◌, ◌++◌, length, take, get_or, false, arith}
 use Rattle.std.proofs.Common.{rules, ap, ◌∙◌, sym, append-nil, flat_map, take_all}
 use Rattle.minisign.proofs.Common.{digits, flat_map-append, take_more}
@@ -5,7 +6,7 @@ use Rattle.std.proofs.Output.{has_written_append, has_written_of_eq}
 use Rattle.minisign.specs.Records.{secret_text}
 use Rattle.minisign.proofs.keynum.KeynumSKDebug.fmt.Goals as goal
 
--- one more byte is shown
+-- One more byte is written.
 one_more : (bytes : List ℕ) (i : ℕ) → i < length bytes → secret_text (take i bytes)
     ++ digits 16 false (get_or bytes i 0) ≡ secret_text (take (i + 1) bytes)
 one_more bytes i below =

@@ -1,3 +1,4 @@
+-- The loop invariant of `fmt`.
 use Rattle.std.proofs.Common.{take}
 use Rattle.minisign.proofs.Common.{HasWritten, IsPlainFormatter}
 use Rattle.minisign.specs.Records.{secret_text}

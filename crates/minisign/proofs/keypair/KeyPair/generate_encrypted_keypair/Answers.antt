@@ -1,3 +1,4 @@
+-- Proves the goals of `KeyPair::generate_encrypted_keypair` that the prover leaves open.
 use Rattle.std.proofs.Common.{◌≡◌, ℕ, List, ◌++◌, length, inr, arith, length-append}
 use Rattle.minisign.proofs.Common.{IfErr-weaker, IfOk-weaker, random_call}
 use Rattle.minisign.specs.Generation.{IsSealedPair}

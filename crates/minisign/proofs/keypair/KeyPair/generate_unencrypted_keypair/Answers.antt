@@ -1,3 +1,4 @@
+-- Proves the goals of `KeyPair::generate_unencrypted_keypair` that the prover leaves open.
 use Rattle.std.proofs.Common.{◌≡◌, Ok, subst, sym}
 use Rattle.minisign.specs.Sealing.{unencrypted_key}
 use Rattle.minisign.proofs.GeneratedKeys.{unsealed_is_unencrypted}

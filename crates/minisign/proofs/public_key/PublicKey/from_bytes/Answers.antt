@@ -1,3 +1,4 @@
+-- Proves the goal of `PublicKey::from_bytes` that the prover leaves open.
 use Rattle.minisign.proofs.public_key.PublicKey.from_bytes.Goals as goal
 
 pub returns : goal.returns

@@ -1,3 +1,4 @@
+-- Proves the goal of `PublicKey::to_base64` that the prover leaves open.
 use Rattle.std.proofs.Common.{◌∙◌, sym}
 use Rattle.minisign.proofs.PublicKeyTexts.{bare_is_read, written_base64}
 use Rattle.minisign.proofs.public_key.PublicKey.to_base64.Goals as goal

@@ -1,3 +1,4 @@
+-- Proves the goals of `PublicKey::to_box` that the prover leaves open.
 use Rattle.std.proofs.Common.{◌∙◌, ap, sym}
 use Rattle.minisign.proofs.PublicKeyTexts.{read_bare, spelled_text, written_text}
 use Rattle.minisign.proofs.public_key.PublicKey.to_box.Goals as goal

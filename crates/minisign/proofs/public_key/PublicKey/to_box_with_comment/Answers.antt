@@ -1,3 +1,4 @@
+-- Proves the goals of `PublicKey::to_box_with_comment` that the prover leaves open.
 use Rattle.std.proofs.Common.{rules}
 use Rattle.minisign.specs.Texts.{untrusted_comment_label}
 use Rattle.minisign.proofs.PublicKeyTexts.{read_bare}

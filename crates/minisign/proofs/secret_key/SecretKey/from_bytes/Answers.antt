@@ -1,3 +1,4 @@
+-- Proves the goal of `SecretKey::from_bytes` that the prover leaves open.
 use Rattle.std.proofs.Common.{sym}
 use Rattle.minisign.proofs.RecordFields.{joined_fields}
 use Rattle.minisign.proofs.SecretKeyTexts.{bytes_are_read}

@@ -1,3 +1,4 @@
+-- Proves the goals of `SecretKey::from_unencrypted_box` that the prover leaves open.
 use Rattle.std.proofs.Common.{sym}
 use Rattle.minisign.proofs.Openings.{unencrypted_refused, unencrypted_value, unread_unencrypted}
 use Rattle.minisign.proofs.Beginnings.{err_is}

@@ -1,3 +1,4 @@
+-- Proves the goals of `SecretKey::open` that the prover leaves open.
 use Rattle.std.proofs.Common.{refl}
 use Rattle.minisign.proofs.Common.{prompt_call}
 use Rattle.minisign.proofs.Openings.{asked_opening, closed_opening, given_opening, sealed_passed}

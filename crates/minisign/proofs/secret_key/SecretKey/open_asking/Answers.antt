@@ -1,3 +1,4 @@
+-- Proves the goals of `SecretKey::open_asking` that the prover leaves open.
 use Rattle.std.proofs.Common.{Ok, Err, string_bytes, sym, subst}
 use Rattle.minisign.proofs.Common.{prompt_call, second_ended, stopped_first, typed_is, ConversationEnds}
 use Rattle.minisign.proofs.Common.{asking_steps, typed_password}

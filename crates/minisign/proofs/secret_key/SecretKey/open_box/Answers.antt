@@ -1,3 +1,4 @@
+-- Proves the goals of `SecretKey::open_box` that the prover leaves open.
 use Rattle.std.proofs.Common.{refl, sym}
 use Rattle.minisign.proofs.Openings.{closed_opening, headline_of, unread_text}
 use Rattle.minisign.proofs.Beginnings.{err_is}

@@ -1,3 +1,4 @@
+-- Proves the goals of `SecretKey::open_in_place` that the prover leaves open.
 use Rattle.std.proofs.Common.{sym, ◌∙◌}
 use Rattle.minisign.proofs.Openings.{open_text, sealed_passed, sealed_text, unopened_text}
 use Rattle.minisign.proofs.ReadTexts.{same_end}

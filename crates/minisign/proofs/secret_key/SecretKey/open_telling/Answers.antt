@@ -1,3 +1,4 @@
+-- Proves the goals of `SecretKey::open_telling` that the prover leaves open.
 use Rattle.std.proofs.Common.{ap, inl, inr, refl, ⊎_elim}
 use Rattle.minisign.proofs.Common.{result_err}
 use Rattle.minisign.proofs.Openings.{no_fault}

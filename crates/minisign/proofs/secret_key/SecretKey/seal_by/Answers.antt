@@ -1,3 +1,4 @@
+-- Proves the goals of `SecretKey::seal_by` that the prover leaves open.
 use Rattle.std.proofs.Common.{arith}
 use Rattle.minisign.proofs.GeneratedKeys.{limits_named, stream_fault, work_allowed}
 use Rattle.minisign.proofs.Beginnings.{err_is}

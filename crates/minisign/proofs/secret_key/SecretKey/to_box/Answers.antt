@@ -1,3 +1,4 @@
+-- Proves the goals of `SecretKey::to_box` that the prover leaves open.
 use Rattle.minisign.specs.KeyTexts.{default_secret_key_comment, secret_key_text}
 use Rattle.minisign.proofs.WrittenKeys.{default_lacks}
 use Rattle.minisign.proofs.secret_key.SecretKey.to_box.Goals as goal

@@ -1,3 +1,4 @@
+-- Proves the goals of `SecretKey::write_box` that the prover leaves open.
 use Rattle.std.proofs.Common.{◌∙◌, refl, rules}
 use Rattle.minisign.specs.Records.{secret_key_bytes}
 use Rattle.minisign.specs.KeyTexts.{secret_key_text}

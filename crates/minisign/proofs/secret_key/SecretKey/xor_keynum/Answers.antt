@@ -1,3 +1,4 @@
+-- Proves the goal of `SecretKey::xor_keynum` that the prover leaves open.
 use Rattle.std.proofs.Common.{take, drop, ap, ◌∙◌, arith}
 use Rattle.minisign.proofs.SealedParts.{xored_parts}
 use Rattle.minisign.proofs.secret_key.SecretKey.xor_keynum.Goals as goal

@@ -1,3 +1,4 @@
+-- Proves the goal of `Signature::from_bytes` that the prover leaves open.
 use Rattle.minisign.proofs.signature.Signature.from_bytes.Goals as goal
 
 pub returns : goal.returns

@@ -1,3 +1,4 @@
+-- Proves the goal of `Signature::to_bytes` that the prover leaves open.
 use Rattle.std.proofs.Common.{arith, append-nil, []}
 use Rattle.minisign.proofs.Common.{common_steps}
 use Rattle.minisign.proofs.signature.Signature.to_bytes.Goals as goal

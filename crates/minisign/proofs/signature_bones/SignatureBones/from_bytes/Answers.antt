@@ -1,3 +1,4 @@
+-- Proves the goal of `SignatureBones::from_bytes` that the prover leaves open.
 use Rattle.std.proofs.Common.{◌∙◌, ap, sym, inr}
 use Rattle.minisign.proofs.RecordFields.{stored_algorithm, stored_length, unknown_algorithm}
 use Rattle.minisign.proofs.signature_bones.SignatureBones.from_bytes.Goals as goal

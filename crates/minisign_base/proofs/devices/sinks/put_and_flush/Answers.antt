@@ -1,3 +1,4 @@
+-- Proves the goal of `sinks::put_and_flush` that the prover leaves open.
 use Rattle.minisign_base.proofs.SinkLaws.{AppendsFront-whole}
 use Rattle.minisign_base.proofs.devices.sinks.put_and_flush.Goals as goal
 

@@ -1,3 +1,4 @@
+-- Proves the goal of `sinks::write_all` that the prover leaves open.
 use Rattle.std.proofs.Common.{◌∙◌, arith, length-drop, take-add}
 use Rattle.std.proofs.lemmas.List.{take_rest}
 use Rattle.std.proofs.KnownBytes.{Appends-trans}

@@ -1,3 +1,4 @@
+-- The loop invariant and termination measure of `sinks::write_all`.
 use Rattle.std.proofs.Common.{◌≡◌, ◌-◌, ◌≤◌, length, take}
 use Rattle.std.specs.Io.KnownBytes.{Appends}
 use Rattle.minisign_base.proofs.devices.sinks.write_all.Given as goal

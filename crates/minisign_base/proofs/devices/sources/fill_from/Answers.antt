@@ -1,3 +1,4 @@
+-- Proves the goal of `sources::fill_from` that the prover leaves open.
 use Rattle.std.proofs.Common.{◌∙◌, arith, length-drop}
 use Rattle.std.proofs.KnownBytes.{Consumes-trans}
 use Rattle.minisign_base.proofs.Filled.{take-filled}

@@ -1,3 +1,4 @@
+-- The loop invariant and termination measure of `sources::fill_from`.
 use Rattle.std.proofs.Common.{◌≡◌, ◌-◌, ◌≤◌, length, take}
 use Rattle.std.specs.Io.KnownBytes.{Consumes}
 use Rattle.minisign_base.proofs.devices.sources.fill_from.Given as goal

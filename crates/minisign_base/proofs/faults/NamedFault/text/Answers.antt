@@ -1,3 +1,4 @@
+-- Proves the goal of `NamedFault::text` that the prover leaves open.
 use Rattle.minisign_base.proofs.faults.NamedFault.text.Goals as goal
 
 pub returns-in-DifferentKeyIds : goal.returns-in-DifferentKeyIds

@@ -1,3 +1,4 @@
+-- Proves the goal of `Prompt::silent` that the prover leaves open.
 use Rattle.std.proofs.Common.{◌≡◌, Err, refl, subst}
 use Rattle.minisign_base.specs.Fault.{Named}
 use Rattle.minisign_base.specs.declared.faults.NamedFault.TheVariants.{EndOfInput}

@@ -1,3 +1,4 @@
+-- Proves the goal of `Prompt::mark_empty` that the prover leaves open.
 use Rattle.std.proofs.Common.{◌≡◌, [], length, Result, Ok, Err, inl, refl, sym}
 use Rattle.std.specs.Prelude.{⊤}
 use Rattle.std.proofs.lemmas.Bool.{eqb-true}
@@ -7,7 +8,7 @@ use Rattle.minisign_base.specs.DeviceCalls.{PromptCall, prompt_call}
 use Rattle.minisign_base.specs.Prompts.{ConversationEnds, Say, StepEnds, empty_mark, marking_steps}
 use Rattle.minisign_base.proofs.prompt.Prompt.mark_empty.Goals as goal
 
--- a conversation of one step ends as that step does
+-- A conversation of one step ends as that step does.
 marked : {R W : Type 0} (p : PromptCall R W) (answer : Result ⊤ Fault) → StepEnds p (Say empty_mark) answer
     → ConversationEnds p (marking_steps []) answer
 marked p (Ok _) said = (p.new, said, refl)

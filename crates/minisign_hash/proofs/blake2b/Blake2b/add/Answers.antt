@@ -1,3 +1,4 @@
+-- Proves the goal of `Blake2b::add` that the prover leaves open.
 use Rattle.std.proofs.Common.{◌+◌, length, refl, arith}
 use Rattle.std.proofs.lemmas.Slice.{take-put_mid}
 use Rattle.minisign_hash.specs.Fed.{Holds}

@@ -1,3 +1,4 @@
+-- Proves the goals of `Blake2b::add_and_take_in` that the prover leaves open.
 use Rattle.std.proofs.Common.{◌≡◌, ◌++◌, List, ℕ, arith, sym, ap, append_assoc, subst, ◌∙◌}
 use Rattle.std.proofs.lemmas.List.{take-append-drop}
 use Rattle.minisign_hash.specs.Fed.{Holds}

@@ -1,3 +1,4 @@
+-- Proves the goals of `Blake2b::finalize` that the prover leaves open.
 use Rattle.std.proofs.Common.{ℕ, take, ap, ◌∙◌}
 use Rattle.minisign_hash.specs.Fed.{Holds, IsFed, output_length}
 use Rattle.minisign_hash.proofs.blake2b.Blake2b.finalize.Goals as goal

@@ -1,3 +1,4 @@
+-- Proves the goal of `Blake2b::last_state` that the prover leaves open.
 use Rattle.std.proofs.Common.{◌≡◌, ◌+◌, ◌*◌, ◌%◌, ◌^◌, ◌<◌, ◌++◌, List, ℕ, refl, drop, length, length-append}
 use Rattle.std.proofs.Common.{take, arith, sym, ap, ◌∙◌}
 use Rattle.std.proofs.lemmas.List.{length-take-le}

@@ -1,3 +1,4 @@
+-- Proves the goal of `Blake2b::new` that the prover leaves open.
 use Rattle.std.proofs.Common.{[], arith}
 use Rattle.minisign_hash.specs.Fed.{Holds, IsFed}
 use Rattle.minisign_hash.proofs.Feeding.{held_none}

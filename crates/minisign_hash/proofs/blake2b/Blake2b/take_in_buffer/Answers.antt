@@ -1,3 +1,4 @@
+-- Proves the goal of `Blake2b::take_in_buffer` that the prover leaves open.
 use Rattle.std.proofs.Common.{◌≡◌, ◌+◌, ◌*◌, ◌/◌, ◌++◌, [], drop, length, take, refl, arith, sym, ◌∙◌}
 use Rattle.std.proofs.lemmas.List.{append-nil, length-take-le}
 use Rattle.minisign_hash.specs.Fed.{Holds}

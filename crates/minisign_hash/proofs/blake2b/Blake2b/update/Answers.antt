@@ -1,3 +1,4 @@
+-- Proves the goals of `Blake2b::update` that the prover leaves open.
 use Rattle.std.proofs.Common.{arith, length-append}
 use Rattle.minisign_hash.specs.Fed.{IsFed}
 use Rattle.minisign_hash.proofs.blake2b.Blake2b.update.Goals as goal

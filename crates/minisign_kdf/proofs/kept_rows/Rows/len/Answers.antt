@@ -1,3 +1,4 @@
+-- Proves the goal of `Rows::len` that the prover leaves open.
 use Rattle.std.proofs.Common.{◌^◌, length, sym, ap, ◌∙◌}
 use Rattle.std.specs.Int.{div_ceil}
 use Rattle.minisign_kdf.specs.Kept.{KeptRows}

@@ -1,8 +1,9 @@
+-- Proves the goals of `Buffers::new` that the prover leaves open.
 use Rattle.std.proofs.Common.{ℕ, ◌*◌, ◌^◌, ◌<◌, arith}
 use Rattle.minisign_kdf.proofs.ParamsFacts.{n_log2_small}
 use Rattle.minisign_kdf.proofs.key_derivation.Buffers.new.Goals as goal
 
--- the parts have a number of bytes that 64 bits can count
+-- The number of bytes in the parts fits into 64 bits.
 part_bytes : (r p : ℕ) → r * p < 2 ^ 30 → 128 * r * p < 2 ^ 37
 part_bytes r p small = grind (arith, small)
 

@@ -1,3 +1,4 @@
+-- Proves the goal of `Params::n_log2` that the prover leaves open.
 use Rattle.minisign_kdf.proofs.ParamsFacts.{n_log2_small}
 use Rattle.minisign_kdf.proofs.params.Params.n_log2.Goals as goal
 

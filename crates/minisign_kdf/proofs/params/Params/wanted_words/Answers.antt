@@ -1,3 +1,4 @@
+-- Proves the goals of `Params::wanted_words` that the prover leaves open.
 use Rattle.std.proofs.Common.{◌≡◌, ℕ, ◌+◌, ◌*◌, ◌^◌, ◌<◌, ◌≤◌, ap, arith}
 use Rattle.minisign_kdf.specs.Params.{Numbers}
 use Rattle.minisign_kdf.proofs.ParamsFacts.{kept_at_most, n_log2_small, words_small}

@@ -1,3 +1,4 @@
+-- Proves the goal of `Block::store` that the prover leaves open.
 use Rattle.std.proofs.Common.{◌++◌, sym, ◌∙◌, append_assoc, arith}
 use Rattle.std.proofs.lemmas.Simd.{put_chunk_whole}
 use Rattle.minisign_kdf.proofs.salsa.Block.store.Goals as goal

@@ -1,3 +1,4 @@
+-- Proves the goal of `Entries::next_entry` that the prover leaves open.
 use Rattle.std.specs.Prelude.{Option, Some, Ok}
 use Rattle.std.proofs.Common.{◌≡◌, ◌∙◌, ◌+◌, ◌∷◌, ℕ, List, refl, rules, sym}
 use Rattle.minisign_lists.specs.Faults.{map_ok}
@@ -5,7 +6,7 @@ use Rattle.minisign_lists.specs.Lines.{Entry, LongDigest, read_line}
 use Rattle.minisign_lists.specs.Lists.{read_entries}
 use Rattle.minisign_lists.proofs.entries.Entries.next_entry.Goals as goal
 
--- a line with an entry comes first
+-- The first line has an entry.
 step : (long : LongDigest) (n : ℕ) (line : List ℕ) (all more : List (List ℕ)) (e : Entry) → all ≡ line ∷ more
     → read_line long n line ≡ Ok (Some e)
     → read_entries long n all ≡ map_ok (λ es. e ∷ es) (read_entries long (n + 1) more)

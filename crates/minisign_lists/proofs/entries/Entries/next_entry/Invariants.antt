@@ -1,3 +1,4 @@
+-- The loop invariant and termination measure of `Entries::next_entry`.
 use Rattle.std.proofs.Common.{◌≡◌, ◌≤◌}
 use Rattle.minisign_lists.specs.Pieces.{IsNumbered, ahead, left}
 use Rattle.minisign_lists.proofs.entries.Entries.next_entry.Given as goal
