@@ -1,29 +1,54 @@
 /*
- * minisign_install.h: installing updates that a signature vouches for, over the calls of minisign.h.
+ * minisign_install.h: install updates that have a valid Minisign signature. It adds to the calls of minisign.h.
  *
  * SPDX-License-Identifier: MIT
  *
- * This installs an update at a target. Beside the target stands the record, with the number of the newest update.
- * Nothing but an update gets to the target, and no older one. Whatever comes between, a crash too, the file there is
- * whole. The library knows no directory. It says which call is due; you make it, and say how it went.
- * c/install/installing.c of the sources is a host that does no more than that, over calls of the system relative to
- * an open directory.
+ * An installation replaces one file, the target, with an update. A file in the same directory, the version record,
+ * holds the version number of the newest update that was installed. Only an update with a valid signature gets the
+ * name of the target, and only if its version number is not below the recorded one. Whenever the run is interrupted,
+ * even by a crash of the machine, the target is a complete file: the old one or the update.
  *
- * Target and record are files of one directory. The record has the number and its field, the key that has vouched,
- * and the digest of the data. A stage is a new file beside them, with a name that nobody else uses. What is renamed
- * is always whole and synced.
+ * The library makes no system calls. It tells you which step is due, you carry it out, and you report how it went.
+ * Call minisign_install_init, and then repeat: get the next step from minisign_install_due, carry it out, and report
+ * the outcome with the call listed here. The run ends when MINISIGN_DUE_INSTALLED, MINISIGN_DUE_ALREADY,
+ * MINISIGN_DUE_WOULD_INSTALL or MINISIGN_DUE_REFUSED is due.
  *
- * An update of the kept number may stand at the target already: then its file and the directory are synced, and you
- * are told. The next run finishes a run that was cut off after its record was written, as the record is of the same
- * data. Other data of that number is rejected, unless you asked for it.
+ * - MINISIGN_DUE_READ_RECORD: minisign_install_record, or minisign_install_no_record if there is no record.
+ * - MINISIGN_DUE_JUDGE, MINISIGN_DUE_JUDGE_TARGET and MINISIGN_DUE_ANSWER: minisign_install_ask returns two
+ *   signatures. Check them with Ed25519, and pass the results to minisign_install_answer.
+ * - MINISIGN_DUE_LOOK and MINISIGN_DUE_READ_BACK: minisign_install_piece for each piece, and with 0 bytes at the end
+ *   of the file; minisign_install_no_target if there is no file at the target.
+ * - MINISIGN_DUE_RECEIVE and MINISIGN_DUE_COPY: minisign_install_more for each piece, and minisign_install_done at the
+ *   end of the data. MINISIGN_DUE_RECEIVE is due only if the option is_waiting is set. Then MINISIGN_DUE_COPY copies
+ *   the temporary file into which you received the data. Otherwise it copies the data from its source.
+ * - MINISIGN_DUE_TAKE_PERMISSIONS: minisign_install_done. If there is no file at the target, give the new file the
+ *   permissions that you want; minisign-install uses mode 0600 unless --mode is given.
+ * - All other steps: minisign_install_done.
+ * - If any step fails: minisign_install_failed.
  *
- * You have to do the following, beyond the requirements of minisign.h. Where you break one, nothing is promised of
- * the target.
+ * In the sources, c/install/installing.c is a complete program of this kind, and docs/INSTALLING.md has rules for the
+ * names and the modes of the files.
  *
- * - Hold the lock from MINISIGN_DUE_LOCK to MINISIGN_DUE_UNLOCK or to the end of the run; others keep to it too.
- * - Say that a call was done only where you made it, about what this header says, and it went well.
- * - Pass to minisign_install_piece what the file holds, from its first byte to its end. Read it through the
- *   descriptor by which the file was opened or written.
+ * The record contains the version number, the field of the trusted comment from which it was read, the public key
+ * that verified the update, and the digest of the data. New data and a new record are first written to temporary
+ * files in the directory of the target, with random names. They are synced before they are renamed, so what is
+ * renamed is always complete.
+ *
+ * If an update has the recorded version number, the installed file is read and verified. If it is the update, the file
+ * and the directory are synced, and the run ends with MINISIGN_DUE_ALREADY. If it is another file, the update is
+ * installed if the record was written for the same data: so the next run completes a run that was interrupted after it
+ * had renamed its record. Otherwise the update is rejected, unless the option `again` is set.
+ *
+ * You have to meet the "Requirements" of minisign.h, and these. If you break one, nothing is guaranteed about the
+ * target.
+ *
+ * - Hold the lock from MINISIGN_DUE_LOCK to MINISIGN_DUE_UNLOCK or to the end of the run. All other programs that
+ *   change the target or its record have to use the same lock. You choose the lock: minisign-install calls flock with
+ *   LOCK_EX and LOCK_NB on an empty file in the directory of the target, which for the target app is .app.lock. Do not
+ *   lock the target itself, because it is replaced.
+ * - Report a step as done only if you carried it out as this header says, and it succeeded.
+ * - Pass to minisign_install_piece what the file contains, from its first byte to its end. Read it through the file
+ *   descriptor with which you opened or wrote the file.
  */
 #ifndef MINISIGN_INSTALL_H
 #define MINISIGN_INSTALL_H
@@ -34,60 +59,60 @@
 extern "C" {
 #endif
 
-/* What is due, in the order of a run that fails nowhere, but for the last four. */
+/* The steps of an installation, roughly in the order in which they become due. The last four end it. */
 /* Calls of installing, made by tools/header.py. */
 enum minisign_due {
-    /* Nothing: the installation was never begun. */
+    /* Nothing: the installation was not initialized. */
     MINISIGN_DUE_NOTHING = 0,
-    /* Lock the target, without waiting for another run. */
+    /* Lock the lock file of the target, without waiting for another installation. */
     MINISIGN_DUE_LOCK = 1,
-    /* Read the record. */
+    /* Read the version record. */
     MINISIGN_DUE_READ_RECORD = 2,
-    /* Get the scheme's answers to the two questions about the signed comment and the record. */
+    /* Check both signatures: that of the trusted comment, and that of the digest in the record. */
     MINISIGN_DUE_JUDGE = 3,
     /* Read the next piece of the installed file. */
     MINISIGN_DUE_LOOK = 4,
-    /* Get the scheme's answers to the two questions about the installed file. */
+    /* Check both signatures: that of the trusted comment, and that of the installed file. */
     MINISIGN_DUE_JUDGE_TARGET = 5,
-    /* Sync the installed file, which is the update. */
+    /* Sync the installed file, which already is the update. */
     MINISIGN_DUE_SYNC_TARGET = 6,
-    /* Sync the directory, so that the installed file keeps its name. */
+    /* Sync the directory, so that a crash does not undo the name of the installed file. */
     MINISIGN_DUE_SYNC_TARGET_NAME = 7,
     /* Release the lock. */
     MINISIGN_DUE_UNLOCK = 8,
-    /* Receive the next piece of the data into a file without a name. */
+    /* Receive the next piece of slow data into an unnamed temporary file. */
     MINISIGN_DUE_RECEIVE = 9,
-    /* Remove the temporary files that killed runs have left, as far as possible. */
+    /* Remove temporary files that killed runs have left behind, as far as possible. */
     MINISIGN_DUE_CLEAR = 10,
-    /* Generate a random name, and create the temporary file under it. */
+    /* Create the temporary file of the data under a random name. */
     MINISIGN_DUE_CREATE = 11,
-    /* Copy the next piece of the data to the temporary file. */
+    /* Copy the next piece of the data to its temporary file. */
     MINISIGN_DUE_COPY = 12,
-    /* Read back the next piece of the temporary file. */
+    /* Read back the next piece of the temporary file of the data. */
     MINISIGN_DUE_READ_BACK = 13,
-    /* Get the scheme's answers to the two questions about the temporary file. */
+    /* Check both signatures: that of the trusted comment, and that of the data that was read back. */
     MINISIGN_DUE_ANSWER = 14,
-    /* Give the temporary file the permissions of the installed file. */
+    /* Give the temporary file of the data the permissions of the installed file, if there is one. */
     MINISIGN_DUE_TAKE_PERMISSIONS = 15,
-    /* Sync the temporary file. */
+    /* Sync the temporary file of the data. */
     MINISIGN_DUE_SYNC = 16,
-    /* Generate a random name, and create the temporary file of the record under it. */
+    /* Create the temporary file of the record under a random name. */
     MINISIGN_DUE_CREATE_RECORD = 17,
     /* Write the record to its temporary file. */
     MINISIGN_DUE_WRITE_RECORD = 18,
-    /* Sync the record's temporary file. */
+    /* Sync the temporary file of the record. */
     MINISIGN_DUE_SYNC_RECORD = 19,
-    /* Rename the record's temporary file to the record. */
+    /* Rename the temporary file of the record to the record. */
     MINISIGN_DUE_RENAME_RECORD = 20,
-    /* Sync the directory, so that the record keeps its name. */
+    /* Sync the directory, so that a crash does not undo this rename. */
     MINISIGN_DUE_SYNC_RECORD_NAME = 21,
-    /* Rename the temporary file to the target. */
+    /* Rename the temporary file of the data to the target. */
     MINISIGN_DUE_RENAME = 22,
-    /* Sync the directory, so that the target keeps its name. */
+    /* Sync the directory, so that a crash does not undo this rename. */
     MINISIGN_DUE_SYNC_NAME = 23,
-    /* Remove the record's temporary file: the run is rejected for this error. */
+    /* Remove the temporary file of the record, because the run was rejected. */
     MINISIGN_DUE_REMOVE_RECORD = 24,
-    /* Remove the temporary file: the run is rejected for this error. */
+    /* Remove the temporary file of the data, because the run was rejected. */
     MINISIGN_DUE_REMOVE = 25,
     /* Nothing: the update is installed. */
     MINISIGN_DUE_INSTALLED = 26,
@@ -95,151 +120,184 @@ enum minisign_due {
     MINISIGN_DUE_ALREADY = 27,
     /* Nothing: the update would be installed. */
     MINISIGN_DUE_WOULD_INSTALL = 28,
-    /* Nothing: the run was rejected for this error. */
+    /* Nothing: the run was rejected. */
     MINISIGN_DUE_REFUSED = 29
 };
 /* The end of the calls. */
 
-/* Which field of the signed comment has the number. */
+/* The field of the trusted comment that contains the version number. */
 /* Numberings, made by tools/header.py. */
 enum minisign_numbering {
-    /* timestamp:, which signing writes if no comment is given. */
+    /* "timestamp:", which Minisign writes by default. */
     MINISIGN_NUMBERING_TIMESTAMP = 0,
-    /* version:, which the signer writes. */
+    /* "version:", which the signer has to write. */
     MINISIGN_NUMBERING_VERSION = 1
 };
 /* The end of the numberings. */
 
-/* What an installation is to do. Each field but the first is 1 for yes and 0 for no, and a field that you do not
- * name in an initializer is 0. */
+/* The options of an installation. Each field except the first is 1 for yes and 0 for no. Fields that you omit in an
+ * initializer are 0. */
 typedef struct minisign_install_options {
-    uint32_t numbering;   /* MINISIGN_NUMBERING_TIMESTAMP or MINISIGN_NUMBERING_VERSION: stay with one at a target */
-    uint32_t is_first;    /* install even if no number of that field is recorded: none, none that reads as one, one of
-                           * the other field, or one of neither key, which gets over what a stolen key has signed */
-    uint32_t again;       /* replace other data of the recorded number */
-    uint32_t is_check;    /* only return what a run would do: nothing is locked, synced or written */
-    uint32_t is_waiting;  /* the data may stand still, as that of a pipe: it is received while nothing is locked */
-    uint32_t must_expire; /* reject a comment that does not say when the update expires, or has a field that differs
-                           * from "expires:" in white space or case alone */
+    uint32_t numbering;   /* MINISIGN_NUMBERING_TIMESTAMP or MINISIGN_NUMBERING_VERSION; always use the same one for a
+                           * target */
+    uint32_t is_first;    /* install even if no version of this numbering is recorded: there is no record, it is damaged,
+                           * or it has the other numbering. Also ignore a record that names neither of the two keys,
+                           * which helps if a thief has signed a high version number with a key that you no longer use.
+                           * If is_first is 0, the version in such a record is compared like any other */
+    uint32_t again;       /* install an update of the recorded version even if a different file is installed */
+    uint32_t is_check;    /* only find out what a run would do: nothing is locked, synced or written */
+    uint32_t is_waiting;  /* the data may arrive slowly, as from a pipe: receive it while the target is not locked */
+    uint32_t must_expire; /* reject an update without the field "expires:" in its trusted comment, or with a field
+                           * that differs from it only in case or in white space */
 } minisign_install_options;
 
-/* An installation: yours, of fixed size, its bytes the library's. No call on it allocates. */
+/* An installation. You allocate it. Only the library writes its bytes. No call on it allocates. */
 typedef struct minisign_installation {
     uint64_t opaque[128];
 } minisign_installation;
 
 /*
- * Begins an installation: MINISIGN_DUE_LOCK is due, or for a check MINISIGN_DUE_READ_RECORD. key must have signed where
- * the signature has its key ID, otherwise other must. If you have one key, pass it twice.
+ * Initializes an installation. Then MINISIGN_DUE_LOCK is due, or MINISIGN_DUE_READ_RECORD if is_check is set. A
+ * signature with the key ID of `key` is verified under `key`, and every other signature under `other`. If you have
+ * only one key, pass it twice.
  *
- * Of two keys with one key ID only key is asked. If you have two such keys, and the installation ends with
- * MINISIGN_COMMENT_SIGNATURE_REFUSED, begin a second one with the two keys exchanged: the first one has made nothing.
+ * If both keys have the same key ID, only `key` is used. In this case, if the run is rejected for
+ * MINISIGN_COMMENT_SIGNATURE_REFUSED, initialize the installation again with the two keys exchanged. The run has
+ * created no temporary file by then, except the one of MINISIGN_DUE_RECEIVE.
  *
- * MINISIGN_BAD_OPTION, then MINISIGN_BAD_NUMBERING, then MINISIGN_PUBLIC_KEY_NOT_READ: nothing is written. Since 0.3.
+ * After an error the installation is unchanged. The errors, in this order: MINISIGN_BAD_OPTION;
+ * MINISIGN_BAD_NUMBERING; MINISIGN_PUBLIC_KEY_NOT_READ. Since 0.3.
  */
 MINISIGN_MUST_USE enum minisign_error minisign_install_init(
     minisign_installation *installation, const minisign_public_key *key, const minisign_public_key *other,
     const minisign_install_options *options);
 
-/*
- * Returns what is due, or MINISIGN_DUE_NOTHING for an installation that was not begun. Make that call, and tell its
- * outcome by one of the calls below, until one of the last four is due. Since 0.3.
- */
+/* Returns the step that is due, or MINISIGN_DUE_NOTHING for an installation that was not initialized. Since 0.3. */
 enum minisign_due minisign_install_due(const minisign_installation *installation);
 
 /*
- * Tells that the call that was due was done: you got the lock, removed leftovers as far as they can be removed, made
- * a stage, copied all of the data into it, and so on; also that you removed a stage.
+ * Reports that the step that is due was done. For example, you got the lock, created a temporary file, or copied all
+ * of the data.
  *
- * MINISIGN_OTHER_SIZE for MINISIGN_DUE_RECEIVE and MINISIGN_DUE_COPY, where fewer bytes came than the signed comment
- * says in its field "size:". The run is rejected for that, and what comes of it is due.
- *
- * MINISIGN_NOT_DUE for calls that you tell otherwise: MINISIGN_DUE_READ_RECORD, MINISIGN_DUE_JUDGE,
- * MINISIGN_DUE_LOOK, MINISIGN_DUE_JUDGE_TARGET, MINISIGN_DUE_READ_BACK and MINISIGN_DUE_ANSWER; and once the run has
- * ended. Nothing changes. Since 0.3.
+ * The errors, in this order: MINISIGN_NOT_DUE, after which nothing is changed, for steps that other calls report
+ * (MINISIGN_DUE_READ_RECORD, MINISIGN_DUE_JUDGE, MINISIGN_DUE_LOOK, MINISIGN_DUE_JUDGE_TARGET, MINISIGN_DUE_READ_BACK
+ * and MINISIGN_DUE_ANSWER), and after the end of the run; MINISIGN_OTHER_SIZE, for MINISIGN_DUE_RECEIVE and
+ * MINISIGN_DUE_COPY, if the data is shorter than the field "size:" of the trusted comment says. Then the run is
+ * rejected for this error, and you continue with the step that is due. Since 0.3.
  */
 MINISIGN_MUST_USE enum minisign_error minisign_install_done(minisign_installation *installation);
 
 /*
- * Tells that a piece of so many bytes was copied or received, and that there may be more: MINISIGN_DUE_COPY or
- * MINISIGN_DUE_RECEIVE is due again. Tell each piece so, also one of 0 bytes, and the end by minisign_install_done.
- * The bytes are counted where the signed comment has a field "size:", from the beginning of MINISIGN_DUE_RECEIVE,
- * and again from that of MINISIGN_DUE_COPY. Where another run held the lock, data is received before its comment is
- * judged: its size counts when it is copied.
+ * Reports that a piece of piece_len bytes was received or copied, and that there may be more. MINISIGN_DUE_RECEIVE or
+ * MINISIGN_DUE_COPY is due again. Report every piece, even one of 0 bytes, and report the end of the data with
+ * minisign_install_done.
  *
- * MINISIGN_OTHER_SIZE where more bytes came than that field says: the run is rejected for that, and what comes of it
- * is due. MINISIGN_NOT_DUE otherwise: nothing changes. Since 0.3.
+ * If the trusted comment has a field "size:", the library counts the bytes, separately for MINISIGN_DUE_RECEIVE and
+ * MINISIGN_DUE_COPY. There is an exception: if another run held the lock, the data is received before the trusted
+ * comment is verified. Then its size is only checked when it is copied.
+ *
+ * The errors, in this order: MINISIGN_NOT_DUE, after which nothing is changed; MINISIGN_OTHER_SIZE, if the data is
+ * longer than the field "size:" says. Then the run is rejected for this error, and you continue with the step that is
+ * due. Since 0.3.
  */
 MINISIGN_MUST_USE enum minisign_error minisign_install_more(minisign_installation *installation, size_t piece_len);
 
 /*
- * Tells that the call that was due failed, also one that has a call of its own: MINISIGN_OUT_OF_MEMORY,
- * MINISIGN_READING_FAILED, MINISIGN_WRITING_FAILED or MINISIGN_RANDOM_SOURCE_FAILED. For MINISIGN_DUE_LOCK it may
- * also be MINISIGN_TARGET_IN_USE, after which data that may stand still is received first. What was made is then to
- * be removed, and at the end the run was rejected for that error. For MINISIGN_DUE_SYNC_TARGET,
- * MINISIGN_DUE_SYNC_TARGET_NAME and MINISIGN_DUE_SYNC_NAME the error becomes MINISIGN_DIRECTORY_NOT_SYNCED: the
- * update stands at the target.
+ * Reports that the step that is due failed. why is MINISIGN_OUT_OF_MEMORY, MINISIGN_READING_FAILED,
+ * MINISIGN_WRITING_FAILED or MINISIGN_RANDOM_SOURCE_FAILED, or for MINISIGN_DUE_LOCK also MINISIGN_TARGET_IN_USE. You
+ * may report a failure of any step, even of one that has its own call.
  *
- * MINISIGN_NOT_DUE for another number, and once the run has ended: nothing changes. Since 0.3.
+ * If there are temporary files with names, MINISIGN_DUE_REMOVE_RECORD and MINISIGN_DUE_REMOVE become due next. Then
+ * MINISIGN_DUE_REFUSED is due, and minisign_install_error returns why. This also holds if MINISIGN_DUE_CLEAR or
+ * MINISIGN_DUE_UNLOCK failed. There are three exceptions:
+ *
+ * - If MINISIGN_DUE_LOCK failed because the target is in use, is_waiting is set and the data was not received yet, then
+ *   MINISIGN_DUE_RECEIVE is due, and after it MINISIGN_DUE_LOCK again.
+ * - If MINISIGN_DUE_SYNC_TARGET, MINISIGN_DUE_SYNC_TARGET_NAME or MINISIGN_DUE_SYNC_NAME failed, the update is already
+ *   installed. MINISIGN_DUE_REFUSED becomes due all the same, and minisign_install_error returns
+ *   MINISIGN_DIRECTORY_NOT_SYNCED instead of why.
+ * - If MINISIGN_DUE_REMOVE_RECORD or MINISIGN_DUE_REMOVE failed, the run goes on as if the file had been removed. The
+ *   error of the run is still the first one.
+ *
+ * After a failure of MINISIGN_DUE_SYNC_RECORD_NAME, the temporary file of the record has been renamed, and after a
+ * failure of MINISIGN_DUE_SYNC_NAME that of the data. Its removal becomes due all the same. There is nothing to
+ * remove, so report that step as done.
+ *
+ * The only error is MINISIGN_NOT_DUE, for any other error number and after the end of the run. Then nothing is
+ * changed. Since 0.3.
  */
 MINISIGN_MUST_USE enum minisign_error minisign_install_failed(
     minisign_installation *installation, enum minisign_error why);
 
 /*
- * MINISIGN_DUE_READ_RECORD: passes the bytes of the record, or tells that there is none. The record is as
- * minisign_install_record_text writes it, or as earlier versions wrote it: "timestamp:" or "version:" and a number,
- * or a number alone, which counts for either field; a line feed at the end is left out. Pass all of it. Where it is
- * longer than MINISIGN_RECORD_TEXT_BYTES, say by minisign_install_failed that reading failed. Where it has no number
- * of the field, and this is not the first installation, the run is rejected: MINISIGN_NO_RECORD,
- * MINISIGN_DAMAGED_RECORD, MINISIGN_KEPT_BY_TIMESTAMP or MINISIGN_KEPT_BY_VERSION. The call returns MINISIGN_OK then
- * too.
+ * Passes the content of the record, or reports that there is none, if MINISIGN_DUE_READ_RECORD is due. Pass all bytes
+ * of the record. If there are more than MINISIGN_RECORD_TEXT_BYTES, report with minisign_install_failed that reading
+ * failed.
  *
- * written is when the record was last written, in seconds since the beginning of 1970, as the file system says, or 0
- * where you do not know. A clock that shows less is wrong: see minisign_install_ask.
+ * `written` is the time at which the record was last modified, according to the file system, in seconds since 1970. If
+ * you do not know it, pass 0. A clock that shows an earlier time is wrong: see minisign_install_ask.
  *
- * MINISIGN_NOT_DUE: nothing changes. Since 0.3.
+ * The record is what minisign_install_record_text wrote. Records of versions 0.1 and 0.2 are accepted as well: they
+ * are "timestamp:" or "version:" and a number, or only a number, which counts for both fields. A line feed at the end
+ * is ignored.
+ *
+ * MINISIGN_OK means only that the call was due. The run is rejected nevertheless if the record has no version number
+ * of the chosen numbering and is_first is not set. Then MINISIGN_DUE_REFUSED is due, and minisign_install_error
+ * returns MINISIGN_NO_RECORD, MINISIGN_DAMAGED_RECORD, MINISIGN_KEPT_BY_TIMESTAMP or MINISIGN_KEPT_BY_VERSION.
+ *
+ * The only error is MINISIGN_NOT_DUE, if another step is due. Then nothing is changed. Since 0.3.
  */
 MINISIGN_MUST_USE enum minisign_error minisign_install_record(
     minisign_installation *installation, const uint8_t *record, size_t record_len, uint64_t written);
 MINISIGN_MUST_USE enum minisign_error minisign_install_no_record(minisign_installation *installation);
 
 /*
- * MINISIGN_DUE_LOOK and MINISIGN_DUE_READ_BACK: passes the next bytes of the file at the target, or of the stage, in
- * pieces of any length. At its end pass 0 bytes: then MINISIGN_DUE_JUDGE_TARGET or MINISIGN_DUE_ANSWER is due.
+ * Passes the next bytes of the installed file, if MINISIGN_DUE_LOOK is due, or of the temporary file of the data, if
+ * MINISIGN_DUE_READ_BACK is due. The pieces may have any length. At the end of the file pass 0 bytes. Then
+ * MINISIGN_DUE_JUDGE_TARGET or MINISIGN_DUE_ANSWER is due.
  *
- * MINISIGN_NOT_DUE: nothing changes. Since 0.1.
+ * The only error is MINISIGN_NOT_DUE, if another step is due. Then nothing is changed. Since 0.1.
  */
 MINISIGN_MUST_USE enum minisign_error minisign_install_piece(
     minisign_installation *installation, const uint8_t *piece, size_t piece_len);
 
-/* MINISIGN_DUE_LOOK: tells that no file stands at the target. MINISIGN_NOT_DUE: nothing changes. Since 0.3. */
+/* Reports that there is no file at the target, if MINISIGN_DUE_LOOK is due. The only error is MINISIGN_NOT_DUE, if
+ * another step is due. Then nothing is changed. Since 0.3. */
 MINISIGN_MUST_USE enum minisign_error minisign_install_no_target(minisign_installation *installation);
 
 /*
- * MINISIGN_DUE_JUDGE, MINISIGN_DUE_JUDGE_TARGET and MINISIGN_DUE_ANSWER, first: reads the text of the signature, and
- * gives you the two questions, as minisign_ask and minisign_digest do. Signatures over the data itself are never
- * taken. For MINISIGN_DUE_JUDGE the digest is that of the data for which the record was written, or zeros; later it
- * is that of the bytes that you passed.
+ * Reads the signature file, and writes the two signatures to check to questions and message, as minisign_ask and
+ * minisign_digest do. Call it if MINISIGN_DUE_JUDGE, MINISIGN_DUE_JUDGE_TARGET or MINISIGN_DUE_ANSWER is due. sig_text
+ * is the whole signature file. message is a buffer of room bytes. It needs 64 bytes and the length of the trusted
+ * comment, so sig_text_len bytes are always enough. Legacy signatures are always rejected. For MINISIGN_DUE_JUDGE, the
+ * digest is the one in the record, or zeros if the record has none. This check shows if the record was written for the
+ * same data, so its result may well be no. Otherwise the digest is that of the bytes that you passed to
+ * minisign_install_piece. Unlike minisign_ask, this call rejects no weak public keys and signatures, so your Ed25519
+ * must reject them: see "Ed25519" under "Requirements" in minisign.h.
  *
- * The call judges the signed comment too. You learn the result only after your answers, since nothing vouches for it
- * before. A number is below 2^64, in decimal digits alone. The comment has to have
+ * The call also checks what the trusted comment says. You get the result from minisign_install_answer, because until
+ * then the comment may be forged. The comment consists of fields that are separated by tabs. It must have
  *
- * - a field "file:" with exactly this name;
- * - behind the label of the numbering a number that is not below the kept one;
- * - no field "expires:", or one, with a number that is greater than now: seconds since the beginning of 1970. With
- *   must_expire it has to have one. White space, and capital for small letters, make no other field of it then:
- *   "Expires:5" or "expires :5" is one more such field, and not the wanted one;
- * - no field "size:", or one, with a number: the length of the data, in bytes.
+ * - a field "file:" whose value is exactly the parameter `file`;
+ * - a field of the chosen numbering, with a number that is not below the recorded version number;
+ * - no field "expires:", or exactly one, with a number that is greater than the parameter `now`. With must_expire
+ *   there must be one, and no other field that differs from it only in case or in white space, such as "Expires:5" or
+ *   "expires :5";
+ * - no field "size:", or exactly one, with a number: the length of the data in bytes.
  *
- * now is what your clock shows, by clock_gettime(CLOCK_REALTIME) in C: since Linux 6.13 the function time can be some
- * milliseconds behind the times of files. Where now is below when the record was last written, and this is not the
- * first installation, it counts as the greatest number: what expires has expired.
+ * A number consists of decimal digits only, and is below 2^64. If the comment has several fields "file:", the first of
+ * them counts, and likewise for the fields of the chosen numbering.
  *
- * The errors, in this order: MINISIGN_NOT_DUE; MINISIGN_NOT_UTF8 of the name; those of minisign_read_signature;
- * MINISIGN_ALREADY_ASKED, where you have not answered since you asked; MINISIGN_DIFFERENT_KEY_IDS,
- * MINISIGN_LEGACY_NOT_ACCEPTED; MINISIGN_NO_ROOM. After MINISIGN_NOT_DUE, MINISIGN_ALREADY_ASKED and
- * MINISIGN_NO_ROOM nothing changes; as much room as the text has bytes is enough. After the others the run is rejected for that, and what comes of it is due; the questions and the
- * message stay as they were. Since 0.3.
+ * `now` is the time of your clock in seconds since 1970. In C, use clock_gettime with CLOCK_REALTIME, because since
+ * Linux 6.13 the function time can be some milliseconds behind the times of files. If `now` is less than the time at
+ * which the record was written, the clock is wrong. Then every update with a field "expires:" counts as expired,
+ * unless is_first is set.
+ *
+ * The errors, in this order: MINISIGN_NOT_DUE; MINISIGN_NOT_UTF8, for file; those of minisign_read_signature;
+ * MINISIGN_ALREADY_ASKED, if minisign_install_answer was not called since the last call; MINISIGN_DIFFERENT_KEY_IDS;
+ * MINISIGN_LEGACY_NOT_ACCEPTED; MINISIGN_NO_ROOM. After MINISIGN_NOT_DUE, MINISIGN_ALREADY_ASKED and MINISIGN_NO_ROOM
+ * nothing is changed. After the others the run is rejected for this error, and you continue with the step that is
+ * due. After every error questions and message are unchanged. Since 0.3.
  */
 MINISIGN_MUST_USE enum minisign_error minisign_install_ask(
     minisign_installation *installation, const uint8_t *sig_text, size_t sig_text_len, const uint8_t *file,
@@ -247,60 +305,68 @@ MINISIGN_MUST_USE enum minisign_error minisign_install_ask(
     uint8_t *message MINISIGN_ROLE(room 64 + sig_text_len), size_t room);
 
 /*
- * Then: takes what Ed25519 answered to the two questions. MINISIGN_OK where the run goes on or ends well:
+ * Passes the results of the two checks. Call it after minisign_install_ask. It returns MINISIGN_OK if the run goes on
+ * or has ended well:
  *
- * - for MINISIGN_DUE_JUDGE, where the key has signed the comment, and the comment is what is wanted;
- * - for MINISIGN_DUE_JUDGE_TARGET, where the update stands at the target, or other data that may be replaced;
- * - for MINISIGN_DUE_ANSWER exactly where the texts vouch for what you read back, and the comment that was signed
- *   with it is what is wanted.
+ * - for MINISIGN_DUE_JUDGE, if the comment signature is valid, and the trusted comment is as minisign_install_ask
+ *   demands;
+ * - for MINISIGN_DUE_JUDGE_TARGET, if the installed file is the update, or is another file that may be replaced;
+ * - for MINISIGN_DUE_ANSWER, exactly if the signature file is valid for the bytes that were read back, and its
+ *   trusted comment is as minisign_install_ask demands.
  *
  * Otherwise the run is rejected, and the call returns the first reason: MINISIGN_SIGNATURE_REFUSED,
  * MINISIGN_COMMENT_SIGNATURE_REFUSED, MINISIGN_OTHER_FILE, MINISIGN_NO_NUMBER, MINISIGN_NO_EXPIRY,
  * MINISIGN_BAD_EXPIRY or MINISIGN_EXPIRED, MINISIGN_BAD_SIZE, MINISIGN_OLDER_UPDATE; for MINISIGN_DUE_JUDGE_TARGET
- * also MINISIGN_SAME_NUMBER.
+ * also MINISIGN_SAME_NUMBER. You continue with the step that is due.
  *
- * MINISIGN_BAD_ANSWER, then MINISIGN_NOT_DUE, MINISIGN_NOT_ASKED: nothing changes. Since 0.3.
+ * API misuse, which is checked first and changes nothing, returns MINISIGN_BAD_ANSWER, MINISIGN_NOT_DUE, or
+ * MINISIGN_NOT_ASKED if minisign_install_ask was not called before. Since 0.3.
  */
 MINISIGN_MUST_USE enum minisign_error minisign_install_answer(
     minisign_installation *installation, enum minisign_answer first, enum minisign_answer second);
 
 /*
- * Returns 1 once you have answered that a key has signed the comment that was asked about last, also where
- * minisign_install_answer has then rejected the run, for what the comment says or for the data. Otherwise it returns
- * 0, so from minisign_install_ask, where that is MINISIGN_OK, until your answers. The comment stands in the message
- * from the questions' comment_offset on: show it only where this is 1. Since 0.3.
+ * Returns 1 if the trusted comment of the last minisign_install_ask is "vouched" for: according to the results that
+ * you passed to minisign_install_answer, the comment signature is valid under the key that was chosen by its key ID.
+ * It is 1 even if minisign_install_answer rejected the run because of the data or of what the comment says. Otherwise
+ * it is 0. So it is 0 from minisign_install_ask until minisign_install_answer. The comment is in the buffer message,
+ * at the comment_offset of the questions. Show it only if this call returns 1. Since 0.3.
  */
 uint32_t minisign_install_is_vouched(const minisign_installation *installation);
 
-/* Returns the number of that comment, behind the label of the numbering, where minisign_install_is_vouched is 1 and
- * it has one; otherwise 0. Since 0.3. */
+/* Returns the version number in the trusted comment of the last minisign_install_ask. Returns 0 if the comment has
+ * none, or minisign_install_is_vouched returns 0. Since 0.3. */
 uint64_t minisign_install_number(const minisign_installation *installation);
 
+/* The maximum size of a record. */
 #define MINISIGN_RECORD_TEXT_BYTES 258
 
 /*
- * MINISIGN_DUE_WRITE_RECORD: writes the record, which you write into its stage, to the beginning of text, of room
- * bytes: the label of the field and decimal digits, as "version:2"; and in two more lines, each after a line feed,
- * the key that has vouched, and the digest of the data, in hexadecimal digits. No 0 and no line feed comes after
- * them. Returns how many bytes. Returns 0, and writes nothing, where no record is to be written or it has no room.
- * Since 0.3.
+ * Writes the content of the new record to text, a buffer of room bytes, if MINISIGN_DUE_WRITE_RECORD is due. Write
+ * these bytes to the temporary file of the record. MINISIGN_RECORD_TEXT_BYTES is enough. Returns the length. Returns
+ * 0 and writes nothing if another step is due or the buffer is too short.
+ *
+ * The content is three lines, without a line feed after the last: the field and the version number, such as
+ * "version:2"; the public key that verified the update, as 64 hexadecimal digits; the Blake2b-512 digest of the data,
+ * as 128 hexadecimal digits. No 0 byte follows. Since 0.3.
  */
 size_t minisign_install_record_text(
     const minisign_installation *installation, uint8_t *text MINISIGN_ROLE(room RECORD_TEXT_BYTES), size_t room);
 
-/* Returns why the run was rejected, where MINISIGN_DUE_REFUSED is due. MINISIGN_OK before its end, and where it has
- * ended well. Since 0.3. */
+/* Returns the error for which the run was rejected, if MINISIGN_DUE_REFUSED is due. Returns MINISIGN_OK before the
+ * end of the run, and if it has ended well. Since 0.3. */
 enum minisign_error minisign_install_error(const minisign_installation *installation);
 
 /*
- * Judges a signed comment by itself, one that minisign_verdict has vouched for, for programs that install in other
- * ways. It looks for what minisign_install_ask looks for, but for must_expire and "size:", and writes the number of
- * the comment. The number must not be below kept. Fields end at tabs. Of several fields with a label the first
- * counts, but "expires:" may stand there once.
+ * Checks only what a trusted comment says, for programs that install in another way. First verify the comment, for
+ * example with minisign_verdict. The call makes the checks that minisign_install_ask makes, except those of
+ * must_expire and of "size:", and writes the version number of the comment to *number. This number must not be below
+ * `kept`, the version number of the installed update. If nothing is installed, pass 0 as `kept`. If several fields
+ * have the same label, the first one counts, but there may be only one "expires:".
  *
- * After an error the number stays as it was. The errors, in this order: MINISIGN_BAD_NUMBERING; MINISIGN_NOT_UTF8
- * of the comment or the name; MINISIGN_OTHER_FILE; MINISIGN_NO_NUMBER; MINISIGN_BAD_EXPIRY or MINISIGN_EXPIRED;
- * MINISIGN_OLDER_UPDATE. Does not allocate. Since 0.2.
+ * Does not allocate. After an error *number is unchanged. The errors, in this order: MINISIGN_BAD_NUMBERING;
+ * MINISIGN_NOT_UTF8, for the comment or the parameter `file`; MINISIGN_OTHER_FILE; MINISIGN_NO_NUMBER;
+ * MINISIGN_BAD_EXPIRY or MINISIGN_EXPIRED; MINISIGN_OLDER_UPDATE. Since 0.2.
  */
 MINISIGN_MUST_USE enum minisign_error minisign_judge_comment(
     const uint8_t *comment, size_t comment_len, const uint8_t *file, size_t file_len, uint32_t numbering,

@@ -2,7 +2,8 @@
  * minisign_stream.h: verifies and signs data that arrives in pieces.
  *
  * Each job takes three calls: start, feed and finish. Errors stick: after the first error the later calls do nothing
- * and finish returns that error. So you only have to check what finish returns.
+ * and finish returns that error. So of these calls you only have to check finish. Also check, as the example does,
+ * that reading the data did not fail.
  *
  *     static minisign_verifier verifier;
  *     const char *comment;
@@ -15,9 +16,11 @@
  *         reject();
  *     }
  *
- * The calls are inline functions over those of minisign.h and follow its "Requirements". You pass the functions of
- * your Ed25519 library: crypto_sign_verify_detached and crypto_sign_detached of libsodium, or functions of the same
- * types. No call allocates, except minisign_sign_finish and minisign_signature_file.
+ * The calls are inline functions over those of minisign.h and follow its "Requirements", with one exception: between
+ * the calls, a minisign_signer keeps the pointer to your secret key, or the context of your signing function. Both
+ * kinds of state keep the pointers to your functions. You pass the functions of your Ed25519 library:
+ * crypto_sign_verify_detached and crypto_sign_detached of libsodium, or functions of the same types. No call
+ * allocates, except minisign_sign_finish and minisign_signature_file.
  *
  * SPDX-License-Identifier: MIT
  */
@@ -34,15 +37,15 @@
 /*
  * Verifies an Ed25519 signature. Returns 0 if it is valid, any other number if not.
  *
- * The function need not reject a public key or a point R (the first 32 bytes of sig) of small order, a public key or R
- * that is not canonically encoded, or a number S (the last 32 bytes of sig) that is not below the group order.
+ * The function need not reject a public key or a point R (the first 32 bytes of sig) of small order, a public key or
+ * R that is not canonically encoded, or a number S (the last 32 bytes of sig) that is not below the group order.
  * minisign_ask rejects all three before these calls use the function, and finish then returns MINISIGN_WEAK_ED25519.
  * "Ed25519" under "Requirements" in minisign.h says more.
  */
 typedef int minisign_verify_detached(const unsigned char *sig, const unsigned char *m, unsigned long long m_len,
                                      const unsigned char *pk);
 
-/* Signs with the 64 bytes of a secret key. Returns 0 on success. sig_len may be NULL. */
+/* Signs with the 64 bytes of a secret key. Returns 0 on success. minisign_sign_finish passes NULL as sig_len. */
 typedef int minisign_sign_detached(unsigned char *sig, unsigned long long *sig_len, const unsigned char *m,
                                    unsigned long long m_len, const unsigned char *sk);
 
@@ -55,8 +58,8 @@ typedef int minisign_sign_elsewhere(void *context, uint8_t sig[64], const uint8_
 
 /* ---- Verifying ---- */
 
-/* One verification. It has a fixed size of about 9 KiB and holds no pointer to the texts or the data. Its fields
- * are private. */
+/* One verification. It has a fixed size of about 9 KiB, and keeps no pointer to the key, the signature file or the
+ * data. Its fields are private. */
 typedef struct minisign_verifier {
     enum minisign_error error;
     minisign_verify_detached *verify;
@@ -86,13 +89,15 @@ static inline enum minisign_error minisign_verify_start_(minisign_verifier *veri
 }
 
 /*
- * Starts a verification. key is a public key: both lines of a file such as minisign.pub, or the 56 letters of its
- * second line alone. sig is the whole signature file. Both may be freed when the call returns. Legacy signatures,
- * which sign the data itself and not its hash, are rejected.
+ * Starts a verification. key is a public key: both lines of a file such as minisign.pub, or only the 56 characters of
+ * its second line, without a line feed. If key contains a line feed, it is read as a file. sig is the whole signature
+ * file. You may free both when the call has returned. Legacy signatures, which sign the data itself and not its hash,
+ * are rejected.
  *
- * The errors that finish returns for these texts, in this order: those of minisign_read_public_key or
- * minisign_read_bare_public_key, those of minisign_read_signature, and those of minisign_ask. MINISIGN_NO_ROOM means
- * that the trusted comment is longer than MINISIGN_STREAM_COMMENT_BYTES. Since 0.3.
+ * minisign_verify_finish returns the errors in the public key and in the signature file. They are, in this order:
+ * those of minisign_read_public_key or minisign_read_bare_public_key, those of minisign_read_signature, and those of
+ * minisign_ask. MINISIGN_NO_ROOM means that the trusted comment is longer than MINISIGN_STREAM_COMMENT_BYTES. Since
+ * 0.3.
  */
 static inline void minisign_verify_start(minisign_verifier *verifier, const void *key, size_t key_len, const void *sig,
                                          size_t sig_len, minisign_verify_detached *verify)
@@ -103,7 +108,7 @@ static inline void minisign_verify_start(minisign_verifier *verifier, const void
     verifier->error = minisign_verify_start_(verifier, key, key_len, sig, sig_len);
 }
 
-/* Feeds the next len bytes of the data. A piece may have any length; 64 KiB and more are fastest. Since 0.3. */
+/* Hashes the next len bytes of the data. A piece may have any length; 64 KiB and more are fastest. Since 0.3. */
 static inline void minisign_verify_feed(minisign_verifier *verifier, const void *data, size_t len)
 {
     if (verifier->error == MINISIGN_OK) {
@@ -125,12 +130,14 @@ static inline enum minisign_error minisign_verify_finish_(minisign_verifier *ver
 }
 
 /*
- * Finishes a verification. Returns MINISIGN_OK exactly if the signature file is a valid signature of all the data
- * that was fed, under this key. Otherwise returns the first error: that of an earlier call, or MINISIGN_SIGNATURE_REFUSED
- * or MINISIGN_COMMENT_SIGNATURE_REFUSED. Calling it again returns MINISIGN_NOT_BEGUN.
+ * Finishes a verification. Returns MINISIGN_OK exactly if the signature file is a valid signature of all the data that
+ * was fed, under this key. Otherwise returns the first error: that of an earlier call, or MINISIGN_SIGNATURE_REFUSED
+ * or MINISIGN_COMMENT_SIGNATURE_REFUSED. Called again, it returns MINISIGN_NOT_BEGUN after success, and the same error
+ * after an error.
  *
- * On success *trusted_comment points to the verified trusted comment in the verifier, which is followed by a 0 byte,
- * and *trusted_comment_len is its length. After an error they are NULL and 0. Both pointers may be NULL. Since 0.3.
+ * On success *trusted_comment points to the verified trusted comment, and *trusted_comment_len is its length. A 0 byte
+ * follows the comment. The comment is part of *verifier, so it is valid as long as *verifier is not changed. After an
+ * error they are NULL and 0. Both pointers may be NULL. Since 0.3.
  */
 MINISIGN_MUST_USE static inline enum minisign_error minisign_verify_finish(
     minisign_verifier *verifier, const char **trusted_comment, size_t *trusted_comment_len)
@@ -150,8 +157,8 @@ MINISIGN_MUST_USE static inline enum minisign_error minisign_verify_finish(
 
 /* ---- Signing ---- */
 
-/* One signature in the making. Its fields are private. It holds no secret: only pointers to the key or the context,
- * which have to stay until finish. */
+/* The state of signing one file. Its fields are private. It contains no secret, but a pointer to the secret key, or to
+ * the context of the signing function. */
 typedef struct minisign_signer {
     enum minisign_error error;
     minisign_public_key public_key;
@@ -164,7 +171,10 @@ typedef struct minisign_signer {
     uint8_t message[64 + MINISIGN_STREAM_COMMENT_BYTES];
 } minisign_signer;
 
-/* Starts signing with a secret key that was opened. The key has to stay until finish. Since 0.3. */
+/* Starts signing with an opened secret key. sign makes both signatures with it. minisign_sign_finish then verifies
+ * them under the public half of the key with verify, and returns no signature file if they are not valid: an invalid
+ * signature, as from a damaged key, may reveal the secret key. Do not change or clear the key until
+ * minisign_sign_finish has returned. Since 0.3. */
 static inline void minisign_sign_start(minisign_signer *signer, const minisign_secret_key *key,
                                        minisign_sign_detached *sign, minisign_verify_detached *verify)
 {
@@ -176,8 +186,9 @@ static inline void minisign_sign_start(minisign_signer *signer, const minisign_s
     signer->error = minisign_public_key_of(key, &signer->public_key);
 }
 
-/* Starts signing with a key that this program does not hold: sign is called twice by finish, with this context, and
- * has to sign with the secret key that belongs to the public key. Since 0.3. */
+/* Starts signing with a key that this program does not hold. minisign_sign_finish calls sign twice, with this context.
+ * sign has to sign with the secret key that belongs to key, the public key. minisign_sign_finish verifies both
+ * signatures under key with verify, as after minisign_sign_start. Since 0.3. */
 static inline void minisign_sign_start_elsewhere(minisign_signer *signer, const minisign_public_key *key,
                                                  minisign_sign_elsewhere *sign, void *context,
                                                  minisign_verify_detached *verify)
@@ -191,7 +202,7 @@ static inline void minisign_sign_start_elsewhere(minisign_signer *signer, const 
     signer->error = MINISIGN_OK;
 }
 
-/* Feeds the next len bytes of the data. A piece may have any length; 64 KiB and more are fastest. Since 0.3. */
+/* Hashes the next len bytes of the data. A piece may have any length; 64 KiB and more are fastest. Since 0.3. */
 static inline void minisign_sign_feed(minisign_signer *signer, const void *data, size_t len)
 {
     if (signer->error == MINISIGN_OK) {
@@ -218,14 +229,17 @@ static inline enum minisign_error minisign_signature_file_(
 }
 
 /*
- * Writes the signature file that a public key and two signatures make, and verifies it before it returns. The
- * signatures may come from a token, an agent or another machine: this program needs no secret key. fed is a state that
- * was fed with all of the data, before minisign_digest. parts has both signatures and both comments. The file is written
- * to the front of text, of text_size bytes, and its length to text_len; MINISIGN_TEXT_BYTES is a size that is enough.
+ * Writes the signature file for a public key and two signatures, and verifies it before it returns. The signatures may
+ * come from a token, an agent or another machine: this program needs no secret key. To make *fed, initialize a state
+ * with minisign_init and feed all of the data to it with minisign_update. Do not call minisign_digest on it; to get
+ * the digest that is to be signed, call minisign_digest on a copy of the state. *fed is unchanged. verify is called
+ * for both signatures, under key. parts has both signatures and both comments. The file is written to text, a buffer
+ * of text_size bytes, and its length to text_len. MINISIGN_TEXT_BYTES is a size that is enough.
  *
- * After an error *text_len is 0, and text holds nothing of the signatures: a signature that does not verify may give
- * the secret key away. The errors, in this order: those of minisign_signed_text, those of minisign_ask, then
- * MINISIGN_SIGNATURE_REFUSED and MINISIGN_COMMENT_SIGNATURE_REFUSED. Since 0.3.
+ * After an error *text_len is 0, and text holds nothing of the signatures: an invalid signature may reveal the secret
+ * key. The errors, in this order: those of minisign_signed_text, those of minisign_ask, then
+ * MINISIGN_SIGNATURE_REFUSED and MINISIGN_COMMENT_SIGNATURE_REFUSED, if verify does not accept the signature of the
+ * data or that of the comment. Since 0.3.
  */
 MINISIGN_MUST_USE static inline enum minisign_error minisign_signature_file(
     const minisign_state *fed, const minisign_public_key *key, const minisign_signed_parts *parts,
@@ -270,11 +284,15 @@ static inline enum minisign_error minisign_sign_finish_(minisign_signer *signer,
 }
 
 /*
- * Signs the data that was fed, and writes the signature file as minisign_signature_file does, verified. parts has both
- * comments; its signatures are set. Returns the first error of start, feed or finish; MINISIGN_UNREADABLE_COMMENT
- * for a trusted comment longer than MINISIGN_STREAM_COMMENT_BYTES; MINISIGN_SIGNATURE_REFUSED if the signing function fails, or if a
- * signature does not verify, as with a damaged key. After an error *text_len is 0, and text and parts hold nothing of
- * the signatures. Calling it again returns MINISIGN_NOT_BEGUN. Since 0.3.
+ * Signs the data that was fed, and writes the signature file and verifies it as minisign_signature_file does. parts
+ * has both comments; the call writes both signatures to it. Called again, it returns MINISIGN_NOT_BEGUN after success,
+ * and the same error after an error.
+ *
+ * After an error *text_len is 0, and text and parts contain no signature. The errors, in this order: the first error
+ * of start and feed; MINISIGN_UNREADABLE_COMMENT, for a trusted comment longer than MINISIGN_STREAM_COMMENT_BYTES;
+ * MINISIGN_SIGNATURE_REFUSED, if the signing function fails; those of minisign_signature_file, which rejects the
+ * signatures of a damaged key. So MINISIGN_SIGNATURE_REFUSED means either that nothing was signed or that the
+ * signature is not valid. Since 0.3.
  */
 MINISIGN_MUST_USE static inline enum minisign_error minisign_sign_finish(
     minisign_signer *signer, minisign_signed_parts *parts, uint8_t *text, size_t text_size, size_t *text_len)
