@@ -1,8 +1,8 @@
 #!/bin/sh
 # SPDX-License-Identifier: MIT
 #
-# Has a program verify the keys and signatures that Minisign's own program made (tests/corpus). It has to accept what that
-# accepts and reject what that rejects, but for a few texts, which docs/DIFFERENCES.md lists.
+# Checks that a program accepts and rejects the same signatures as Minisign's own program, which made tests/corpus. The
+# differences that docs/DIFFERENCES.md lists are left out.
 #
 #     check.sh PROGRAM
 #
@@ -13,18 +13,18 @@ cd "$(dirname "$0")/../tests/corpus" || exit 2
 passed=0 failed=0
 differing=' space-behind.minisig no-utf8.minisig space-added.minisig spaces-around-base64.minisig longer-record.minisig '
 
-# Each case has its parts in lines of their own, in this order.
+# In cases.json, each case has its key, data, signature and status on separate lines, in this order.
 sed -n 's/^ *"\(key\|data\|signature\|status\)": "\{0,1\}\([^",]*\)"\{0,1\},*$/\2/p' cases.json | {
     while read -r key && read -r data && read -r signature && read -r status; do
         case $differing in *" $signature "*) continue ;; esac
         test "$key" = other-algorithm.pub && continue
         ${RUN-} "$program" -Vm "$data" -p "$key" -x "$signature" >/dev/null 2>&1 </dev/null
-        came=$?
-        if [ "$came" = "$status" ]; then
+        actual=$?
+        if [ "$actual" = "$status" ]; then
             passed=$((passed + 1))
         else
             failed=$((failed + 1))
-            echo "FAILED: $signature of $data with $key: status $came, and not $status"
+            echo "FAILED: $signature of $data with $key: status $actual, expected $status"
         fi
     done
     echo "$passed passed, $failed failed"

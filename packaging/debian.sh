@@ -1,12 +1,12 @@
 #!/bin/sh
 # SPDX-License-Identifier: MIT
 #
-# Builds Debian packages from a release: unpacks it, adds packaging/debian as debian/, and runs dpkg-buildpackage. DIRECTORY
-# then has the binary packages and the source package. DEBFULLNAME and DEBEMAIL name you as the maintainer.
+# Builds Debian packages from a release: unpacks it, adds packaging/debian as debian/, and runs dpkg-buildpackage, which
+# writes the binary packages and the source package into DIRECTORY. DEBFULLNAME and DEBEMAIL name you as the maintainer.
 #
 #     DEBFULLNAME=NAME DEBEMAIL=ADDRESS packaging/debian.sh minisign-in-rattle-VERSION.tar.gz DIRECTORY
 #
-# On Debian `apt install build-essential debhelper libsodium-dev pkg-config` installs everything that this needs. The script
+# On Debian, `apt install build-essential debhelper libsodium-dev pkg-config` installs everything that this needs. The script
 # signs nothing and uploads nothing.
 set -eu
 if [ $# != 2 ] || [ -z "${DEBFULLNAME-}" ] || [ -z "${DEBEMAIL-}" ]; then
@@ -15,15 +15,15 @@ if [ $# != 2 ] || [ -z "${DEBFULLNAME-}" ] || [ -z "${DEBEMAIL-}" ]; then
 fi
 archive=$1
 mkdir -p "$2"
-room=$(cd "$2" && pwd)
+directory=$(cd "$2" && pwd)
 top=$(tar -tzf "$archive" | sed -n '1s,/.*,,p')
 version=${top##*-}
-cp "$archive" "$room/minisign-in-rattle_$version.orig.tar.gz"
-tar -xzf "$archive" -C "$room"
-cd "$room/$top"
+cp "$archive" "$directory/minisign-in-rattle_$version.orig.tar.gz"
+tar -xzf "$archive" -C "$directory"
+cd "$directory/$top"
 cp -R packaging/debian debian
 
-# The package of the shared library has the version in its name that c/Makefile puts into the name of the library.
+# The name of the shared library's package contains the version of the soname, as Debian requires.
 abi=$(make -s --no-print-directory -C c soname | sed 's/^libminisign\.so\.//')
 date=$(date -u -R -r CHANGELOG.md)
 maintainer=$(printf '%s <%s>' "$DEBFULLNAME" "$DEBEMAIL" | sed 's/[\\&|]/\\&/g')

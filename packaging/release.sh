@@ -29,8 +29,8 @@ list_files() {
     done | LC_ALL=C sort
 }
 
-# Prints the time of the commit, or in a release that of its files, in seconds since 1970.
-moment() {
+# Prints the time of the commit, or in a release the time of its files, in seconds since 1970.
+file_time() {
     if test -n "${SOURCE_DATE_EPOCH-}"; then
         echo "$SOURCE_DATE_EPOCH"
     elif test -e .git; then
@@ -40,18 +40,19 @@ moment() {
     fi
 }
 
-room=$(mktemp -d)
-trap 'rm -rf "$room"' EXIT
+directory=$(mktemp -d)
+trap 'rm -rf "$directory"' EXIT
 trap 'exit 1' HUP INT TERM
-mkdir "$room/$name"
-list_files >"$room/files"
-test -s "$room/files" || { echo 'packaging/release.sh: no file of the repository is found' >&2; exit 1; }
-tar -cf "$room/archive" -T "$room/files"
-tar -xf "$room/archive" -C "$room/$name"
-# The README of a release is c/release.md. It is kept under this name too, so that a release can make a release.
-cp c/release.md "$room/$name/README.md"
-cp c/release.md "$room/$name/c/release.md"
-moment=$(moment)
-tar -C "$room" --sort=name --mtime="@$moment" --owner=0 --group=0 --numeric-owner --mode=u=rwX,go=rX --format=ustar \
-    -cf "$room/archive" "$name"
-gzip -9nc "$room/archive"
+mkdir "$directory/$name"
+list_files >"$directory/files"
+test -s "$directory/files" || { echo 'packaging/release.sh: no file of the repository is found' >&2; exit 1; }
+tar -cf "$directory/archive" -T "$directory/files"
+tar -xf "$directory/archive" -C "$directory/$name"
+# c/release.md becomes the README of the release. It is also kept under its own name, so that a release can be made from a
+# release.
+cp c/release.md "$directory/$name/README.md"
+cp c/release.md "$directory/$name/c/release.md"
+time=$(file_time)
+tar -C "$directory" --sort=name --mtime="@$time" --owner=0 --group=0 --numeric-owner --mode=u=rwX,go=rX --format=ustar \
+    -cf "$directory/archive" "$name"
+gzip -9nc "$directory/archive"

@@ -1,9 +1,9 @@
 #!/bin/sh
 # SPDX-License-Identifier: MIT
 #
-# Tags a release of the version of include/minisign.h: makes a commit on top of the present one, with the files from which the Go
-# module is built (bindings/go_copies.sh), and the tags vVERSION and bindings/go/vVERSION for it. git ignores these files
-# elsewhere, but `go` fetches the module as a commit has it, so a release's commit needs them. No branch and no file moves.
+# Tags a release of the version of include/minisign.h: makes a commit on top of HEAD that adds the copied files of the Go module
+# (bindings/go_copies.sh), and the tags vVERSION and bindings/go/vVERSION for it. git ignores these files in other commits, but
+# `go` fetches a module from a commit, so the commit of a release needs them. Branches and working files are unchanged.
 #
 #     packaging/tag.sh
 #
@@ -18,7 +18,7 @@ done
 make -s -C c current
 sh bindings/go_copies.sh
 
-# The commit is made in an index of its own, so the working files and the branch are unchanged.
+# The commit is made with a separate index, so that the user's index is unchanged.
 GIT_INDEX_FILE=$(git rev-parse --absolute-git-dir)/tag-index
 export GIT_INDEX_FILE
 trap 'rm -f "$GIT_INDEX_FILE"' EXIT

@@ -1,7 +1,10 @@
 // SPDX-License-Identifier: MIT
-// agent_sign PUBLIC_KEY DATA SIGNATURE COMMENT: signs a file with a key that an ssh-agent holds, and writes the signature
-// file once it verifies under the public key. The secret key never enters this program; a token or a signing service is
-// used in the same way.
+// Signs a file with a key that an ssh-agent holds. The secret key never enters this program. A token or a signing
+// service is used in the same way.
+//
+//     agent_sign PUBLIC_KEY DATA SIGNATURE COMMENT
+//
+// The signature file is written after the signature was verified under the public key.
 #include <stdio.h>
 #include <stdlib.h>
 #include <string.h>
@@ -102,12 +105,12 @@ static int read_all(int file, uint8_t *to, size_t len)
     return 0;
 }
 
-// Asks the agent for a signature of len bytes. Returns 0 on success, as minisign_sign_elsewhere wants it.
+// Asks the agent to sign `len` bytes. Returns 0 on success, as minisign_sign_elsewhere requires.
 static int sign_by_agent(void *context, uint8_t sig[64], const uint8_t *message, size_t len)
 {
     const struct agent *agent = context;
-    uint8_t key[4 + sizeof ALGORITHM - 1 + 4 + 32], wanted[4 + 1 + 4 + 4 + sizeof ALGORITHM - 1 + 4];
-    uint8_t answer[sizeof wanted + 64], request[128 + TEXT_BYTES], *end = request + 4;
+    uint8_t key[4 + sizeof ALGORITHM - 1 + 4 + 32], expected[4 + 1 + 4 + 4 + sizeof ALGORITHM - 1 + 4];
+    uint8_t response[sizeof expected + 64], request[128 + TEXT_BYTES], *end = request + 4;
 
     if (len > TEXT_BYTES) {
         return -1;
@@ -120,16 +123,17 @@ static int sign_by_agent(void *context, uint8_t sig[64], const uint8_t *message,
     if (write_all(agent->socket, request, (size_t) (end - request)) != 0) {
         return -1;
     }
-    // An agent that does not hold the key, or whose user says no, answers with fewer bytes.
-    end = put_number(wanted, sizeof answer - 4);
+    // If the agent does not hold the key, or its user refuses, its response has fewer bytes.
+    end = put_number(expected, sizeof response - 4);
     *end++ = SIGN_RESPONSE;
-    end = put_string(put_number(end, sizeof answer - 4 - 1 - 4), ALGORITHM, sizeof ALGORITHM - 1);
+    end = put_string(put_number(end, sizeof response - 4 - 1 - 4), ALGORITHM, sizeof ALGORITHM - 1);
     put_number(end, 64);
-    if (read_all(agent->socket, answer, 4) != 0 || memcmp(answer, wanted, 4) != 0
-        || read_all(agent->socket, answer + 4, sizeof answer - 4) != 0 || memcmp(answer, wanted, sizeof wanted) != 0) {
+    if (read_all(agent->socket, response, 4) != 0 || memcmp(response, expected, 4) != 0
+        || read_all(agent->socket, response + 4, sizeof response - 4) != 0
+        || memcmp(response, expected, sizeof expected) != 0) {
         return -1;
     }
-    memcpy(sig, answer + sizeof wanted, 64);
+    memcpy(sig, response + sizeof expected, 64);
     return 0;
 }
 

@@ -1,6 +1,10 @@
 // SPDX-License-Identifier: MIT
-// check DATA SIGNATURE: checks a download under a built-in public key, as an updater does. Prints the trusted comment and
-// exits with status 0 if the signature is valid, with 1 if it is not, and with 2 if a file cannot be read.
+// Verifies a download under a built-in public key, as an updater does, with the calls of minisign_stream.h.
+//
+//     check DATA SIGNATURE
+//
+// Prints the trusted comment and exits with status 0 if the signature is valid, with 1 if it is not, and with 2 if a
+// file cannot be read.
 #include <stdio.h>
 #include <string.h>
 
@@ -10,7 +14,7 @@
 
 static const char KEY[] = "RWQf6LRCGA9i53mlYecO4IzT51TGPpvWucNSCh1CBM0QTaLn73Y7GFO3";
 
-// Returns the length of a file of fewer than size bytes, or size if it cannot be read whole.
+// Reads a file of fewer than `size` bytes, and returns its length, or `size` if it is too long or cannot be read.
 static size_t read_file(FILE *file, char *to, size_t size)
 {
     size_t len = file == NULL ? size : fread(to, 1, size, file);

@@ -1,9 +1,13 @@
 // SPDX-License-Identifier: MIT
-// sign SECRET_KEY DATA SIGNATURE COMMENT [PASSWORD_FILE]: signs the data with a key that `minisign -G` made, or with -W
-// if there is no file of its password, and writes the text of the signature once both signatures are verified.
+// Signs a file with the calls of minisign.h and libsodium's Ed25519.
 //
-// Here the secret key leaves the library, for your memory and your Ed25519. You clear what you hold, and what your
-// Ed25519 leaves behind. The library leaves nothing: see "No secret stays behind" in minisign.h.
+//     sign SECRET_KEY DATA SIGNATURE COMMENT [PASSWORD_FILE]
+//
+// The key is one that `minisign -G` made, or `minisign -GW` if there is no PASSWORD_FILE. The signature file is written
+// after both signatures were verified.
+//
+// The library passes the decrypted secret key to the caller, who signs with it. The caller has to clear its copies of
+// secrets, and what its Ed25519 leaves behind. The library leaves nothing: see "No secret stays behind" in minisign.h.
 #include <stdio.h>
 #include <stdlib.h>
 #include <string.h>
@@ -20,7 +24,7 @@ static uint8_t text[TEXT_BYTES], password[TEXT_BYTES], message[TEXT_BYTES];
 static minisign_unopened_key unopened;
 static minisign_secret_key key;
 
-// Ends the program. What is secret stands in static variables, which are cleared.
+// Clears all secrets, which are in static variables, and ends the program.
 static void end(int status, const char *what)
 {
     sodium_memzero(&unopened, sizeof unopened);
@@ -43,7 +47,7 @@ static void expect(enum minisign_error error)
     }
 }
 
-// A file that is open in this mode, of which no buffer keeps a copy.
+// Opens a file without a buffer, which would keep a copy of secrets.
 static FILE *open_file(const char *name, const char *mode)
 {
     FILE *file = fopen(name, mode);
@@ -65,8 +69,8 @@ static size_t read_piece(FILE *file, uint8_t *to)
     return len;
 }
 
-// Signs, and verifies the signature under the public half of the key, as others will. If the halves do not belong
-// together, as in a damaged key, no signature verifies, and each gives the secret away to whoever sees it.
+// Signs, and verifies the signature under the public half of the key. If the halves do not match, because the key is
+// damaged, nobody can verify the signature, and together with a correct signature of the same bytes it reveals the key.
 static void sign(uint8_t *signature, const uint8_t *bytes, size_t len)
 {
     if (crypto_sign_detached(signature, NULL, bytes, len, key.secret) != 0
@@ -88,7 +92,7 @@ int main(int argc, char **argv)
         end(1, "usage: sign SECRET_KEY DATA SIGNATURE COMMENT [PASSWORD_FILE]");
     }
     if (argc == 6) {
-        // (the password is the first line)
+        // The password is the first line.
         line_end = memchr(password, '\n', read_piece(open_file(argv[5], "rb"), password));
         if (line_end == NULL) {
             end(1, "the password cannot be read");
@@ -117,7 +121,7 @@ int main(int argc, char **argv)
     expect(minisign_comment_message(parts.signature, parts.trusted_comment, parts.trusted_comment_len, message,
                                     sizeof message));
     sign(parts.comment_signature, message, 64 + parts.trusted_comment_len);
-    // The text has the key ID of the key.
+    // The signature file contains the key ID, which this copies from the key.
     expect(minisign_public_key_of(&key, &public_key));
     expect(minisign_signed_text(&public_key, &parts, text, sizeof text, &len));
     file = open_file(argv[3], "wb");

@@ -1,6 +1,9 @@
 // SPDX-License-Identifier: MIT
-// verify PUBLIC_KEY DATA SIGNATURE: prints the trusted comment and exits with status 0 if the texts vouch for the
-// data, and otherwise exits with 1.
+// Verifies a file with the calls of minisign.h and libsodium's Ed25519.
+//
+//     verify PUBLIC_KEY DATA SIGNATURE
+//
+// If the signature is valid, prints the trusted comment and exits with status 0. Otherwise exits with status 1.
 #include <stdio.h>
 #include <stdlib.h>
 
@@ -39,7 +42,7 @@ static size_t read_piece(FILE *file)
     return len;
 }
 
-// Reads a text of fewer than TEXT_BYTES bytes.
+// Reads a key file or signature file of fewer than TEXT_BYTES bytes into `text`.
 static size_t read_text(const char *name)
 {
     size_t len = read_piece(fopen(name, "rb"));
@@ -50,7 +53,7 @@ static size_t read_text(const char *name)
     return len;
 }
 
-// What Ed25519 answers: libsodium's 0 is a yes.
+// Makes one of the two Ed25519 checks. libsodium returns 0 if the signature is valid.
 static enum minisign_answer answer(const uint8_t *signature, const uint8_t *bytes, size_t len, const uint8_t *key)
 {
     return crypto_sign_verify_detached(signature, bytes, len, key) == 0 ? MINISIGN_ANSWER_YES : MINISIGN_ANSWER_NO;
@@ -68,12 +71,13 @@ int main(int argc, char **argv)
     if (argc != 4 || sodium_init() < 0) {
         fail("usage: verify PUBLIC_KEY DATA SIGNATURE");
     }
-    // The key and the signature come first: what is wrong with them is known before data is read.
+    // The key and the signature are read first, so that errors in them are found before the data is read.
     expect(minisign_read_public_key(text, read_text(argv[1]), &key));
     len = read_text(argv[3]);
     expect(minisign_read_signature(text, len, &signature));
     minisign_init(&state);
-    // 0: no legacy signatures, which are over the data itself. The message is never longer than the text.
+    // The argument 0 rejects legacy signatures, which cover the data itself. The message is never longer than the
+    // signature file.
     expect(minisign_ask(&state, &key, &signature, text, len, 0, &q, message, sizeof message));
     data = fopen(argv[2], "rb");
     while ((len = read_piece(data)) > 0) {
@@ -82,7 +86,7 @@ int main(int argc, char **argv)
     expect(minisign_digest(&state, q.digest));
     expect(minisign_verdict(&state, answer(q.signature, q.digest, sizeof q.digest, q.public_key),
                             answer(q.comment_signature, message, q.message_len, q.public_key)));
-    // The texts vouch for the data. The trusted comment is the one in the message that was verified.
+    // The signature is valid. Take the trusted comment from the message, which was verified.
     len = q.comment_len;
     if (fwrite(message + q.comment_offset, 1, len, stdout) != len || putchar('\n') == EOF || fflush(stdout) != 0) {
         fail("the comment cannot be written");

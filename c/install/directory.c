@@ -1,5 +1,5 @@
 /* SPDX-License-Identifier: MIT */
-/* The directory of a target, and the calls of the system that an installation makes there. */
+/* Makes the system calls of an installation, relative to the open directory of the target. */
 #include "directory.h"
 
 #include <limits.h>
@@ -9,23 +9,24 @@
 #include "shared/stages.h"
 #include "shared/streams.h"
 
-/* Its owner alone may read and write a file that is made. */
+/* The mode of new files. */
 #define FOR_THE_OWNER 0600
 
-/* How often a lock file is opened that others remove or make meanwhile. */
+/* How often to open a file again that other processes keep replacing. */
 #define MAX_OPENINGS 100
 
-/* How many random bytes the name of a stage has, as hexadecimal digits. */
+/* How many random bytes the name of a temporary file has, as hexadecimal digits. */
 #define DRAWN_BYTES 16
 
-/* After so many bytes that were read back the system is asked to begin to sync them, so that fsync takes less time. */
+/* After this many bytes were read back, the system is asked to start writing them to the disk, so that fsync takes less
+ * time. */
 #define BEGUN_BYTES (8 << 20)
 
-/* How many names a directory has, and how many bytes each may have beyond the target's path. */
+/* How many names `struct directory` stores, and how many bytes each may add to the target's path. */
 #define NAMES 6
 #define MORE_BYTES 64
 
-/* No link at the end of a name is followed, and no pipe waited for. */
+/* Links in the last component are not followed, and opening a pipe does not wait. */
 #define SAFELY (O_NOFOLLOW | O_NONBLOCK | O_CLOEXEC)
 
 /* ---- Names ---- */
@@ -35,142 +36,153 @@ bool name_directory(struct directory *directory, const char *target)
     static const char *const after[] = { "lock", "number", "stage-*" };
     struct part *const beside[] = { &directory->lock, &directory->record, &directory->stages };
     const char *slash = strrchr(target, '/');
-    const char *name = slash == NULL ? target : slash + 1, *front = slash == NULL ? "." : target;
+    const char *name = slash == NULL ? target : slash + 1, *prefix = slash == NULL ? "." : target;
     int length = slash == NULL || slash == target ? 1 : (int) (slash - target);
-    size_t room = strlen(target) + MORE_BYTES;
+    size_t size = strlen(target) + MORE_BYTES;
     char *names;
 
     if (*name == 0 || strcmp(name, ".") == 0 || strcmp(name, "..") == 0) {
         errno = EINVAL;
         return false;
     }
-    names = malloc(NAMES * room);
+    names = malloc(NAMES * size);
     if (names == NULL) {
         return false;
     }
     *directory = (struct directory) { .target = { target, name }, .fd = -1, .locked = -1, .names = names };
-    snprintf(names, room, "%.*s", length, front);
+    snprintf(names, size, "%.*s", length, prefix);
     directory->itself = (struct part) { names, "." };
     for (size_t i = 0; i < sizeof beside / sizeof beside[0]; i++) {
-        names += room;
-        snprintf(names, room, "%.*s/.%s.%s", length, front, name, after[i]);
+        names += size;
+        snprintf(names, size, "%.*s/.%s.%s", length, prefix, name, after[i]);
         *beside[i] = (struct part) { names, names + length + 1 };
     }
-    directory->update = (struct stage) { &directory->stages, strcpy(names + room, beside[2]->name), .fd = -1 };
-    directory->number = (struct stage) { &directory->stages, strcpy(names + 2 * room, beside[2]->name), .fd = -1 };
-    directory->there = (struct stage) { &directory->target, .fd = -1 };
+    directory->update = (struct stage) { &directory->stages, strcpy(names + size, beside[2]->name), .fd = -1 };
+    directory->number = (struct stage) { &directory->stages, strcpy(names + 2 * size, beside[2]->name), .fd = -1 };
+    directory->installed = (struct stage) { &directory->target, .fd = -1 };
     return true;
 }
 
 void close_directory(struct directory *directory)
 {
-    close_open(&directory->update.fd);
-    close_open(&directory->number.fd);
+    close_if_open(&directory->update.fd);
+    close_if_open(&directory->number.fd);
     unlock_target(directory);
-    close_open(&directory->fd);
+    close_if_open(&directory->fd);
     free(directory->names);
 }
 
-/* ---- Troubles ---- */
+/* ---- Errors ---- */
 
-/* Remembers what could not be used first, and the cause with a hint, or errno if the cause is NULL. Returns `why`. */
-static enum minisign_error fails_for(struct directory *directory, const struct part *part, const char *cause,
-                                     const char *hint, enum minisign_error why)
+/* Remembers the first error: the file, and either the cause with a hint, or errno if `cause` is NULL. */
+static void remember(struct directory *directory, const struct part *part, const char *cause, const char *hint)
 {
     if (directory->trouble.shown == NULL) {
         directory->trouble = (struct trouble) { part->shown, cause, errno, hint };
     }
-    return why;
 }
 
-/* The same by errno. */
-static enum minisign_error fails(struct directory *directory, const struct part *part, enum minisign_error why)
+/* Remembers an error with its cause, and returns `error`. */
+static enum minisign_error fails_for(struct directory *directory, const struct part *part, const char *cause,
+                                     const char *hint, enum minisign_error error)
 {
-    return fails_for(directory, part, NULL, NULL, why);
+    remember(directory, part, cause, hint);
+    return error;
 }
 
-/* Remembers what could not be written. */
+/* Remembers an error of the system, and returns `error`. */
+static enum minisign_error fails(struct directory *directory, const struct part *part, enum minisign_error error)
+{
+    return fails_for(directory, part, NULL, NULL, error);
+}
+
 static enum minisign_error wrote(struct directory *directory, const struct part *part, bool is_written)
 {
     return is_written ? MINISIGN_OK : fails(directory, part, MINISIGN_WRITING_FAILED);
 }
 
-/* ---- What stands there ---- */
+/* ---- Existing files ---- */
 
-/* What was looked for is there, or is not, or cannot be used, which is remembered. */
-enum found { THERE, NOT_THERE, UNUSABLE };
+/* The file exists, does not exist, or cannot be used, which is remembered. */
+enum presence { PRESENT, ABSENT, UNUSABLE };
 
-/* Looks for a regular file of this name. */
-static enum found find(struct directory *directory, const struct part *part, struct stat *found)
+static enum presence find(struct directory *directory, const struct part *part, struct stat *status)
 {
     const char *cause = NULL, *hint = NULL;
 
-    if (AGAIN(fstatat(directory->fd, part->name, found, AT_SYMLINK_NOFOLLOW)) == 0) {
-        if (S_ISREG(found->st_mode)) {
-            return THERE;
+    if (AGAIN(fstatat(directory->fd, part->name, status, AT_SYMLINK_NOFOLLOW)) == 0) {
+        if (S_ISREG(status->st_mode)) {
+            return PRESENT;
         }
         errno = EINVAL;
-        cause = S_ISLNK(found->st_mode)   ? "this is a symbolic link, which is not followed"
-                : S_ISDIR(found->st_mode) ? "this is a directory"
-                                          : "this is not a regular file";
-        hint = part != &directory->target || !(S_ISLNK(found->st_mode) || S_ISDIR(found->st_mode))
+        cause = S_ISLNK(status->st_mode)   ? "this is a symbolic link, which is not followed"
+                : S_ISDIR(status->st_mode) ? "this is a directory"
+                                           : "this is not a regular file";
+        hint = part != &directory->target || !(S_ISLNK(status->st_mode) || S_ISDIR(status->st_mode))
                    ? "remove it or move it away"
-               : S_ISLNK(found->st_mode) ? "give the path that it leads to"
-                                         : "give the path of a file in it";
+               : S_ISLNK(status->st_mode) ? "give the path that it leads to"
+                                          : "give the path of a file in it";
     } else if (errno == ENOENT) {
-        return NOT_THERE;
+        return ABSENT;
     }
-    fails_for(directory, part, cause, hint, MINISIGN_OK);
+    remember(directory, part, cause, hint);
     return UNUSABLE;
 }
 
-/* What an open file is. False if the system does not tell, which is remembered. */
-static bool look_at(struct directory *directory, const struct part *part, int fd, struct stat *found)
+/* Calls fstat. On failure, remembers the error and returns false. */
+static bool look_at(struct directory *directory, const struct part *part, int fd, struct stat *status)
 {
-    return AGAIN(fstat(fd, found)) == 0 || fails(directory, part, MINISIGN_READING_FAILED) == MINISIGN_OK;
+    if (AGAIN(fstat(fd, status)) != 0) {
+        remember(directory, part, NULL, NULL);
+        return false;
+    }
+    return true;
 }
 
-/* Whether the name of a part leads to this open file, without a link. */
-static enum found leads_to(struct directory *directory, const struct part *part, int fd)
+/* Returns PRESENT if the name of a part leads to this open file, without a link. */
+static enum presence leads_to(struct directory *directory, const struct part *part, int fd)
 {
     struct stat named, opened;
-    enum found found;
+    enum presence presence;
 
     if (!look_at(directory, part, fd, &opened)) {
         return UNUSABLE;
     }
-    found = find(directory, part, &named);
-    return found == THERE && !is_same_file(&named, &opened) ? NOT_THERE : found;
+    presence = find(directory, part, &named);
+    return presence == PRESENT && !is_same_file(&named, &opened) ? ABSENT : presence;
 }
 
-/* The keeper, who has to own the lock file and the record: owner and group of the file at the target, or, if that is
- * root's or there is none, of the directory. So a run by root locks nobody out who may go on. */
+/* Finds the keeper, who must own the lock file and the record: the owner and group of the installed file or, if that
+ * belongs to root or does not exist, of the directory. Therefore a run by root does not prevent later runs by the usual
+ * owner. */
 static bool find_keeper(struct directory *directory, struct stat *keeper)
 {
-    enum found found = find(directory, &directory->target, keeper);
+    enum presence presence = find(directory, &directory->target, keeper);
 
-    return (found == THERE && keeper->st_uid != 0)
-           || (found != UNUSABLE && look_at(directory, &directory->itself, directory->fd, keeper));
+    return (presence == PRESENT && keeper->st_uid != 0)
+           || (presence != UNUSABLE && look_at(directory, &directory->itself, directory->fd, keeper));
 }
 
-/* Gives a file to the keeper, as far as that is allowed. This run has to have made it: whoever may write the directory
- * could have renamed somebody else's file. */
+/* Gives a file to the keeper, if the system allows it. This run must have created the file: whoever can write to the
+ * directory could have renamed another user's file. */
 static bool give_to_keeper(struct directory *directory, const struct part *part, int fd)
 {
-    struct stat keeper, own;
+    struct stat keeper, status;
     bool is_given;
 
-    if (!find_keeper(directory, &keeper) || !look_at(directory, part, fd, &own)) {
+    if (!find_keeper(directory, &keeper) || !look_at(directory, part, fd, &status)) {
         return false;
     }
-    return (own.st_uid == keeper.st_uid && own.st_gid == keeper.st_gid)
-           || give_owner(fd, keeper.st_uid, keeper.st_gid, &is_given)
-           || fails(directory, part, MINISIGN_WRITING_FAILED) == MINISIGN_OK;
+    if ((status.st_uid != keeper.st_uid || status.st_gid != keeper.st_gid)
+        && !give_owner(fd, keeper.st_uid, keeper.st_gid, &is_given)) {
+        remember(directory, part, NULL, NULL);
+        return false;
+    }
+    return true;
 }
 
-/* ---- What is opened ---- */
+/* ---- Opening ---- */
 
-/* Remembers that a file was another one each time that it was opened. */
 static enum minisign_error keeps_changing(struct directory *directory, const struct part *part)
 {
     errno = EBUSY;
@@ -178,30 +190,31 @@ static enum minisign_error keeps_changing(struct directory *directory, const str
                      MINISIGN_READING_FAILED);
 }
 
-/* Opens a file, and again if others replaced it meanwhile, until its name leads to the open file. -1: there is none. */
-static enum minisign_error open_part(struct directory *directory, const struct part *part, int how, int *fd)
+/* Opens a file, again if other processes replaced it in between, until its name leads to the open file. *fd is -1 if
+ * the file does not exist. */
+static enum minisign_error open_part(struct directory *directory, const struct part *part, int flags, int *fd)
 {
     for (int i = 0; i < MAX_OPENINGS; i++) {
         struct stat named;
-        enum found found = find(directory, part, &named);
+        enum presence presence = find(directory, part, &named);
         *fd = -1;
-        if (found != THERE) {
-            return found == NOT_THERE ? MINISIGN_OK : MINISIGN_READING_FAILED;
+        if (presence != PRESENT) {
+            return presence == ABSENT ? MINISIGN_OK : MINISIGN_READING_FAILED;
         }
-        *fd = AGAIN(openat(directory->fd, part->name, how | SAFELY));
-        /* (others may have removed it, or put a link there) */
+        *fd = AGAIN(openat(directory->fd, part->name, flags | SAFELY));
+        /* Another process may have removed it, or put a link there. */
         if (*fd < 0 && errno != ENOENT && errno != ELOOP) {
             return errno == EACCES && part != &directory->target
                        ? fails_for(directory, part, "only the owner of this file can open it",
                                    "give it the same owner as the installed file", MINISIGN_READING_FAILED)
                        : fails(directory, part, MINISIGN_READING_FAILED);
         }
-        found = *fd < 0 ? NOT_THERE : leads_to(directory, part, *fd);
-        if (found == THERE) {
+        presence = *fd < 0 ? ABSENT : leads_to(directory, part, *fd);
+        if (presence == PRESENT) {
             return MINISIGN_OK;
         }
-        close_open(fd);
-        if (found == UNUSABLE) {
+        close_if_open(fd);
+        if (presence == UNUSABLE) {
             return MINISIGN_READING_FAILED;
         }
     }
@@ -221,7 +234,7 @@ enum minisign_error open_directory(struct directory *directory)
                              : fails(directory, &directory->itself, MINISIGN_READING_FAILED);
 }
 
-/* Opens the lock file, or makes it. -1: others made one meanwhile. */
+/* Opens or creates the lock file. *fd is -1 if another process created it in between. */
 static enum minisign_error open_lock(struct directory *directory, int *fd, bool *is_made)
 {
     enum minisign_error error = open_part(directory, &directory->lock, O_RDWR, fd);
@@ -236,23 +249,24 @@ static enum minisign_error open_lock(struct directory *directory, int *fd, bool 
     return error;
 }
 
-/* Locks the open file, if it is still there: who held the lock before may have removed it. Otherwise closes it. */
+/* Locks the lock file, if its name still leads to it: the last run that held the lock may have removed it. Otherwise
+ * closes it. */
 static enum minisign_error lock_file(struct directory *directory, int fd, bool is_made)
 {
     enum minisign_error error = MINISIGN_OK;
-    enum found found = NOT_THERE;
+    enum presence presence = ABSENT;
 
     if (AGAIN(flock(fd, LOCK_EX | LOCK_NB)) == 0) {
-        found = leads_to(directory, &directory->lock, fd);
+        presence = leads_to(directory, &directory->lock, fd);
     } else if (errno == EWOULDBLOCK) {
         error = MINISIGN_TARGET_IN_USE;
     } else {
         error = fails(directory, &directory->lock, MINISIGN_READING_FAILED);
     }
-    if (found == UNUSABLE || (found == THERE && is_made && !give_to_keeper(directory, &directory->lock, fd))) {
+    if (presence == UNUSABLE || (presence == PRESENT && is_made && !give_to_keeper(directory, &directory->lock, fd))) {
         error = MINISIGN_READING_FAILED;
     }
-    if (found == THERE && error == MINISIGN_OK) {
+    if (presence == PRESENT && error == MINISIGN_OK) {
         directory->locked = fd;
     } else {
         close(fd);
@@ -277,37 +291,37 @@ static enum minisign_error lock_found(struct directory *directory)
     return keeps_changing(directory, &directory->lock);
 }
 
-/* Whether the lock is still held, by the file that its name leads to. */
+/* Returns true if the lock file is still in place. */
 static bool is_locked(struct directory *directory)
 {
-    enum found found = leads_to(directory, &directory->lock, directory->locked);
+    enum presence presence = leads_to(directory, &directory->lock, directory->locked);
 
-    if (found == NOT_THERE) {
+    if (presence == ABSENT) {
         errno = ENOENT;
-        fails_for(directory, &directory->lock, "another process removed or replaced this lock file",
-                  "run the command again", MINISIGN_OK);
+        remember(directory, &directory->lock, "another process removed or replaced this lock file",
+                 "run the command again");
     }
-    return found == THERE;
+    return presence == PRESENT;
 }
 
-/* If root runs this, and a lock file or record is another's than the keeper's, as after an earlier run by root, makes
- * the file that is to replace it: one that was found is never given away. */
+/* If this is a run by root, and the lock file or record does not belong to the keeper (as after an earlier run by
+ * root), creates the file that is to replace it. An existing file is never given away. */
 static enum minisign_error begin_renewal(struct directory *directory, const struct part *part, bool is_lock,
                                          struct stage *fresh)
 {
-    struct stat keeper, own;
-    enum found found = find(directory, part, &own);
+    struct stat keeper, status;
+    enum presence presence = find(directory, part, &status);
 
-    if (found == UNUSABLE || !find_keeper(directory, &keeper)) {
+    if (presence == UNUSABLE || !find_keeper(directory, &keeper)) {
         return MINISIGN_READING_FAILED;
     }
-    /* (no run makes a lock file that holds anything) */
-    return found == NOT_THERE || own.st_uid == keeper.st_uid || (is_lock && own.st_size > 0) || geteuid() != 0
+    /* Lock files of this program are empty. */
+    return presence == ABSENT || status.st_uid == keeper.st_uid || (is_lock && status.st_size > 0) || geteuid() != 0
                ? MINISIGN_OK
                : create_stage(directory, fresh);
 }
 
-/* Replaces the lock file if it has to be. The new one is locked before it gets the name. */
+/* Replaces the lock file if necessary. The new one is locked before it is renamed. */
 static enum minisign_error renew_lock(struct directory *directory)
 {
     struct stage fresh = directory->number;
@@ -339,13 +353,13 @@ enum minisign_error lock_target(struct directory *directory)
 
 void unlock_target(struct directory *directory)
 {
-    close_open(&directory->there.fd);
-    close_open(&directory->locked);
+    close_if_open(&directory->installed.fd);
+    close_if_open(&directory->locked);
 }
 
 /* ---- Leftovers and the record ---- */
 
-/* What cannot be removed, such as a directory of this name, stays. */
+/* What cannot be removed, such as a directory of this name, is left. */
 static void remove_name(int directory, const char *name)
 {
     (void) AGAIN(unlinkat(directory, name, 0));
@@ -353,20 +367,20 @@ static void remove_name(int directory, const char *name)
 
 enum minisign_error remove_leftovers(struct directory *directory)
 {
-    /* (the stages are shown with a star in place of the digits) */
-    char front[NAME_MAX + 1];
+    /* Messages show temporary names with a star instead of the digits. */
+    char prefix[NAME_MAX + 1];
 
     if (!is_locked(directory)) {
         return MINISIGN_WRITING_FAILED;
     }
-    snprintf(front, sizeof front, "%.*s", (int) strlen(directory->stages.name) - 1, directory->stages.name);
-    return wrote(directory, &directory->itself, remove_drawn_names(directory->fd, front, DRAWN_BYTES, remove_name));
+    snprintf(prefix, sizeof prefix, "%.*s", (int) strlen(directory->stages.name) - 1, directory->stages.name);
+    return wrote(directory, &directory->itself, for_each_random_name(directory->fd, prefix, DRAWN_BYTES, remove_name));
 }
 
 enum minisign_error read_record(struct directory *directory, struct record *record)
 {
     uint8_t bytes[MINISIGN_RECORD_TEXT_BYTES + 1];
-    struct stat found;
+    struct stat status;
     ssize_t n;
     int fd;
     enum minisign_error error = open_part(directory, &directory->record, O_RDONLY, &fd);
@@ -374,8 +388,8 @@ enum minisign_error read_record(struct directory *directory, struct record *reco
     if (fd < 0) {
         return error;
     }
-    n = look_at(directory, &directory->record, fd, &found) ? read_whole(fd, bytes, sizeof bytes) : -1;
-    close_open(&fd);
+    n = look_at(directory, &directory->record, fd, &status) ? read_whole(fd, bytes, sizeof bytes) : -1;
+    close_if_open(&fd);
     if (n < 0 || n == sizeof bytes) {
         errno = n < 0 ? errno : EFBIG;
         return n < 0 ? fails(directory, &directory->record, MINISIGN_READING_FAILED)
@@ -383,7 +397,7 @@ enum minisign_error read_record(struct directory *directory, struct record *reco
                                  "remove it and use --first to install anyway", MINISIGN_READING_FAILED);
     }
     *record = (struct record) { .is_there = true, .len = (size_t) n };
-    record->written = found.st_mtime < 0 ? 0 : (uint64_t) found.st_mtime;
+    record->written = status.st_mtime < 0 ? 0 : (uint64_t) status.st_mtime;
     memcpy(record->text, bytes, record->len);
     return MINISIGN_OK;
 }
@@ -412,16 +426,16 @@ enum minisign_error renew_record(struct directory *directory, const struct recor
 
 enum minisign_error open_target(struct directory *directory)
 {
-    directory->there = (struct stage) { &directory->target, .fd = -1 };
-    return open_part(directory, &directory->target, O_RDONLY, &directory->there.fd);
+    directory->installed = (struct stage) { &directory->target, .fd = -1 };
+    return open_part(directory, &directory->target, O_RDONLY, &directory->installed.fd);
 }
 
-/* ---- Stages ---- */
+/* ---- Temporary files ---- */
 
-/* Draws the name of a stage, and makes a file under it. */
+/* Creates a file under a new random name. */
 static enum minisign_error make_file(struct directory *directory, struct stage *stage)
 {
-    if (!draw_digits(stage->name + strlen(directory->stages.name) - 1, DRAWN_BYTES)) {
+    if (!random_hex(stage->name + strlen(directory->stages.name) - 1, DRAWN_BYTES)) {
         return MINISIGN_RANDOM_SOURCE_FAILED;
     }
     stage->fd = open_named(directory->fd, stage->name, FOR_THE_OWNER);
@@ -458,10 +472,10 @@ enum minisign_error date_stage(struct directory *directory, const struct stage *
     return wrote(directory, &directory->stages, AGAIN(futimens(stage->fd, times)) == 0);
 }
 
-enum minisign_error read_stage(struct directory *directory, struct stage *stage, uint8_t *bytes, size_t room,
+enum minisign_error read_stage(struct directory *directory, struct stage *stage, uint8_t *bytes, size_t size,
                                size_t *len)
 {
-    ssize_t n = AGAIN(pread(stage->fd, bytes, room, (off_t) stage->read));
+    ssize_t n = AGAIN(pread(stage->fd, bytes, size, (off_t) stage->read));
 
     if (n < 0) {
         return fails(directory, stage->shown, MINISIGN_READING_FAILED);
@@ -475,7 +489,7 @@ enum minisign_error read_stage(struct directory *directory, struct stage *stage,
     return MINISIGN_OK;
 }
 
-/* Gives the stage the permissions of an older file, if there is one, or the mode that is given. */
+/* Sets the permissions of the update: those of the existing file, if there is one, or the mode of the options. */
 static enum minisign_error give(struct directory *directory, struct permissions *older)
 {
     mode_t mode = directory->has_mode ? directory->mode : older != NULL ? older->mode : FOR_THE_OWNER;
@@ -497,12 +511,12 @@ enum minisign_error take_permissions(struct directory *directory)
 {
     for (int i = 0; i < MAX_OPENINGS; i++) {
         struct permissions older;
-        struct stat found;
+        struct stat status;
 
-        switch (find(directory, &directory->target, &found)) {
+        switch (find(directory, &directory->target, &status)) {
         case UNUSABLE: return MINISIGN_WRITING_FAILED;
-        case NOT_THERE: return give(directory, NULL);
-        case THERE: break;
+        case ABSENT: return give(directory, NULL);
+        case PRESENT: break;
         }
         if (read_permissions(&older, directory->fd, directory->target.name)) {
             return give(directory, &older);
@@ -526,7 +540,7 @@ enum minisign_error sync_record(struct directory *directory, const struct stage 
     return is_given ? sync_stage(directory, stage) : MINISIGN_WRITING_FAILED;
 }
 
-/* ---- Names that last ---- */
+/* ---- Renaming and removing ---- */
 
 enum minisign_error rename_stage(struct directory *directory, const struct stage *stage, const struct part *to)
 {
@@ -538,12 +552,12 @@ enum minisign_error rename_stage(struct directory *directory, const struct stage
 
 enum minisign_error sync_names(struct directory *directory)
 {
-    /* (a file system that syncs no directories says so) */
+    /* EINVAL: the file system cannot sync directories. */
     return wrote(directory, &directory->itself, sync_to_disk(directory->fd) || errno == EINVAL);
 }
 
 enum minisign_error remove_stage(struct directory *directory, const struct stage *stage)
 {
-    /* (a run that has the lock removes the stages of others) */
+    /* Another run that has the lock may have removed it. */
     return wrote(directory, &directory->stages, AGAIN(unlinkat(directory->fd, stage->name, 0)) == 0 || errno == ENOENT);
 }

@@ -1,9 +1,8 @@
 /* SPDX-License-Identifier: MIT */
 /*
- * The directory of a target, and the calls of the system that an installation makes there: one function for each call
- * of the machine of minisign_install.h, which is told what the function returns. The directory is opened once, and
- * names are looked up in it; no link at the end of a name is followed. A call that a signal interrupts is made again.
- * The first trouble is remembered.
+ * Makes the system calls of an installation: one function for each call that the state machine of minisign_install.h
+ * asks for. The directory of the target is opened once, and names are looked up in it. Links in the last component are
+ * not followed. Calls that a signal interrupts are retried. The first error is remembered.
  */
 #ifndef DIRECTORY_H
 #define DIRECTORY_H
@@ -11,23 +10,23 @@
 #include "shared/system.h"
 #include "minisign_install.h"
 
-/* A file or a directory: its path, as it is shown, and its name in the directory. */
+/* A file or directory: its path for messages, and its name in the directory. */
 struct part {
     const char *shown;
     const char *name;
 };
 
-/* A file that is read back: what is shown of it; and the own, drawn name of a new file that is to get a lasting one. */
+/* A file that is written or read back: what messages call it, and its random temporary name, if it is new. */
 struct stage {
     const struct part *shown;
     char *name;
     int fd;
-    /* How many bytes were read back, and how many of them the system was asked to begin to sync. */
+    /* How many bytes were read back, and how many of them the system was asked to start writing to the disk. */
     uint64_t read;
     uint64_t begun;
 };
 
-/* What the record holds, if there is one, and when it was last written, in seconds since the beginning of 1970. */
+/* The record, if there is one, and its modification time, in seconds since 1970. */
 struct record {
     bool is_there;
     uint8_t text[MINISIGN_RECORD_TEXT_BYTES];
@@ -35,7 +34,7 @@ struct record {
     uint64_t written;
 };
 
-/* The file that could not be used, with the cause in words, or NULL and errno. The hint may be NULL. */
+/* The file that could not be used; the cause in words, or NULL and errno; and a hint or NULL. */
 struct trouble {
     const char *shown;
     const char *cause;
@@ -44,90 +43,90 @@ struct trouble {
 };
 
 struct directory {
-    /* What could not be used first, if anything. */
+    /* The first error, if any. */
     struct trouble trouble;
     struct part itself;
     struct part target;
     struct part lock;
     struct part record;
-    /* Shown of each stage. */
+    /* What messages call each temporary file. */
     struct part stages;
-    /* The stage of the update, and that of its number; and the file at the target, while it is looked at. */
+    /* The temporary files of the update and of the record, and the installed file while it is read. */
     struct stage update;
     struct stage number;
-    struct stage there;
-    /* The permissions of the update, if they are given. */
+    struct stage installed;
+    /* The mode of the update, if one was given. */
     bool has_mode;
     mode_t mode;
-    /* Room for the words of a trouble. */
+    /* The cause of the first error, if it is made at run time. */
     char words[80];
     int fd;
     int locked;
-    /* Memory of malloc that has the names. */
+    /* The memory of all names, from malloc. */
     char *names;
 };
 
-/* The directory of the target at this path, which has to stay. False with errno EINVAL if the path does not end with
- * the name of a file, and ENOMEM if an allocation fails. */
+/* Prepares the directory of this target, whose path must remain valid. On failure, returns false with errno EINVAL if
+ * the path does not end with a file name, or ENOMEM. */
 bool name_directory(struct directory *directory, const char *target);
 
-/* Closes all that is open of it, the lock too, and frees the names. */
+/* Closes everything that is open, which releases the lock, and frees the names. */
 void close_directory(struct directory *directory);
 
-/* Each returns MINISIGN_OK if it was done, and else why it failed. */
+/* The following functions return MINISIGN_OK or the reason of the failure. */
 
 /* Opens the directory, if it is not open yet. */
 enum minisign_error open_directory(struct directory *directory);
 
-/* Locks the target by the lock file, if it is not locked yet: MINISIGN_TARGET_IN_USE if another run holds the lock. A
- * lock file that is made gets the owner who may go on after this run, as far as that is allowed. One that was found is
- * never given away. */
+/* Locks the target, if it is not locked yet. Returns MINISIGN_TARGET_IN_USE if another run has the lock. A new lock
+ * file gets the owner who may install the next update, if the system allows it. An existing file is never given
+ * away. */
 enum minisign_error lock_target(struct directory *directory);
 
-/* Unlocks the target, and closes the file there, if it is open. */
+/* Unlocks the target, and closes the installed file if it is open. */
 void unlock_target(struct directory *directory);
 
-/* Removes the stages that killed runs left, as far as that is possible. */
+/* Removes the temporary files that killed runs left, as far as possible. */
 enum minisign_error remove_leftovers(struct directory *directory);
 
 enum minisign_error read_record(struct directory *directory, struct record *record);
 
-/* If root runs this, and the record is another's than the keeper's, as after an earlier run by root, replaces it by a
- * new file of the keeper's with the same text and time. The older file is never given away. */
+/* If this is a run by root, and the record does not belong to the keeper (as after an earlier run by root), replaces it
+ * by a new file of the keeper's with the same text and time. The old file is never given away. */
 enum minisign_error renew_record(struct directory *directory, const struct record *record);
 
-/* Sets the time at which the stage was written. */
+/* Sets the modification time of a temporary file. */
 enum minisign_error date_stage(struct directory *directory, const struct stage *stage, uint64_t seconds);
 
-/* Opens the file at the target for reading. Its descriptor is -1 if there is none. */
+/* Opens the installed file for reading. Its descriptor is -1 if there is none. */
 enum minisign_error open_target(struct directory *directory);
 
-/* Draws a name, and makes the stage under it, for its owner alone. */
+/* Creates a temporary file with a random name and mode 0600. */
 enum minisign_error create_stage(struct directory *directory, struct stage *stage);
 
-/* Makes a file without a name, for its owner alone. The lock need not be held. */
+/* Creates a file without a name, with mode 0600. The lock need not be held. */
 enum minisign_error create_nameless(struct directory *directory, struct stage *stage);
 
-/* Writes all of these bytes after what the stage holds. */
+/* Appends these bytes to a temporary file. */
 enum minisign_error write_stage(struct directory *directory, const struct stage *stage, const uint8_t *bytes,
                                 size_t len);
 
-/* Reads the next bytes of the stage, or of the file at the target; none at its end. */
-enum minisign_error read_stage(struct directory *directory, struct stage *stage, uint8_t *bytes, size_t room,
+/* Reads the next bytes of a temporary file or of the installed file. `len` is 0 at its end. */
+enum minisign_error read_stage(struct directory *directory, struct stage *stage, uint8_t *bytes, size_t size,
                                size_t *len);
 
-/* Gives the stage of the update the permissions of the file at the target, or those that are given. */
+/* Sets the permissions of the update to those of the installed file, or to the mode of the options. */
 enum minisign_error take_permissions(struct directory *directory);
 
-/* Syncs the stage, or the file at the target. A record first gets the owner who may go on after this run, as far as
- * that is allowed. */
+/* Syncs a temporary file or the installed file. A record is first given to the owner who may install the next update,
+ * if the system allows it. */
 enum minisign_error sync_stage(struct directory *directory, const struct stage *stage);
 enum minisign_error sync_record(struct directory *directory, const struct stage *stage);
 
-/* Gives the stage the name of the record or of the target. */
+/* Renames a temporary file to the record or to the target. */
 enum minisign_error rename_stage(struct directory *directory, const struct stage *stage, const struct part *to);
 
-/* Syncs the names in the directory. */
+/* Syncs the directory. */
 enum minisign_error sync_names(struct directory *directory);
 
 enum minisign_error remove_stage(struct directory *directory, const struct stage *stage);

@@ -1,16 +1,17 @@
 /* SPDX-License-Identifier: MIT */
-/* The installing host. */
+/* Installs an update: makes the calls that the state machine of minisign_install.h asks for, and reports their results
+ * to it. */
 #include "installing.h"
 
 #include "shared/handles.h"
 
-/* How often in a second the lock is tried. */
+/* How often per second to try to get the lock. */
 #define WAITS 10
 
 static bool make_due_call(struct installing *run);
 
-/* As the machine is only told about the call that is due, it returns no error but that there is more or less data than
- * was signed, after which it says what is due then. */
+/* The machine is only told about the call that is due, so it returns no error except that there is more or less data
+ * than was signed. It then says what is due after that. */
 static void must(enum minisign_error error)
 {
     if (error != MINISIGN_OK && error != MINISIGN_OTHER_SIZE) {
@@ -37,21 +38,21 @@ void end_installing(struct installing *run)
 {
     if (minisign_install_failed(&run->machine, MINISIGN_WRITING_FAILED) == MINISIGN_OK) {
         while (make_due_call(run)) {
-            /* (this removes what was made) */
+            /* This removes temporary files. */
         }
     }
-    close_open(&run->held.fd);
+    close_if_open(&run->held.fd);
     close_directory(&run->directory);
     free(run);
 }
 
-/* Tells the machine how a call went. */
+/* Reports the result of a call to the machine. */
 static void tell(struct installing *run, enum minisign_error error)
 {
     must(error == MINISIGN_OK ? minisign_install_done(&run->machine) : minisign_install_failed(&run->machine, error));
 }
 
-/* ---- The texts ---- */
+/* ---- The signature ---- */
 
 const char *wanted_name(const struct installing *run)
 {
@@ -64,9 +65,9 @@ const uint8_t *vouched_comment(const struct installing *run, size_t *len)
     return minisign_install_is_vouched(&run->machine) == 1 ? run->message + run->questions.comment_offset : NULL;
 }
 
-/* What the clock shows, in seconds since the beginning of 1970. If it shows an earlier time, it is wrong, and what
- * expires counts as expired. If it shows less than the time at which the record was written, it is wrong too, which the
- * machine judges. (`time` may be some milliseconds behind the times of files.) */
+/* Returns the current time, in seconds since 1970. If the clock shows an earlier time, it is wrong, and every update
+ * that expires counts as expired. If it shows less than the modification time of the record, it is wrong too, which the
+ * machine handles. (time() may be some milliseconds behind the timestamps of files.) */
 static uint64_t now(struct installing *run)
 {
     struct timespec shown = { .tv_sec = -1 };
@@ -77,7 +78,7 @@ static uint64_t now(struct installing *run)
     return shown.tv_sec < 0 ? UINT64_MAX : (uint64_t) shown.tv_sec;
 }
 
-/* Remembers why the clock is taken for wrong: by the time at which the record was written. */
+/* Remembers why the clock is wrong: the record was written later. */
 static void blame_clock(struct installing *run)
 {
     struct directory *directory = &run->directory;
@@ -92,7 +93,7 @@ static void blame_clock(struct installing *run)
     }
 }
 
-/* Hands over the text of the signature, and what Ed25519 answers to the questions about it. */
+/* Passes on the signature file and the results of the Ed25519 checks. */
 static void answer_questions(struct installing *run)
 {
     const struct wanted *wanted = run->wanted;
@@ -111,7 +112,7 @@ static void answer_questions(struct installing *run)
             blame_clock(run);
         }
     }
-    /* (a call that could not be made is still due) */
+    /* After a call that failed, the same call is due. */
     if (minisign_install_due(&run->machine) == run->call) {
         tell(run, MINISIGN_READING_FAILED);
     }
@@ -119,14 +120,14 @@ static void answer_questions(struct installing *run)
 
 /* ---- The data ---- */
 
-/* Remembers why the data could not be read to its end: the cause, or errno if that is NULL. */
 static enum minisign_error data_fails(struct installing *run, const char *cause)
 {
     run->directory.trouble = (struct trouble) { run->wanted->shown, cause, errno, NULL };
     return MINISIGN_READING_FAILED;
 }
 
-/* Begins with these keys. Data is slow that is no regular file, such as a pipe, until it is received. */
+/* Starts the machine with these keys. Data that is not a regular file, such as a pipe, may arrive slowly, so it is
+ * received first. */
 static void begin_with(struct installing *run, const minisign_public_key *key, const minisign_public_key *other)
 {
     const struct wanted *wanted = run->wanted;
@@ -139,8 +140,8 @@ static void begin_with(struct installing *run, const minisign_public_key *key, c
     must(minisign_install_init(&run->machine, key, other, &options));
 }
 
-/* Whether the second key is tried, from the beginning: if it has the key ID of the first, which has not signed the
- * comment. Of two keys with one ID the machine asks the first alone. Nothing was made then. */
+/* Starts again with the second key if it has the key ID of the first, and the first has not signed the comment: of two
+ * keys with one ID, the machine checks only the first. Nothing was created by then. */
 static bool asks_second_key(struct installing *run)
 {
     const minisign_public_key *keys = run->wanted->keys;
@@ -154,23 +155,22 @@ static bool asks_second_key(struct installing *run)
     return true;
 }
 
-/* Looks at the data, and begins. */
 static void begin(struct installing *run)
 {
     const struct wanted *wanted = run->wanted;
-    struct stat found = { 0 };
-    bool is_open = wanted->is_check || AGAIN(fstat(wanted->data, &found)) == 0;
+    struct stat status = { 0 };
+    bool is_open = wanted->is_check || AGAIN(fstat(wanted->data, &status)) == 0;
 
-    run->is_file = S_ISREG(found.st_mode);
+    run->is_file = S_ISREG(status.st_mode);
     run->data = wanted->data;
-    run->data_size = run->is_file ? (uint64_t) found.st_size : 0;
+    run->data_size = run->is_file ? (uint64_t) status.st_size : 0;
     begin_with(run, &wanted->keys[0], &wanted->keys[wanted->key_count - 1]);
     if (!is_open) {
         tell(run, data_fails(run, NULL));
     }
 }
 
-/* Reads the next piece of the data, none at its end, and writes it after what a stage holds. */
+/* Reads the next piece of the data, and appends it to a temporary file. `len` is 0 at the end of the data. */
 static enum minisign_error move_piece(struct installing *run, struct stage *to, size_t *len)
 {
     ssize_t n = AGAIN(read(run->data, run->piece, PIECE_BYTES));
@@ -187,7 +187,7 @@ static enum minisign_error move_piece(struct installing *run, struct stage *to, 
     return write_stage(&run->directory, to, run->piece, *len);
 }
 
-/* Tells the machine about a piece that was moved, or the end. */
+/* Reports to the machine a piece that was copied, or the end of the data. */
 static void tell_moved(struct installing *run, size_t len, enum minisign_error error)
 {
     if (error == MINISIGN_OK && len > 0) {
@@ -197,7 +197,7 @@ static void tell_moved(struct installing *run, size_t len, enum minisign_error e
     }
 }
 
-/* Receives a piece into a file of its own, which is then copied. */
+/* Receives a piece of slow data into a temporary file, which is copied later. */
 static void receive_piece(struct installing *run)
 {
     size_t len = 0;
@@ -220,9 +220,9 @@ static void copy_piece(struct installing *run)
     tell_moved(run, len, error);
 }
 
-/* ---- What is read back ---- */
+/* ---- Reading back ---- */
 
-/* Hands over the record. One that is another's than the keeper's is renewed, if it reads as a record. */
+/* Passes on the record. If it does not belong to the keeper, and has the form of a record, it is renewed. */
 static void read_record_whole(struct installing *run)
 {
     const struct wanted *wanted = run->wanted;
@@ -244,7 +244,7 @@ static void read_record_whole(struct installing *run)
     }
 }
 
-/* Hands over the next piece of the stage or of the file at the target. */
+/* Passes on the next piece of a temporary file or of the installed file. */
 static void read_piece(struct installing *run, struct stage *from)
 {
     size_t len = 0;
@@ -255,14 +255,14 @@ static void read_piece(struct installing *run, struct stage *from)
                               : minisign_install_failed(&run->machine, error));
 }
 
-/* Hands over the next piece of the file at the target, which it opens first, or tells that there is none. */
+/* Passes on the next piece of the installed file, which is opened first, or reports that there is none. */
 static void look(struct installing *run)
 {
     struct directory *directory = &run->directory;
-    enum minisign_error error = directory->there.fd < 0 ? open_target(directory) : MINISIGN_OK;
+    enum minisign_error error = directory->installed.fd < 0 ? open_target(directory) : MINISIGN_OK;
 
-    if (error == MINISIGN_OK && directory->there.fd >= 0) {
-        read_piece(run, &directory->there);
+    if (error == MINISIGN_OK && directory->installed.fd >= 0) {
+        read_piece(run, &directory->installed);
     } else {
         must(error == MINISIGN_OK ? minisign_install_no_target(&run->machine)
                                   : minisign_install_failed(&run->machine, error));
@@ -271,23 +271,23 @@ static void look(struct installing *run)
 
 /* ---- The calls that are due ---- */
 
-/* Locks the target. If another run holds the lock, each call waits for a moment, up to the given time. Nobody waits
- * before slow data is received. */
+/* Locks the target. If another run has the lock, each call waits for a tenth of a second, up to the time of the
+ * options. It does not wait before slow data was received. */
 static void lock(struct installing *run)
 {
-    static const struct timespec moment = { .tv_nsec = 1000000000 / WAITS };
+    static const struct timespec pause = { .tv_nsec = 1000000000 / WAITS };
     enum minisign_error error = lock_target(&run->directory);
     bool is_received = run->is_file || run->held.fd >= 0;
 
     if (error == MINISIGN_TARGET_IN_USE && is_received && run->waited < (uint64_t) run->wanted->wait * WAITS) {
         run->waited++;
-        nanosleep(&moment, NULL);
+        nanosleep(&pause, NULL);
         return;
     }
     tell(run, error);
 }
 
-/* Writes the record, which a wrong clock does not date back. */
+/* Writes the record. Its modification time never goes back, even if the clock does. */
 static enum minisign_error write_record(struct installing *run)
 {
     uint8_t text[MINISIGN_RECORD_TEXT_BYTES];
@@ -299,7 +299,6 @@ static enum minisign_error write_record(struct installing *run)
                                                         : error;
 }
 
-/* Remembers which call is made, and counts its bytes. */
 static void begin_call(struct installing *run)
 {
     enum minisign_due due = minisign_install_due(&run->machine);
@@ -311,7 +310,7 @@ static void begin_call(struct installing *run)
     }
 }
 
-/* Makes the call that is due. False if none is any more. */
+/* Makes the call that is due. Returns false if there is none. */
 static bool make_due_call(struct installing *run)
 {
     struct directory *directory = &run->directory;
@@ -325,7 +324,7 @@ static bool make_due_call(struct installing *run)
     case MINISIGN_DUE_JUDGE_TARGET:
     case MINISIGN_DUE_ANSWER: answer_questions(run); break;
     case MINISIGN_DUE_LOOK: look(run); break;
-    case MINISIGN_DUE_SYNC_TARGET: tell(run, sync_stage(directory, &directory->there)); break;
+    case MINISIGN_DUE_SYNC_TARGET: tell(run, sync_stage(directory, &directory->installed)); break;
     case MINISIGN_DUE_UNLOCK: unlock_target(directory); tell(run, MINISIGN_OK); break;
     case MINISIGN_DUE_RECEIVE: receive_piece(run); break;
     case MINISIGN_DUE_CLEAR: tell(run, remove_leftovers(directory)); break;
@@ -349,35 +348,35 @@ static bool make_due_call(struct installing *run)
     return true;
 }
 
-/* Blocks the signals that ask for the end, and tells which were blocked before. */
-static void hold_ends_back(sigset_t *before)
+/* Blocks the signals that ask a program to end, and returns the previous signal mask. */
+static void block_end_signals(sigset_t *old_mask)
 {
-    static const int asking[] = { SIGHUP, SIGINT, SIGQUIT, SIGTERM };
+    static const int end_signals[] = { SIGHUP, SIGINT, SIGQUIT, SIGTERM };
     sigset_t ends;
 
     sigemptyset(&ends);
-    for (size_t i = 0; i < sizeof asking / sizeof asking[0]; i++) {
-        sigaddset(&ends, asking[i]);
+    for (size_t i = 0; i < sizeof end_signals / sizeof end_signals[0]; i++) {
+        sigaddset(&ends, end_signals[i]);
     }
-    pthread_sigmask(SIG_BLOCK, &ends, before);
+    pthread_sigmask(SIG_BLOCK, &ends, old_mask);
 }
 
-/* From the renaming of the record until the target has its name, or that failed, all calls are made at once, so that no
- * signal in between leaves the new number beside the older data. */
+/* From the renaming of the record until the target is renamed, or that has failed, all calls are made at once.
+ * Otherwise a signal in between would leave the new version number beside the old file. */
 bool make_call(struct installing *run)
 {
-    sigset_t before;
+    sigset_t old_mask;
 
     if (minisign_install_due(&run->machine) == MINISIGN_DUE_NOTHING) {
         begin(run);
     }
     if (minisign_install_due(&run->machine) == MINISIGN_DUE_RENAME_RECORD) {
-        hold_ends_back(&before);
+        block_end_signals(&old_mask);
         do {
             make_due_call(run);
         } while (minisign_install_due(&run->machine) == MINISIGN_DUE_SYNC_RECORD_NAME
                  || minisign_install_due(&run->machine) == MINISIGN_DUE_RENAME);
-        pthread_sigmask(SIG_SETMASK, &before, NULL);
+        pthread_sigmask(SIG_SETMASK, &old_mask, NULL);
         return true;
     }
     if (make_due_call(run)) {

@@ -1,10 +1,10 @@
 /* SPDX-License-Identifier: MIT */
-/* What minisign-install says. */
+/* Prints minisign-install's messages. */
 #include "messages.h"
 
 #include "shared/text.h"
 
 void say_answer(const char *file, int number)
 {
-    fprintf(stderr, "error: %s: %s (os error %d)\n", visible(file), strerror(number), number);
+    fprintf(stderr, "error: %s: %s (os error %d)\n", escape_name(file).text, strerror(number), number);
 }

@@ -1,7 +1,7 @@
 /* SPDX-License-Identifier: MIT */
 /*
- * What minisign-install says, each line in one write, and its exit statuses. No status changes if a line cannot be
- * written.
+ * Prints minisign-install's messages, each line by one write, and defines its exit statuses. The exit status is the
+ * same if a message cannot be written.
  */
 #ifndef INSTALL_MESSAGES_H
 #define INSTALL_MESSAGES_H
@@ -11,7 +11,7 @@ enum status {
     INSTALLED = 0,
     /* A file could not be used, an allocation failed, or no random bytes came. */
     FAILED = 1,
-    /* The command line makes no sense. */
+    /* The command line is invalid. */
     USAGE_ERROR = 2,
     REJECTED = 3,
     OLDER = 4,
@@ -27,7 +27,7 @@ enum status {
     THERE_ALREADY = 10
 };
 
-/* Prints the system's error about a file, by the number of errno. */
+/* Prints a system error about a file, for this value of errno. */
 void say_answer(const char *file, int number);
 
 #endif

@@ -1,10 +1,10 @@
 /* SPDX-License-Identifier: MIT */
 /*
- * minisign-install PK DATA SIG TARGET: installs an update that a public key and a signature vouch for. With --check it
- * only tells, by the signature alone, whether there is a newer one.
+ * The program minisign-install, which installs an update that has a valid signature. With --check it only says, from
+ * the signature, whether there is a newer update.
  *
- * The host of installing.h does that. This program reads the texts, has libsodium answer for Ed25519, and prints what
- * came of it.
+ * installing.h does the work. This file reads the key and the signature, verifies Ed25519 by libsodium, and prints the
+ * result.
  */
 #include "installing.h"
 
@@ -18,7 +18,7 @@
 #include "shared/streams.h"
 #include "shared/text.h"
 
-/* The text of a key or a signature, with room for one byte more than it may have. */
+/* A key file or signature file. One byte more than allowed is read, to notice that it is too long. */
 struct long_text {
     uint8_t bytes[TEXT_BYTES + 1];
     size_t len;
@@ -59,8 +59,8 @@ static void read_long_text(struct long_text *text, const char *file)
           : !is_utf8(text->bytes, text->len) ? "this file is not UTF-8"
                                              : NULL;
     if (why != NULL) {
-        say_error(file, why);
-        say_hint(ORDER_HINT);
+        print_error(file, why);
+        print_hint(ORDER_HINT);
         exit(REJECTED);
     }
 }
@@ -71,18 +71,18 @@ static void say_library_error(const char *file, enum minisign_error error)
     char text[MINISIGN_ERROR_TEXT_BYTES];
 
     minisign_error_text(error, text, sizeof text);
-    say_error(file, text);
+    print_error(file, text);
 }
 
-/* Prints what a text is and what to do, if it is another one than was wanted. */
+/* Prints what a file is and what to do, if it is not of the expected kind. */
 static void explain_text(const char *file, const struct long_text *text, enum text_kind wanted)
 {
     if (text->len > 0) {
-        say_if_other(file, text->bytes, text->len, wanted, ORDER_HINT);
+        explain_other_kind(file, text->bytes, text->len, wanted, ORDER_HINT);
     }
 }
 
-/* Ends the program if the library found no public key. */
+/* Ends the program if this is not a public key. */
 static void must_be_key(const char *shown, const struct long_text *text, enum minisign_error error)
 {
     if (error != MINISIGN_OK) {
@@ -92,7 +92,7 @@ static void must_be_key(const char *shown, const struct long_text *text, enum mi
     }
 }
 
-/* Reads the public key of a file, or those that are given, and the signature. */
+/* Reads the public key file, or the keys of the options, and the signature file. */
 static void read_texts(struct request *request)
 {
     static struct long_text text;
@@ -114,16 +114,17 @@ static void read_texts(struct request *request)
     wanted->signature_len = signature_text.len;
 }
 
-/* ---- What is done ---- */
+/* ---- The run ---- */
 
-/* What Ed25519 answers to one of the questions. */
-static enum minisign_answer answer_of(const uint8_t signed_by[64], const uint8_t *bytes, size_t len,
-                                      const uint8_t by[32])
+static enum minisign_answer answer_of(const uint8_t signature[64], const uint8_t *bytes, size_t len,
+                                      const uint8_t public_key[32])
 {
-    return crypto_sign_verify_detached(signed_by, bytes, len, by) == 0 ? MINISIGN_ANSWER_YES : MINISIGN_ANSWER_NO;
+    int result = crypto_sign_verify_detached(signature, bytes, len, public_key);
+
+    return result == 0 ? MINISIGN_ANSWER_YES : MINISIGN_ANSWER_NO;
 }
 
-/* What a call does with bytes, or NULL. */
+/* Returns what a call does with the data, for the progress, or NULL. */
 static const char *work_of(enum minisign_due call)
 {
     switch (call) {
@@ -135,19 +136,17 @@ static const char *work_of(enum minisign_due call)
     }
 }
 
-/* Shows how far the run is. */
 static void show_copying(struct progress *shown, const struct installing *run)
 {
     const char *work = work_of(run->call);
 
-    if (shown->what != work) {
+    if (shown->label != work) {
         end_progress(shown);
         *shown = begin_progress(work, run->size, true);
     }
     show_progress(shown, run->done - shown->done);
 }
 
-/* Makes the run, to its end. */
 static void make_run(struct request *request, struct installing *run)
 {
     struct progress shown = { 0 };
@@ -161,9 +160,9 @@ static void make_run(struct request *request, struct installing *run)
     end_progress(&shown);
 }
 
-/* ---- What came of it ---- */
+/* ---- Results ---- */
 
-/* How a run ends with an error: the status, the file that the error is about, and the hint. */
+/* How an error is reported: the exit status, the file that the error is about, and the hint. */
 struct ending {
     enum minisign_error error;
     enum status status;
@@ -191,7 +190,7 @@ static const struct ending endings[] = {
     { MINISIGN_EXPIRED, EXPIRED, THE_SIGNATURE, "download the latest update" },
     { MINISIGN_NO_NUMBER, REJECTED, THE_SIGNATURE, "use --numbering version if the comment has a field version:" },
     { MINISIGN_OTHER_FILE, REJECTED, THE_SIGNATURE, NULL },
-    /* Any other error is about the text of the signature. */
+    /* All other errors are about the signature file. */
     { .status = REJECTED, .blamed = THE_SIGNATURE },
 };
 
@@ -205,32 +204,31 @@ static const struct ending *ending_for(enum minisign_error error)
     return ending;
 }
 
-/* Prints what could not be used first. */
 static void say_trouble(const struct trouble *trouble)
 {
     if (trouble->cause != NULL) {
-        say_error(trouble->shown, trouble->cause);
+        print_error(trouble->shown, trouble->cause);
     } else {
         say_answer(trouble->shown, trouble->number);
     }
 }
 
-/* Prints what to do about an error of the library. */
+/* Prints a hint for an error of the library. */
 static void hint_at(const struct request *request, const struct installing *run, const struct ending *ending)
 {
     if (run->error == MINISIGN_NO_NUMBER && request->wanted.numbering == MINISIGN_NUMBERING_VERSION) {
-        say_hint("omit --numbering version if the comment has a field timestamp:");
+        print_hint("omit --numbering version if the comment has a field timestamp:");
     } else if (run->error == MINISIGN_OTHER_FILE) {
         fprintf(stderr, "hint: use --name NAME if the update is signed under another name than %s\n",
-                visible(wanted_name(run)));
+                escape_name(wanted_name(run)).text);
     } else if (ending->error == MINISIGN_OK) {
         explain_text(request->signature, &signature_text, SIGNATURE_TEXT);
     } else {
-        say_hint(ending->hint);
+        print_hint(ending->hint);
     }
 }
 
-/* Prints why the update is not installed, or not for good: the exit status. */
+/* Explains why the update is not installed, or not yet on disk. Returns the exit status. */
 static enum status report(const struct request *request, const struct installing *run)
 {
     const struct ending *ending = ending_for(run->error);
@@ -251,9 +249,9 @@ static enum status report(const struct request *request, const struct installing
         say_trouble(&directory->trouble);
     }
     if (run->is_too_long) {
-        say_hint("use --most BYTES to accept larger data");
+        print_hint("use --most BYTES to accept larger data");
     } else if (has_trouble && (status == FAILED || directory->trouble.hint != NULL)) {
-        say_hint(directory->trouble.hint);
+        print_hint(directory->trouble.hint);
     } else {
         hint_at(request, run, ending);
     }
@@ -268,7 +266,7 @@ static bool show_update(const struct installing *run)
 
     if (comment != NULL) {
         printf("%" PRIu64 "\n", minisign_install_number(&run->machine));
-        write_visible(stdout, comment, len);
+        write_escaped(stdout, comment, len);
         putchar('\n');
     }
     return fflush(stdout) == 0 && ferror(stdout) == 0;
@@ -277,15 +275,16 @@ static bool show_update(const struct installing *run)
 /* Warns that an installed file keeps its permissions, if --mode asks for others. */
 static void compare_mode(const struct wanted *wanted)
 {
-    struct stat found;
+    struct stat status;
 
-    if (wanted->has_mode && lstat(wanted->target, &found) == 0 && (found.st_mode & 0777) != wanted->mode) {
-        fprintf(stderr, "warning: %s: already installed, so its permissions are unchanged\n", visible(wanted->target));
-        say_hint("use chmod to change them");
+    if (wanted->has_mode && lstat(wanted->target, &status) == 0 && (status.st_mode & 0777) != wanted->mode) {
+        fprintf(stderr, "warning: %s: already installed, so its permissions are unchanged\n",
+                escape_name(wanted->target).text);
+        print_hint("use chmod to change them");
     }
 }
 
-/* Prints what came of the run: the exit status. */
+/* Prints the result of the run. Returns the exit status. */
 static enum status tell_end(const struct request *request, const struct installing *run)
 {
     if (request->wanted.is_check && !show_update(run)) {
@@ -300,18 +299,17 @@ static enum status tell_end(const struct request *request, const struct installi
 
 /* ---- The program ---- */
 
-/* Begins the run, or ends the program. */
 static struct installing *begin_run(const struct wanted *wanted)
 {
     struct installing *run = begin_installing(wanted);
 
     if (run == NULL && errno == EINVAL) {
-        say_error(wanted->target, "this path does not end with a file name");
-        say_hint("give the path of the file to install, not of its directory");
+        print_error(wanted->target, "this path does not end with a file name");
+        print_hint("give the path of the file to install, not of its directory");
         exit(USAGE_ERROR);
     }
     if (run == NULL) {
-        say_error(NULL, "out of memory");
+        print_error(NULL, "out of memory");
         exit(FAILED);
     }
     return run;
@@ -323,17 +321,17 @@ int main(int argc, char *argv[])
     struct installing *run;
     enum status status;
 
-    if (!hold_streams()) {
+    if (!fill_standard_streams()) {
         return FAILED;
     }
-    /* (a write that nobody reads, or beyond the system's bound on files, fails and is no signal) */
+    /* A write that nobody reads, or that exceeds the file size limit, must fail instead of ending the program. */
     signal(SIGPIPE, SIG_IGN);
     signal(SIGXFSZ, SIG_IGN);
     request = read_request(argc, argv);
     request.wanted.answer = answer_of;
     run = begin_run(&request.wanted);
     if (sodium_init() < 0) {
-        say_error(NULL, "libsodium could not be initialized");
+        print_error(NULL, "libsodium could not be initialized");
         return FAILED;
     }
     read_texts(&request);

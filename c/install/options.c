@@ -1,5 +1,5 @@
 /* SPDX-License-Identifier: MIT */
-/* The command line of minisign-install. */
+/* Parses the command line of minisign-install. */
 #include "options.h"
 
 #include "messages.h"
@@ -9,7 +9,7 @@
 
 enum { PATHS = 4 };
 
-/* The options: from MODE on they have a value, and from IS_AGAIN to WAIT none goes with a check. */
+/* The options. Those from MODE on have a value, and those from IS_AGAIN to WAIT cannot be combined with --check. */
 enum option { IS_CHECK, IS_FIRST, MUST_EXPIRE, IS_AGAIN, MODE, MOST, WAIT, NUMBERING, NAME, KEY, OPTIONS };
 
 static const struct {
@@ -21,37 +21,37 @@ static const struct {
     { "--name", NAME }, { "--key", KEY },
 };
 
-/* What was read: the word and the value of each option, or NULL. */
+/* The parsed command line: the name and the value of each option, or NULL. */
 struct command_line {
     const char *words[OPTIONS];
     const char *values[OPTIONS];
     const char *keys[MAX_KEYS];
     int key_count;
-    /* (with room for one too many) */
+    /* One path too many is kept, for the message. */
     const char *paths[PATHS + 1];
     int count;
 };
 
-static _Noreturn void show(const char *first, const char *second)
+static _Noreturn void show(const char *text, const char *more_text)
 {
-    exit(fputs(first, stdout) >= 0 && fputs(second, stdout) >= 0 && fflush(stdout) == 0 ? INSTALLED : FAILED);
+    exit(fputs(text, stdout) >= 0 && fputs(more_text, stdout) >= 0 && fflush(stdout) == 0 ? INSTALLED : FAILED);
 }
 
 static _Noreturn void end_misuse(void)
 {
     fputs(USAGE "\n", stderr);
-    say_hint("use --help to list the options");
+    print_hint("use --help to list the options");
     exit(USAGE_ERROR);
 }
 
-/* Ends the program because of an argument, or of NULL, of all of them. */
+/* Ends the program because of an argument, or of all of them if `word` is NULL. */
 static _Noreturn void misuse(const char *word, const char *what)
 {
-    say_error(word, what);
+    print_error(word, what);
     end_misuse();
 }
 
-/* Keeps an option. It comes at most once, and that of a key twice. */
+/* Stores an option, which can be given once, except --key, which can be given twice. */
 static void add_option(struct command_line *line, enum option option, const char *word, const char *value)
 {
     if (option == KEY) {
@@ -66,8 +66,8 @@ static void add_option(struct command_line *line, enum option option, const char
     line->values[option] = value;
 }
 
-/* Ends the program if there are too many or too few paths, or a check has an option of installations. A check has no
- * data, and with --key there is no file of a key. */
+/* Ends the program if there are too many or too few paths, or if an option cannot be combined with --check. With
+ * --check there is no DATA, and with --key no PK. */
 static void judge_line(const struct command_line *line)
 {
     static const char *const paths[2][2] = { { "PK DATA SIG TARGET", "DATA SIG TARGET" },
@@ -76,7 +76,7 @@ static void judge_line(const struct command_line *line)
     int wanted = PATHS - is_check - has_key;
 
     if (line->count > wanted) {
-        fprintf(stderr, "error: %s: unexpected argument, expected %s\n", visible(line->paths[wanted]),
+        fprintf(stderr, "error: %s: unexpected argument, expected %s\n", escape_name(line->paths[wanted]).text,
                 paths[is_check][has_key]);
         end_misuse();
     }
@@ -128,10 +128,9 @@ static struct command_line read_command_line(int argc, char *argv[])
     return line;
 }
 
-/* Ends the program because an option cannot have this value. */
 static _Noreturn void reject_value(const char *option, const char *expected, const char *value)
 {
-    fprintf(stderr, "error: %s: invalid value \"%s\", expected %s\n", option, visible(value), expected);
+    fprintf(stderr, "error: %s: invalid value \"%s\", expected %s\n", option, escape_name(value).text, expected);
     end_misuse();
 }
 
@@ -146,7 +145,7 @@ static enum minisign_numbering numbering_of(const char *text)
     return MINISIGN_NUMBERING_VERSION;
 }
 
-/* The permissions in three octal digits, before which a 0 may stand. */
+/* Parses three octal digits, with or without a leading 0. */
 static mode_t mode_of(const char *text)
 {
     size_t len = strlen(text);
@@ -157,7 +156,7 @@ static mode_t mode_of(const char *text)
     return (mode_t) strtoul(text, NULL, 8);
 }
 
-/* How many bytes the letter of a unit stands for, or 1 if there is none. */
+/* Returns the number of bytes for the suffix of a size, or 1 if there is none. */
 static uint64_t unit_of(const char *text)
 {
     switch (text[0]) {
@@ -169,7 +168,7 @@ static uint64_t unit_of(const char *text)
     }
 }
 
-/* The number of bytes in decimal digits, after which the letter of a unit may stand. */
+/* Parses a decimal number of bytes, which may have a suffix. */
 static uint64_t bytes_of(const char *option, const char *text)
 {
     size_t len = strspn(text, "0123456789");
@@ -184,7 +183,7 @@ static uint64_t bytes_of(const char *option, const char *text)
     return number * unit;
 }
 
-/* The seconds in decimal digits, up to a day. */
+/* Parses a decimal number of seconds, up to a day. */
 static uint32_t seconds_of(const char *text)
 {
     size_t len = strlen(text);

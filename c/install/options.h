@@ -1,22 +1,22 @@
 /* SPDX-License-Identifier: MIT */
-/* The command line of minisign-install. */
+/* Parses the command line of minisign-install. */
 #ifndef INSTALL_OPTIONS_H
 #define INSTALL_OPTIONS_H
 
 #include "installing.h"
 
-/* An installation that is asked for. */
+/* The parsed command line. */
 struct request {
-    /* What the command line says about it. The texts and the data are not read yet. */
+    /* The options of the run, without the data, keys and signature. */
     struct wanted wanted;
-    /* The file of the public key, or NULL if keys are given: each in base64. */
+    /* The public key file; or NULL, and public keys in base64. */
     const char *key;
     const char *keys[MAX_KEYS];
     const char *signature;
 };
 
-/* Reads the command line. Ends the program with the help or the version, if one is asked for, and with an error if it
- * makes no sense. */
+/* Parses the command line. Ends the program with the help or the version, if asked for, and with an error if the
+ * command line is invalid. */
 struct request read_request(int argc, char *argv[]);
 
 #endif

@@ -1,17 +1,22 @@
 /*
- * The three calls for memory that the proved calls make, over malloc and free.
+ * Allocates memory for the proved calls, by malloc and free.
  *
- * A block may have held a secret, so it is cleared before it is freed. The call that frees it gives no length: that
- * stands in front of the block, with what malloc returned. To grow a block, a new one is allocated, the old one copied
- * and cleared.
+ * A block may have contained a secret, so it is cleared before it is freed. The call that frees a block passes no
+ * length: the length is stored in front of the block, with the pointer that malloc returned. To grow a block, a new
+ * block is allocated, and the old one is copied and cleared.
  *
- * A large block has the rows of a key derivation, which writes every page, from the first to the last. So the system is
- * asked for huge pages, and to bring the pages in before they are written; otherwise they come one by one. A virtual
- * machine may have lent its huge pages to its host, and then waits for each: if they take longer than other pages, the
- * rest is of these. A thread asks for all but the first part, so that the work goes on meanwhile. It reads and writes
- * nothing, blocks all signals, and ends before the block is freed. If there is no thread, also with
- * -DMINISIGN_NO_THREADS, the parts come in before the work begins. At the end the system is asked to take all pages
- * back, so that zeros are read there, or else zeros are written.
+ * Large blocks hold the rows of scrypt, which writes every page, from the first to the last. The system is asked
+ * for huge pages, and to populate them before they are written; otherwise each page would be a page fault. In a virtual
+ * machine, huge pages can be slow: it may have lent them to its host, and waits for each of them. If a part of huge
+ * pages takes longer than one of small pages, the rest of the block gets small pages.
+ *
+ * The first part of a long block gets small pages, to measure their time. A thread populates the other parts while
+ * scrypt already works. The thread does not access the contents of the block, blocks all signals, and ends before the
+ * block is freed. If no thread can be created, or with -DMINISIGN_NO_THREADS, all parts are populated before the call
+ * returns.
+ *
+ * To clear a large block, the system is asked to take back its pages, which then read as zeros. If it does not, zeros
+ * are written.
  *
  * SPDX-License-Identifier: MIT
  */
@@ -33,37 +38,37 @@
 
 #define LARGE_BYTES ((size_t) 4 << 20)
 #define HUGE_PAGE_BYTES ((size_t) 2 << 20)
-/* How much of a large block is brought in at a time, and timed. */
+/* Parts of this size are populated, and timed, one after the other. */
 #define PART_BYTES ((size_t) 16 << 20)
 
-/* What stands in front of a block. */
+/* In front of each block: the pointer that malloc returned, and the length of the block. */
 struct heading {
-    void *taken;
+    void *allocation;
     size_t len;
 };
 
-/* What stands in front of that if the block is large: the thread that brings its pages in. */
+/* In front of the heading of a large block: the thread that populates its pages. */
 struct pages {
     char *block;
     size_t len;
-    /* How many nanoseconds a part of pages that are not huge takes. */
-    int64_t usual;
+    /* The time that a part of small pages takes, in nanoseconds. */
+    int64_t small_pages_time;
     pthread_t thread;
     int is_begun;
-    atomic_int is_ended;
+    atomic_int must_stop;
 };
 
-/* Stands for the block of an allocation that failed. */
-static char nothing;
+/* The block of a failed allocation, which must not be NULL. */
+static char no_block;
 
 _Static_assert(sizeof(struct heading) == 16, "as far as malloc aligns");
 
-static struct heading *front_of(void *block)
+static struct heading *heading_of(void *block)
 {
     return (struct heading *) block - 1;
 }
 
-/* How much stands in front of a large block, as a multiple of 16 bytes. */
+/* The size of everything in front of a large block, a multiple of 16 bytes. */
 #define LARGE_FRONT_BYTES ((sizeof(struct pages) + sizeof(struct heading) + 15) / 16 * 16)
 
 static struct pages *pages_of(void *block)
@@ -71,13 +76,13 @@ static struct pages *pages_of(void *block)
     return (struct pages *) ((char *) block - LARGE_FRONT_BYTES);
 }
 
-/* The first multiple of a power of two from this address on. */
+/* Rounds an address up to a multiple of a power of two. */
 static uintptr_t aligned(uintptr_t address, size_t alignment)
 {
     return (address + alignment - 1) & ~(uintptr_t) (alignment - 1);
 }
 
-/* How many bytes of a large block, which begins with a page, are whole pages. */
+/* Returns how many bytes of a large block are whole pages. A large block begins with a page. */
 static size_t whole_pages(size_t len)
 {
     size_t page = (size_t) sysconf(_SC_PAGESIZE);
@@ -87,109 +92,111 @@ static size_t whole_pages(size_t len)
 
 #if defined(MADV_HUGEPAGE) && defined(MADV_POPULATE_WRITE)
 
-/* Has the system bring in a part of a block, in pages of this kind: the processor's nanoseconds that it took. */
-static int64_t bring_in_part(char *part, size_t len, int kind)
+/* Populates a part of a block with this kind of pages. Returns the processor time that this took, in nanoseconds. */
+static int64_t populate_part(char *part, size_t len, int kind)
 {
-    struct timespec begun = { 0, 0 }, ended = { 0, 0 };
+    struct timespec start = { 0, 0 }, end = { 0, 0 };
 
-    clock_gettime(CLOCK_THREAD_CPUTIME_ID, &begun);
+    clock_gettime(CLOCK_THREAD_CPUTIME_ID, &start);
     madvise(part, len, kind);
     madvise(part, len, MADV_POPULATE_WRITE);
-    clock_gettime(CLOCK_THREAD_CPUTIME_ID, &ended);
-    return (ended.tv_sec - begun.tv_sec) * (int64_t) 1000000000 + ended.tv_nsec - begun.tv_nsec;
+    clock_gettime(CLOCK_THREAD_CPUTIME_ID, &end);
+    return (end.tv_sec - start.tv_sec) * (int64_t) 1000000000 + end.tv_nsec - start.tv_nsec;
 }
 
-/* Has the system bring in a large block after its first part, huge pages first, as long as the block is in use. */
-static void bring_in_rest(struct pages *pages)
+/* Populates a large block after its first part, as long as the block is in use, with huge pages until a part takes too
+ * long. */
+static void populate_rest(struct pages *pages)
 {
+    int64_t limit = pages->small_pages_time + pages->small_pages_time / 4;
     int kind = MADV_HUGEPAGE;
 
-    for (size_t at = PART_BYTES, part; at < pages->len && !atomic_load(&pages->is_ended); at += part) {
+    for (size_t at = PART_BYTES, part; at < pages->len && !atomic_load(&pages->must_stop); at += part) {
         part = pages->len - at < PART_BYTES ? pages->len - at : PART_BYTES;
-        kind = bring_in_part(pages->block + at, part, kind) > pages->usual + pages->usual / 4 ? MADV_NOHUGEPAGE : kind;
+        kind = populate_part(pages->block + at, part, kind) > limit ? MADV_NOHUGEPAGE : kind;
     }
 }
 
 #ifndef MINISIGN_NO_THREADS
 
-static void *bring_in_beside(void *pages)
+static void *populate_in_thread(void *pages)
 {
-    bring_in_rest(pages);
+    populate_rest(pages);
     return NULL;
 }
 
-/* Begins a thread that blocks all signals: whether there is one. */
-static int begin_thread(struct pages *pages)
+/* Creates a thread that blocks all signals. Returns 0 on failure. */
+static int create_thread(struct pages *pages)
 {
-    sigset_t all, before;
+    sigset_t all, old_mask;
     int is_begun;
 
     sigfillset(&all);
-    if (pthread_sigmask(SIG_SETMASK, &all, &before) != 0) {
+    if (pthread_sigmask(SIG_SETMASK, &all, &old_mask) != 0) {
         return 0;
     }
-    is_begun = pthread_create(&pages->thread, NULL, bring_in_beside, pages) == 0;
-    pthread_sigmask(SIG_SETMASK, &before, NULL);
+    is_begun = pthread_create(&pages->thread, NULL, populate_in_thread, pages) == 0;
+    pthread_sigmask(SIG_SETMASK, &old_mask, NULL);
     return is_begun;
 }
 
-static void end_thread(struct pages *pages)
+static void join_thread(struct pages *pages)
 {
     if (pages->is_begun) {
-        atomic_store(&pages->is_ended, 1);
+        atomic_store(&pages->must_stop, 1);
         pthread_join(pages->thread, NULL);
     }
 }
 
 #else
 
-#define begin_thread(pages) ((void) (pages), 0)
-#define end_thread(pages) ((void) (pages))
+#define create_thread(pages) ((void) (pages), 0)
+#define join_thread(pages) ((void) (pages))
 
 #endif
 
-/* Has the system bring in the pages of a large block. */
-static void bring_in(struct pages *pages)
+/* Populates the pages of a large block. */
+static void populate(struct pages *pages)
 {
-    int before = errno;
+    int saved_errno = errno;
 
     if (pages->len <= PART_BYTES) {
-        bring_in_part(pages->block, pages->len, MADV_HUGEPAGE);
+        populate_part(pages->block, pages->len, MADV_HUGEPAGE);
     } else {
-        pages->usual = bring_in_part(pages->block, PART_BYTES, MADV_NOHUGEPAGE);
-        pages->is_begun = begin_thread(pages);
+        pages->small_pages_time = populate_part(pages->block, PART_BYTES, MADV_NOHUGEPAGE);
+        pages->is_begun = create_thread(pages);
         if (!pages->is_begun) {
-            bring_in_rest(pages);
+            populate_rest(pages);
         }
     }
-    errno = before;
+    errno = saved_errno;
 }
 
 #else
 
-#define bring_in(pages) ((void) (pages))
-#define end_thread(pages) ((void) (pages))
+#define populate(pages) ((void) (pages))
+#define join_thread(pages) ((void) (pages))
 
 #endif
 
-/* Writes zeros, also if nothing reads them. */
+/* Writes zeros that the compiler must not optimize away. */
 static void write_zeros(char *block, size_t len)
 {
     memset(block, 0, len);
     __asm__ __volatile__("" : : "r"(block) : "memory");
 }
 
-/* Has the system take back the pages of a large block: how many of its bytes are zeros then, none if this memory of
+/* Asks the system to take back the pages of a large block. Returns how many bytes are zeros then: 0 if memory of this
  * malloc cannot be taken back. */
 static size_t take_back(char *block, size_t len)
 {
     size_t whole = whole_pages(len);
-    int before = errno, is_taken;
+    int saved_errno = errno, is_cleared;
 
     block[0] = block[whole - 1] = 1;
-    is_taken = madvise(block, whole, MADV_DONTNEED) == 0 && block[0] == 0 && block[whole - 1] == 0;
-    errno = before;
-    return is_taken ? whole : 0;
+    is_cleared = madvise(block, whole, MADV_DONTNEED) == 0 && block[0] == 0 && block[whole - 1] == 0;
+    errno = saved_errno;
+    return is_cleared ? whole : 0;
 }
 
 static void clear(char *block, size_t len)
@@ -204,19 +211,20 @@ struct grant rattle_alloc(size_t len, size_t alignment)
     int is_large = len >= LARGE_BYTES;
     size_t unit = is_large ? HUGE_PAGE_BYTES : sizeof(struct heading);
     size_t front = is_large ? LARGE_FRONT_BYTES : sizeof(struct heading);
-    char *taken, *block;
+    char *allocation, *block;
 
     unit = alignment > unit ? alignment : unit;
-    /* (malloc aligns a multiple of 16 bytes to 16, so what stands in front of the block and the block fit) */
-    taken = len <= PTRDIFF_MAX - 2 * unit - front ? malloc(aligned(len, sizeof(struct heading)) + unit + front) : NULL;
-    if (taken == NULL) {
-        return (struct grant) { 0, &nothing };
+    /* malloc aligns a size that is a multiple of 16 to 16 bytes, so the front and the block fit. */
+    allocation = len <= PTRDIFF_MAX - 2 * unit - front ? malloc(aligned(len, sizeof(struct heading)) + unit + front)
+                                                       : NULL;
+    if (allocation == NULL) {
+        return (struct grant) { 0, &no_block };
     }
-    block = taken + (aligned((uintptr_t) taken + front, unit) - (uintptr_t) taken);
-    *front_of(block) = (struct heading) { taken, len };
+    block = allocation + (aligned((uintptr_t) allocation + front, unit) - (uintptr_t) allocation);
+    *heading_of(block) = (struct heading) { allocation, len };
     if (is_large) {
         *pages_of(block) = (struct pages) { .block = block, .len = whole_pages(len) };
-        bring_in(pages_of(block));
+        populate(pages_of(block));
     }
     return (struct grant) { 1, block };
 }
@@ -234,11 +242,11 @@ struct grant rattle_realloc(void *block, size_t old_len, size_t len, size_t alig
 
 void rattle_dealloc(void *block)
 {
-    struct heading front = *front_of(block);
+    struct heading front = *heading_of(block);
 
     if (front.len >= LARGE_BYTES) {
-        end_thread(pages_of(block));
+        join_thread(pages_of(block));
     }
     clear(block, front.len);
-    free(front.taken);
+    free(front.allocation);
 }

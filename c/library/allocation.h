@@ -1,12 +1,12 @@
 /* SPDX-License-Identifier: MIT */
-/* The calls for memory that the proved calls make. */
+/* Declares the functions by which the proved calls allocate memory. */
 #ifndef ALLOCATION_H
 #define ALLOCATION_H
 
 #include <stddef.h>
 #include <stdint.h>
 
-/* The answer to a request: whether it was granted, and the block. */
+/* The result of an allocation: 1 and the block, or 0. */
 struct grant {
     uint64_t is_granted;
     void *block;

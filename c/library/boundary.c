@@ -1,10 +1,11 @@
 /*
- * The boundary between the headers and the proved calls of the crate minisign_c. Made by tools/header.py.
+ * The boundary between the headers and the proved calls of the crate minisign_c. The part after this head is made by
+ * tools/header.py.
  *
- * It does three things. It replaces a NULL pointer whose length is 0, which the proved calls do not take. It chooses
- * between the copies of these calls: on an x86-64 it takes the one built for x86-64-v3 if the processor has what that
- * needs, the one for x86-64-v2 if it has that, and else the one of dist/calls.c, which is C. And after a call with a
- * secret it clears what that left on the stack and in registers.
+ * Each function does three things. It replaces a NULL pointer with length 0, which the proved calls do not accept. It
+ * chooses the build of the proved call: on x86-64, the one for x86-64-v3 if the processor supports that, else the one
+ * for x86-64-v2 if it supports that, else the C code of dist/calls.c. After a call with a secret, it clears what the
+ * call left on the stack and in registers.
  *
  * SPDX-License-Identifier: MIT
  */
@@ -28,7 +29,7 @@
 
 #include <cpuid.h>
 
-/* All copies of a call, and the one that is taken. */
+/* Declares all builds of a call; and selects one. */
 #define PROVED(kind, name, parameters) \
     kind v2_##name parameters; kind v3_##name parameters; kind portable_##name parameters
 #ifdef MINISIGN_ARCHIVES_ALONE
@@ -39,24 +40,25 @@
 
 static int has_v2, has_v3;
 
-/* Whether the processor and the system support x86-64-v2 and x86-64-v3: found out once, before main. */
-__attribute__((constructor)) static void look_at_processor(void)
+/* True if the processor and the system support x86-64-v2 and x86-64-v3. Set once, before main. */
+__attribute__((constructor)) static void detect_processor(void)
 {
-    const unsigned two = bit_SSE3 | bit_SSSE3 | bit_CMPXCHG16B | bit_SSE4_1 | bit_SSE4_2 | bit_POPCNT;
-    const unsigned three = bit_FMA | bit_MOVBE | bit_OSXSAVE | bit_AVX | bit_F16C, seven = bit_BMI | bit_AVX2 | bit_BMI2;
-    unsigned a, b, c, d, more, kept, kept_above;
+    const unsigned v2_bits = bit_SSE3 | bit_SSSE3 | bit_CMPXCHG16B | bit_SSE4_1 | bit_SSE4_2 | bit_POPCNT;
+    const unsigned v3_bits = bit_FMA | bit_MOVBE | bit_OSXSAVE | bit_AVX | bit_F16C;
+    const unsigned v3_leaf7_bits = bit_BMI | bit_AVX2 | bit_BMI2;
+    unsigned a, b, c, d, extended, xcr0, xcr0_high;
 
-    if (!__get_cpuid(0x80000001, &a, &b, &more, &d) || !__get_cpuid(1, &a, &b, &c, &d)) {
+    if (!__get_cpuid(0x80000001, &a, &b, &extended, &d) || !__get_cpuid(1, &a, &b, &c, &d)) {
         return;
     }
-    has_v2 = (c & two) == two && (more & bit_LAHF_LM) == bit_LAHF_LM;
-    if (!has_v2 || (c & three) != three) {
+    has_v2 = (c & v2_bits) == v2_bits && (extended & bit_LAHF_LM) == bit_LAHF_LM;
+    if (!has_v2 || (c & v3_bits) != v3_bits) {
         return;
     }
-    /* (bits 1 and 2: the system keeps the registers of SSE and AVX for each program) */
-    __asm__ __volatile__("xgetbv" : "=a"(kept), "=d"(kept_above) : "c"(0));
-    has_v3 = (kept & 6) == 6 && __get_cpuid_count(7, 0, &a, &b, &c, &d) && (b & seven) == seven
-             && (more & bit_LZCNT) == bit_LZCNT;
+    /* XCR0, bits 1 and 2: the system saves the SSE and AVX registers. */
+    __asm__ __volatile__("xgetbv" : "=a"(xcr0), "=d"(xcr0_high) : "c"(0));
+    has_v3 = (xcr0 & 6) == 6 && __get_cpuid_count(7, 0, &a, &b, &c, &d) && (b & v3_leaf7_bits) == v3_leaf7_bits
+             && (extended & bit_LZCNT) == bit_LZCNT;
 }
 
 #else
@@ -66,7 +68,7 @@ __attribute__((constructor)) static void look_at_processor(void)
 
 #endif
 
-/* Nothing is read or written here. */
+/* Stand in for a NULL pointer with length 0. They are never accessed. */
 static const uint8_t nothing;
 static const uint32_t no_words;
 

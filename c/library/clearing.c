@@ -1,11 +1,11 @@
 /*
- * Clears what a call with a secret has left behind: the part of the stack that it used, and each register that a call
- * need not keep for its caller.
+ * Clears what a call with a secret has left behind: the part of the stack that it used, and all registers that a
+ * function need not preserve.
  *
- * It is assembly, as a compiler may put anything between a call and C that clears after it. The registers come first:
- * if a signal comes later, the system saves cleared ones. The stack is written downwards, so that if too little is
- * left, the page that guards it is met first. Other processors and systems have C, which knows the registers of a few:
- * in the others a register keeps what it holds until it is used again.
+ * This is assembly, because C that clears after a call cannot control what a compiler does in between. The registers
+ * are cleared first, so that a signal that arrives later saves cleared registers on the stack. The stack is written
+ * downwards, so that the guard page is hit first if too little of the stack is left. Other processors and systems use
+ * C, which clears the registers of a few of them. On all others a register keeps its value until it is used again.
  *
  * SPDX-License-Identifier: MIT
  */
@@ -18,28 +18,28 @@
 
 #include <cpuid.h>
 
-/* The instruction that has to stand where an indirect call arrives, with -fcf-protection. */
+/* With -fcf-protection, the instruction that the target of an indirect call must begin with. */
 #if defined(__CET__) && (__CET__ & 1) != 0
 #define LANDING "endbr64\n"
 #else
 #define LANDING ""
 #endif
 
-/* Whether the processor has the registers of AVX and those of AVX-512, and the system keeps them: found out once,
- * before main. (used: a compiler that sees no use in C would drop them) */
+/* True if the processor has the registers of AVX or AVX-512 and the system saves them. Set once, before main. (used:
+ * otherwise a compiler that sees no use in C would remove them) */
 __attribute__((visibility("hidden"), used)) unsigned char minisign_has_avx, minisign_has_avx512;
 
-__attribute__((constructor)) static void look_at_registers(void)
+__attribute__((constructor)) static void detect_registers(void)
 {
-    unsigned a, b, c, d, kept, kept_above;
+    unsigned a, b, c, d, xcr0, xcr0_high;
 
     if (!__get_cpuid(1, &a, &b, &c, &d) || (c & bit_OSXSAVE) == 0 || (c & bit_AVX) == 0) {
         return;
     }
-    /* (bits 1 and 2: the registers of SSE and AVX; bits 5 to 7: those of AVX-512) */
-    __asm__ __volatile__("xgetbv" : "=a"(kept), "=d"(kept_above) : "c"(0));
-    minisign_has_avx = (kept & 0x6) == 0x6;
-    minisign_has_avx512 = (kept & 0xe6) == 0xe6 && __get_cpuid_count(7, 0, &a, &b, &c, &d) && (b & bit_AVX512F) != 0;
+    /* XCR0, bits 1 and 2: SSE and AVX registers; bits 5 to 7: AVX-512 registers. */
+    __asm__ __volatile__("xgetbv" : "=a"(xcr0), "=d"(xcr0_high) : "c"(0));
+    minisign_has_avx = (xcr0 & 0x6) == 0x6;
+    minisign_has_avx512 = (xcr0 & 0xe6) == 0xe6 && __get_cpuid_count(7, 0, &a, &b, &c, &d) && (b & bit_AVX512F) != 0;
 }
 
 __asm__(".text\n"
@@ -85,14 +85,14 @@ __asm__(".text\n"
 
 #elif defined(__ELF__) && defined(__GNUC__) && defined(__aarch64__) && defined(__LP64__)
 
-/* The same with -mbranch-protection. */
+/* As above, with -mbranch-protection. */
 #ifdef __ARM_FEATURE_BTI_DEFAULT
 #define LANDING "hint #34\n"
 #else
 #define LANDING ""
 #endif
 
-/* (of v8 to v15 the lower half is the caller's) */
+/* Functions preserve the lower halves of v8 to v15. */
 __asm__(".text\n"
         ".globl minisign_clear_used\n"
         ".hidden minisign_clear_used\n"
@@ -131,7 +131,7 @@ __asm__(".text\n"
 
 #include <stdint.h>
 
-/* Writes zeros to the registers that a call need not keep. */
+/* Clears the registers that a function need not preserve. */
 static inline void clear_registers(void)
 {
 #if defined(__s390x__)
@@ -163,7 +163,7 @@ static inline void clear_registers(void)
 #endif
 }
 
-/* (volatile, so that all of it is written, from above; and never inlined, as it clears below the caller's frame) */
+/* volatile, so that everything is written, downwards; not inlined, so that the caller's frame is not in the way. */
 #ifdef __GNUC__
 __attribute__((noinline))
 #endif

@@ -1,10 +1,10 @@
 /* SPDX-License-Identifier: MIT */
-/* What runs however the program ends, also by a signal. */
+/* Runs cleanup functions when the program ends, also by a signal. */
 #include "cleanup.h"
 
 #include "messages.h"
 
-/* One clears secrets, and one removes files beside their places. */
+/* keys.c clears secrets, and replacing.c removes temporary files. */
 enum { MAX_CLEANERS = 2 };
 
 static void (*volatile cleaners[MAX_CLEANERS])(void);
@@ -18,43 +18,43 @@ static void clean(void)
     }
 }
 
-/* The signal that is raised here ends the program when this returns: all are blocked until then. */
-static void clean_and_end(int number)
+/* All signals are blocked while this handler runs, so the raised signal ends the program when the handler returns. */
+static void clean_and_end(int signo)
 {
     clean();
-    signal(number, SIG_DFL);
-    raise(number);
+    signal(signo, SIG_DFL);
+    raise(signo);
 }
 
-/* The others stop or continue a program, are ignored by default, or cannot be handled. */
-bool ends_program(int number)
+/* The other signals stop or continue a program, are ignored by default, or cannot be handled. */
+bool ends_program(int signo)
 {
-    return number != SIGKILL && number != SIGSTOP && number != SIGTSTP && number != SIGTTIN && number != SIGTTOU
-           && number != SIGCONT && number != SIGCHLD && number != SIGURG && number != SIGWINCH
+    return signo != SIGKILL && signo != SIGSTOP && signo != SIGTSTP && signo != SIGTTIN && signo != SIGTTOU
+           && signo != SIGCONT && signo != SIGCHLD && signo != SIGURG && signo != SIGWINCH
 #ifdef SIGINFO
            /* macOS and the BSDs ignore these by default; Ctrl-T sends SIGINFO. */
-           && number != SIGINFO && number != SIGIO
+           && signo != SIGINFO && signo != SIGIO
 #endif
         ;
 }
 
-bool is_crash(int number)
+bool is_crash(int signo)
 {
-    return number == SIGILL || number == SIGTRAP || number == SIGABRT || number == SIGBUS || number == SIGFPE
-           || number == SIGSEGV || number == SIGSYS;
+    return signo == SIGILL || signo == SIGTRAP || signo == SIGABRT || signo == SIGBUS || signo == SIGFPE
+           || signo == SIGSEGV || signo == SIGSYS;
 }
 
-/* Handles the signals that end a program. One that it was started to ignore stays ignored, and the C library keeps two
- * for itself. */
+/* Handles all signals that end a program, except those that the program was started to ignore. For signals that the C
+ * library reserves for itself, sigaction fails. */
 static void watch_signals(void)
 {
-    struct sigaction action = { 0 }, before;
+    struct sigaction action = { 0 }, old_action;
 
     action.sa_handler = clean_and_end;
     sigfillset(&action.sa_mask);
-    for (int number = 1; number < NSIG; number++) {
-        if (ends_program(number) && sigaction(number, NULL, &before) == 0 && before.sa_handler == SIG_DFL) {
-            sigaction(number, &action, NULL);
+    for (int signo = 1; signo < NSIG; signo++) {
+        if (ends_program(signo) && sigaction(signo, NULL, &old_action) == 0 && old_action.sa_handler == SIG_DFL) {
+            sigaction(signo, &action, NULL);
         }
     }
 }
@@ -64,7 +64,7 @@ void clean_at_end(void (*cleaner)(void))
     static int count;
 
     if (count == MAX_CLEANERS || (count == 0 && atexit(clean) != 0)) {
-        blame(NULL, "atexit() failed", NULL);
+        fail_error(NULL, "atexit() failed", NULL);
     }
     cleaners[count++] = cleaner;
     if (count == 1) {

@@ -1,18 +1,18 @@
 /* SPDX-License-Identifier: MIT */
-/* Clears secrets and removes unfinished files however the program ends, also by a signal. */
+/* Clears secrets and removes temporary files when the program ends, also by a signal. */
 #ifndef CLEANUP_H
 #define CLEANUP_H
 
 #include "shared/system.h"
 
-/* Has `clean` called once when the program ends. As a signal may come at any moment, it may only make calls of the
- * system and write memory. */
+/* Registers a function that is called when the program ends. It must be async-signal-safe: it may only make system
+ * calls and write memory. */
 void clean_at_end(void (*clean)(void));
 
-/* Whether a signal of this number ends a program that does nothing about it. */
-bool ends_program(int number);
+/* Returns true if the default action of a signal is to end the program. */
+bool ends_program(int signo);
 
-/* Whether it says that the program itself went wrong. */
-bool is_crash(int number);
+/* Returns true if a signal reports a fault of the program itself. */
+bool is_crash(int signo);
 
 #endif

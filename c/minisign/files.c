@@ -1,5 +1,5 @@
 /* SPDX-License-Identifier: MIT */
-/* Reading and writing files. */
+/* Opens, reads and writes files, and ends the program on failure. */
 #include "files.h"
 
 #include "shared/reports.h"
@@ -7,48 +7,48 @@
 
 int open_file(const char *file, const char *hint)
 {
-    int fd = open(file, O_RDONLY | O_CLOEXEC), number = errno;
+    int fd = open(file, O_RDONLY | O_CLOEXEC), saved_errno = errno;
 
     if (fd < 0) {
-        say_at(file);
-        say_hint(number == ENOENT ? hint : NULL);
+        print_errno(file);
+        print_hint(saved_errno == ENOENT ? hint : NULL);
         exit(TROUBLE);
     }
     return fd;
 }
 
-size_t read_full(int fd, const char *file, uint8_t *at, size_t room)
+size_t read_full(int fd, const char *file, uint8_t *buffer, size_t size)
 {
-    ssize_t len = read_whole(fd, at, room);
+    ssize_t len = read_whole(fd, buffer, size);
 
-    need(len >= 0, file);
+    require(len >= 0, file);
     return (size_t) len;
 }
 
-uid_t read_text(uint8_t *bytes, size_t room, size_t *len, const char *file, enum text_kind wanted)
+uid_t read_text(uint8_t *bytes, size_t size, size_t *len, const char *file, enum text_kind expected)
 {
-    int fd = open_file(file, hint_for(wanted));
-    struct stat found;
+    int fd = open_file(file, hint_for(expected));
+    struct stat status;
 
-    need(fstat(fd, &found) == 0, file);
-    *len = read_full(fd, file, bytes, room);
+    require(fstat(fd, &status) == 0, file);
+    *len = read_full(fd, file, bytes, size);
     errno = EFBIG;
-    need(*len < room, file);
+    require(*len < size, file);
     close(fd);
-    return found.st_uid;
+    return status.st_uid;
 }
 
 void flush_file(FILE *to)
 {
-    need(fflush(to) == 0 && !ferror(to), "standard output");
+    require(fflush(to) == 0 && !ferror(to), "standard output");
 }
 
-char *joined(const char *front, const char *middle, const char *end)
+char *join(const char *front, const char *middle, const char *end)
 {
-    size_t room = strlen(front) + strlen(middle) + strlen(end) + 1;
-    char *text = malloc(room);
+    size_t size = strlen(front) + strlen(middle) + strlen(end) + 1;
+    char *text = malloc(size);
 
-    need(text != NULL, front);
-    snprintf(text, room, "%s%s%s", front, middle, end);
+    require(text != NULL, front);
+    snprintf(text, size, "%s%s%s", front, middle, end);
     return text;
 }

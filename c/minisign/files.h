@@ -1,7 +1,7 @@
 /* SPDX-License-Identifier: MIT */
 /*
- * Reading and writing files. Where a function cannot do that, it prints a line on the error stream and ends the program
- * with TROUBLE.
+ * Opens, reads and writes files. If a function fails, it prints a message on standard error and ends the program with
+ * status TROUBLE.
  */
 #ifndef FILES_H
 #define FILES_H
@@ -10,27 +10,28 @@
 #include "messages.h"
 #include "minisign.h"
 
-#define TEXT_ROOM 65536
+#define TEXT_BUFFER_BYTES 65536
 
-/* The text of a key or a signature, shorter than TEXT_ROOM. */
+/* A key file or signature file, shorter than TEXT_BUFFER_BYTES. */
 struct text {
-    uint8_t bytes[TEXT_ROOM];
+    uint8_t bytes[TEXT_BUFFER_BYTES];
     size_t len;
 };
 
-/* Opens a file for reading. If there is none, the hint is printed too, unless it is NULL. */
+/* Opens a file for reading. If it does not exist, the hint is printed too, unless it is NULL. */
 int open_file(const char *file, const char *hint);
 
-/* Reads so many bytes, and fewer only at the end of the file. */
-size_t read_full(int fd, const char *file, uint8_t *at, size_t room);
+/* Reads until the buffer is full or the file ends, and returns the number of bytes. */
+size_t read_full(int fd, const char *file, uint8_t *buffer, size_t size);
 
-/* Reads a text that is shorter than its room: who owns the file. If there is none, a hint is printed too. */
-uid_t read_text(uint8_t *bytes, size_t room, size_t *len, const char *file, enum text_kind wanted);
+/* Reads a key file or signature file, which must be shorter than `size`, and returns the user ID of its owner. If the
+ * file does not exist, a hint is printed too. */
+uid_t read_text(uint8_t *bytes, size_t size, size_t *len, const char *file, enum text_kind expected);
 
-/* Writes all that was printed so far. */
+/* Flushes a stream, and makes sure that all output was written. */
 void flush_file(FILE *to);
 
-/* These texts as one, in memory of malloc. */
-char *joined(const char *front, const char *middle, const char *end);
+/* Returns the concatenation of these strings, in memory of malloc. */
+char *join(const char *front, const char *middle, const char *end);
 
 #endif

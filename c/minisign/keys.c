@@ -1,7 +1,7 @@
 /* SPDX-License-Identifier: MIT */
 /*
- * Secret keys. The library reads and writes their texts and derives keys from passwords; libsodium makes a pair of
- * Ed25519 and draws random bytes.
+ * Decrypts, generates and changes secret keys: minisign -G, -R and -C. The library parses and encodes key files and
+ * derives keys from passwords; libsodium generates Ed25519 key pairs and random bytes.
  */
 #include "keys.h"
 
@@ -21,25 +21,25 @@
 #define COMMENT_LABEL "untrusted comment: "
 #define PUBLIC_COMMENT_BYTES 64
 
-/* If memory is short, at least every n-th row of a key derivation is kept. */
-#define MAX_ROWS_APART 256
+/* If memory is short, fewer rows of scrypt are kept, but at least every 256th. */
+#define MAX_ROW_INTERVAL 256
 
 struct secrets *secrets;
 
-/* The owner of the file that the secret key was read from. */
+/* The owner of the secret key file that was read. */
 static uid_t key_owner;
 
-/* May be called while a signal is handled. The system takes the pages back. */
+/* Async-signal-safe, so it does not free the memory. */
 static void clear_secrets(void)
 {
     sodium_memzero(secrets, sizeof *secrets);
 }
 
-void begin_secrets(void)
+void allocate_secrets(void)
 {
-    struct rlimit none = { 0, 0 };
+    struct rlimit no_core = { 0, 0 };
 
-    setrlimit(RLIMIT_CORE, &none);
+    setrlimit(RLIMIT_CORE, &no_core);
     secrets = sodium_malloc(sizeof *secrets);
     if (secrets == NULL) {
         fail("sodium_malloc()");
@@ -48,20 +48,21 @@ void begin_secrets(void)
     clean_at_end(clear_secrets);
 }
 
-/* Whether a key derivation that lacked memory is tried with fewer rows: then one of so many is kept. */
-static bool keep_fewer(enum minisign_error error, uint32_t *rows)
+/* If a key derivation ran out of memory, increases `rows`, so that fewer rows of scrypt are kept, and returns true to
+ * try again. */
+static bool retry_with_fewer_rows(enum minisign_error error, uint32_t *rows)
 {
-    if (error != MINISIGN_OUT_OF_MEMORY || *rows > MAX_ROWS_APART / MINISIGN_KEEP_FEW_ROWS) {
+    if (error != MINISIGN_OUT_OF_MEMORY || *rows > MAX_ROW_INTERVAL / MINISIGN_KEEP_FEW_ROWS) {
         return false;
     }
     *rows *= MINISIGN_KEEP_FEW_ROWS;
     return true;
 }
 
-/* ---- Opening ---- */
+/* ---- Decrypting ---- */
 
-/* Says which value of -K opens a key that takes more work than is allowed. */
-static void hint_at_work(void)
+/* Prints which value of -K allows to decrypt a key that exceeds the limit. */
+static void print_work_hint(void)
 {
     const minisign_unopened_key *key = &secrets->unopened;
     uint64_t times = (((uint64_t) key->work << key->log2_rows) + MINISIGN_USUAL_ROWS - 1) / MINISIGN_USUAL_ROWS;
@@ -71,7 +72,6 @@ static void hint_at_work(void)
             times, times);
 }
 
-/* Shows that a key is derived from a password, which may take long. */
 static void begin_derivation(const char *purpose)
 {
     printf("Deriving a key from the password %s... ", purpose);
@@ -79,32 +79,32 @@ static void begin_derivation(const char *purpose)
     begin_dots();
 }
 
-/* The passwords are needed no more. */
+/* Clears the passwords, which are not used after the derivation. */
 static void end_derivation(void)
 {
     sodium_memzero(&secrets->password, sizeof secrets->password);
-    sodium_memzero(&secrets->again, sizeof secrets->again);
+    sodium_memzero(&secrets->repeated, sizeof secrets->repeated);
     end_dots();
     puts("done\n");
     flush_file(stdout);
 }
 
-/* Asks for the password, and opens the key that was read. */
-static enum minisign_error open_sealed(const struct options *options)
+/* Asks for the password, and decrypts the key. */
+static enum minisign_error decrypt_key(const struct options *options)
 {
-    uint64_t most = (uint64_t) options->work * MINISIGN_USUAL_ROWS;
+    uint64_t max_work = (uint64_t) options->work * MINISIGN_USUAL_ROWS;
     uint32_t rows = options->rows;
     enum minisign_error error;
 
     ask_password(&secrets->password, "Password: ");
     begin_derivation("and decrypting the secret key");
     do {
-        error = minisign_open_sealed_key(&secrets->unopened, secrets->password.bytes, secrets->password.len, rows, most,
-                                         &secrets->open);
-    } while (keep_fewer(error, &rows));
+        error = minisign_open_sealed_key(&secrets->unopened, secrets->password.bytes, secrets->password.len, rows,
+                                         max_work, &secrets->open);
+    } while (retry_with_fewer_rows(error, &rows));
     end_derivation();
     if (error == MINISIGN_NOT_UTF8) {
-        blame(NULL, "the password is not UTF-8", UTF8_HINT);
+        fail_error(NULL, "the password is not UTF-8", UTF8_HINT);
     }
     return error;
 }
@@ -117,50 +117,49 @@ void open_key(const struct options *options)
                           SECRET_KEY_TEXT);
     error = minisign_read_secret_key(secrets->text, secrets->text_len, &secrets->unopened);
     if (error == MINISIGN_OK) {
-        error = secrets->unopened.is_sealed ? open_sealed(options)
+        error = secrets->unopened.is_sealed ? decrypt_key(options)
                                             : minisign_open_unsealed_key(&secrets->unopened, &secrets->open);
     }
     if (error == MINISIGN_OK) {
         return;
     }
-    say_message(options->secret_file,
-                error == MINISIGN_RECORD_TOO_SHORT ? MINISIGN_SECRET_KEY_NOT_BASE64 : error);
+    print_message(options->secret_file,
+                  error == MINISIGN_RECORD_TOO_SHORT ? MINISIGN_SECRET_KEY_NOT_BASE64 : error);
     if (error == MINISIGN_WORK_TOO_HIGH) {
-        hint_at_work();
+        print_work_hint();
     } else if (error != MINISIGN_WRONG_PASSWORD && error != MINISIGN_OUT_OF_MEMORY) {
-        say_kind(options->secret_file, secrets->text, secrets->text_len, SECRET_KEY_TEXT, error,
-                 hint_for(SECRET_KEY_TEXT));
+        explain_rejection(options->secret_file, secrets->text, secrets->text_len, SECRET_KEY_TEXT, error,
+                          hint_for(SECRET_KEY_TEXT));
     }
     exit(TROUBLE);
 }
 
-bool has_own_halves(void)
+bool halves_match(void)
 {
-    uint8_t *again = secrets->drawn.secret, public_key[crypto_sign_PUBLICKEYBYTES];
+    uint8_t *derived = secrets->generated.secret, public_key[crypto_sign_PUBLICKEYBYTES];
 
-    crypto_sign_seed_keypair(public_key, again, secrets->open.secret);
+    crypto_sign_seed_keypair(public_key, derived, secrets->open.secret);
     minisign_clear_used();
-    return sodium_memcmp(again, secrets->open.secret, sizeof secrets->open.secret) == 0;
+    return sodium_memcmp(derived, secrets->open.secret, sizeof secrets->open.secret) == 0;
 }
 
-/* ---- Texts of keys ---- */
+/* ---- Encoding key files ---- */
 
-/* Asks twice for the password of a key that is to be sealed. */
 static void ask_new_password(void)
 {
     puts("Please enter a password to protect the secret key.\n");
     ask_password(&secrets->password, "Password: ");
-    ask_password(&secrets->again, "Password (one more time): ");
-    if (secrets->password.len != secrets->again.len
-        || sodium_memcmp(secrets->password.bytes, secrets->again.bytes, secrets->again.len) != 0) {
+    ask_password(&secrets->repeated, "Password (one more time): ");
+    if (secrets->password.len != secrets->repeated.len
+        || sodium_memcmp(secrets->password.bytes, secrets->repeated.bytes, secrets->repeated.len) != 0) {
         fail("Passwords don't match");
     }
 }
 
-/* Makes the text of the open key with this comment, sealed under the password or not, in `secrets->text`. */
-static void make_text(const struct options *options, const uint8_t *comment, size_t comment_len)
+/* Encodes the decrypted key with this comment into `secrets->text`, encrypted with the password unless -W was given. */
+static void encode_secret_key(const struct options *options, const uint8_t *comment, size_t comment_len)
 {
-    /* Minisign takes an empty password too, and ask_new_password says that it is one. */
+    /* Minisign allows an empty password. ask_password prints "(empty)" for it. */
     uint32_t with_password = options->unsealed ? MINISIGN_NO_PASSWORD : MINISIGN_ANY_PASSWORD;
     uint8_t salt[sizeof ((minisign_sealing *) 0)->salt] = { 0 };
     minisign_sealing sealing;
@@ -176,51 +175,51 @@ static void make_text(const struct options *options, const uint8_t *comment, siz
         error = minisign_secret_key_text(&secrets->open, with_password, secrets->password.bytes, secrets->password.len,
                                          &sealing, rows, comment, comment_len, secrets->text, sizeof secrets->text,
                                          &secrets->text_len);
-    } while (keep_fewer(error, &rows));
+    } while (retry_with_fewer_rows(error, &rows));
     if (!options->unsealed) {
         end_derivation();
     }
     if (error == MINISIGN_NOT_UTF8 && !options->unsealed) {
-        blame(NULL, "the password or the comment is not UTF-8", UTF8_HINT);
+        fail_error(NULL, "the password or the comment is not UTF-8", UTF8_HINT);
     }
-    expect_done(error);
+    require_success(error);
 }
 
-/* Makes the text of the public key that belongs to the open one. */
-static void make_public_text(struct text *text)
+/* Encodes the public key of the decrypted secret key. */
+static void encode_public_key(struct text *text)
 {
     char comment[PUBLIC_COMMENT_BYTES];
     int len = snprintf(comment, sizeof comment, MINISIGN_PUBLIC_KEY_COMMENT "%" PRIX64,
-                       number_of_id(secrets->open.key_id));
+                       key_id_number(secrets->open.key_id));
 
-    expect_done(minisign_public_key_text(&secrets->open, (const uint8_t *) comment, (size_t) len, text->bytes,
-                                         sizeof text->bytes, &text->len));
+    require_success(minisign_public_key_text(&secrets->open, (const uint8_t *) comment, (size_t) len, text->bytes,
+                                             sizeof text->bytes, &text->len));
 }
 
-/* ---- Files of keys ---- */
+/* ---- Writing key files ---- */
 
-/* Ends the program because a file is there and -f was not given. */
+/* Ends the program because the file exists and -f was not given. */
 static _Noreturn void reject_existing(const char *file)
 {
     fprintf(stderr,
             "Key generation aborted:\n%s already exists.\n\n"
             "If you really want to overwrite the existing key pair, add the -f switch to \nforce this operation.\n",
-            visible(file));
+            escape_name(file).text);
     exit(BAD);
 }
 
-/* Rejects at once what would be rejected later, before a password is asked for and a key derived. */
-static void look_for_existing(const struct options *options, const char *file, enum kind kind)
+/* Checks an output file before a password is asked for and a key derived, instead of failing after that. */
+static void check_output(const struct options *options, const char *file, enum kind kind)
 {
-    struct stat found;
+    struct stat status;
 
-    if (!options->force && stat(file, &found) == 0) {
+    if (!options->force && stat(file, &status) == 0) {
         reject_existing(file);
     }
-    expect_no_stranger(file, kind);
+    reject_untrusted_file(file, kind);
 }
 
-/* Stages a key, with -f also over an older one. */
+/* Stages a key file. It may replace an existing file only with -f. */
 static struct replacement *stage_key(const struct options *options, const char *file, enum kind kind,
                                      const uint8_t *text, size_t len)
 {
@@ -232,25 +231,25 @@ static struct replacement *stage_key(const struct options *options, const char *
     return stage;
 }
 
-static _Noreturn void reject_one_file(const char *file, const char *other)
+static _Noreturn void reject_same_file(const char *file, const char *second_name)
 {
-    fprintf(stderr, "error: %s: this is the same file as %s\n", visible(file), visible(other));
-    say_hint("use -s FILE and -p FILE to name two different files");
+    fprintf(stderr, "error: %s: this is the same file as %s\n", escape_name(file).text, escape_name(second_name).text);
+    print_hint("use -s FILE and -p FILE to name two different files");
     exit(TROUBLE);
 }
 
-void reject_over_key(const struct options *options, const char *file, const char *hint)
+void reject_secret_key_as_output(const struct options *options, const char *file, const char *hint)
 {
-    struct stat key, found;
+    struct stat key, status;
 
-    if (stat(options->secret_file, &key) == 0 && stat(file, &found) == 0 && S_ISREG(key.st_mode)
-        && is_same_file(&key, &found)) {
-        blame(file, "this is the secret key, which would be overwritten", hint);
+    if (stat(options->secret_file, &key) == 0 && stat(file, &status) == 0 && S_ISREG(key.st_mode)
+        && is_same_file(&key, &status)) {
+        fail_error(file, "this is the secret key, which would be overwritten", hint);
     }
 }
 
-/* Makes the directory of the secret key, for its owner alone, if its parent is there. */
-static void make_directory(const char *file)
+/* Creates the directory of the secret key with mode 0700 if its parent exists. */
+static void create_directory(const char *file)
 {
     char *directory = strdup(file);
     char *slash = directory == NULL ? NULL : strrchr(directory, '/');
@@ -264,34 +263,34 @@ static void make_directory(const char *file)
     free(directory);
 }
 
-/* Puts the pair in its places, which have to be two. */
-static void put_pair(const struct options *options, const struct text *public)
+/* Puts both key files in place. They must be two different files. */
+static void install_pair(const struct options *options, const struct text *public)
 {
     struct replacement *secret_stage =
         stage_key(options, options->secret_file, NEW_SECRET_KEY, secrets->text, secrets->text_len);
     struct replacement *public_stage = stage_key(options, options->public_file, PUBLIC_KEY, public->bytes, public->len);
-    const char *taken;
+    const char *existing;
 
-    if (is_one_place(secret_stage, public_stage)) {
-        reject_one_file(options->secret_file, options->public_file);
+    if (have_same_place(secret_stage, public_stage)) {
+        reject_same_file(options->secret_file, options->public_file);
     }
-    taken = put_both_in_place(public_stage, secret_stage);
-    if (taken != NULL) {
-        reject_existing(taken);
+    existing = put_both_in_place(public_stage, secret_stage);
+    if (existing != NULL) {
+        reject_existing(existing);
     }
 }
 
 /* ---- Commands ---- */
 
-/* Draws a new key, and opens it. */
-static void draw_key(void)
+/* Generates a key pair. */
+static void generate_key(void)
 {
     uint8_t public_key[crypto_sign_PUBLICKEYBYTES];
 
-    randombytes_buf(secrets->drawn.key_id, sizeof secrets->drawn.key_id);
-    crypto_sign_keypair(public_key, secrets->drawn.secret);
+    randombytes_buf(secrets->generated.key_id, sizeof secrets->generated.key_id);
+    crypto_sign_keypair(public_key, secrets->generated.secret);
     minisign_clear_used();
-    minisign_take_secret_key(&secrets->drawn, &secrets->open);
+    minisign_take_secret_key(&secrets->generated, &secrets->open);
 }
 
 int generate_keys(const struct options *options)
@@ -300,24 +299,25 @@ int generate_keys(const struct options *options)
     static struct text public;
 
     if (strcmp(options->secret_file, options->public_file) == 0) {
-        reject_one_file(options->secret_file, options->public_file);
+        reject_same_file(options->secret_file, options->public_file);
     }
-    look_for_existing(options, options->public_file, PUBLIC_KEY);
-    look_for_existing(options, options->secret_file, NEW_SECRET_KEY);
-    expect_one_line(comment);
-    draw_key();
+    check_output(options, options->public_file, PUBLIC_KEY);
+    check_output(options, options->secret_file, NEW_SECRET_KEY);
+    require_one_line(comment);
+    generate_key();
     if (!options->unsealed) {
         ask_new_password();
     }
-    make_text(options, (const uint8_t *) comment, strlen(comment));
-    make_public_text(&public);
-    make_directory(options->secret_file);
-    put_pair(options, &public);
+    encode_secret_key(options, (const uint8_t *) comment, strlen(comment));
+    encode_public_key(&public);
+    create_directory(options->secret_file);
+    install_pair(options, &public);
     printf("The secret key was saved as %s - Keep it secret!\n"
            "The public key was saved as %s - That one can be public.\n\n"
            "Files signed using this key pair can be verified with the following command:\n\n"
            "minisign -Vm <file> -P %.56s\n\n",
-           visible(options->secret_file), visible(options->public_file), strchr((const char *) public.bytes, '\n') + 1);
+           escape_name(options->secret_file).text, escape_name(options->public_file).text,
+           strchr((const char *) public.bytes, '\n') + 1);
     flush_file(stdout);
     return GOOD;
 }
@@ -326,17 +326,18 @@ int recreate_public_key(const struct options *options)
 {
     static struct text public;
 
-    look_for_existing(options, options->public_file, PUBLIC_KEY);
-    reject_over_key(options, options->public_file, "use -p FILE to name another file for the public key");
+    check_output(options, options->public_file, PUBLIC_KEY);
+    reject_secret_key_as_output(options, options->public_file, "use -p FILE to name another file for the public key");
     open_key(options);
-    make_public_text(&public);
+    encode_public_key(&public);
     if (!put_in_place(stage_key(options, options->public_file, PUBLIC_KEY, public.bytes, public.len))) {
         reject_existing(options->public_file);
     }
     return GOOD;
 }
 
-/* The comment of the text in `secrets`: its first line, without the label if that stands there. */
+/* Copies the first line of the secret key file, without the label "untrusted comment: " if it has one. Returns its
+ * length. */
 static size_t copy_comment(uint8_t *comment)
 {
     size_t label = strlen(COMMENT_LABEL), from, to;
@@ -355,15 +356,15 @@ int change_password(const struct options *options)
     size_t comment_len;
 
     if (options->unsealed) {
-        printf("Key encryption for [%s] is going to be removed.\n", visible(options->secret_file));
+        printf("Key encryption for [%s] is going to be removed.\n", escape_name(options->secret_file).text);
     }
-    expect_no_stranger(options->secret_file, kind);
+    reject_untrusted_file(options->secret_file, kind);
     open_key(options);
     comment_len = copy_comment(comment);
     if (!options->unsealed) {
         ask_new_password();
     }
-    make_text(options, comment, comment_len);
+    encode_secret_key(options, comment, comment_len);
     replace_key(options->secret_file, kind, key_owner, secrets->text, secrets->text_len);
     puts(options->unsealed ? "Password removed." : "Password updated.");
     flush_file(stdout);

@@ -1,5 +1,5 @@
 /* SPDX-License-Identifier: MIT */
-/* Secret keys: how one is opened, and minisign -G, -R and -C. */
+/* Decrypts, generates and changes secret keys: minisign -G, -R and -C. */
 #ifndef KEYS_H
 #define KEYS_H
 
@@ -8,41 +8,42 @@
 #include "options.h"
 #include "terminal.h"
 
-/* The text of a secret key has to be shorter. */
+/* The buffer size for a secret key file, which must be shorter. */
 #define SECRET_TEXT_BYTES 8192
 
 /*
- * All that is secret. It has pages of its own, which the system is asked to keep in memory and out of core files, and
- * which are cleared when the program ends, also by a signal.
+ * All secrets of the process. They are in memory of sodium_malloc: pages of their own, which are locked in memory and
+ * excluded from core dumps as far as the system allows. They are cleared when the program ends, also by a signal.
  */
 struct secrets {
-    /* The text of the file, or of what is written in its place. */
+    /* The secret key file as it was read, or the file that is about to be written. */
     uint8_t text[SECRET_TEXT_BYTES];
     size_t text_len;
-    /* The secret key, once it is read, and once it is open. */
+    /* The secret key as its file contains it, and decrypted. */
     minisign_unopened_key unopened;
     minisign_secret_key open;
-    struct password password, again;
-    /* A key that was just made. */
-    minisign_new_key drawn;
+    struct password password, repeated;
+    /* A key pair that was just generated. */
+    minisign_new_key generated;
 };
 
 extern struct secrets *secrets;
 
-/* Has to be called before all else here. */
-void begin_secrets(void);
+/* Allocates `secrets`. Must be called before all other functions of this file. */
+void allocate_secrets(void);
 
-/* Reads the secret key and opens it into `secrets`, with its password if it is sealed. Ends the program if it does not
- * open. */
+/* Reads the secret key file and decrypts it into `secrets`, with its password if it is encrypted. Ends the program on
+ * failure. */
 void open_key(const struct options *options);
 
-/* Whether the two halves of the open key belong together: otherwise each signature gives the secret half away. */
-bool has_own_halves(void);
+/* Returns true if the two halves of the decrypted key match. If they do not, nobody can verify a signature by the key,
+ * and together with a correct signature of the same data it reveals the secret half. */
+bool halves_match(void);
 
-/* Ends the program if this file, which is to be written, is that of the secret key: the key would be lost. */
-void reject_over_key(const struct options *options, const char *file, const char *hint);
+/* Ends the program if an output file is the secret key file, because the key would be lost. */
+void reject_secret_key_as_output(const struct options *options, const char *file, const char *hint);
 
-/* The commands, which return the exit status. */
+/* The commands. They return the exit status. */
 int generate_keys(const struct options *options);
 int recreate_public_key(const struct options *options);
 int change_password(const struct options *options);

@@ -1,17 +1,17 @@
 /* SPDX-License-Identifier: MIT */
-/* The names of stages, and the stages that killed runs left there. */
+/* Names temporary files, and removes those that killed runs left. */
 #include "leftovers.h"
 
 #include "shared/handles.h"
 #include "shared/stages.h"
 
-/* So many directories are remembered. */
+/* How many directories are remembered as cleaned. */
 #define MAX_DIRECTORIES 32
 
-bool draw_stage_name(char name[STAGE_NAME_BYTES])
+bool random_stage_name(char name[STAGE_NAME_BYTES])
 {
-    strcpy(name, STAGE_NAME);
-    return draw_digits(name + strlen(name), STAGE_DRAWN);
+    strcpy(name, STAGE_PREFIX);
+    return random_hex(name + strlen(name), STAGE_RANDOM_BYTES);
 }
 
 bool lock_stage(int fd)
@@ -19,7 +19,8 @@ bool lock_stage(int fd)
     return flock(fd, LOCK_EX | LOCK_NB) == 0 || errno != EWOULDBLOCK;
 }
 
-/* Removes a stage if it is a regular file that no run has locked. */
+/* Removes a temporary file if it is a regular file that no run has locked. The name is checked again once the lock is
+ * held, because another run may have renamed the file in between. */
 static void remove_unlocked(int directory, const char *name)
 {
     int fd = openat(directory, name, O_RDWR | O_NOFOLLOW | O_NONBLOCK | O_CLOEXEC);
@@ -35,28 +36,28 @@ static void remove_unlocked(int directory, const char *name)
     close(fd);
 }
 
-/* Whether this directory was cleaned before; now it is remembered. */
-static bool is_known(int directory)
+/* Returns true if this directory was cleaned before, and remembers it. */
+static bool was_cleaned(int directory)
 {
-    static struct stat known[MAX_DIRECTORIES];
+    static struct stat cleaned[MAX_DIRECTORIES];
     static unsigned count;
-    struct stat found;
+    struct stat status;
 
-    if (fstat(directory, &found) != 0) {
+    if (fstat(directory, &status) != 0) {
         return true;
     }
     for (unsigned i = 0; i < count && i < MAX_DIRECTORIES; i++) {
-        if (is_same_file(&known[i], &found)) {
+        if (is_same_file(&cleaned[i], &status)) {
             return true;
         }
     }
-    known[count++ % MAX_DIRECTORIES] = found;
+    cleaned[count++ % MAX_DIRECTORIES] = status;
     return false;
 }
 
 void remove_unlocked_stages(int directory)
 {
-    if (!is_known(directory)) {
-        remove_drawn_names(directory, STAGE_NAME, STAGE_DRAWN, remove_unlocked);
+    if (!was_cleaned(directory)) {
+        for_each_random_name(directory, STAGE_PREFIX, STAGE_RANDOM_BYTES, remove_unlocked);
     }
 }

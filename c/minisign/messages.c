@@ -1,5 +1,5 @@
 /* SPDX-License-Identifier: MIT */
-/* What minisign says. */
+/* Prints minisign's messages. */
 #include "messages.h"
 
 #include "shared/reports.h"
@@ -11,41 +11,41 @@ void fail(const char *line)
     exit(TROUBLE);
 }
 
-void say_at(const char *file)
+void print_errno(const char *file)
 {
     const char *why = strerror(errno);
 
-    fprintf(stderr, "%s%s%s\n", visible(file), *file == 0 ? "" : ": ", why);
+    fprintf(stderr, "%s%s%s\n", escape_name(file).text, *file == 0 ? "" : ": ", why);
 }
 
-void fail_at(const char *file)
+void fail_errno(const char *file)
 {
-    say_at(file);
+    print_errno(file);
     exit(TROUBLE);
 }
 
-void need(bool is_done, const char *file)
+void require(bool ok, const char *file)
 {
-    if (!is_done) {
-        fail_at(file);
+    if (!ok) {
+        fail_errno(file);
     }
 }
 
-void blame(const char *file, const char *what, const char *hint)
+void fail_error(const char *file, const char *what, const char *hint)
 {
-    say_error(file, what);
-    say_hint(hint);
+    print_error(file, what);
+    print_hint(hint);
     exit(TROUBLE);
 }
 
-void expect_one_line(const char *comment)
+void require_one_line(const char *comment)
 {
     if (comment != NULL && strpbrk(comment, "\r\n") != NULL) {
-        blame(NULL, "a comment contains a line break", "write each comment on one line");
+        fail_error(NULL, "a comment contains a line break", "write each comment on one line");
     }
 }
 
-/* What Minisign says about an error. */
+/* Minisign's messages for errors of the library. */
 static const struct {
     enum minisign_error error;
     const char *text;
@@ -75,7 +75,7 @@ static const struct {
     { MINISIGN_WRONG_PASSWORD, "Wrong password for that key" },
 };
 
-void say_message(const char *file, enum minisign_error error)
+void print_message(const char *file, enum minisign_error error)
 {
     char text[MINISIGN_ERROR_TEXT_BYTES];
 
@@ -86,28 +86,28 @@ void say_message(const char *file, enum minisign_error error)
         }
     }
     minisign_error_text(error, text, sizeof text);
-    say_error(file, text);
+    print_error(file, text);
 }
 
-void expect_done(enum minisign_error error)
+void require_success(enum minisign_error error)
 {
     if (error == MINISIGN_NOT_UTF8) {
-        blame(NULL, "the comment is not UTF-8", UTF8_HINT);
+        fail_error(NULL, "the comment is not UTF-8", UTF8_HINT);
     }
     if (error != MINISIGN_OK) {
-        say_message(NULL, error);
+        print_message(NULL, error);
         exit(TROUBLE);
     }
 }
 
-const char *hint_for(enum text_kind wanted)
+const char *hint_for(enum text_kind expected)
 {
-    return wanted == PUBLIC_KEY_TEXT   ? "use -p FILE to name a public key file, or -P KEY to give the key itself"
-           : wanted == SECRET_KEY_TEXT ? "use -s FILE to name a secret key file, or -G to generate a key pair"
-                                       : "use -x FILE to name the signature file";
+    return expected == PUBLIC_KEY_TEXT   ? "use -p FILE to name a public key file, or -P KEY to give the key itself"
+           : expected == SECRET_KEY_TEXT ? "use -s FILE to name a secret key file, or -G to generate a key pair"
+                                         : "use -x FILE to name the signature file";
 }
 
-uint64_t number_of_id(const uint8_t id[8])
+uint64_t key_id_number(const uint8_t id[8])
 {
     uint64_t number = 0;
 

@@ -1,11 +1,13 @@
 /* SPDX-License-Identifier: MIT */
 /*
- * minisign: what Minisign 0.11 does, with its flags, questions, messages, files and exit statuses.
+ * The program minisign, which does what Minisign 0.11 does: it has the same options, prompts, messages, files and exit
+ * statuses.
  *
- * The library of minisign.h reads and writes the texts of keys and signatures, hashes the data, derives keys from
- * passwords and gives the verdict. libsodium has Ed25519, random bytes and memory for secrets. The files beside this
- * one read the command line (options), ask for passwords (terminal), open, make and change keys (keys), sign (signing),
- * verify (verifying), read data (reading), find the places of files (places) and replace files in one step (replacing).
+ * The library of minisign.h parses and encodes keys and signatures, hashes the data, derives keys from passwords and
+ * returns the verdict. libsodium has Ed25519, random bytes and memory for secrets. The other files of this directory
+ * read the command line (options), ask for passwords (terminal), decrypt, generate and change keys (keys), sign
+ * (signing), verify (verifying), read data (reading), find out where to write files (places) and replace files in one
+ * step (replacing).
  */
 #include "keys.h"
 
@@ -16,13 +18,13 @@
 #include "signing.h"
 #include "verifying.h"
 
-/* Each command makes sure that what it printed was written. */
+/* Each command flushes its output, and fails if it cannot be written. */
 static int run(const struct options *options)
 {
     if (options->command == VERIFY) {
         return verify_file(options);
     }
-    begin_secrets();
+    allocate_secrets();
     switch (options->command) {
     case GENERATE: return generate_keys(options);
     case RECREATE: return recreate_public_key(options);
@@ -35,12 +37,12 @@ int main(int argc, char *argv[])
 {
     struct options options;
 
-    if (!hold_streams()) {
+    if (!fill_standard_streams()) {
         return TROUBLE;
     }
     options = read_options(argc, argv);
     if (options.quiet != SAY_ALL) {
-        be_quiet();
+        hide_progress();
     }
     if (sodium_init() < 0) {
         fail("Unable to initialize the Sodium library");

@@ -1,19 +1,19 @@
 /* SPDX-License-Identifier: MIT */
-/* The command line of minisign, and the default files. */
+/* Parses the command line of minisign, and names the default files. */
 #include "options.h"
 
 #include "files.h"
 
-/* The version of Minisign that this program is like, and its own. */
+/* The version of Minisign that this program imitates, and this program's own version. */
 #define VERSION "minisign 0.11\nMinisign in Rattle " MINISIGN_VERSION_TEXT
 
 #define MAX_ROWS 1048576
 
-/* More than any key can ask for. */
+/* More work than any key can require. */
 #define MAX_WORK 1073741824
 #define USUAL_WORK 16
 
-static _Noreturn void print_and_end(const char *text, int status)
+static _Noreturn void print_and_exit(const char *text, int status)
 {
     puts(text);
     flush_file(stdout);
@@ -22,68 +22,68 @@ static _Noreturn void print_and_end(const char *text, int status)
 
 static _Noreturn void usage(void)
 {
-    print_and_end("Usage:\n"
-                  "minisign -G [-f] [-p pubkey_file] [-s seckey_file] [-W]\n"
-                  "minisign -R [-s seckey_file] [-p pubkey_file]\n"
-                  "minisign -C [-s seckey_file] [-W]\n"
-                  "minisign -S [-l] [-x sig_file] [-s seckey_file] [-c untrusted_comment]\n"
-                  "            [-t trusted_comment] -m file [file ...]\n"
-                  "minisign -V [-H] [-x sig_file] [-p pubkey_file | -P pubkey] [-o] [-q] -m file\n"
-                  "\n"
-                  "-G                generate a new key pair\n"
-                  "-R                recreate a public key file from a secret key file\n"
-                  "-C                change/remove the password of the secret key\n"
-                  "-S                sign files\n"
-                  "-V                verify that a signature is valid for a given file\n"
-                  "-H                require input to be prehashed\n"
-                  "-l                sign using the legacy format\n"
-                  "-m <file>         file to sign/verify\n"
-                  "-o                combined with -V, output the file content after verification\n"
-                  "-p <pubkey_file>  public key file (default: ./minisign.pub)\n"
-                  "-P <pubkey>       public key, as a base64 string\n"
-                  "-s <seckey_file>  secret key file (default: ~/.minisign/minisign.key)\n"
-                  "-W                do not encrypt/decrypt the secret key with a password\n"
-                  "-k <rows>         use less memory to decrypt or encrypt a key: 16 takes 66 MiB\n"
-                  "                  instead of 1 GiB, but more time\n"
-                  "-K <work>         decrypt keys that take up to <work> times the work of a default\n"
-                  "                  key (default: 16)\n"
-                  "-x <sigfile>      signature file (default: <file>.minisig)\n"
-                  "-c <comment>      add a one-line untrusted comment\n"
-                  "-t <comment>      add a one-line trusted comment\n"
-                  "-q                quiet mode, suppress output\n"
-                  "-Q                pretty quiet mode, only print the trusted comment\n"
-                  "-f                force. Combined with -G, overwrite a previous key pair\n"
-                  "-v                display version number\n",
-                  TROUBLE);
+    print_and_exit("Usage:\n"
+                   "minisign -G [-f] [-p pubkey_file] [-s seckey_file] [-W]\n"
+                   "minisign -R [-s seckey_file] [-p pubkey_file]\n"
+                   "minisign -C [-s seckey_file] [-W]\n"
+                   "minisign -S [-l] [-x sig_file] [-s seckey_file] [-c untrusted_comment]\n"
+                   "            [-t trusted_comment] -m file [file ...]\n"
+                   "minisign -V [-H] [-x sig_file] [-p pubkey_file | -P pubkey] [-o] [-q] -m file\n"
+                   "\n"
+                   "-G                generate a new key pair\n"
+                   "-R                recreate a public key file from a secret key file\n"
+                   "-C                change/remove the password of the secret key\n"
+                   "-S                sign files\n"
+                   "-V                verify that a signature is valid for a given file\n"
+                   "-H                require input to be prehashed\n"
+                   "-l                sign using the legacy format\n"
+                   "-m <file>         file to sign/verify\n"
+                   "-o                combined with -V, output the file content after verification\n"
+                   "-p <pubkey_file>  public key file (default: ./minisign.pub)\n"
+                   "-P <pubkey>       public key, as a base64 string\n"
+                   "-s <seckey_file>  secret key file (default: ~/.minisign/minisign.key)\n"
+                   "-W                do not encrypt/decrypt the secret key with a password\n"
+                   "-k <rows>         use less memory to decrypt or encrypt a key: 16 takes 66 MiB\n"
+                   "                  instead of 1 GiB, but more time\n"
+                   "-K <work>         decrypt keys that take up to <work> times the work of a default\n"
+                   "                  key (default: 16)\n"
+                   "-x <sigfile>      signature file (default: <file>.minisig)\n"
+                   "-c <comment>      add a one-line untrusted comment\n"
+                   "-t <comment>      add a one-line trusted comment\n"
+                   "-q                quiet mode, suppress output\n"
+                   "-Q                pretty quiet mode, only print the trusted comment\n"
+                   "-f                force. Combined with -G, overwrite a previous key pair\n"
+                   "-v                display version number\n",
+                   TROUBLE);
 }
 
-/* The default file of the secret key, in the directory of the user's settings. */
+/* Returns the default secret key file: in MINISIGN_CONFIG_DIR if it is set, otherwise in ~/.minisign. */
 static const char *default_secret_file(void)
 {
     const char *directory = getenv("MINISIGN_CONFIG_DIR");
     const char *home = getenv("HOME");
 
     if (directory != NULL) {
-        return joined(directory, "/minisign.key", "");
+        return join(directory, "/minisign.key", "");
     }
-    return home == NULL ? "minisign.key" : joined(home, "/.minisign/minisign.key", "");
+    return home == NULL ? "minisign.key" : join(home, "/.minisign/minisign.key", "");
 }
 
-/* Reads a number from 1 up to this one. */
-static uint32_t read_number(const char *text, uint32_t most)
+/* Parses a decimal number from 1 to `max`. */
+static uint32_t read_number(const char *text, uint32_t max)
 {
     char *end;
     unsigned long number;
 
     errno = 0;
     number = strtoul(text, &end, 10);
-    if (errno != 0 || *text < '0' || *text > '9' || *end != 0 || number < 1 || number > most) {
+    if (errno != 0 || *text < '0' || *text > '9' || *end != 0 || number < 1 || number > max) {
         usage();
     }
     return (uint32_t) number;
 }
 
-static void choose(struct options *options, enum command command)
+static void set_command(struct options *options, enum command command)
 {
     if (options->command != NO_COMMAND && options->command != command) {
         usage();
@@ -98,11 +98,11 @@ static struct options read_flags(int argc, char *argv[])
 
     while ((flag = getopt(argc, argv, "GSVRCHhc:fk:K:lm:oP:p:qQs:t:vWx:")) != -1) {
         switch (flag) {
-        case 'G': choose(&options, GENERATE); break;
-        case 'R': choose(&options, RECREATE); break;
-        case 'C': choose(&options, CHANGE); break;
-        case 'S': choose(&options, SIGN); break;
-        case 'V': choose(&options, VERIFY); break;
+        case 'G': set_command(&options, GENERATE); break;
+        case 'R': set_command(&options, RECREATE); break;
+        case 'C': set_command(&options, CHANGE); break;
+        case 'S': set_command(&options, SIGN); break;
+        case 'V': set_command(&options, VERIFY); break;
         case 'H': options.prehashed_only = true; break;
         case 'c': options.comment = optarg; break;
         case 'f': options.force = true; break;
@@ -117,7 +117,7 @@ static struct options read_flags(int argc, char *argv[])
         case 'Q': options.quiet = SAY_COMMENT; break;
         case 's': options.secret_file = optarg; break;
         case 't': options.trusted_comment = optarg; break;
-        case 'v': print_and_end(VERSION, GOOD);
+        case 'v': print_and_exit(VERSION, GOOD);
         case 'W': options.unsealed = true; break;
         case 'x': options.signature_file = optarg; break;
         default: usage();
@@ -127,8 +127,8 @@ static struct options read_flags(int argc, char *argv[])
     return options;
 }
 
-/* An empty text counts as none. */
-static const char *unless_empty(const char *text)
+/* An empty argument means the default. */
+static const char *null_if_empty(const char *text)
 {
     return text == NULL || *text == 0 ? NULL : text;
 }
@@ -142,9 +142,9 @@ struct options read_options(int argc, char *argv[])
         || (options.command != SIGN && options.further_files[0] != NULL)) {
         usage();
     }
-    options.signature_file = unless_empty(options.signature_file);
-    options.comment = unless_empty(options.comment);
-    options.trusted_comment = unless_empty(options.trusted_comment);
+    options.signature_file = null_if_empty(options.signature_file);
+    options.comment = null_if_empty(options.comment);
+    options.trusted_comment = null_if_empty(options.trusted_comment);
     if (options.public_file == NULL && options.command != SIGN
         && (options.command != VERIFY || options.public_key == NULL)) {
         options.public_file = "minisign.pub";

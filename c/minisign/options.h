@@ -1,5 +1,5 @@
 /* SPDX-License-Identifier: MIT */
-/* The command line of minisign, and the default files. */
+/* Parses the command line of minisign, and names the default files. */
 #ifndef MINISIGN_OPTIONS_H
 #define MINISIGN_OPTIONS_H
 
@@ -7,27 +7,27 @@
 
 enum command { NO_COMMAND, GENERATE, RECREATE, CHANGE, SIGN, VERIFY };
 
-/* What is printed about verified data: all, with -q nothing, with -Q the trusted comment alone. */
+/* What to print about verified data: everything; nothing (-q); only the trusted comment (-Q). */
 enum quiet { SAY_ALL, SAY_NOTHING, SAY_COMMENT };
 
 struct options {
     enum command command;
     const char *data_file;
-    /* Further files to be signed, ended by NULL. */
+    /* More files to sign, terminated by NULL. */
     char *const *further_files;
-    /* NULL: that of each data file, with .minisig after its name. */
+    /* NULL for the default, the name of each data file followed by .minisig. */
     const char *signature_file;
-    /* NULL only for signing: no public key is compared with the secret key. */
+    /* NULL only when signing: the signature is then verified under the secret key's own public half. */
     const char *public_file;
-    /* The public key itself, as one line of base64, or NULL. */
+    /* The public key in base64 (-P), or NULL. */
     const char *public_key;
     const char *secret_file;
-    /* NULL: the default one. */
+    /* NULL for the default comments. */
     const char *comment;
     const char *trusted_comment;
-    /* Every n-th row of a key derivation is kept. */
+    /* Keep every n-th row of scrypt in memory. */
     uint32_t rows;
-    /* The most work that opening a key may be: so many times that of a key that Minisign makes. */
+    /* The most work that decrypting a key may take, as a multiple of a key with Minisign's default limits. */
     uint32_t work;
     enum quiet quiet;
     bool force;
@@ -37,7 +37,7 @@ struct options {
     bool prehashed_only;
 };
 
-/* Reads the command line. Ends the program with the usage if it makes no sense, and with -v with the version. */
+/* Parses the command line. Ends the program with the usage if it is invalid, and with the version for -v. */
 struct options read_options(int argc, char *argv[]);
 
 #endif

@@ -1,61 +1,61 @@
 /* SPDX-License-Identifier: MIT */
-/* Where a file goes. */
+/* Finds out in which directory, under which name, a file is to be written. */
 #include "places.h"
 
 #include "files.h"
 #include "shared/streams.h"
 
-/* As many links as the system follows. */
+/* The limit of Linux for links in a path. */
 #define MAX_LINKS 40
 #define TARGET_BYTES 4096
-/* How often a place is looked for while others change it. */
-#define MAX_LOOKS 100
+/* How often to look up a place again while other processes change it. */
+#define MAX_TRIES 100
 
-#define OTHER_DIRECTORY "use a directory that only you can write to"
+#define DIRECTORY_HINT "use a directory that only you can write to"
 
 bool is_written_in_place(const struct place *place)
 {
     return place->name == NULL;
 }
 
-void close_older(struct place *place)
+void close_existing(struct place *place)
 {
-    close_open(&place->older.fd);
-    close_open(&place->opened);
+    close_if_open(&place->existing.fd);
+    close_if_open(&place->opened);
 }
 
-static void forget_name(struct place *place)
+static void release_name(struct place *place)
 {
-    close_open(&place->directory);
+    close_if_open(&place->directory);
     free(place->name);
     place->name = NULL;
 }
 
-void leave_place(struct place *place)
+void release_place(struct place *place)
 {
-    close_older(place);
-    forget_name(place);
+    close_existing(place);
+    release_name(place);
 }
 
-/* ---- Strangers ---- */
+/* ---- Files of other users ---- */
 
-/* Whether this belongs to somebody whom the user need not trust. */
-static bool is_strangers(const struct stat *file)
+/* Returns true if a file belongs to neither the user nor root. */
+static bool is_untrusted(const struct stat *file)
 {
     return file->st_uid != geteuid() && file->st_uid != 0;
 }
 
-/* Whether a stranger put this into a directory where these may write, and only owners may remove. The owner of the
- * directory is a stranger only to a secret. */
-static bool is_put_by_stranger(const struct place *place, const struct stat *file, const struct stat *around,
-                               mode_t writers)
+/* Returns true if another user may have put this file there: the directory is writable for these classes, and sticky,
+ * so that only owners can remove files. The owner of the directory is trusted, except with a secret. */
+static bool is_planted(const struct place *place, const struct stat *file, const struct stat *parent,
+                       mode_t writers)
 {
-    return (around->st_mode & S_ISVTX) != 0 && (around->st_mode & writers) != 0 && is_strangers(file)
-           && (place->is_secret || file->st_uid != around->st_uid);
+    return (parent->st_mode & S_ISVTX) != 0 && (parent->st_mode & writers) != 0 && is_untrusted(file)
+           && (place->is_secret || file->st_uid != parent->st_uid);
 }
 
-/* Whether this is a standard stream that the program was started with. */
-static bool is_stream(const struct stat *file)
+/* Returns true if a standard stream of the program is this file. */
+static bool is_standard_stream(const struct stat *file)
 {
     struct stat stream;
 
@@ -67,41 +67,42 @@ static bool is_stream(const struct stat *file)
     return false;
 }
 
-/* Ends the program if a stranger's file or pipe has this name, as the system does by its settings protected_regular and
- * protected_fifos for a file that may be made. */
-static void expect_no_strangers(const struct place *place)
+/* Ends the program if another user may have put the existing file or pipe there. With its settings protected_regular
+ * and protected_fifos, Linux rejects such files when they are opened with O_CREAT. */
+static void reject_planted_file(const struct place *place)
 {
-    struct stat around;
+    struct stat parent;
 
-    need(fstat(place->directory, &around) == 0, place->file);
-    if (is_put_by_stranger(place, &place->older.found, &around, S_IWOTH | S_IWGRP)) {
-        blame(place->file, "this belongs to another user, in a directory that others can write to", OTHER_DIRECTORY);
+    require(fstat(place->directory, &parent) == 0, place->file);
+    if (is_planted(place, &place->existing.status, &parent, S_IWOTH | S_IWGRP)) {
+        fail_error(place->file, "this belongs to another user, in a directory that others can write to",
+                   DIRECTORY_HINT);
     }
 }
 
 /* ---- Links ---- */
 
-/* Whether the system would follow this link of the directory. On false errno says why. Ends the program if it is a
- * stranger's, which the system does not follow either by its setting protected_symlinks. */
+/* Returns true if a link may be followed. On failure, returns false and sets errno. Ends the program if another user
+ * may have put the link there; Linux does not follow such links either if protected_symlinks is set. */
 static bool may_follow(const struct place *place, const struct stat *link)
 {
-    struct stat around;
+    struct stat parent;
 
-    if (fstat(place->directory, &around) != 0) {
+    if (fstat(place->directory, &parent) != 0) {
         return false;
     }
     if (forbids_links(place->directory)) {
         errno = ELOOP;
         return false;
     }
-    if (is_put_by_stranger(place, link, &around, S_IWOTH)) {
-        blame(place->file, "this path has another user's symbolic link, in a directory that others can write to",
-              OTHER_DIRECTORY);
+    if (is_planted(place, link, &parent, S_IWOTH)) {
+        fail_error(place->file, "this path has another user's symbolic link, in a directory that others can write to",
+                   DIRECTORY_HINT);
     }
     return true;
 }
 
-/* What a name in the directory is: a link, whose text is copied, or none; or errno says why that is not known. */
+/* What a name in a directory is: a link, whose target was read, or no link. IS_UNKNOWN is an error, in errno. */
 enum step { IS_LINK, IS_NO_LINK, IS_UNKNOWN };
 
 static enum step read_link(const struct place *place, const char *name, char target[TARGET_BYTES])
@@ -113,10 +114,10 @@ static enum step read_link(const struct place *place, const char *name, char tar
     if (!look_up(&link, place->directory, name, false)) {
         return errno == ENOENT ? IS_NO_LINK : IS_UNKNOWN;
     }
-    if (!S_ISLNK(link.found.st_mode)) {
+    if (!S_ISLNK(link.status.st_mode)) {
         step = IS_NO_LINK;
-    } else if (may_follow(place, &link.found)) {
-        len = read_handle(&link, place->directory, name, target, TARGET_BYTES);
+    } else if (may_follow(place, &link.status)) {
+        len = read_handle_link(&link, place->directory, name, target, TARGET_BYTES);
         if (len == TARGET_BYTES) {
             errno = ENAMETOOLONG;
         } else if (len >= 0) {
@@ -124,12 +125,12 @@ static enum step read_link(const struct place *place, const char *name, char tar
             step = IS_LINK;
         }
     }
-    close_open(&link.fd);
+    close_if_open(&link.fd);
     return step;
 }
 
-/* Goes from the directory of the place, or first from the current one, to a directory in it. The system follows a link
- * in /proc, whatever its text says. */
+/* Enters a directory, relative to the current directory at first, then to the place's. The system has to follow links
+ * in /proc itself, because their text is not where they lead. */
 static bool enter(struct place *place, const char *name, bool by_system)
 {
     int directory = enter_directory(place->directory < 0 ? AT_FDCWD : place->directory, name, by_system);
@@ -137,13 +138,14 @@ static bool enter(struct place *place, const char *name, bool by_system)
     if (directory < 0) {
         return false;
     }
-    close_open(&place->directory);
+    close_if_open(&place->directory);
     place->directory = directory;
     return true;
 }
 
-/* Goes along the path, which is in memory of malloc, name by name, and follows each link. On false errno says why. */
-static bool go_along(struct place *place, char **path)
+/* Walks along the path component by component, and follows each link. *path is memory of malloc, and may be replaced.
+ * On failure, returns false and sets errno. */
+static bool resolve_path(struct place *place, char **path)
 {
     static char target[TARGET_BYTES];
     char *rest = *path;
@@ -160,11 +162,11 @@ static bool go_along(struct place *place, char **path)
             continue;
         }
         if (step == IS_NO_LINK && rest == NULL) {
-            place->name = joined(name, "", "");
+            place->name = join(name, "", "");
             return true;
         }
         if (step == IS_LINK) {
-            longer = rest == NULL ? joined(target, "", "") : joined(target, "/", rest);
+            longer = rest == NULL ? join(target, "", "") : join(target, "/", rest);
             free(*path);
             *path = rest = longer;
             links++;
@@ -178,39 +180,39 @@ static bool go_along(struct place *place, char **path)
     return false;
 }
 
-/* Finds the directory and the name, with all links followed. On false errno says why. */
+/* Finds the directory and the name, with all links followed. On failure, returns false and sets errno. */
 static bool follow_links(struct place *place)
 {
-    char *path = joined(place->file, "", "");
-    bool is_there = go_along(place, &path);
-    int number = errno;
+    char *path = join(place->file, "", "");
+    bool is_resolved = resolve_path(place, &path);
+    int saved_errno = errno;
 
     free(path);
-    errno = number;
-    if (is_there && *place->name == 0) {
+    errno = saved_errno;
+    if (is_resolved && *place->name == 0) {
         errno = ENOENT;
         return false;
     }
-    return is_there;
+    return is_resolved;
 }
 
 /* ---- Descriptors ---- */
 
-/* The descriptor that a name stands for, or -1. */
+/* Returns the descriptor that a name in /dev or /proc stands for, or -1. */
 static int descriptor_of(const char *file)
 {
     static const char *const streams[] = { "/dev/stdin", "/dev/stdout", "/dev/stderr" };
-    static const char *const fronts[] = { "/dev/fd/", "/proc/self/fd/" };
+    static const char *const prefixes[] = { "/dev/fd/", "/proc/self/fd/" };
 
     for (int fd = STDIN_FILENO; fd <= STDERR_FILENO; fd++) {
         if (strcmp(file, streams[fd]) == 0) {
             return fd;
         }
     }
-    for (size_t i = 0; i < sizeof fronts / sizeof fronts[0]; i++) {
-        size_t len = strlen(fronts[i]);
+    for (size_t i = 0; i < sizeof prefixes / sizeof prefixes[0]; i++) {
+        size_t len = strlen(prefixes[i]);
 
-        if (strncmp(file, fronts[i], len) == 0 && strlen(file + len) < 10 && file[len] != 0
+        if (strncmp(file, prefixes[i], len) == 0 && strlen(file + len) < 10 && file[len] != 0
             && strspn(file + len, "0123456789") == strlen(file + len)) {
             return atoi(file + len);
         }
@@ -218,12 +220,13 @@ static int descriptor_of(const char *file)
     return -1;
 }
 
-bool may_keep_secret(const struct stat *found)
+bool may_keep_secret(const struct stat *status)
 {
-    return !is_strangers(found) && (found->st_mode & (S_IRWXG | S_IRWXO)) == 0;
+    return !is_untrusted(status) && (status->st_mode & (S_IRWXG | S_IRWXO)) == 0;
 }
 
-/* Whether the name stands for a descriptor by which a regular file is open for writing: then that is used. */
+/* If the name stands for a descriptor that has a regular file open for writing, duplicates the descriptor and returns
+ * true. */
 static bool is_descriptor(struct place *place)
 {
     int fd = descriptor_of(place->file), flags;
@@ -231,149 +234,155 @@ static bool is_descriptor(struct place *place)
     if (fd < 0) {
         return false;
     }
-    if (is_held(fd)) {
-        blame(place->file, "this stream is closed", "redirect it to a file, or give the name of a file");
+    if (was_closed_at_start(fd)) {
+        fail_error(place->file, "this stream is closed", "redirect it to a file, or give the name of a file");
     }
     flags = fcntl(fd, F_GETFL);
-    if (flags < 0 || (flags & O_ACCMODE) == O_RDONLY || fstat(fd, &place->older.found) != 0
-        || !S_ISREG(place->older.found.st_mode)) {
+    if (flags < 0 || (flags & O_ACCMODE) == O_RDONLY || fstat(fd, &place->existing.status) != 0
+        || !S_ISREG(place->existing.status.st_mode)) {
         return false;
     }
-    if (place->is_secret && !may_keep_secret(&place->older.found)) {
-        blame(place->file, "other users can access this file, so no secret key was written to it",
-              "use a file that only you can access (chmod 600)");
+    if (place->is_secret && !may_keep_secret(&place->existing.status)) {
+        fail_error(place->file, "other users can access this file, so no secret key was written to it",
+                   "use a file that only you can access (chmod 600)");
     }
     place->opened = fcntl(fd, F_DUPFD_CLOEXEC, 0);
-    need(place->opened >= 0, place->file);
-    place->has_older = place->is_descriptor = true;
+    require(place->opened >= 0, place->file);
+    place->has_existing = place->is_descriptor = true;
     return true;
 }
 
 /* ---- Places ---- */
 
-/* Whether what stands there has to have a name: a regular file, and a pipe that was made with one. */
-static bool has_name(const struct handle *older)
+/* Returns true for files that must have a name: a regular file that was not deleted, and a named pipe. */
+static bool has_name(const struct handle *existing)
 {
-    return older->found.st_nlink > 0
-           && (S_ISREG(older->found.st_mode) || (S_ISFIFO(older->found.st_mode) && !is_nameless_pipe(older)));
+    mode_t mode = existing->status.st_mode;
+
+    return existing->status.st_nlink > 0 && (S_ISREG(mode) || (S_ISFIFO(mode) && !is_nameless_pipe(existing)));
 }
 
-/* Whether the name that was found leads to what the system found, or to nothing, as the system did. */
-static bool is_found(const struct place *place)
+/* Returns true if the name that was found leads to the file that the system found at the path, or to nothing if the
+ * system found nothing. */
+static bool leads_to_existing(const struct place *place)
 {
     struct stat named;
 
     if (fstatat(place->directory, place->name, &named, AT_SYMLINK_NOFOLLOW) != 0) {
-        return !place->has_older && errno == ENOENT;
+        return !place->has_existing && errno == ENOENT;
     }
-    return place->has_older && is_same_file(&named, &place->older.found);
+    return place->has_existing && is_same_file(&named, &place->existing.status);
 }
 
-/* The place of a file that is written where it is, but no secret if it is a stranger's. */
-static struct place in_place(struct place place)
+/* Returns the place of a file that is written in place. Ends the program if a secret would be written to another user's
+ * file. */
+static struct place use_in_place(struct place place)
 {
-    const struct stat *found = &place.older.found;
+    const struct stat *status = &place.existing.status;
 
-    forget_name(&place);
-    if (place.is_secret && is_strangers(found) && !S_ISDIR(found->st_mode) && !is_stream(found)) {
-        blame(place.file, "this belongs to another user, so no secret key was written to it",
-              "use a file of your own");
+    release_name(&place);
+    if (place.is_secret && is_untrusted(status) && !S_ISDIR(status->st_mode) && !is_standard_stream(status)) {
+        fail_error(place.file, "this belongs to another user, so no secret key was written to it",
+                   "use a file of your own");
     }
     return place;
 }
 
-/* Ends the program because the system finds nothing, as errno says, or because it does not follow a stranger's link. */
+/* Ends the program because the path cannot be used, for the reason in errno. If that is EACCES, it may be because the
+ * system does not follow another user's link: then the message about the link is printed instead. */
 static _Noreturn void fail_to_find(struct place *place)
 {
-    int number = errno;
+    int saved_errno = errno;
 
-    if (number == EACCES) {
+    if (saved_errno == EACCES) {
         follow_links(place);
     }
-    errno = number;
-    fail_at(place->file);
+    errno = saved_errno;
+    fail_errno(place->file);
 }
 
 struct place find_place(const char *file, bool is_secret)
 {
-    for (int i = 0; i < MAX_LOOKS; i++) {
-        struct place place = { .file = file, .is_secret = is_secret, .directory = -1, .older.fd = -1, .opened = -1 };
-        bool is_there, is_pipe;
+    for (int i = 0; i < MAX_TRIES; i++) {
+        struct place place = { .file = file, .is_secret = is_secret, .directory = -1, .existing.fd = -1, .opened = -1 };
+        bool is_resolved, is_pipe;
 
         if (is_descriptor(&place)) {
-            return in_place(place);
+            return use_in_place(place);
         }
-        place.has_older = look_up(&place.older, AT_FDCWD, file, true);
-        if (!place.has_older && errno != ENOENT) {
+        place.has_existing = look_up(&place.existing, AT_FDCWD, file, true);
+        if (!place.has_existing && errno != ENOENT) {
             fail_to_find(&place);
         }
-        if (place.has_older && !has_name(&place.older)) {
-            return in_place(place);
+        if (place.has_existing && !has_name(&place.existing)) {
+            return use_in_place(place);
         }
-        is_pipe = place.has_older && S_ISFIFO(place.older.found.st_mode);
-        is_there = follow_links(&place);
-        if (is_there && is_found(&place)) {
-            if (place.has_older) {
-                expect_no_strangers(&place);
+        is_pipe = place.has_existing && S_ISFIFO(place.existing.status.st_mode);
+        is_resolved = follow_links(&place);
+        if (is_resolved && leads_to_existing(&place)) {
+            if (place.has_existing) {
+                reject_planted_file(&place);
             }
-            return is_pipe ? in_place(place) : place;
+            return is_pipe ? use_in_place(place) : place;
         }
-        if (is_pipe && (is_stream(&place.older.found) || descriptor_of(file) >= 0)) {
-            /* (it has no name, or one that only who started the program knows) */
-            return in_place(place);
+        if (is_pipe && (is_standard_stream(&place.existing.status) || descriptor_of(file) >= 0)) {
+            /* The pipe has no name, or one that only the process that started this program knows. */
+            return use_in_place(place);
         }
-        need(is_there, file);
-        leave_place(&place);
+        require(is_resolved, file);
+        release_place(&place);
     }
     errno = EBUSY;
-    fail_at(file);
+    fail_errno(file);
 }
 
-/* Ends the program if the older file is another's in a directory where only owners may remove. */
-static void expect_replaceable(const struct place *place)
+/* Ends the program if the directory is sticky and the user owns neither it nor the existing file, because rename would
+ * fail. */
+static void require_replaceable(const struct place *place)
 {
-    struct stat around;
+    struct stat parent;
     uid_t user = geteuid();
 
-    need(fstat(place->directory, &around) == 0, place->file);
-    if ((around.st_mode & S_ISVTX) != 0 && user != 0 && user != place->older.found.st_uid && user != around.st_uid) {
+    require(fstat(place->directory, &parent) == 0, place->file);
+    if ((parent.st_mode & S_ISVTX) != 0 && user != 0 && user != place->existing.status.st_uid
+        && user != parent.st_uid) {
         errno = EPERM;
-        fail_at(place->file);
+        fail_errno(place->file);
     }
 }
 
-void open_older(struct place *place)
+void open_existing(struct place *place)
 {
-    for (int i = 0; place->has_older && place->opened < 0; i++) {
-        place->opened = open_handle(&place->older, place->file, O_WRONLY | O_NOCTTY | O_CLOEXEC);
-        if (place->opened < 0 && errno == EBUSY && i < MAX_LOOKS) {
-            /* (another run replaced it meanwhile) */
-            leave_place(place);
+    for (int i = 0; place->has_existing && place->opened < 0; i++) {
+        place->opened = open_handle(&place->existing, place->file, O_WRONLY | O_NOCTTY | O_CLOEXEC);
+        if (place->opened < 0 && errno == EBUSY && i < MAX_TRIES) {
+            /* Another run has replaced the file since it was inspected. */
+            release_place(place);
             *place = find_place(place->file, place->is_secret);
         } else if (place->opened < 0) {
-            fail_at(place->file);
+            fail_errno(place->file);
         }
     }
-    if (!place->has_older || place->is_descriptor) {
+    if (!place->has_existing || place->is_descriptor) {
         return;
     }
-    need(fstat(place->opened, &place->older.found) == 0, place->file);
-    close_open(&place->older.fd);
+    require(fstat(place->opened, &place->existing.status) == 0, place->file);
+    close_if_open(&place->existing.fd);
     if (!is_written_in_place(place)) {
-        expect_replaceable(place);
+        require_replaceable(place);
     }
 }
 
-bool is_same_place(const struct place *one, const struct place *other)
+bool is_same_place(const struct place *first, const struct place *second)
 {
-    struct stat around, others;
+    struct stat parent, second_parent;
 
-    if (one->name == NULL || other->name == NULL) {
+    if (first->name == NULL || second->name == NULL) {
         return false;
     }
-    if (one->has_older && other->has_older) {
-        return is_same_file(&one->older.found, &other->older.found);
+    if (first->has_existing && second->has_existing) {
+        return is_same_file(&first->existing.status, &second->existing.status);
     }
-    return strcmp(one->name, other->name) == 0 && fstat(one->directory, &around) == 0
-           && fstat(other->directory, &others) == 0 && is_same_file(&around, &others);
+    return strcmp(first->name, second->name) == 0 && fstat(first->directory, &parent) == 0
+           && fstat(second->directory, &second_parent) == 0 && is_same_file(&parent, &second_parent);
 }

@@ -1,14 +1,14 @@
 /* SPDX-License-Identifier: MIT */
-/* Data that is hashed while it is read, and copied out once it is verified. */
+/* Hashes data while reading it, and copies it to the output after verification. */
 #include "reading.h"
 
 #include "shared/progress.h"
 #include "shared/text.h"
 
-/* So many bytes are read at a time. Data that is read twice has larger pieces, as each has a tag. */
+/* How many bytes are read at a time. Data that is read twice has larger pieces (TAGGED_BYTES): each needs a tag. */
 #define READ_BYTES 32768
-/* Data that is held gets this room first. */
-#define FIRST_BYTES 65536
+/* The first size of the buffer for data that is kept in memory. */
+#define INITIAL_BYTES 65536
 
 static uint8_t piece[TAGGED_BYTES];
 
@@ -20,34 +20,34 @@ struct data open_data(const char *file)
 static void feed(minisign_state *state, const uint8_t *bytes, size_t len)
 {
     if (minisign_update(state, bytes, len) != MINISIGN_OK) {
-        blame(NULL, "the data could not be hashed", NULL);
+        fail_error(NULL, "the data could not be hashed", NULL);
     }
 }
 
-/* Reads the data to its end, and holds it. */
-static void hold(struct data *data)
+/* Reads all data into memory. */
+static void read_all(struct data *data)
 {
-    struct held *held = &data->held;
-    size_t room = 0;
+    struct contents *contents = &data->contents;
+    size_t size = 0;
 
     do {
-        room = room == 0 ? FIRST_BYTES : 2 * room;
-        held->bytes = realloc(held->bytes, room);
-        need(held->bytes != NULL, data->file);
-        held->len += read_full(data->fd, data->file, held->bytes + held->len, room - held->len);
-    } while (held->len == room);
+        size = size == 0 ? INITIAL_BYTES : 2 * size;
+        contents->bytes = realloc(contents->bytes, size);
+        require(contents->bytes != NULL, data->file);
+        contents->len += read_full(data->fd, data->file, contents->bytes + contents->len, size - contents->len);
+    } while (contents->len == size);
 }
 
-/* Keeps the tag of the piece that was read. The room for tags doubles when their number is a power of two. */
-static void remember(struct data *data, size_t len)
+/* Stores the tag of the piece that was read. The array doubles whenever the number of tags is a power of two. */
+static void store_tag(struct data *data, size_t len)
 {
-    if ((data->tagged & (data->tagged - 1)) == 0) {
-        size_t room = data->tagged == 0 ? 1 : 2 * data->tagged;
+    if ((data->tag_count & (data->tag_count - 1)) == 0) {
+        size_t size = data->tag_count == 0 ? 1 : 2 * data->tag_count;
 
-        data->tags = realloc(data->tags, room * sizeof *data->tags);
-        need(data->tags != NULL, data->file);
+        data->tags = realloc(data->tags, size * sizeof *data->tags);
+        require(data->tags != NULL, data->file);
     }
-    data->tags[data->tagged++] = tag_of(piece, len);
+    data->tags[data->tag_count++] = tag_of(piece, len);
     data->size += len;
 }
 
@@ -56,24 +56,25 @@ static bool can_be_read_again(const struct data *data)
     return lseek(data->fd, 0, SEEK_CUR) == 0 && lseek(data->fd, 0, SEEK_END) > 0 && lseek(data->fd, 0, SEEK_SET) == 0;
 }
 
-void feed_data(struct data *data, minisign_state *state, enum wanted wanted)
+void feed_data(struct data *data, minisign_state *state, enum reading_mode mode)
 {
-    struct stat found;
-    bool has_size = fstat(data->fd, &found) == 0 && S_ISREG(found.st_mode);
-    struct progress progress = begin_progress(visible(data->file), has_size ? (uint64_t) found.st_size : 0, false);
-    size_t room = wanted == A_COPY_LATER ? TAGGED_BYTES : READ_BYTES, len;
+    struct stat status;
+    bool has_size = fstat(data->fd, &status) == 0 && S_ISREG(status.st_mode);
+    struct escaped_name name = escape_name(data->file);
+    struct progress progress = begin_progress(name.text, has_size ? (uint64_t) status.st_size : 0, false);
+    size_t size = mode == COPY_LATER ? TAGGED_BYTES : READ_BYTES, len;
 
-    if (wanted == ALL_BYTES || (wanted == A_COPY_LATER && !can_be_read_again(data))) {
-        hold(data);
-        feed(state, data->held.bytes, data->held.len);
+    if (mode == KEEP_BYTES || (mode == COPY_LATER && !can_be_read_again(data))) {
+        read_all(data);
+        feed(state, data->contents.bytes, data->contents.len);
     } else {
-        if (wanted == A_COPY_LATER) {
-            draw_tag_key();
+        if (mode == COPY_LATER) {
+            generate_tag_key();
         }
-        while ((len = read_full(data->fd, data->file, piece, room)) > 0) {
+        while ((len = read_full(data->fd, data->file, piece, size)) > 0) {
             feed(state, piece, len);
-            if (wanted == A_COPY_LATER) {
-                remember(data, len);
+            if (mode == COPY_LATER) {
+                store_tag(data, len);
             }
             show_progress(&progress, len);
         }
@@ -81,33 +82,33 @@ void feed_data(struct data *data, minisign_state *state, enum wanted wanted)
     end_progress(&progress);
 }
 
-static void print(const uint8_t *bytes, size_t len)
+static void write_data(const uint8_t *bytes, size_t len)
 {
-    need(fwrite(bytes, 1, len, stdout) == len, "standard output");
+    require(fwrite(bytes, 1, len, stdout) == len, "standard output");
 }
 
 bool copy_data(const struct data *data)
 {
-    uint64_t ahead = data->size;
-    size_t at, len;
+    uint64_t remaining = data->size;
+    size_t index, len;
 
-    if (data->held.bytes != NULL) {
-        print(data->held.bytes, data->held.len);
+    if (data->contents.bytes != NULL) {
+        write_data(data->contents.bytes, data->contents.len);
         return true;
     }
-    need(lseek(data->fd, 0, SEEK_SET) == 0, data->file);
-    for (at = 0; (len = read_full(data->fd, data->file, piece, sizeof piece)) > 0; at++, ahead -= len) {
-        if (at == data->tagged || len > ahead || !is_same_tag(tag_of(piece, len), data->tags[at])) {
+    require(lseek(data->fd, 0, SEEK_SET) == 0, data->file);
+    for (index = 0; (len = read_full(data->fd, data->file, piece, sizeof piece)) > 0; index++, remaining -= len) {
+        if (index == data->tag_count || len > remaining || !is_same_tag(tag_of(piece, len), data->tags[index])) {
             return false;
         }
-        print(piece, len);
+        write_data(piece, len);
     }
-    return ahead == 0;
+    return remaining == 0;
 }
 
 void close_data(struct data *data)
 {
     close(data->fd);
-    free(data->held.bytes);
+    free(data->contents.bytes);
     free(data->tags);
 }

@@ -1,37 +1,37 @@
 /* SPDX-License-Identifier: MIT */
-/* Data that is hashed while it is read, and copied out once it is verified. */
+/* Hashes data while reading it, and copies it to the output after verification. */
 #ifndef READING_H
 #define READING_H
 
 #include "files.h"
 #include "piece_tags.h"
 
-/* Data that is in memory of malloc as a whole. */
-struct held {
+/* Data in memory of malloc. */
+struct contents {
     uint8_t *bytes;
     size_t len;
 };
 
-/* A file of data: its bytes if they are held, or, if it is to be read again, its size and a tag of each piece. */
+/* A data file: its bytes if they are kept in memory; or, if it will be read again, its size and a tag of each piece. */
 struct data {
     const char *file;
     int fd;
-    struct held held;
+    struct contents contents;
     uint64_t size;
     struct tag *tags;
-    size_t tagged;
+    size_t tag_count;
 };
 
-/* What is wanted of the data besides its digest: nothing, its bytes, or that it can be copied out later. */
-enum wanted { DIGEST_ALONE, ALL_BYTES, A_COPY_LATER };
+/* What to keep besides the digest: nothing; all bytes; or tags, so that the data can be copied later. */
+enum reading_mode { DIGEST_ONLY, KEEP_BYTES, COPY_LATER };
 
 struct data open_data(const char *file);
 
-/* Feeds the data to the state, from where its file stands to the end. */
-void feed_data(struct data *data, minisign_state *state, enum wanted wanted);
+/* Feeds the data to the hash state, from the current offset of the file to its end. */
+void feed_data(struct data *data, minisign_state *state, enum reading_mode mode);
 
-/* Writes what was read, and nothing else, to the standard output. Data that was not held is read again, and a piece is
- * written only if its tag is the same. False if the file has changed. */
+/* Writes the data that `feed_data` has read to standard output. Data that is not in memory is read again, and each
+ * piece is written only if its tag is the same. Returns false if the file has changed. */
 bool copy_data(const struct data *data);
 
 void close_data(struct data *data);

@@ -1,5 +1,5 @@
 /* SPDX-License-Identifier: MIT */
-/* Files that are replaced in one step. */
+/* Replaces files in one step, by temporary files that are renamed. */
 #include "replacing.h"
 
 #include <sodium.h>
@@ -12,71 +12,73 @@
 #include "shared/stages.h"
 #include "shared/streams.h"
 
-/* How often a stage is made again if other runs remove it before it is locked. */
+/* Retries when another run deletes our temporary file before we lock it. */
 #define MAX_TRIES 100
-/* A person does not notice how long it takes to read so many bytes. */
-#define QUICK_BYTES (1 << 20)
-/* A file that waits has two descriptors open. Ten of the first 256 descriptors are left for all else. */
-#define WAITING_DESCRIPTORS 2
+/* Reading a regular file of this size is so fast that nobody notices the delay. */
+#define SMALL_BYTES (1 << 20)
+/* Each queued file holds two descriptors. Ten of the first 256 descriptors are left for everything else. */
+#define QUEUED_DESCRIPTORS 2
 #define SPARE_DESCRIPTORS 10
 #define COUNTED_DESCRIPTORS 256
 
 struct replacement {
-    /* Where it goes. Without a file the stage is free. */
+    /* Where the file goes. `place.file` is NULL if this entry is free. */
     struct place place;
-    /* Open and locked until it is in its place. -1: it was written in place. */
+    /* The temporary file, open and locked until it is in place. -1 if the file was written in place. */
     int fd;
-    /* Its name beside its place, and whether it has it or is about to get it. */
+    /* The name of the temporary file, and whether it has this name or is about to get it. */
     char name[STAGE_NAME_BYTES];
     volatile sig_atomic_t is_named;
     bool is_key;
-    /* Whether it may take the place of an older file. */
-    bool over_older;
-    /* Whether it is synced, or need not be. */
+    /* True if an existing file may be replaced. */
+    bool may_replace;
+    /* True if the file is synced, or need not be. */
     bool is_synced;
-    /* Whether it is whole and waits for others. */
-    bool waits;
-    /* If its partner does not get its place, this one loses its own; and how. */
+    /* True if the file is complete, and waits to be synced and renamed together with others. */
+    bool is_queued;
+    /* The other file of a pair. If the partner is not put in place, this file is removed again: its name is exchanged
+     * back if `is_exchanged`, and otherwise unlinked. */
     struct replacement *volatile partner;
     volatile sig_atomic_t is_exchanged;
 };
 
-/* So many files wait for each other, as it takes little more time to sync all than one. One more is staged beside them.
- * A pair of keys has two stages, and then none waits. */
-enum { MAX_WAITING = 32, MAX_STAGES = MAX_WAITING + 1 };
+/* The most files that are queued: syncing all of them takes little more time than syncing one. One more is staged while
+ * they are queued. A key pair needs two stages, and is never written while files are queued. */
+enum { MAX_QUEUED = 32, MAX_STAGES = MAX_QUEUED + 1 };
 static struct replacement stages[MAX_STAGES];
-static int waiting;
+static int queued_count;
 
 /* ---- Names ---- */
 
-/* Gives a stage without a name one beside its place. */
+/* Links an unnamed temporary file under a random name. */
 static bool name_stage(struct replacement *stage)
 {
-    stage->is_named = draw_stage_name(stage->name);
+    stage->is_named = random_stage_name(stage->name);
     if (stage->is_named && !link_unnamed(stage->fd, stage->place.directory, stage->name)) {
         stage->is_named = 0;
     }
     return stage->is_named;
 }
 
-/* Returns true if the stage now has the name of this place. May be called while a signal is handled. */
-static bool has_name_of(const struct replacement *stage, const struct place *place)
+/* Returns true if the name of this place leads to the file of this stage. Async-signal-safe. */
+static bool is_at(const struct replacement *stage, const struct place *place)
 {
-    struct stat own, named;
+    struct stat staged, named;
 
-    return fstat(stage->fd, &own) == 0 && fstatat(place->directory, place->name, &named, AT_SYMLINK_NOFOLLOW) == 0
-           && is_same_file(&own, &named);
+    return fstat(stage->fd, &staged) == 0
+           && fstatat(place->directory, place->name, &named, AT_SYMLINK_NOFOLLOW) == 0
+           && is_same_file(&staged, &named);
 }
 
-/* Whether this stage is in its place. May be called while a signal is handled. */
+/* Returns true if this stage is in place. Async-signal-safe. */
 static bool is_placed(const struct replacement *stage)
 {
-    return stage->fd < 0 || has_name_of(stage, &stage->place);
+    return stage->fd < 0 || is_at(stage, &stage->place);
 }
 
-/* ---- Stages go with the program ---- */
+/* ---- Removal at exit ---- */
 
-/* Takes a stage out of its place if its partner has not got its own. May be called while a signal is handled. */
+/* Removes a stage from its place if its partner is not in place. Async-signal-safe. */
 static void undo_stage(struct replacement *stage)
 {
     const struct place *place = &stage->place;
@@ -85,15 +87,15 @@ static void undo_stage(struct replacement *stage)
         return;
     }
     if (stage->is_exchanged) {
-        /* (if that fails, the older file keeps the stage's name) */
+        /* If the exchange fails, the existing file keeps the name of the temporary file, which is then not removed. */
         stage->is_named = exchange_names(place->directory, stage->name, place->name);
     } else {
         unlinkat(place->directory, place->name, 0);
     }
 }
 
-/* May be called while a signal is handled. */
-static void drop_stages(void)
+/* Async-signal-safe. */
+static void remove_stages(void)
 {
     for (struct replacement *stage = stages; stage < stages + MAX_STAGES; stage++) {
         undo_stage(stage);
@@ -105,17 +107,17 @@ static void drop_stages(void)
 
 static void finish_stages(void);
 
-/* From the first stage on. A file that grows beyond the system's bound is a failed write, and no signal. */
-static void watch_stages(void)
+/* Runs once, before the first stage. SIGXFSZ is ignored so that a file beyond the size limit is a failed write. */
+static void register_cleanup(void)
 {
-    static bool watched;
+    static bool is_registered;
 
-    if (!watched) {
-        watched = true;
-        clean_at_end(drop_stages);
+    if (!is_registered) {
+        is_registered = true;
+        clean_at_end(remove_stages);
         signal(SIGXFSZ, SIG_IGN);
         if (atexit(finish_stages) != 0) {
-            blame(NULL, "atexit() failed", NULL);
+            fail_error(NULL, "atexit() failed", NULL);
         }
     }
 }
@@ -128,38 +130,38 @@ static struct replacement *free_stage(void)
             return stage;
         }
     }
-    blame(NULL, "too many files at once", NULL);
+    fail_error(NULL, "too many files at once", NULL);
 }
 
-/* Closes what a stage has open, and removes the name beside its place if it still has it, or leaves that to the end of
- * the program. */
-static void forget(struct replacement *stage)
+/* Closes everything that a stage has open, and removes its temporary name. If that fails, the name is removed when the
+ * program ends. */
+static void release_stage(struct replacement *stage)
 {
     stage->partner = NULL;
     if (stage->is_named && unlinkat(stage->place.directory, stage->name, 0) != 0 && errno != ENOENT) {
         return;
     }
-    close_open(&stage->fd);
-    leave_place(&stage->place);
+    close_if_open(&stage->fd);
+    release_place(&stage->place);
     *stage = (struct replacement) { .fd = -1 };
 }
 
 /* ---- Writing ---- */
 
-/* Opens and locks a new file without a name, or if that is not possible one of a new name beside the place. Another run
- * may remove that before it is locked. */
+/* Creates and locks a temporary file, without a name if the file system can do that. Otherwise it has a random name,
+ * and another run may remove it before it is locked. */
 static bool open_stage(struct replacement *stage, mode_t mode)
 {
     stage->fd = open_unnamed(stage->place.directory, mode);
     if (stage->fd >= 0) {
         return lock_stage(stage->fd);
     }
-    for (int i = 0; i < MAX_TRIES && draw_stage_name(stage->name); i++) {
-        struct stat made;
+    for (int i = 0; i < MAX_TRIES && random_stage_name(stage->name); i++) {
+        struct stat created;
 
         stage->is_named = 1;
         stage->fd = open_named(stage->place.directory, stage->name, mode);
-        if (stage->fd >= 0 && lock_stage(stage->fd) && fstat(stage->fd, &made) == 0 && made.st_nlink > 0) {
+        if (stage->fd >= 0 && lock_stage(stage->fd) && fstat(stage->fd, &created) == 0 && created.st_nlink > 0) {
             return true;
         }
         stage->is_named = 0;
@@ -167,33 +169,34 @@ static bool open_stage(struct replacement *stage, mode_t mode)
             return false;
         }
         unlinkat(stage->place.directory, stage->name, 0);
-        close_open(&stage->fd);
+        close_if_open(&stage->fd);
         errno = EBUSY;
     }
     return false;
 }
 
-/* Gives a stage the owner, the mode and the access list of the older file, or only what its owner may do. */
-static void take_over(const struct replacement *stage, bool for_owner_alone)
+/* Gives a stage the owner, mode and access list of the existing file, or, if `owner_only`, no more than the owner's
+ * permissions. */
+static void copy_permissions(const struct replacement *stage, bool owner_only)
 {
-    static struct permissions older;
+    static struct permissions existing;
 
-    need(read_permissions_of(&older, stage->place.opened), stage->place.file);
-    if (for_owner_alone) {
-        replace_mode(&older, older.mode & S_IRWXU);
+    require(read_permissions_fd(&existing, stage->place.opened), stage->place.file);
+    if (owner_only) {
+        replace_mode(&existing, existing.mode & S_IRWXU);
     }
-    need(give_permissions(stage->fd, &older), stage->place.file);
+    require(give_permissions(stage->fd, &existing), stage->place.file);
 }
 
-/* Writes what is no regular file, has no name or is named as a descriptor. A file without a name is emptied first. */
+/* Writes a file in place. A regular file is truncated first, unless it was named as a descriptor. */
 static void write_in_place(struct place *place, const uint8_t *bytes, size_t len)
 {
     int fd = place->opened;
-    bool is_emptied = S_ISREG(place->older.found.st_mode) && !place->is_descriptor;
+    bool is_emptied = S_ISREG(place->existing.status.st_mode) && !place->is_descriptor;
 
-    need((!is_emptied || ftruncate(fd, 0) == 0) && write_whole(fd, bytes, len), place->file);
+    require((!is_emptied || ftruncate(fd, 0) == 0) && write_whole(fd, bytes, len), place->file);
     place->opened = -1;
-    need(close(fd) == 0, place->file);
+    require(close(fd) == 0, place->file);
 }
 
 static bool is_secret(enum kind kind)
@@ -201,34 +204,34 @@ static bool is_secret(enum kind kind)
     return kind == NEW_SECRET_KEY || kind == CHANGED_SECRET_KEY || kind == UNSEALED_SECRET_KEY;
 }
 
-void expect_no_stranger(const char *file, enum kind kind)
+void reject_untrusted_file(const char *file, enum kind kind)
 {
-    struct stat found;
+    struct stat status;
     struct place place;
 
-    if (stat(file, &found) == 0 || errno == EACCES) {
+    if (stat(file, &status) == 0 || errno == EACCES) {
         place = find_place(file, is_secret(kind));
-        leave_place(&place);
+        release_place(&place);
     }
 }
 
-/* A stage for a file, with the older one open, or NULL if that is to stay. */
-static struct replacement *begin_stage(const char *file, enum kind kind, bool over_older)
+/* Returns a stage whose existing file is open, or NULL if a file exists and must not be replaced. */
+static struct replacement *prepare_stage(const char *file, enum kind kind, bool may_replace)
 {
     struct replacement *stage = free_stage();
 
-    watch_stages();
+    register_cleanup();
     stage->place = find_place(file, is_secret(kind));
-    stage->over_older = over_older;
-    if (stage->place.has_older && !over_older) {
-        forget(stage);
+    stage->may_replace = may_replace;
+    if (stage->place.has_existing && !may_replace) {
+        release_stage(stage);
         return NULL;
     }
-    open_older(&stage->place);
+    open_existing(&stage->place);
     return stage;
 }
 
-/* Writes a stage whole, beside its place or in place. */
+/* Writes the whole file: into a temporary file or in place. */
 static void write_replacement(struct replacement *stage, enum kind kind, const uint8_t *bytes, size_t len)
 {
     mode_t mode;
@@ -239,28 +242,28 @@ static void write_replacement(struct replacement *stage, enum kind kind, const u
         return;
     }
     stage->is_key = kind != SIGNATURE;
-    stage->is_synced = !stage->is_key && !stage->place.has_older;
-    mode = is_secret(kind) || stage->place.has_older ? 0600 : 0666;
+    stage->is_synced = !stage->is_key && !stage->place.has_existing;
+    mode = is_secret(kind) || stage->place.has_existing ? 0600 : 0666;
     remove_unlocked_stages(stage->place.directory);
-    need(open_stage(stage, mode), stage->place.file);
-    need(!is_secret(kind) || close_to_others(stage->fd), stage->place.file);
-    if (stage->place.has_older && kind != NEW_SECRET_KEY) {
-        take_over(stage, kind == UNSEALED_SECRET_KEY || (is_secret(kind) && !knows_access_lists));
+    require(open_stage(stage, mode), stage->place.file);
+    require(!is_secret(kind) || close_to_others(stage->fd), stage->place.file);
+    if (stage->place.has_existing && kind != NEW_SECRET_KEY) {
+        copy_permissions(stage, kind == UNSEALED_SECRET_KEY || (is_secret(kind) && !has_access_lists));
     }
-    need(write_whole(stage->fd, bytes, len), stage->place.file);
+    require(write_whole(stage->fd, bytes, len), stage->place.file);
     if (stage->is_synced) {
-        /* (when a file is closed, the system says whether what was written can be kept) */
+        /* Some file systems report a failed write only when the file is closed. */
         fd = dup(stage->fd);
-        need(fd < 0 || close(fd) == 0, stage->place.file);
+        require(fd < 0 || close(fd) == 0, stage->place.file);
     } else {
-        /* (the disk begins now, so that fsync takes less time) */
+        /* The disk starts to write now, so that fsync takes less time. */
         begin_sync(stage->fd, 0, 0);
     }
 }
 
-struct replacement *stage_file(const char *file, enum kind kind, bool over_older, const uint8_t *bytes, size_t len)
+struct replacement *stage_file(const char *file, enum kind kind, bool may_replace, const uint8_t *bytes, size_t len)
 {
-    struct replacement *stage = begin_stage(file, kind, over_older);
+    struct replacement *stage = prepare_stage(file, kind, may_replace);
 
     if (stage != NULL) {
         write_replacement(stage, kind, bytes, len);
@@ -268,47 +271,47 @@ struct replacement *stage_file(const char *file, enum kind kind, bool over_older
     return stage;
 }
 
-bool is_one_place(const struct replacement *one, const struct replacement *other)
+bool have_same_place(const struct replacement *first, const struct replacement *second)
 {
-    return is_same_place(&one->place, &other->place);
+    return is_same_place(&first->place, &second->place);
 }
 
-/* Syncs all stages that have to be. */
+/* Syncs all stages that need it. */
 static void sync_stages(void)
 {
     for (struct replacement *stage = stages; stage < stages + MAX_STAGES; stage++) {
         if (stage->place.file != NULL && stage->fd >= 0 && !stage->is_synced) {
-            bool waits = stage->waits;
+            bool is_queued = stage->is_queued;
 
-            /* (one that cannot be synced is not put in its place when the program ends) */
-            stage->waits = false;
-            need(sync_to_disk(stage->fd), stage->place.file);
+            /* If fsync fails, the program ends, and finish_stages must not put this file in place. */
+            stage->is_queued = false;
+            require(sync_to_disk(stage->fd), stage->place.file);
             stage->is_synced = true;
-            stage->waits = waits;
+            stage->is_queued = is_queued;
         }
     }
 }
 
 /* ---- Putting in place ---- */
 
-/* A stage was put in its place, or an older file is there that is to stay, or errno says why it cannot be put there. */
-enum put { PUT, TAKEN, NOT_PUT };
+/* The result of putting a stage in place: done; a file exists that must not be replaced; or an error, in errno. */
+enum placement { PLACED, NAME_TAKEN, NOT_PLACED };
 
-/* Writes what a stage holds over the older file, which has to stay where it is because it is a mount of its own. No
- * secret key is written into a file that others may read. */
-static bool write_over(struct replacement *stage)
+/* Copies a stage into the existing file, which cannot be replaced because it is a mount point. A secret is not written
+ * into a file that others can access. */
+static bool overwrite(struct replacement *stage)
 {
-    uint8_t bytes[TEXT_ROOM];
+    uint8_t bytes[TEXT_BUFFER_BYTES];
     bool is_written;
     ssize_t len;
     int fd;
 
-    if (stage->place.is_secret && !may_keep_secret(&stage->place.older.found)) {
+    if (stage->place.is_secret && !may_keep_secret(&stage->place.existing.status)) {
         errno = EBUSY;
         return false;
     }
     if (stage->place.opened < 0) {
-        stage->place.opened = open_by_path(&stage->place.older, stage->place.file, O_WRONLY | O_CLOEXEC);
+        stage->place.opened = open_by_path(&stage->place.existing, stage->place.file, O_WRONLY | O_CLOEXEC);
     }
     fd = stage->place.opened;
     len = fd >= 0 && lseek(stage->fd, 0, SEEK_SET) == 0 ? read_whole(stage->fd, bytes, sizeof bytes) : -1;
@@ -317,58 +320,57 @@ static bool write_over(struct replacement *stage)
     return is_written;
 }
 
-/* Renames a stage that has a name. */
-static enum put rename_replacement(struct replacement *stage)
+static enum placement rename_replacement(struct replacement *stage)
 {
     const struct place *place = &stage->place;
 
-    if (stage->over_older ? renameat(place->directory, stage->name, place->directory, place->name) == 0
-                          : rename_to_free(place->directory, stage->name, place->name)) {
+    if (stage->may_replace ? renameat(place->directory, stage->name, place->directory, place->name) == 0
+                           : rename_no_replace(place->directory, stage->name, place->name)) {
         stage->is_named = 0;
-        return PUT;
+        return PLACED;
     }
-    if (!stage->over_older && errno == EEXIST) {
-        return TAKEN;
+    if (!stage->may_replace && errno == EEXIST) {
+        return NAME_TAKEN;
     }
-    return errno == EBUSY && stage->place.has_older && write_over(stage) ? PUT : NOT_PUT;
+    return errno == EBUSY && stage->place.has_existing && overwrite(stage) ? PLACED : NOT_PLACED;
 }
 
-static enum put put_stage(struct replacement *stage)
+static enum placement place_stage(struct replacement *stage)
 {
     if (stage->fd < 0) {
-        return PUT;
+        return PLACED;
     }
-    if (!stage->is_named && !stage->place.has_older) {
+    if (!stage->is_named && !stage->place.has_existing) {
         if (link_unnamed(stage->fd, stage->place.directory, stage->place.name)) {
-            return PUT;
+            return PLACED;
         }
-        if (errno != EEXIST || !stage->over_older) {
-            return errno == EEXIST ? TAKEN : NOT_PUT;
+        if (errno != EEXIST || !stage->may_replace) {
+            return errno == EEXIST ? NAME_TAKEN : NOT_PLACED;
         }
     }
-    return stage->is_named || name_stage(stage) ? rename_replacement(stage) : NOT_PUT;
+    return stage->is_named || name_stage(stage) ? rename_replacement(stage) : NOT_PLACED;
 }
 
-/* Whether it was put there. Ends the program if that is not possible. */
-static bool is_put(const struct replacement *stage, enum put put)
+/* Returns true if the stage is in place. Ends the program if there was an error. */
+static bool was_placed(const struct replacement *stage, enum placement placement)
 {
-    need(put != NOT_PUT, stage->place.file);
-    return put == PUT;
+    require(placement != NOT_PLACED, stage->place.file);
+    return placement == PLACED;
 }
 
-/* Syncs the new name of a file, if the system can do that for a directory. */
-static void keep_name(const struct replacement *stage)
+/* Syncs the new name of a file, if the system can sync directories. */
+static void sync_name(const struct replacement *stage)
 {
     int fd;
 
     if (stage->fd < 0) {
         return;
     }
-    /* (a file that had no name has one now) */
-    need(sync_to_disk(stage->fd), stage->place.file);
+    /* The link count of a file that had no name has changed. */
+    require(sync_to_disk(stage->fd), stage->place.file);
     fd = openat(stage->place.directory, ".", O_RDONLY | O_DIRECTORY | O_CLOEXEC);
-    need(fd < 0 || sync_to_disk(fd) || errno == EINVAL, stage->place.file);
-    close_open(&fd);
+    require(fd < 0 || sync_to_disk(fd) || errno == EINVAL, stage->place.file);
+    close_if_open(&fd);
 }
 
 bool put_in_place(struct replacement *stage)
@@ -378,30 +380,30 @@ bool put_in_place(struct replacement *stage)
     if (stage->fd >= 0 && !stage->is_synced) {
         sync_stages();
     }
-    is_in_place = is_put(stage, put_stage(stage));
+    is_in_place = was_placed(stage, place_stage(stage));
     if (is_in_place && stage->is_key) {
-        keep_name(stage);
+        sync_name(stage);
     }
-    forget(stage);
+    release_stage(stage);
     return is_in_place;
 }
 
 void replace_key(const char *file, enum kind kind, uid_t owner, const uint8_t *bytes, size_t len)
 {
-    struct replacement *stage = begin_stage(file, kind, true);
+    struct replacement *stage = prepare_stage(file, kind, true);
 
-    if (stage->place.has_older && stage->place.older.found.st_uid != owner) {
-        blame(file, "another user replaced this file after the key was read",
-              "check who can write to its directory, then try again");
+    if (stage->place.has_existing && stage->place.existing.status.st_uid != owner) {
+        fail_error(file, "another user replaced this file after the key was read",
+                   "check who can write to its directory, then try again");
     }
     write_replacement(stage, kind, bytes, len);
     put_in_place(stage);
 }
 
-/* ---- Two that belong together ---- */
+/* ---- Pairs ---- */
 
-/* Exchanges a stage with the older file in its place, which keeps the stage's name until the partner is in its own
- * place, and is locked as stages are. False if the file system does not exchange names. */
+/* Exchanges a stage with the existing file. That file keeps the temporary name until the partner is in place, and is
+ * locked so that no run removes it as a leftover. Returns false if the file system cannot exchange names. */
 static bool exchange_stage(struct replacement *stage)
 {
     const struct place *place = &stage->place;
@@ -415,75 +417,76 @@ static bool exchange_stage(struct replacement *stage)
     return stage->is_exchanged;
 }
 
-/* Puts a stage in its place so that it loses that again if the program ends before its partner has its own. */
-static enum put put_with_partner(struct replacement *stage, struct replacement *partner)
+/* Puts a stage in place so that it is removed again if the program ends before the partner is in place. */
+static enum placement place_with_partner(struct replacement *stage, struct replacement *partner)
 {
     stage->partner = partner;
-    if (stage->fd < 0 || (stage->place.has_older && exchange_stage(stage))) {
-        return PUT;
+    if (stage->fd < 0 || (stage->place.has_existing && exchange_stage(stage))) {
+        return PLACED;
     }
-    stage->partner = stage->place.has_older ? NULL : partner;
-    return put_stage(stage);
+    stage->partner = stage->place.has_existing ? NULL : partner;
+    return place_stage(stage);
 }
 
-const char *put_both_in_place(struct replacement *first, struct replacement *last)
+const char *put_both_in_place(struct replacement *first, struct replacement *second)
 {
-    const char *taken = NULL;
+    const char *existing = NULL;
 
     sync_stages();
-    if (!is_put(first, put_with_partner(first, last))) {
-        taken = first->place.file;
+    if (!was_placed(first, place_with_partner(first, second))) {
+        existing = first->place.file;
     } else {
-        keep_name(first);
-        /* A file system may take two names for one, such as k.key and k.KEY: then the second file would replace the first. */
-        if (first->fd >= 0 && last->fd >= 0 && has_name_of(first, &last->place)) {
+        sync_name(first);
+        /* A file system may take two names for one, such as k.key and k.KEY. Then the second file would replace the
+         * first. */
+        if (first->fd >= 0 && second->fd >= 0 && is_at(first, &second->place)) {
             undo_stage(first);
-            blame(last->place.file, "the file system takes this for the name of the other key file",
-                  "use -s FILE and -p FILE to name two different files");
+            fail_error(second->place.file, "the file system takes this for the name of the other key file",
+                       "use -s FILE and -p FILE to name two different files");
         }
-        if (is_put(last, put_stage(last))) {
+        if (was_placed(second, place_stage(second))) {
             first->partner = NULL;
-            keep_name(last);
+            sync_name(second);
         } else {
-            taken = last->place.file;
+            existing = second->place.file;
             undo_stage(first);
         }
     }
-    forget(first);
-    forget(last);
-    return taken;
+    release_stage(first);
+    release_stage(second);
+    return existing;
 }
 
-/* ---- Many files ---- */
+/* ---- Queued files ---- */
 
-/* If the program ends early, it still puts finished files in place. */
+/* If the program ends early, it still puts complete files in place. */
 static void finish_stages(void)
 {
     for (struct replacement *stage = stages; stage < stages + MAX_STAGES; stage++) {
-        if (stage->waits && ((!stage->is_synced && !sync_to_disk(stage->fd)) || put_stage(stage) != PUT)) {
-            say_at(stage->place.file);
+        if (stage->is_queued && ((!stage->is_synced && !sync_to_disk(stage->fd)) || place_stage(stage) != PLACED)) {
+            print_errno(stage->place.file);
         }
     }
 }
 
-/* How many files may wait: as many as there are descriptors for. Counted once. */
-static int most_waiting(void)
+/* Returns how many files can be queued, which depends on the free descriptors. These are counted once. */
+static int max_queued(void)
 {
-    static int most;
-    long bound = sysconf(_SC_OPEN_MAX);
-    int free_ones = 0;
+    static int max;
+    long limit = sysconf(_SC_OPEN_MAX);
+    int free_descriptors = 0;
 
-    if (most == 0) {
-        for (int fd = 0; fd < COUNTED_DESCRIPTORS && (bound < 0 || fd < bound); fd++) {
-            free_ones += fcntl(fd, F_GETFD) < 0;
+    if (max == 0) {
+        for (int fd = 0; fd < COUNTED_DESCRIPTORS && (limit < 0 || fd < limit); fd++) {
+            free_descriptors += fcntl(fd, F_GETFD) < 0;
         }
-        most = (free_ones - SPARE_DESCRIPTORS) / WAITING_DESCRIPTORS;
-        most = most < 1 ? 1 : most > MAX_WAITING ? MAX_WAITING : most;
+        max = (free_descriptors - SPARE_DESCRIPTORS) / QUEUED_DESCRIPTORS;
+        max = max < 1 ? 1 : max > MAX_QUEUED ? MAX_QUEUED : max;
     }
-    return most;
+    return max;
 }
 
-void replace_soon(const char *file, enum kind kind, const uint8_t *bytes, size_t len)
+void queue_replacement(const char *file, enum kind kind, const uint8_t *bytes, size_t len)
 {
     struct replacement *stage = stage_file(file, kind, true, bytes, len);
 
@@ -491,39 +494,39 @@ void replace_soon(const char *file, enum kind kind, const uint8_t *bytes, size_t
         put_in_place(stage);
         return;
     }
-    close_older(&stage->place);
-    stage->waits = true;
-    waiting++;
-    if (waiting >= most_waiting()) {
-        replace_waiting();
+    close_existing(&stage->place);
+    stage->is_queued = true;
+    queued_count++;
+    if (queued_count >= max_queued()) {
+        finish_replacements();
     }
 }
 
-void replace_waiting(void)
+void finish_replacements(void)
 {
     sync_stages();
     for (struct replacement *stage = stages; stage < stages + MAX_STAGES; stage++) {
-        if (stage->waits) {
-            stage->waits = false;
+        if (stage->is_queued) {
+            stage->is_queued = false;
             put_in_place(stage);
         }
     }
-    waiting = 0;
+    queued_count = 0;
 }
 
-void replace_before_reading(const char *file)
+void finish_replacements_before(const char *file)
 {
-    struct stat found;
-    bool is_quick;
+    struct stat status;
+    bool is_small;
 
-    if (waiting == 0) {
+    if (queued_count == 0) {
         return;
     }
-    is_quick = stat(file, &found) == 0 && S_ISREG(found.st_mode) && found.st_size < QUICK_BYTES;
-    for (struct replacement *stage = stages; stage < stages + MAX_STAGES && is_quick; stage++) {
-        is_quick = !stage->waits || !is_same_file(&stage->place.older.found, &found);
+    is_small = stat(file, &status) == 0 && S_ISREG(status.st_mode) && status.st_size < SMALL_BYTES;
+    for (struct replacement *stage = stages; stage < stages + MAX_STAGES && is_small; stage++) {
+        is_small = !stage->is_queued || !is_same_file(&stage->place.existing.status, &status);
     }
-    if (!is_quick) {
-        replace_waiting();
+    if (!is_small) {
+        finish_replacements();
     }
 }

@@ -1,8 +1,8 @@
 /* SPDX-License-Identifier: MIT */
 /*
- * minisign -S. The library hashes the data, says what to sign and writes the text of the signature; libsodium signs
- * with Ed25519. The key is opened once, and the first signature is verified as others will verify it. Each file is
- * written in one step, so that an older signature stays whole until then.
+ * Signs files: minisign -S. The library hashes the data, says what to sign and encodes the signature file; libsodium
+ * signs with Ed25519. The key is decrypted once, and the first signature is verified like any other. Each signature
+ * file is replaced in one step.
  */
 #include "signing.h"
 
@@ -24,7 +24,7 @@ static const char *last_part(const char *path)
     return slash == NULL ? path : slash + 1;
 }
 
-/* The default trusted comment: the time, and the last part of the file's name. */
+/* Returns the default trusted comment: the time, and the file's name without its directory. */
 static const char *default_comment(const char *data_file, bool legacy)
 {
     static char comment[COMMENT_BYTES];
@@ -34,23 +34,23 @@ static const char *default_comment(const char *data_file, bool legacy)
     return comment;
 }
 
-/* Ends the program if the last part of the file's name cannot stand in the default trusted comment. */
-static void expect_comment(const char *data_file, bool legacy)
+/* Ends the program if the file's name cannot be used in the default trusted comment. */
+static void check_default_comment(const char *data_file, bool legacy)
 {
     const char *name = last_part(data_file);
     const uint8_t *text = (const uint8_t *) name;
     size_t len = strlen(name);
-    const char *what = NULL;
+    const char *error_text = NULL;
 
     if (!is_utf8(text, len)) {
-        what = "the trusted comment cannot hold a name that is not UTF-8";
+        error_text = "the trusted comment cannot hold a name that is not UTF-8";
     } else if (strpbrk(name, "\r\n") != NULL) {
-        what = "the trusted comment cannot hold a name with a line break";
+        error_text = "the trusted comment cannot hold a name with a line break";
     } else if (legacy && ends_with_space(text, len)) {
-        what = "the trusted comment cannot end with white space";
+        error_text = "the trusted comment cannot end with white space";
     }
-    if (what != NULL) {
-        blame(data_file, what, "use -t COMMENT to give another trusted comment");
+    if (error_text != NULL) {
+        fail_error(data_file, error_text, "use -t COMMENT to give another trusted comment");
     }
 }
 
@@ -66,116 +66,117 @@ static minisign_signed_parts comments_of(const struct options *options, const ch
     };
 }
 
-/* The signature of Ed25519 on bytes that the library names. */
+/* Signs bytes that the library returned, or legacy data. */
 static void sign(uint8_t signature[64], const uint8_t *bytes, size_t len)
 {
     crypto_sign_detached(signature, NULL, bytes, len, secrets->open.secret);
     minisign_clear_used();
 }
 
-/* Turns the text into that of a legacy signature, which has another second letter of the algorithm, and so of the
- * second line. The library only verifies such a text, so that what it promises about signing has no exception. */
-static void turn_legacy(struct text *made)
+/* Turns a signature file into a legacy one: the algorithm "Ed" instead of "ED", which is "RW" instead of "RU" at the
+ * start of the second line. The library only verifies legacy signatures, so that its promise about signing has no
+ * exception. */
+static void mark_legacy(struct text *text)
 {
-    uint8_t *end = memchr(made->bytes, '\n', made->len);
+    uint8_t *second_line = (uint8_t *) memchr(text->bytes, '\n', text->len) + 1;
 
-    end[2] = 'W';
+    memcpy(second_line, "RW", 2);
 }
 
-/* Signs the data that the state was fed, and makes the text of the signature. */
-static void make_signature(struct text *made, minisign_state *state, const struct data *data,
+/* Signs the data that was fed to the state, and encodes the signature file. */
+static void make_signature(struct text *text, minisign_state *state, const struct data *data,
                            const struct options *options, minisign_signed_parts *parts)
 {
-    static uint8_t message[64 + TEXT_ROOM];
+    static uint8_t message[64 + TEXT_BUFFER_BYTES];
     minisign_public_key public = { 0 };
     uint8_t digest[64];
 
-    expect_done(minisign_public_key_of(&secrets->open, &public));
-    expect_done(minisign_digest(state, digest));
+    require_success(minisign_public_key_of(&secrets->open, &public));
+    require_success(minisign_digest(state, digest));
     if (options->legacy) {
-        sign(parts->signature, data->held.bytes, data->held.len);
+        sign(parts->signature, data->contents.bytes, data->contents.len);
     } else {
         sign(parts->signature, digest, sizeof digest);
     }
-    expect_done(minisign_comment_message(parts->signature, parts->trusted_comment, parts->trusted_comment_len, message,
-                                         sizeof message));
+    require_success(minisign_comment_message(parts->signature, parts->trusted_comment, parts->trusted_comment_len,
+                                             message, sizeof message));
     sign(parts->comment_signature, message, 64 + parts->trusted_comment_len);
-    expect_done(minisign_signed_text(&public, parts, made->bytes, sizeof made->bytes, &made->len));
+    require_success(minisign_signed_text(&public, parts, text->bytes, sizeof text->bytes, &text->len));
     if (options->legacy) {
-        turn_legacy(made);
+        mark_legacy(text);
     }
 }
 
-/* Ends the program if the text does not vouch under the public key for the data that the state was fed, and says which
- * key is to blame. */
-static void verify_signature(const struct options *options, const minisign_state *fed, const struct text *made,
+/* Ends the program if the signature is not valid for the data under this public key, and says which key is wrong. */
+static void verify_signature(const struct options *options, const minisign_state *hashed, const struct text *text,
                              const struct data *data, const minisign_public_key *public)
 {
-    minisign_state state = *fed;
-    enum minisign_error error = ask(&state, public, made, true);
+    minisign_state state = *hashed;
+    enum minisign_error error = ask(&state, public, text, true);
 
-    error = error == MINISIGN_OK ? judge(&state, &data->held) : error;
+    error = error == MINISIGN_OK ? judge(&state, &data->contents) : error;
     if (error == MINISIGN_OK) {
         return;
     }
     fputs("Verification would fail with the given public key\n", stderr);
-    if (!has_own_halves()) {
-        blame(options->secret_file, "this secret key is damaged: its two halves do not match", SECRET_KEY_HINT);
+    if (!halves_match()) {
+        fail_error(options->secret_file, "this secret key is damaged: its two halves do not match", SECRET_KEY_HINT);
     }
     if (name_of_public_key(options) != NULL) {
-        fprintf(stderr, "error: %s: this is not the public key of %s\n", visible(name_of_public_key(options)),
-                visible(options->secret_file));
-        say_hint("use -R to write the public key file again");
+        fprintf(stderr, "error: %s: this is not the public key of %s\n", escape_name(name_of_public_key(options)).text,
+                escape_name(options->secret_file).text);
+        print_hint("use -R to write the public key file again");
     }
     exit(TROUBLE);
 }
 
-/* Signs a file, and verifies the signature, unless the public key is NULL. */
+/* Signs a file. Verifies the signature unless `public` is NULL. */
 static void sign_file(const struct options *options, const char *data_file, const char *signature_file,
                       const minisign_public_key *public)
 {
-    static struct text made;
+    static struct text text;
     minisign_signed_parts parts = comments_of(options, data_file);
     struct data data;
-    minisign_state state, fed;
+    minisign_state state, hashed;
 
-    reject_over_key(options, signature_file, hint_for(SIGNATURE_TEXT));
-    replace_before_reading(data_file);
+    reject_secret_key_as_output(options, signature_file, hint_for(SIGNATURE_TEXT));
+    finish_replacements_before(data_file);
     data = open_data(data_file);
     if (options->trusted_comment == NULL) {
-        expect_comment(data_file, options->legacy);
+        check_default_comment(data_file, options->legacy);
     }
     minisign_init(&state);
-    feed_data(&data, &state, options->legacy ? ALL_BYTES : DIGEST_ALONE);
-    fed = state;
-    make_signature(&made, &state, &data, options, &parts);
+    feed_data(&data, &state, options->legacy ? KEEP_BYTES : DIGEST_ONLY);
+    hashed = state;
+    make_signature(&text, &state, &data, options, &parts);
     if (public != NULL) {
-        verify_signature(options, &fed, &made, &data, public);
+        verify_signature(options, &hashed, &text, &data, public);
     }
-    replace_soon(signature_file, SIGNATURE, made.bytes, made.len);
+    queue_replacement(signature_file, SIGNATURE, text.bytes, text.len);
     close_data(&data);
 }
 
 int sign_files(const struct options *options)
 {
-    const char *first = options->signature_file;
     minisign_public_key public;
 
-    expect_one_line(options->trusted_comment);
-    expect_one_line(options->comment);
-    /* The first signature is verified with the public key of the options, or else the secret key's own. A missing or
-     * damaged public key is reported before the password prompt, as Minisign does. */
+    require_one_line(options->trusted_comment);
+    require_one_line(options->comment);
+    /* The first signature is verified under the public key of the options, or else under the secret key's own public
+     * half. A missing or damaged public key is reported before the password prompt, as Minisign does. */
     if (name_of_public_key(options) != NULL) {
         public = load_public_key(options);
     }
     open_key(options);
     if (name_of_public_key(options) == NULL) {
-        expect_done(minisign_public_key_of(&secrets->open, &public));
+        require_success(minisign_public_key_of(&secrets->open, &public));
     }
-    sign_file(options, options->data_file, first != NULL ? first : joined(options->data_file, ".minisig", ""), &public);
+    sign_file(options, options->data_file,
+              options->signature_file != NULL ? options->signature_file : join(options->data_file, ".minisig", ""),
+              &public);
     for (char *const *file = options->further_files; *file != NULL; file++) {
-        sign_file(options, *file, joined(*file, ".minisig", ""), NULL);
+        sign_file(options, *file, join(*file, ".minisig", ""), NULL);
     }
-    replace_waiting();
+    finish_replacements();
     return GOOD;
 }

@@ -1,5 +1,5 @@
 /* SPDX-License-Identifier: MIT */
-/* minisign -S: signatures of files. */
+/* Signs files: minisign -S. */
 #ifndef SIGNING_H
 #define SIGNING_H
 

@@ -1,5 +1,5 @@
 /* SPDX-License-Identifier: MIT */
-/* Asks for passwords, and shows comments. */
+/* Asks for passwords, and prints comments to a terminal. */
 #include "terminal.h"
 
 #include <sys/select.h>
@@ -11,112 +11,112 @@
 
 /* ---- Passwords ---- */
 
-/* The signal that came while a password was typed, or 0. */
-static volatile sig_atomic_t came;
+/* The signal that arrived while a password was typed, or 0. */
+static volatile sig_atomic_t caught_signal;
 
-/* What was before a question: the action for each signal, the blocked signals, and the terminal. */
-struct before {
+/* The state to restore after a prompt: the action for each signal, the signal mask, and the terminal's settings. */
+struct saved_state {
     struct sigaction actions[NSIG];
     sigset_t mask;
     struct termios modes;
     bool is_terminal;
 };
 
-static void note(int number)
+static void record_signal(int signo)
 {
-    came = number;
+    caught_signal = signo;
 }
 
-static bool is_stop(int number)
+static bool is_stop(int signo)
 {
-    return number == SIGTSTP || number == SIGTTIN || number == SIGTTOU;
+    return signo == SIGTSTP || signo == SIGTTIN || signo == SIGTTOU;
 }
 
-/* Whether a signal ends or stops the program while somebody types. */
-static bool is_awaited(int number)
+/* Signals that end or stop the program while it waits for a password. */
+static bool is_caught(int signo)
 {
-    return is_stop(number) || (ends_program(number) && !is_crash(number));
+    return is_stop(signo) || (ends_program(signo) && !is_crash(signo));
 }
 
-/* Blocks a signal, which then comes only while `read_byte` waits. */
-static void hold_signal(struct before *before, int number)
+/* Blocks a signal, so that it is delivered only while `read_byte` waits, and catches it unless it is ignored. */
+static void catch_signal(struct saved_state *saved, int signo)
 {
     struct sigaction action = { 0 };
-    sigset_t held;
+    sigset_t blocked;
 
-    action.sa_handler = note;
+    action.sa_handler = record_signal;
     sigemptyset(&action.sa_mask);
-    sigemptyset(&held);
-    sigaddset(&held, number);
-    sigprocmask(SIG_BLOCK, &held, NULL);
-    if (sigaction(number, NULL, &before->actions[number]) == 0 && before->actions[number].sa_handler != SIG_IGN) {
-        sigaction(number, &action, NULL);
+    sigemptyset(&blocked);
+    sigaddset(&blocked, signo);
+    sigprocmask(SIG_BLOCK, &blocked, NULL);
+    if (sigaction(signo, NULL, &saved->actions[signo]) == 0 && saved->actions[signo].sa_handler != SIG_IGN) {
+        sigaction(signo, &action, NULL);
     }
 }
 
-/* Blocks the signals, and has the terminal not show what is typed. */
-static void hide_typed(struct before *before)
+/* Catches the signals, and turns off the terminal's echo. */
+static void disable_echo(struct saved_state *saved)
 {
-    /* (in the background the system stops the program here, as the terminal is another program's until then) */
+    /* A background process is stopped here, by SIGTTOU, until it has the terminal. */
     tcflush(STDIN_FILENO, TCIFLUSH);
-    sigprocmask(SIG_BLOCK, NULL, &before->mask);
-    for (int number = 1; number < NSIG; number++) {
-        if (is_awaited(number) && number != SIGTTOU) {
-            hold_signal(before, number);
+    sigprocmask(SIG_BLOCK, NULL, &saved->mask);
+    for (int signo = 1; signo < NSIG; signo++) {
+        if (is_caught(signo) && signo != SIGTTOU) {
+            catch_signal(saved, signo);
         }
     }
-    before->is_terminal = tcgetattr(STDIN_FILENO, &before->modes) == 0;
-    if (before->is_terminal) {
-        struct termios modes = before->modes;
+    saved->is_terminal = tcgetattr(STDIN_FILENO, &saved->modes) == 0;
+    if (saved->is_terminal) {
+        struct termios modes = saved->modes;
 
         modes.c_lflag &= ~(tcflag_t) ECHO;
         tcsetattr(STDIN_FILENO, TCSAFLUSH, &modes);
     }
-    /* (until here it stops a program that was moved to the background meanwhile) */
-    hold_signal(before, SIGTTOU);
+    /* Until here, SIGTTOU stops a process that was moved to the background. */
+    catch_signal(saved, SIGTTOU);
 }
 
-static void show_typed(const struct before *before)
+static void restore_echo(const struct saved_state *saved)
 {
-    if (before->is_terminal) {
-        tcsetattr(STDIN_FILENO, TCSAFLUSH, &before->modes);
+    if (saved->is_terminal) {
+        tcsetattr(STDIN_FILENO, TCSAFLUSH, &saved->modes);
     }
-    for (int number = 1; number < NSIG; number++) {
-        if (is_awaited(number)) {
-            sigaction(number, &before->actions[number], NULL);
+    for (int signo = 1; signo < NSIG; signo++) {
+        if (is_caught(signo)) {
+            sigaction(signo, &saved->actions[signo], NULL);
         }
     }
-    sigprocmask(SIG_SETMASK, &before->mask, NULL);
+    sigprocmask(SIG_SETMASK, &saved->mask, NULL);
 }
 
-/* Reads one byte of the standard input: 1, or 0 at its end, or -1 if a signal came or it cannot be read. */
-static ssize_t read_byte(const struct before *before, char *byte)
+/* Reads one byte of standard input. Returns 1, 0 at the end of the input, or -1 if a signal arrived or reading
+ * failed. */
+static ssize_t read_byte(const struct saved_state *saved, char *byte)
 {
     fd_set ready;
-    ssize_t n;
+    ssize_t count;
 
     do {
         FD_ZERO(&ready);
         FD_SET(STDIN_FILENO, &ready);
-        n = came == 0 ? pselect(STDIN_FILENO + 1, &ready, NULL, NULL, NULL, &before->mask) : -1;
-        n = n < 0 ? -1 : read(STDIN_FILENO, byte, 1);
-    } while (n < 0 && came == 0 && errno == EINTR);
-    return n;
+        count = caught_signal == 0 ? pselect(STDIN_FILENO + 1, &ready, NULL, NULL, NULL, &saved->mask) : -1;
+        count = count < 0 ? -1 : read(STDIN_FILENO, byte, 1);
+    } while (count < 0 && caught_signal == 0 && errno == EINTR);
+    return count;
 }
 
-/* How a line ended. */
-enum line { WHOLE, LINE_TOO_LONG, NONE };
+enum line { LINE_READ, LINE_TOO_LONG, NO_LINE };
 
-/* Reads one line, and nothing after its line feed. The password ends at the first carriage return, line feed or
- * zero. */
-static enum line read_password_line(const struct before *before, struct password *password)
+/* Reads one line, and no input after its line feed. The password ends at the first carriage return, line feed or zero
+ * byte. */
+static enum line read_password_line(const struct saved_state *saved, struct password *password)
 {
-    bool ended = false, any = false, fits = true;
+    bool ended = false, has_input = false, fits = true;
     char byte;
 
     password->len = 0;
-    while (read_byte(before, &byte) > 0) {
-        any = true;
+    while (read_byte(saved, &byte) > 0) {
+        has_input = true;
         if (byte == '\n') {
             break;
         }
@@ -126,41 +126,41 @@ static enum line read_password_line(const struct before *before, struct password
             password->bytes[password->len++] = (uint8_t) byte;
         }
     }
-    return !any ? NONE : fits ? WHOLE : LINE_TOO_LONG;
+    return !has_input ? NO_LINE : fits ? LINE_READ : LINE_TOO_LONG;
 }
 
-void ask_password(struct password *password, const char *question)
+void ask_password(struct password *password, const char *prompt)
 {
-    struct before before;
+    struct saved_state saved;
     enum line line;
 
     fflush(stdout);
     do {
-        came = 0;
-        hide_typed(&before);
-        /* (without an error stream Minisign asks nothing either) */
-        line = fputs(question, stderr) < 0 ? NONE : read_password_line(&before, password);
-        show_typed(&before);
-        if (came != 0) {
+        caught_signal = 0;
+        disable_echo(&saved);
+        /* Minisign too reads no password if it cannot write the prompt. */
+        line = fputs(prompt, stderr) < 0 ? NO_LINE : read_password_line(&saved, password);
+        restore_echo(&saved);
+        if (caught_signal != 0) {
             putc('\n', stderr);
-            raise(came);
+            raise(caught_signal);
         }
-    } while (is_stop(came));
-    if (came != 0 || line == NONE) {
+    } while (is_stop(caught_signal));
+    if (caught_signal != 0 || line == NO_LINE) {
         fail("get_password()");
     }
-    fputs(line == WHOLE && password->len == 0 ? "(empty)\n" : "\n", stderr);
+    fputs(line == LINE_READ && password->len == 0 ? "(empty)\n" : "\n", stderr);
     if (line == LINE_TOO_LONG) {
-        blame(NULL, "the password is too long", "use at most 1023 bytes");
+        fail_error(NULL, "the password is too long", "use at most 1023 bytes");
     }
 }
 
 /* ---- Comments ---- */
 
-void show_text(FILE *to, const uint8_t *text, size_t len)
+void write_comment(FILE *to, const uint8_t *text, size_t len)
 {
     if (isatty(fileno(to))) {
-        write_visible(to, text, len);
+        write_escaped(to, text, len);
     } else {
         fwrite(text, 1, len, to);
     }

@@ -1,26 +1,28 @@
 /* SPDX-License-Identifier: MIT */
-/* minisign -V: whether a signature vouches for a file under a public key. */
+/* Verifies files: minisign -V. */
 #ifndef VERIFYING_H
 #define VERIFYING_H
 
 #include "options.h"
 #include "reading.h"
 
-/* The public key that the options name or give. Ends the program if it is none. */
+/* Loads the public key that the options name or contain. Ends the program on failure. */
 minisign_public_key load_public_key(const struct options *options);
 
-/* What names it: its file, or the flag. */
+/* Returns what the public key is called in messages: its file, or -P. */
 const char *name_of_public_key(const struct options *options);
 
-/* Reads the text of a signature, and has the library say what to ask Ed25519 about it. The data may be fed to the state
- * before or later. */
+/* Parses a signature file, and has the library say which Ed25519 checks to make. The data may be fed to the state
+ * before or after this. */
 enum minisign_error ask(minisign_state *state, const minisign_public_key *key, const struct text *text,
                         bool allow_legacy);
 
-/* The verdict, once all of the data is fed: Ed25519 answers what was asked last, about legacy data by these bytes. */
-enum minisign_error judge(minisign_state *state, const struct held *legacy_data);
+/* Makes both Ed25519 checks and returns the verdict, after all data was fed to the state. `legacy_data` is the data of
+ * a legacy signature. */
+enum minisign_error judge(minisign_state *state, const struct contents *legacy_data);
 
-/* Verifies, prints what was verified, copies the data if that is wanted, and returns the exit status. */
+/* Verifies a file, prints the trusted comment, and with -o copies the data to standard output. Returns the exit
+ * status. */
 int verify_file(const struct options *options);
 
 #endif

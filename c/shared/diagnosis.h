@@ -6,24 +6,27 @@
 #include "system.h"
 #include "minisign.h"
 
-/* What a text is. Callers want one of the first four, of which the last is the base64 of a public key alone. */
+/* The kinds of files. A caller expects one of the first four. BARE_KEY_TEXT is the base64 of a public key without its
+ * file. */
 enum text_kind {
     PUBLIC_KEY_TEXT, SECRET_KEY_TEXT, SIGNATURE_TEXT, BARE_KEY_TEXT, SIGNIFY_SIGNATURE, SIGNIFY_SECRET_KEY, OTHER_TEXT
 };
 
-/* What to do about a file that is truncated or damaged. */
+/* Hints for a truncated or damaged file. */
 #define COPY_HINT "download or copy the file again"
 #define SECRET_KEY_HINT "restore the file from a backup"
 
 /*
- * Prints an error and a hint about a text that the library rejected for this error. The name is that of its file, or
- * of the option that gave it. The error says what the text is, if that is known, and else what is wrong with it. The
- * given hint is printed for a text of another kind, unless there is a better one, such as how to convert the file.
+ * Prints an error and a hint about a file that the library rejected with `error`. `name` is the file's name, or the
+ * option that gave a key. The error says what the file is, if its format is recognized, and otherwise what is wrong
+ * with it. `hint` is printed for a file of another kind, unless there is a better hint, such as how to convert the
+ * file.
  */
-void say_kind(const char *name, const uint8_t *text, size_t len, enum text_kind wanted, enum minisign_error error,
-              const char *hint);
+void explain_rejection(const char *name, const uint8_t *text, size_t len, enum text_kind expected,
+                       enum minisign_error error, const char *hint);
 
-/* Prints them and returns true only if the text is known to be something else than was wanted. */
-bool say_if_other(const char *name, const uint8_t *text, size_t len, enum text_kind wanted, const char *hint);
+/* Prints an error and a hint only if the file is recognized as something other than the expected kind. Returns true if
+ * it is. */
+bool explain_other_kind(const char *name, const uint8_t *text, size_t len, enum text_kind expected, const char *hint);
 
 #endif

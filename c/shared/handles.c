@@ -1,62 +1,62 @@
 /* SPDX-License-Identifier: MIT */
-/* Looks at files without opening them: by O_PATH and /proc on Linux, else by lstat. */
+/* Inspects files without opening them: by O_PATH and /proc on Linux, by lstat elsewhere. */
 #define _GNU_SOURCE
 
 #include "handles.h"
 
 #include <poll.h>
 
-/* The file systems of /proc and of pipes without names, as Linux numbers them. */
-#define PROC_FILE_SYSTEM 0x9fa0
-#define PIPE_FILE_SYSTEM 0x50495045
+/* The magic numbers of procfs and of pipefs, which has the unnamed pipes (linux/magic.h). */
+#define PROC_MAGIC 0x9fa0
+#define PIPE_MAGIC 0x50495045
 
-/* How many milliseconds pass between two looks whether a pipe has a reader. */
-#define PIPE_PAUSE 20
+/* How often to check whether a pipe has a reader, in milliseconds. */
+#define PIPE_POLL_MS 20
 
-bool is_same_file(const struct stat *one, const struct stat *other)
+bool is_same_file(const struct stat *first, const struct stat *second)
 {
-    return one->st_dev == other->st_dev && one->st_ino == other->st_ino;
+    return first->st_dev == second->st_dev && first->st_ino == second->st_ino;
 }
 
-void close_open(int *fd)
+void close_if_open(int *fd)
 {
-    int number = errno;
+    int saved_errno = errno;
 
     if (*fd >= 0) {
         close(*fd);
         *fd = -1;
     }
-    errno = number;
+    errno = saved_errno;
 }
 
-/* ---- What Linux has ---- */
+/* ---- Calls that only Linux has ---- */
 
 #if defined __linux__ && !defined POSIX_ONLY
 
 #include <sys/statvfs.h>
 #include <sys/vfs.h>
 
-/* A mount where no link is followed: an older C library has no name for it. */
+/* A mount with this flag follows no symbolic links. Older C libraries do not define the flag. */
 #ifndef ST_NOSYMFOLLOW
 #define ST_NOSYMFOLLOW 8192
 #endif
 
-#define TO_LOOK O_PATH
+#define LOOKUP_FLAGS O_PATH
 
-bool look_up(struct handle *handle, int directory, const char *path, bool follows)
+bool look_up(struct handle *handle, int directory, const char *path, bool follow_links)
 {
-    handle->fd = AGAIN(openat(directory, path, O_PATH | O_CLOEXEC | (follows ? 0 : O_NOFOLLOW)));
-    if (handle->fd >= 0 && AGAIN(fstat(handle->fd, &handle->found)) != 0) {
-        close_open(&handle->fd);
+    handle->fd = AGAIN(openat(directory, path, O_PATH | O_CLOEXEC | (follow_links ? 0 : O_NOFOLLOW)));
+    if (handle->fd >= 0 && AGAIN(fstat(handle->fd, &handle->status)) != 0) {
+        close_if_open(&handle->fd);
     }
     return handle->fd >= 0;
 }
 
-static bool is_on(int fd, unsigned long file_system)
+static bool is_on_file_system(int fd, unsigned long file_system)
 {
-    struct statfs on;
+    struct statfs file_system_status;
 
-    return fstatfs(fd, &on) == 0 && (unsigned long) on.f_type == file_system;
+    return fstatfs(fd, &file_system_status) == 0 && (unsigned long) file_system_status.f_type == file_system;
 }
 
 bool forbids_links(int directory)
@@ -68,78 +68,80 @@ bool forbids_links(int directory)
 
 #else
 
-#define TO_LOOK O_RDONLY
-#define is_on(fd, file_system) ((void) (fd), false)
+#define LOOKUP_FLAGS O_RDONLY
+#define is_on_file_system(fd, file_system) ((void) (fd), false)
 
-bool look_up(struct handle *handle, int directory, const char *path, bool follows)
+bool look_up(struct handle *handle, int directory, const char *path, bool follow_links)
 {
     handle->fd = -1;
-    return AGAIN(fstatat(directory, path, &handle->found, follows ? 0 : AT_SYMLINK_NOFOLLOW)) == 0;
+    return AGAIN(fstatat(directory, path, &handle->status, follow_links ? 0 : AT_SYMLINK_NOFOLLOW)) == 0;
 }
 
+/* POSIX has no such mounts. */
 bool forbids_links(int directory)
 {
-    return is_on(directory, 0);
+    (void) directory;
+    return false;
 }
 
 #endif
 
 bool is_in_proc(int directory)
 {
-    return is_on(directory, PROC_FILE_SYSTEM);
+    return is_on_file_system(directory, PROC_MAGIC);
 }
 
 bool is_nameless_pipe(const struct handle *handle)
 {
-    return S_ISFIFO(handle->found.st_mode) && is_on(handle->fd, PIPE_FILE_SYSTEM);
+    return S_ISFIFO(handle->status.st_mode) && is_on_file_system(handle->fd, PIPE_MAGIC);
 }
 
-/* ---- What is opened ---- */
+/* ---- Opening ---- */
 
-int enter_directory(int from, const char *name, bool follows)
+int enter_directory(int from, const char *name, bool follow_links)
 {
-    return openat(from, name, TO_LOOK | O_DIRECTORY | O_CLOEXEC | (follows ? 0 : O_NOFOLLOW));
+    return openat(from, name, LOOKUP_FLAGS | O_DIRECTORY | O_CLOEXEC | (follow_links ? 0 : O_NOFOLLOW));
 }
 
-struct own_path own_path_of(int fd)
+struct proc_path proc_path_of(int fd)
 {
-    struct own_path path;
+    struct proc_path path;
 
     snprintf(path.bytes, sizeof path.bytes, "/proc/self/fd/%d", fd);
     return path;
 }
 
-ssize_t read_handle(const struct handle *handle, int directory, const char *name, char *text, size_t room)
+ssize_t read_handle_link(const struct handle *handle, int directory, const char *name, char *text, size_t size)
 {
-    return handle->fd < 0 ? readlinkat(directory, name, text, room) : readlinkat(handle->fd, "", text, room);
+    return handle->fd < 0 ? readlinkat(directory, name, text, size) : readlinkat(handle->fd, "", text, size);
 }
 
-int open_by_path(const struct handle *handle, const char *path, int how)
+int open_by_path(const struct handle *handle, const char *path, int flags)
 {
     struct stat opened;
     int fd;
 
-    while ((fd = open(path, how | O_NONBLOCK)) < 0 && errno == ENXIO) {
-        bool is_same = stat(path, &opened) == 0 && is_same_file(&opened, &handle->found);
+    while ((fd = open(path, flags | O_NONBLOCK)) < 0 && errno == ENXIO) {
+        bool is_same = stat(path, &opened) == 0 && is_same_file(&opened, &handle->status);
 
         if (!is_same || !S_ISFIFO(opened.st_mode)) {
             errno = is_same ? ENXIO : EBUSY;
             return -1;
         }
-        poll(NULL, 0, PIPE_PAUSE);
+        poll(NULL, 0, PIPE_POLL_MS);
     }
-    if (fd >= 0 && (fstat(fd, &opened) != 0 || !is_same_file(&opened, &handle->found)
+    if (fd >= 0 && (fstat(fd, &opened) != 0 || !is_same_file(&opened, &handle->status)
                     || fcntl(fd, F_SETFL, fcntl(fd, F_GETFL) & ~O_NONBLOCK) != 0)) {
-        close_open(&fd);
+        close_if_open(&fd);
         errno = EBUSY;
     }
     return fd;
 }
 
-int open_handle(const struct handle *handle, const char *path, int how)
+int open_handle(const struct handle *handle, const char *path, int flags)
 {
-    int fd = handle->fd < 0 ? -1 : open(own_path_of(handle->fd).bytes, how);
+    int fd = handle->fd < 0 ? -1 : open(proc_path_of(handle->fd).bytes, flags);
 
-    /* (where there is no /proc) */
-    return handle->fd < 0 || (fd < 0 && errno == ENOENT) ? open_by_path(handle, path, how) : fd;
+    /* /proc may not be mounted. */
+    return handle->fd < 0 || (fd < 0 && errno == ENOENT) ? open_by_path(handle, path, flags) : fd;
 }

@@ -1,52 +1,56 @@
 /* SPDX-License-Identifier: MIT */
 /*
- * Files that are looked at without being opened: opening a pipe waits for its reader, and a stranger may have put it
- * there. Linux has O_PATH for that, and /proc to open the same file later. Other systems, and -DPOSIX_ONLY, look by
- * lstat, open by name without waiting, and close the file again if it is another one by then. The result is the same,
- * but the reader of a pipe may see that it was opened, a directory has to be readable, and links in /proc lead where
- * their text says.
+ * Inspects files without opening them. Opening a pipe blocks until it has a reader, and another user may have put the
+ * pipe there to block the program.
+ *
+ * Linux has O_PATH for this, and /proc to open the same file later. Other systems, and builds with -DPOSIX_ONLY, use
+ * lstat, later open the file by name without waiting, and close it again if it is another file by then. The result is
+ * the same, with three differences: the reader of a pipe may see that the pipe was opened, directories have to be
+ * readable, and links in /proc are followed by their text.
  */
 #ifndef HANDLES_H
 #define HANDLES_H
 
 #include "system.h"
 
-/* What was looked at: open as a path where the system can do that, else -1; and what it is. */
+/* A file that was inspected. `fd` is an O_PATH descriptor, or -1 where the system has none. */
 struct handle {
     int fd;
-    struct stat found;
+    struct stat status;
 };
 
-bool is_same_file(const struct stat *one, const struct stat *other);
+bool is_same_file(const struct stat *first, const struct stat *second);
 
-/* Looks at what a path leads to from a directory, or at a link at its end itself. On false errno says why. */
-bool look_up(struct handle *handle, int directory, const char *path, bool follows);
+/* Inspects the file at `path`, relative to `directory`. A link in the last component is followed or, if `follow_links`
+ * is false, inspected itself. On failure, returns false and sets errno. */
+bool look_up(struct handle *handle, int directory, const char *path, bool follow_links);
 
-/* Opens by its path what was looked at, and waits for the reader of a pipe while it is the same one. -1, with errno
- * EBUSY if the path leads to another file by now. */
-int open_by_path(const struct handle *handle, const char *path, int how);
+/* Opens an inspected file by its path. Waits for the reader of a pipe as long as the path leads to that pipe. Returns
+ * -1 on failure, with errno EBUSY if the path now leads to another file. */
+int open_by_path(const struct handle *handle, const char *path, int flags);
 
-/* The same, but by the handle where there is one. */
-int open_handle(const struct handle *handle, const char *path, int how);
+/* Opens an inspected file by its descriptor if it has one, otherwise by its path as `open_by_path` does. */
+int open_handle(const struct handle *handle, const char *path, int flags);
 
-/* The text of a link that was looked at, as readlinkat. */
-ssize_t read_handle(const struct handle *handle, int directory, const char *name, char *text, size_t room);
+/* Reads the target of an inspected link, like readlinkat. */
+ssize_t read_handle_link(const struct handle *handle, int directory, const char *name, char *text, size_t size);
 
-/* Closes a descriptor that is open, and makes it -1. errno stays. */
-void close_open(int *fd);
+/* Closes *fd unless it is negative, and sets it to -1. errno is unchanged. */
+void close_if_open(int *fd);
 
-/* Opens a directory to look names up in it. On -1 errno says why. */
-int enter_directory(int from, const char *name, bool follows);
+/* Opens a directory, to look up names in it. On failure, returns -1 and sets errno. */
+int enter_directory(int from, const char *name, bool follow_links);
 
-/* Whether a directory is in /proc; whether a pipe has no name; whether the system follows no link in a directory. */
 bool is_in_proc(int directory);
 bool is_nameless_pipe(const struct handle *handle);
+
+/* Returns true if the file system of a directory is mounted so that no links are followed. */
 bool forbids_links(int directory);
 
-/* The path of an open file in /proc of Linux. */
-struct own_path {
+/* The path of an open file below /proc/self/fd, which only Linux has. */
+struct proc_path {
     char bytes[32];
 };
-struct own_path own_path_of(int fd);
+struct proc_path proc_path_of(int fd);
 
 #endif

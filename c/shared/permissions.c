@@ -1,5 +1,5 @@
 /* SPDX-License-Identifier: MIT */
-/* The permissions of a file that replaces an older one. */
+/* Copies the permissions of an existing file to the file that replaces it. */
 #include "permissions.h"
 
 #include "handles.h"
@@ -12,12 +12,12 @@
 
 #include <sys/xattr.h>
 
-const bool knows_access_lists = true;
+const bool has_access_lists = true;
 enum { NO_LIST = ENODATA };
 
 #else
 
-const bool knows_access_lists = false;
+const bool has_access_lists = false;
 enum { NO_LIST = EOPNOTSUPP };
 
 #define fgetxattr(fd, name, list, room) ((void) (fd), errno = NO_LIST, -1)
@@ -29,132 +29,134 @@ enum { NO_LIST = EOPNOTSUPP };
 
 #define ACCESS_LIST "system.posix_acl_access"
 
-/* A list begins with its version. Each entry says whom it is for, what they may do, and which user or group they are:
- * in 2, 2 and 4 bytes, of which the lowest comes first. */
+/* The value of the extended attribute (linux/posix_acl_xattr.h): a version, then entries. Each entry has a tag,
+ * permission bits, and a user or group ID, in 2, 2 and 4 bytes, little-endian. */
 #define VERSION_BYTES 4
 #define ENTRY_BYTES 8
 
-/* Whom an entry is for. Other entries are for the owner and all others, whose bits the mode has, and the mask. */
+/* The tags of entries that have permissions of their own. The other tags are the owner and all others, whose bits are
+ * in the mode, and the mask. */
 enum { NAMED_USER = 0x02, OWNING_GROUP = 0x04, NAMED_GROUP = 0x08 };
 
-/* Whether the system says that there is no list, or that the file system has none. */
-static bool is_none(int number)
+/* Returns true if the file has no list, or its file system has no lists. */
+static bool is_missing_list(int error)
 {
-    return number == NO_LIST || number == EOPNOTSUPP;
+    return error == NO_LIST || error == EOPNOTSUPP;
 }
 
-/* Reads the list of a file, which may be open as a path alone. On false errno says why. */
-static bool read_list(struct permissions *older, int fd)
+/* Reads the list of a file, whose descriptor may be an O_PATH one. On failure, returns false and sets errno. */
+static bool read_list(struct permissions *permissions, int fd)
 {
-    ssize_t n = AGAIN(fgetxattr(fd, ACCESS_LIST, older->list, sizeof older->list));
+    ssize_t len = AGAIN(fgetxattr(fd, ACCESS_LIST, permissions->list, sizeof permissions->list));
 
-    if (n < 0 && errno == EBADF) {
-        n = AGAIN(getxattr(own_path_of(fd).bytes, ACCESS_LIST, older->list, sizeof older->list));
-        older->is_list_known = !(n < 0 && errno == ENOENT);
+    if (len < 0 && errno == EBADF) {
+        len = AGAIN(getxattr(proc_path_of(fd).bytes, ACCESS_LIST, permissions->list, sizeof permissions->list));
+        permissions->is_list_known = !(len < 0 && errno == ENOENT);
     }
-    older->list_length = n < 0 ? 0 : (size_t) n;
-    return n >= 0 || is_none(errno) || !older->is_list_known;
+    permissions->list_length = len < 0 ? 0 : (size_t) len;
+    return len >= 0 || is_missing_list(errno) || !permissions->is_list_known;
 }
 
-/* What everybody may do but the owner: the group, all others, and those in the list, which gives no more than the
- * group's bits. */
-static mode_t common_permissions(const struct permissions *older)
+/* Returns the permissions that everybody except the owner has: the group, all others, and each user and group of the
+ * list. The mask of a list is in the group's bits of the mode. */
+static mode_t common_permissions(const struct permissions *permissions)
 {
-    mode_t common = older->mode & (older->mode >> 3) & S_IRWXO;
+    mode_t common = permissions->mode & (permissions->mode >> 3) & S_IRWXO;
 
-    for (size_t at = VERSION_BYTES; at + ENTRY_BYTES <= older->list_length; at += ENTRY_BYTES) {
-        const uint8_t *entry = older->list + at;
-        int whom = entry[0] | entry[1] << 8;
+    for (size_t at = VERSION_BYTES; at + ENTRY_BYTES <= permissions->list_length; at += ENTRY_BYTES) {
+        const uint8_t *entry = permissions->list + at;
+        int tag = entry[0] | entry[1] << 8;
 
-        if (whom == NAMED_USER || whom == OWNING_GROUP || whom == NAMED_GROUP) {
+        if (tag == NAMED_USER || tag == OWNING_GROUP || tag == NAMED_GROUP) {
             common &= entry[2];
         }
     }
     return common;
 }
 
-/* ---- Those of an older file ---- */
+/* ---- The existing file ---- */
 
-void replace_mode(struct permissions *older, mode_t mode)
+void replace_mode(struct permissions *permissions, mode_t mode)
 {
-    older->mode = mode & ALL_BITS;
-    older->is_list_known = true;
-    older->list_length = 0;
+    permissions->mode = mode & ALL_BITS;
+    permissions->is_list_known = true;
+    permissions->list_length = 0;
 }
 
-/* Takes what the system says about a file. False if it is no regular one. */
-static bool take_found(struct permissions *older, const struct stat *found)
+/* Copies owner, group and mode. Fails with EINVAL if this is not a regular file. */
+static bool copy_status(struct permissions *permissions, const struct stat *status)
 {
-    if (!S_ISREG(found->st_mode)) {
+    if (!S_ISREG(status->st_mode)) {
         errno = EINVAL;
         return false;
     }
-    older->owner = found->st_uid;
-    older->group = found->st_gid;
-    replace_mode(older, found->st_mode);
+    permissions->owner = status->st_uid;
+    permissions->group = status->st_gid;
+    replace_mode(permissions, status->st_mode);
     return true;
 }
 
-bool read_permissions_of(struct permissions *older, int fd)
+bool read_permissions_fd(struct permissions *permissions, int fd)
 {
-    struct stat found;
+    struct stat status;
 
-    return AGAIN(fstat(fd, &found)) == 0 && take_found(older, &found) && read_list(older, fd);
+    return AGAIN(fstat(fd, &status)) == 0 && copy_status(permissions, &status) && read_list(permissions, fd);
 }
 
-bool read_permissions(struct permissions *older, int directory, const char *name)
+bool read_permissions(struct permissions *permissions, int directory, const char *name)
 {
     struct handle handle = { .fd = AGAIN(openat(directory, name, O_RDONLY | O_NONBLOCK | O_NOFOLLOW | O_CLOEXEC)) };
     bool is_read = false;
 
     if (handle.fd >= 0) {
-        is_read = read_permissions_of(older, handle.fd);
+        is_read = read_permissions_fd(permissions, handle.fd);
     } else if (errno == EACCES && look_up(&handle, directory, name, false)) {
-        is_read = take_found(older, &handle.found) && (handle.fd < 0 || read_list(older, handle.fd));
+        is_read = copy_status(permissions, &handle.status) && (handle.fd < 0 || read_list(permissions, handle.fd));
     }
-    close_open(&handle.fd);
+    close_if_open(&handle.fd);
     return is_read;
 }
 
-/* ---- Those of a new file ---- */
+/* ---- The new file ---- */
 
 bool give_owner(int fd, uid_t owner, gid_t group, bool *is_given)
 {
     *is_given = AGAIN(fchown(fd, owner, group)) == 0;
-    /* (EINVAL: the system does not have such an owner) */
+    /* EINVAL: the user namespace has no such owner. */
     return *is_given || errno == EPERM || errno == EINVAL;
 }
 
-/* Gives a file owner and group as far as the system allows it, and tells whether it has the group now. */
-static bool give_group(int fd, const struct stat *own, const struct permissions *older, bool *has_group)
+/* Sets owner and group as far as the system allows it. `has_group` says whether the file has the group now. */
+static bool give_group(int fd, const struct stat *status, const struct permissions *permissions, bool *has_group)
 {
-    *has_group = own->st_uid == older->owner && own->st_gid == older->group;
-    return *has_group || (give_owner(fd, older->owner, older->group, has_group)
-                          && (*has_group || give_owner(fd, (uid_t) -1, older->group, has_group)));
+    *has_group = status->st_uid == permissions->owner && status->st_gid == permissions->group;
+    return *has_group || (give_owner(fd, permissions->owner, permissions->group, has_group)
+                          && (*has_group || give_owner(fd, (uid_t) -1, permissions->group, has_group)));
 }
 
 bool give_mode(int fd, mode_t mode)
 {
-    return (AGAIN(fremovexattr(fd, ACCESS_LIST)) == 0 || is_none(errno)) && AGAIN(fchmod(fd, mode)) == 0;
+    return (AGAIN(fremovexattr(fd, ACCESS_LIST)) == 0 || is_missing_list(errno)) && AGAIN(fchmod(fd, mode)) == 0;
 }
 
-bool give_permissions(int fd, const struct permissions *older)
+bool give_permissions(int fd, const struct permissions *permissions)
 {
-    mode_t common = (older->mode & S_IRWXU) | common_permissions(older);
-    struct stat own;
+    mode_t common = (permissions->mode & S_IRWXU) | common_permissions(permissions);
+    struct stat status;
     bool has_group;
 
-    if (AGAIN(fstat(fd, &own)) != 0 || !give_group(fd, &own, older, &has_group)) {
+    if (AGAIN(fstat(fd, &status)) != 0 || !give_group(fd, &status, permissions, &has_group)) {
         return false;
     }
-    if (!has_group || !older->is_list_known) {
+    if (!has_group || !permissions->is_list_known) {
         return give_mode(fd, common);
     }
-    /* The list has the bits of the mode. */
-    if (older->list_length > 0) {
-        return AGAIN(fsetxattr(fd, ACCESS_LIST, older->list, older->list_length, 0)) == 0 || give_mode(fd, common);
+    /* A list includes the bits of the mode. */
+    if (permissions->list_length > 0) {
+        return AGAIN(fsetxattr(fd, ACCESS_LIST, permissions->list, permissions->list_length, 0)) == 0
+               || give_mode(fd, common);
     }
-    return give_mode(fd, older->mode);
+    return give_mode(fd, permissions->mode);
 }
 
 #if defined __APPLE__ && !defined POSIX_ONLY

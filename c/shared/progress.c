@@ -1,68 +1,68 @@
 /* SPDX-License-Identifier: MIT */
-/* Progress on the error stream, if it is a terminal. */
+/* Shows progress on standard error if it is a terminal. */
 #include "progress.h"
 
-static bool is_quiet;
+static bool is_hidden;
 
-void be_quiet(void)
+void hide_progress(void)
 {
-    is_quiet = true;
+    is_hidden = true;
 }
 
-/* Whether there is somebody to see it. */
-static bool is_shown(void)
+static bool has_viewer(void)
 {
-    return !is_quiet && isatty(STDERR_FILENO);
+    return !is_hidden && isatty(STDERR_FILENO);
 }
 
 /* ---- Dots ---- */
 
-/* The timer has a signal of its own, as somebody else may use that of alarm. A system without both shows no dots. */
+/* Uses a real-time signal, since other code in the process may use SIGALRM. A system without POSIX timers or real-time
+ * signals shows no dots. */
 #if defined _POSIX_TIMERS && _POSIX_TIMERS > 0 && defined SIGRTMIN
 
 static timer_t timer;
 static bool has_timer;
-static struct sigaction before;
+static struct sigaction old_action;
 
-static void show_dot(int number)
+static void show_dot(int signo)
 {
     ssize_t n = write(STDERR_FILENO, ".", 1);
     (void) n;
-    (void) number;
+    (void) signo;
 }
 
 void begin_dots(void)
 {
-    static const struct itimerspec often = { { 1, 0 }, { 1, 0 } };
+    static const struct itimerspec every_second = { { 1, 0 }, { 1, 0 } };
     struct sigevent event = { .sigev_notify = SIGEV_SIGNAL, .sigev_signo = SIGRTMIN };
     struct sigaction action = { 0 };
 
-    if (!is_shown()) {
+    if (!has_viewer()) {
         return;
     }
     action.sa_handler = show_dot;
     action.sa_flags = SA_RESTART;
     sigemptyset(&action.sa_mask);
-    sigaction(SIGRTMIN, &action, &before);
+    sigaction(SIGRTMIN, &action, &old_action);
     has_timer = timer_create(CLOCK_MONOTONIC, &event, &timer) == 0;
     if (has_timer) {
-        timer_settime(timer, 0, &often, NULL);
+        timer_settime(timer, 0, &every_second, NULL);
     } else {
-        sigaction(SIGRTMIN, &before, NULL);
+        sigaction(SIGRTMIN, &old_action, NULL);
     }
 }
 
 void end_dots(void)
 {
-    struct sigaction ignored = { 0 };
+    struct sigaction ignore = { 0 };
 
     if (has_timer) {
         has_timer = false;
         timer_delete(timer);
-        /* This drops a signal that was sent and has not come yet. */
-        ignored.sa_handler = SIG_IGN;
-        sigaction(SIGRTMIN, &ignored, NULL);
-        sigaction(SIGRTMIN, &before, NULL);
+        /* Ignoring the signal discards one that is pending. */
+        ignore.sa_handler = SIG_IGN;
+        sigaction(SIGRTMIN, &ignore, NULL);
+        sigaction(SIGRTMIN, &old_action, NULL);
     }
 }
 
@@ -78,7 +78,7 @@ void end_dots(void)
 
 #endif
 
-/* ---- Works on bytes ---- */
+/* ---- Amounts of data ---- */
 
 #define MEBIBYTE (1 << 20)
 
@@ -89,33 +89,35 @@ static int64_t seconds_now(void)
     return time.tv_sec;
 }
 
-struct progress begin_progress(const char *what, uint64_t size, bool stays)
+struct progress begin_progress(const char *label, uint64_t size, bool keep_line)
 {
-    return (struct progress) { what, size, .stays = stays, .is_seen = is_shown(), .shown_at = seconds_now() };
+    return (struct progress) {
+        label, size, .keep_line = keep_line, .is_enabled = has_viewer(), .shown_at = seconds_now()
+    };
 }
 
 void show_progress(struct progress *progress, uint64_t bytes)
 {
-    uint64_t before = progress->done, done = before + bytes;
-    char of[32] = "";
+    uint64_t previous = progress->done, done = previous + bytes;
+    char total[32] = "";
 
     progress->done = done;
-    if (!progress->is_seen
-        || (progress->stays ? done / MEBIBYTE == before / MEBIBYTE : seconds_now() == progress->shown_at)) {
+    if (!progress->is_enabled
+        || (progress->keep_line ? done / MEBIBYTE == previous / MEBIBYTE : seconds_now() == progress->shown_at)) {
         return;
     }
     if (progress->size >= done) {
-        snprintf(of, sizeof of, " of %" PRIu64, progress->size / MEBIBYTE);
+        snprintf(total, sizeof total, " of %" PRIu64, progress->size / MEBIBYTE);
     }
-    fprintf(stderr, "\r%s %" PRIu64 "%s MiB", progress->what, done / MEBIBYTE, of);
-    progress->is_shown = true;
+    fprintf(stderr, "\r%s %" PRIu64 "%s MiB", progress->label, done / MEBIBYTE, total);
+    progress->is_visible = true;
     progress->shown_at = seconds_now();
 }
 
 void end_progress(struct progress *progress)
 {
-    if (progress->is_shown) {
-        fputs(progress->stays ? "\n" : "\r\033[K", stderr);
-        progress->is_shown = false;
+    if (progress->is_visible) {
+        fputs(progress->keep_line ? "\n" : "\r\033[K", stderr);
+        progress->is_visible = false;
     }
 }

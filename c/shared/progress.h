@@ -1,35 +1,36 @@
 /* SPDX-License-Identifier: MIT */
-/* Progress on the error stream, if it is a terminal, of work that takes longer than a second. */
+/* Shows progress on standard error if it is a terminal. */
 #ifndef PROGRESS_H
 #define PROGRESS_H
 
 #include "system.h"
 
-/* From here on nothing is shown. */
-void be_quiet(void);
+/* Turns off all progress from now on. */
+void hide_progress(void);
 
-/* Between the two a dot is shown each second. */
+/* Prints a dot each second between these two calls. */
 void begin_dots(void);
 void end_dots(void);
 
-/* Work on bytes: what is done, on how many bytes, or 0 if that is not known, and on how many it was done. */
+/* The progress of a task that handles `done` of `size` bytes; `size` is 0 if it is unknown. */
 struct progress {
-    const char *what;
+    const char *label;
     uint64_t size;
     uint64_t done;
-    /* Whether the line stays at the end. Then it is shown at each MiB, and else each second, from the second one on. */
-    bool stays;
-    bool is_seen;
-    bool is_shown;
+    /* If true, the line is updated at each MiB and remains on the screen. If false, it is updated once per second of
+     * the clock, not in the first one, and erased at the end. */
+    bool keep_line;
+    bool is_enabled;
+    bool is_visible;
     int64_t shown_at;
 };
 
-struct progress begin_progress(const char *what, uint64_t size, bool stays);
+struct progress begin_progress(const char *label, uint64_t size, bool keep_line);
 
-/* So many bytes more are done. */
+/* Adds `bytes` to what is done, and updates the line if it is time. */
 void show_progress(struct progress *progress, uint64_t bytes);
 
-/* The work ends: what was shown stays, or is removed. */
+/* Ends the task: the line remains or is erased. */
 void end_progress(struct progress *progress);
 
 #endif

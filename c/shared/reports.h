@@ -1,17 +1,17 @@
 /* SPDX-License-Identifier: MIT */
 /*
- * The messages of both programs on the error stream: `error: FILE: what happened`, then `hint: what to do`. Each line
- * is one write, so that lines of programs that run side by side do not mix.
+ * Prints errors and hints of both programs on standard error: `error: FILE: what happened`, then `hint: what to do`.
+ * Each line is one write, so that lines of concurrent processes do not mix.
  */
 #ifndef REPORTS_H
 #define REPORTS_H
 
 #include "system.h"
 
-/* Prints what happened to a file. NULL: the error is about no file. */
-void say_error(const char *file, const char *what);
+/* Prints an error. `file` is NULL if the error is not about a file. */
+void print_error(const char *file, const char *what);
 
-/* Prints what the user can do about the error. NULL: nothing is printed. */
-void say_hint(const char *what);
+/* Prints what the user can do about the error, or nothing if `what` is NULL. */
+void print_hint(const char *what);
 
 #endif

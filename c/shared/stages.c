@@ -1,5 +1,5 @@
 /* SPDX-License-Identifier: MIT */
-/* Stages, by what Linux has for them or by POSIX alone. */
+/* Creates, links and renames temporary files, by calls of Linux or only of POSIX. */
 #define _GNU_SOURCE
 
 #include "stages.h"
@@ -12,20 +12,20 @@
 
 #include "handles.h"
 
-#define MAX_DRAWN 256
+#define MAX_RANDOM_BYTES 256
 
 #if defined __linux__ && !defined POSIX_ONLY
 
 #include <sys/syscall.h>
 
-/* (an older C library has no name for this call of the system) */
+/* Older C libraries do not declare renameat2. */
 #ifndef RENAME_NOREPLACE
 #define RENAME_NOREPLACE 1
 #define RENAME_EXCHANGE 2
-#define renameat2(from, name, to, other, flags) ((int) syscall(SYS_renameat2, from, name, to, other, flags))
+#define renameat2(from, name, to, second, flags) ((int) syscall(SYS_renameat2, from, name, to, second, flags))
 #endif
 
-static bool draw_bytes(uint8_t *bytes, size_t len)
+static bool random_bytes(uint8_t *bytes, size_t len)
 {
     return AGAIN(getrandom(bytes, len, 0)) == (ssize_t) len;
 }
@@ -37,24 +37,24 @@ static bool draw_bytes(uint8_t *bytes, size_t len)
 #define RENAME_NOREPLACE RENAME_EXCL
 #define RENAME_EXCHANGE RENAME_SWAP
 #else
-#define renameat2(from, name, to, other, flags) ((void) (from), (void) (name), (void) (other), errno = ENOSYS, -1)
+#define renameat2(from, name, to, second, flags) ((void) (from), (void) (name), (void) (second), errno = ENOSYS, -1)
 #endif
-/* (no directory is opened for writing) */
+/* With 0, open_unnamed opens a directory for reading and writing, which always fails. */
 #undef O_TMPFILE
 #define O_TMPFILE 0
 #define sync_file_range(fd, from, bytes, flags) ((void) (fd), (void) (from), (void) (bytes))
-#define draw_bytes(bytes, len) (getentropy(bytes, len) == 0)
+#define random_bytes(bytes, len) (getentropy(bytes, len) == 0)
 
 #endif
 
 /* ---- Files without a name ---- */
 
-/* Whether a file without a name can get one by its path in /proc. */
+/* Returns true if /proc has the path of an open file, by which an unnamed file can be linked. */
 static bool can_link(int fd)
 {
-    struct stat own, named;
+    struct stat opened, named;
 
-    return fstat(fd, &own) == 0 && stat(own_path_of(fd).bytes, &named) == 0 && is_same_file(&own, &named);
+    return fstat(fd, &opened) == 0 && stat(proc_path_of(fd).bytes, &named) == 0 && is_same_file(&opened, &named);
 }
 
 int open_unnamed(int directory, mode_t mode)
@@ -70,70 +70,71 @@ int open_unnamed(int directory, mode_t mode)
 
 bool link_unnamed(int fd, int directory, const char *name)
 {
-    return linkat(AT_FDCWD, own_path_of(fd).bytes, directory, name, AT_SYMLINK_FOLLOW) == 0;
+    return linkat(AT_FDCWD, proc_path_of(fd).bytes, directory, name, AT_SYMLINK_FOLLOW) == 0;
 }
 
-/* ---- Drawn names ---- */
+/* ---- Random names ---- */
 
-bool draw_digits(char *digits, size_t len)
+bool random_hex(char *digits, size_t len)
 {
-    uint8_t drawn[MAX_DRAWN];
+    uint8_t bytes[MAX_RANDOM_BYTES];
 
-    if (len > sizeof drawn || !draw_bytes(drawn, len)) {
+    if (len > sizeof bytes || !random_bytes(bytes, len)) {
         return false;
     }
     for (size_t i = 0; i < len; i++) {
-        snprintf(digits + 2 * i, 3, "%02x", drawn[i]);
+        snprintf(digits + 2 * i, 3, "%02x", bytes[i]);
     }
     return true;
 }
 
-static bool is_drawn_name(const char *name, const char *front, size_t len)
+static bool is_random_name(const char *name, const char *prefix, size_t len)
 {
-    const char *digits = name + strlen(front);
+    const char *digits = name + strlen(prefix);
 
-    return strncmp(name, front, strlen(front)) == 0 && strlen(digits) == 2 * len
+    return strncmp(name, prefix, strlen(prefix)) == 0 && strlen(digits) == 2 * len
            && strspn(digits, "0123456789abcdef") == 2 * len;
 }
 
-bool remove_drawn_names(int directory, const char *front, size_t len, void (*remove)(int directory, const char *name))
+bool for_each_random_name(int directory, const char *prefix, size_t len,
+                          void (*visit)(int directory, const char *name))
 {
-    int fd = AGAIN(openat(directory, ".", O_RDONLY | O_DIRECTORY | O_CLOEXEC)), number;
+    int fd = AGAIN(openat(directory, ".", O_RDONLY | O_DIRECTORY | O_CLOEXEC)), saved_errno;
     DIR *entries = fd < 0 ? NULL : fdopendir(fd);
     struct dirent *entry;
 
     if (entries == NULL) {
-        close_open(&fd);
+        close_if_open(&fd);
         return false;
     }
     do {
         errno = 0;
         entry = readdir(entries);
-        number = errno;
-        if (entry != NULL && is_drawn_name(entry->d_name, front, len)) {
-            remove(directory, entry->d_name);
+        saved_errno = errno;
+        if (entry != NULL && is_random_name(entry->d_name, prefix, len)) {
+            visit(directory, entry->d_name);
         }
-    } while (entry != NULL || number == EINTR);
+    } while (entry != NULL || saved_errno == EINTR);
     closedir(entries);
-    errno = number;
-    return number == 0;
+    errno = saved_errno;
+    return saved_errno == 0;
 }
 
-/* ---- Files that have a name ---- */
+/* ---- Files with a name ---- */
 
 int open_named(int directory, const char *name, mode_t mode)
 {
     return AGAIN(openat(directory, name, O_RDWR | O_CREAT | O_EXCL | O_NOFOLLOW | O_CLOEXEC, mode));
 }
 
-bool rename_to_free(int directory, const char *from, const char *to)
+bool rename_no_replace(int directory, const char *from, const char *to)
 {
-    struct stat found;
+    struct stat status;
 
     if (renameat2(directory, from, directory, to, RENAME_NOREPLACE) == 0) {
         return true;
     }
-    /* (Linux and macOS report differently that the file system does not support this) */
+    /* Linux and macOS have different errors for a file system without this operation. */
     if (errno != EINVAL && errno != ENOSYS && errno != ENOTSUP) {
         return false;
     }
@@ -143,17 +144,17 @@ bool rename_to_free(int directory, const char *from, const char *to)
     if (errno != EPERM && errno != ENOTSUP && errno != EOPNOTSUPP) {
         return false;
     }
-    /* (a file system without links: a file that gets the name in between is replaced) */
-    if (fstatat(directory, to, &found, AT_SYMLINK_NOFOLLOW) == 0) {
+    /* The file system has no hard links. A file that another process creates in between is replaced. */
+    if (fstatat(directory, to, &status, AT_SYMLINK_NOFOLLOW) == 0) {
         errno = EEXIST;
         return false;
     }
     return renameat(directory, from, directory, to) == 0;
 }
 
-bool exchange_names(int directory, const char *one, const char *other)
+bool exchange_names(int directory, const char *first, const char *second)
 {
-    return renameat2(directory, one, directory, other, RENAME_EXCHANGE) == 0;
+    return renameat2(directory, first, directory, second, RENAME_EXCHANGE) == 0;
 }
 
 #if defined __APPLE__ && !defined POSIX_ONLY
@@ -163,7 +164,7 @@ bool sync_to_disk(int fd)
     if (AGAIN(fcntl(fd, F_FULLFSYNC)) == 0) {
         return true;
     }
-    /* The file system does not support F_FULLFSYNC. Any other error means that data may be lost. */
+    /* With these errors, the file system does not support F_FULLFSYNC. After any other error, data may be lost. */
     return (errno == ENOTSUP || errno == EOPNOTSUPP || errno == EINVAL || errno == ENOTTY) && AGAIN(fsync(fd)) == 0;
 }
 

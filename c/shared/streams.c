@@ -1,14 +1,14 @@
 /* SPDX-License-Identifier: MIT */
-/* Standard streams, and bytes that are read and written whole. */
+/* Reserves the descriptors of closed standard streams, and reads and writes whole buffers. */
 #include "streams.h"
 
-static bool held[STDERR_FILENO + 1];
+static bool was_closed[STDERR_FILENO + 1];
 
-bool hold_streams(void)
+bool fill_standard_streams(void)
 {
     for (int fd = STDIN_FILENO; fd <= STDERR_FILENO; fd++) {
         if (fcntl(fd, F_GETFD) < 0) {
-            held[fd] = true;
+            was_closed[fd] = true;
             if (open("/", O_RDONLY) != fd) {
                 return false;
             }
@@ -17,18 +17,18 @@ bool hold_streams(void)
     return true;
 }
 
-bool is_held(int fd)
+bool was_closed_at_start(int fd)
 {
-    return fd >= STDIN_FILENO && fd <= STDERR_FILENO && held[fd];
+    return fd >= STDIN_FILENO && fd <= STDERR_FILENO && was_closed[fd];
 }
 
-ssize_t read_whole(int fd, uint8_t *bytes, size_t room)
+ssize_t read_whole(int fd, uint8_t *bytes, size_t size)
 {
     size_t len = 0;
     ssize_t n = 1;
 
-    while (n > 0 && len < room) {
-        n = AGAIN(read(fd, bytes + len, room - len));
+    while (n > 0 && len < size) {
+        n = AGAIN(read(fd, bytes + len, size - len));
         len += n > 0 ? (size_t) n : 0;
     }
     return n < 0 ? -1 : (ssize_t) len;

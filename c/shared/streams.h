@@ -1,21 +1,23 @@
 /* SPDX-License-Identifier: MIT */
-/* Standard streams, and bytes that are read and written whole. A call that a signal interrupts is made again. */
+/* Reserves the descriptors of closed standard streams, and reads and writes whole buffers. Calls that a signal
+ * interrupts are retried. */
 #ifndef STREAMS_H
 #define STREAMS_H
 
 #include "system.h"
 
-/* Opens each standard stream that is closed, so that it can be neither read nor written, and no file gets its number:
- * what is printed would go there. Has to be called before anything is opened. False if that is not possible. */
-bool hold_streams(void);
+/* Opens a placeholder for each standard stream that is closed, which can be neither read nor written. Otherwise the
+ * next file that is opened would get the stream's descriptor, and messages would be written into that file. Must be
+ * called before anything is opened. Returns false on failure. */
+bool fill_standard_streams(void);
 
-/* Whether this is a standard stream that was closed then. */
-bool is_held(int fd);
+/* Returns true if this is a standard stream that was closed when the program started. */
+bool was_closed_at_start(int fd);
 
-/* Reads so many bytes, and fewer only at the end of the file: how many, or -1 as errno says. */
-ssize_t read_whole(int fd, uint8_t *bytes, size_t room);
+/* Reads until the buffer is full or the file ends. Returns the number of bytes, or -1 and sets errno. */
+ssize_t read_whole(int fd, uint8_t *bytes, size_t size);
 
-/* Writes all bytes. On false errno says why. */
+/* Writes all bytes. On failure, returns false and sets errno. */
 bool write_whole(int fd, const uint8_t *bytes, size_t len);
 
 #endif

@@ -1,12 +1,13 @@
 /* SPDX-License-Identifier: MIT */
 /*
- * What the files of both programs use of the C library and the system. It comes first in each of them. A header that
- * one file alone needs is included there.
+ * Includes the headers of the C library and the system that several files of both programs use. Must be included first
+ * in each file. A header that only one file needs is included in that file.
  */
 #ifndef SYSTEM_H
 #define SYSTEM_H
 
-/* POSIX, and what glibc, musl and the BSDs share beyond it. A file that needs more defines _GNU_SOURCE before. */
+/* Declares POSIX and what glibc, musl and the BSDs share beyond it. A file that needs more defines _GNU_SOURCE
+ * before. */
 #if !defined _GNU_SOURCE && !defined _DEFAULT_SOURCE
 #define _DEFAULT_SOURCE
 #endif
@@ -27,14 +28,14 @@
 #include <time.h>
 #include <unistd.h>
 
-/* Makes a call of the system again as long as a signal interrupts it: what it returns. */
-#define AGAIN(call)                                \
-    __extension__({                                \
-        __typeof__(call) answered;                 \
-        do {                                       \
-            answered = (call);                     \
-        } while (answered < 0 && errno == EINTR);  \
-        answered;                                  \
+/* Retries a system call as long as a signal interrupts it, and returns its result. */
+#define AGAIN(call)                              \
+    __extension__({                              \
+        __typeof__(call) result;                 \
+        do {                                     \
+            result = (call);                     \
+        } while (result < 0 && errno == EINTR);  \
+        result;                                  \
     })
 
 #endif

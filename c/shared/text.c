@@ -1,35 +1,35 @@
 /* SPDX-License-Identifier: MIT */
-/* Texts as they are shown to a person, and which of them are UTF-8. */
+/* Validates UTF-8, and escapes texts so that a terminal only displays them. */
 #include "text.h"
 
-/* How many bytes a character of UTF-8 has whose first byte this is, or 0 if there is none. */
-static size_t length_of(uint8_t first)
+/* Returns the length of the UTF-8 sequence that begins with this byte, or 0 if none does. */
+static size_t sequence_length(uint8_t first)
 {
     return first < 0x80 ? 1 : first < 0xc2 ? 0 : first < 0xe0 ? 2 : first < 0xf0 ? 3 : first < 0xf5 ? 4 : 0;
 }
 
-/* The character at the front of a text, and how many bytes it has: 0 if they are no UTF-8. */
+/* Decodes the first character of a text. `bytes` is set to its length, or to 0 if it is not UTF-8. */
 static uint32_t character_at(const uint8_t *text, size_t len, size_t *bytes)
 {
-    static const uint32_t least[] = { 0, 0, 0x80, 0x800, 0x10000 };
+    static const uint32_t smallest[] = { 0, 0, 0x80, 0x800, 0x10000 };
     uint32_t character = text[0];
-    size_t own = length_of(text[0]);
+    size_t length = sequence_length(text[0]);
 
     *bytes = 0;
-    if (own == 0 || own > len) {
+    if (length == 0 || length > len) {
         return 0;
     }
-    if (own > 1) {
-        character &= 0xffu >> (own + 1);
+    if (length > 1) {
+        character &= 0xffu >> (length + 1);
     }
-    for (size_t i = 1; i < own; i++) {
+    for (size_t i = 1; i < length; i++) {
         if ((text[i] & 0xc0) != 0x80) {
             return 0;
         }
         character = character << 6 | (text[i] & 0x3f);
     }
-    if (character >= least[own] && (character < 0xd800 || character > 0xdfff) && character <= 0x10ffff) {
-        *bytes = own;
+    if (character >= smallest[length] && (character < 0xd800 || character > 0xdfff) && character <= 0x10ffff) {
+        *bytes = length;
     }
     return character;
 }
@@ -62,7 +62,8 @@ bool ends_with_space(const uint8_t *text, size_t len)
            || last == 0x3000;
 }
 
-/* Whether a terminal might do something with a character besides showing it. */
+/* Returns true if a terminal may act on this character instead of displaying it: control characters other than a tab,
+ * line and paragraph separators, bidirectional formatting, and the byte order mark. */
 static bool is_control(uint32_t character)
 {
     return (character < 0x20 && character != '\t') || (character >= 0x7f && character < 0xa0) || character == 0x61c
@@ -70,47 +71,44 @@ static bool is_control(uint32_t character)
            || (character >= 0x2066 && character <= 0x2069) || character == 0xfeff;
 }
 
-size_t show_character(char shown[SHOWN_BYTES], const uint8_t *text, size_t len, size_t *bytes)
+size_t escape_character(char escaped[ESCAPED_BYTES], const uint8_t *text, size_t len, size_t *bytes)
 {
     uint32_t character = character_at(text, len, bytes);
 
     if (*bytes == 0) {
         *bytes = 1;
-        return (size_t) snprintf(shown, SHOWN_BYTES, "\\x%02x", text[0]);
+        return (size_t) snprintf(escaped, ESCAPED_BYTES, "\\x%02x", text[0]);
     }
     if (is_control(character)) {
-        return (size_t) snprintf(shown, SHOWN_BYTES, "\\u{%x}", (unsigned) character);
+        return (size_t) snprintf(escaped, ESCAPED_BYTES, "\\u{%x}", (unsigned) character);
     }
-    memcpy(shown, text, *bytes);
+    memcpy(escaped, text, *bytes);
     return *bytes;
 }
 
-void write_visible(FILE *to, const uint8_t *text, size_t len)
+void write_escaped(FILE *to, const uint8_t *text, size_t len)
 {
-    char shown[SHOWN_BYTES];
+    char escaped[ESCAPED_BYTES];
 
     for (size_t at = 0, bytes; at < len; at += bytes) {
-        fwrite(shown, 1, show_character(shown, text + at, len - at, &bytes), to);
+        fwrite(escaped, 1, escape_character(escaped, text + at, len - at, &bytes), to);
     }
 }
 
-const char *visible(const char *name)
+struct escaped_name escape_name(const char *name)
 {
-    size_t len = strlen(name), made = 0;
-    /* (each byte is shown by at most so many) */
-    char *shown = malloc(len * SHOWN_BYTES + 1);
+    const uint8_t *bytes = (const uint8_t *) name;
+    struct escaped_name escaped;
+    size_t len = strlen(name), written = 0;
 
-    if (shown == NULL) {
-        return "a file";
+    for (size_t at = 0, used = 1; at < len; at += used, used = 1) {
+        if (written + ESCAPED_BYTES > MAX_ESCAPED_NAME) {
+            written += (size_t) snprintf(escaped.text + written, ESCAPED_BYTES, "..");
+            break;
+        }
+        written += name[at] == '\t' ? (size_t) snprintf(escaped.text + written, ESCAPED_BYTES, "\\u{9}")
+                                    : escape_character(escaped.text + written, bytes + at, len - at, &used);
     }
-    for (size_t at = 0, bytes = 1; at < len; at += bytes, bytes = 1) {
-        made += name[at] == '\t' ? (size_t) snprintf(shown + made, SHOWN_BYTES, "\\u{9}")
-                                 : show_character(shown + made, (const uint8_t *) name + at, len - at, &bytes);
-    }
-    shown[made] = 0;
-    if (strcmp(shown, name) == 0) {
-        free(shown);
-        return name;
-    }
-    return shown;
+    escaped.text[written] = 0;
+    return escaped;
 }

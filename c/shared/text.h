@@ -1,28 +1,38 @@
 /* SPDX-License-Identifier: MIT */
-/* Texts as they are shown to a person, and which of them are UTF-8. */
+/* Validates UTF-8, and escapes texts so that a terminal only displays them. */
 #ifndef TEXT_H
 #define TEXT_H
 
 #include "system.h"
 
-/* Room for a character as it is shown. */
-#define SHOWN_BYTES 12
+/* Buffer size for an escaped character. */
+#define ESCAPED_BYTES 12
 
 /*
- * Writes the first character of a text as it is shown: a control character other than a tab, and one that turns the
- * direction of writing, as \u{1b}, and a byte that is no UTF-8 as \xff. Returns how many bytes it wrote, and in `bytes`
- * how many of the text it showed.
+ * Escapes the first character of a text: control characters other than a tab and bidirectional formatting characters as
+ * \u{1b}, and bytes that are not UTF-8 as \xff. Returns how many bytes were written, and in `bytes` how many bytes of
+ * the text they stand for.
  */
-size_t show_character(char shown[SHOWN_BYTES], const uint8_t *text, size_t len, size_t *bytes);
+size_t escape_character(char escaped[ESCAPED_BYTES], const uint8_t *text, size_t len, size_t *bytes);
 
-/* Whether a text is UTF-8, and whether one of UTF-8 ends with what Unicode calls white space. */
+/* `ends_with_space` expects UTF-8, and uses Unicode's definition of white space. */
 bool is_utf8(const uint8_t *text, size_t len);
 bool ends_with_space(const uint8_t *text, size_t len);
 
-/* Writes a text as it is shown. */
-void write_visible(FILE *to, const uint8_t *text, size_t len);
+/* Writes a text, escaped, to a stream. */
+void write_escaped(FILE *to, const uint8_t *text, size_t len);
 
-/* The name of a file as it is shown, with a tab as \u{9}: the name itself if that is the same, or memory of malloc. */
-const char *visible(const char *name);
+/* Buffer size for an escaped file name. Escaping makes a byte at most six times as long, so each path that the system
+ * can open fits: these have fewer than 4096 bytes. */
+#define MAX_ESCAPED_NAME (6 * 4096)
+
+struct escaped_name {
+    char text[MAX_ESCAPED_NAME + ESCAPED_BYTES];
+};
+
+/* Escapes a file name for a message, including tabs, as \u{9}. The end of a name that is too long to be opened may be
+ * replaced by "..". The result needs no memory management: escape_name(name).text is valid until the end of the
+ * statement. */
+struct escaped_name escape_name(const char *name);
 
 #endif

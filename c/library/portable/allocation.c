@@ -1,7 +1,7 @@
 /*
- * The three calls for memory that dist/calls.c makes. They use those of c/library/allocation.c if that is built, and
- * with -DMINISIGN_MALLOC_ALONE only malloc and free. Then too a block that may have held a secret is cleared before it
- * is freed.
+ * Allocates memory for dist/calls.c. Uses the functions of c/library/allocation.c if that file is built. With
+ * -DMINISIGN_MALLOC_ALONE, it uses only malloc and free, and also clears a block before it is freed, because the block
+ * may have contained a secret.
  *
  * SPDX-License-Identifier: MIT
  */
@@ -11,19 +11,19 @@
 
 #ifdef MINISIGN_MALLOC_ALONE
 
-/* A multiple of what each block is aligned to. */
+/* The alignment of each block, unless a call asks for more. */
 #define UNIT 64
 
-/* What stands in front of a block: what malloc returned, and how long the block is. */
+/* In front of each block: the pointer that malloc returned, and the length of the block. */
 struct heading {
-    void *taken;
+    void *allocation;
     size_t len;
 };
 
-/* Stands for the block of an allocation that failed. */
-static u8 nothing;
+/* The block of a failed allocation, which must not be NULL. */
+static u8 no_block;
 
-static struct heading front_of(const u8 *block)
+static struct heading heading_of(const u8 *block)
 {
     struct heading front;
 
@@ -31,7 +31,7 @@ static struct heading front_of(const u8 *block)
     return front;
 }
 
-/* Writes zeros, also if nothing reads them. */
+/* Writes zeros that the compiler must not optimize away. */
 static void write_zeros(u8 *block, size_t len)
 {
 #if defined(__GNUC__) && !defined(__TINYC__)
@@ -46,14 +46,14 @@ static void write_zeros(u8 *block, size_t len)
 
 struct grant rattle_alloc(size_t len, size_t alignment)
 {
-    const size_t unit = alignment > UNIT ? alignment : UNIT, more = unit + sizeof(struct heading);
-    struct grant grant = { 0, &nothing };
+    const size_t unit = alignment > UNIT ? alignment : UNIT, extra = unit + sizeof(struct heading);
+    struct grant grant = { 0, &no_block };
     struct heading front = { NULL, len };
     u8 *block;
 
-    front.taken = len <= PTRDIFF_MAX && more <= PTRDIFF_MAX - len ? malloc(len + more) : NULL;
-    if (front.taken != NULL) {
-        block = (u8 *) front.taken + sizeof front;
+    front.allocation = len <= PTRDIFF_MAX && extra <= PTRDIFF_MAX - len ? malloc(len + extra) : NULL;
+    if (front.allocation != NULL) {
+        block = (u8 *) front.allocation + sizeof front;
         block += (unit - (uintptr_t) block % unit) % unit;
         memcpy(block - sizeof front, &front, sizeof front);
         grant.is_granted = 1;
@@ -75,21 +75,21 @@ struct grant rattle_realloc(void *block, size_t old_len, size_t len, size_t alig
 
 void rattle_dealloc(void *block)
 {
-    const struct heading front = front_of(block);
+    const struct heading front = heading_of(block);
 
     write_zeros(block, front.len);
-    free(front.taken);
+    free(front.allocation);
 }
 
 #endif
 
-/* A number of bytes. If pointers have 32 bits, a greater one becomes one that no allocation can have. */
-static size_t bytes(u64 number)
+/* Converts a length. If it exceeds 32-bit pointers, it becomes a length that cannot be allocated. */
+static size_t to_size(u64 length)
 {
-    return number > SIZE_MAX ? SIZE_MAX : (size_t) number;
+    return length > SIZE_MAX ? SIZE_MAX : (size_t) length;
 }
 
-static void answer(u64 to, struct grant grant)
+static void store_grant(u64 to, struct grant grant)
 {
     store64(to, grant.is_granted);
     store64(to + 8, address(grant.block));
@@ -97,12 +97,12 @@ static void answer(u64 to, struct grant grant)
 
 void machine_rattle_alloc(u64 grant, u64 len, u64 alignment)
 {
-    answer(grant, rattle_alloc(bytes(len), bytes(alignment)));
+    store_grant(grant, rattle_alloc(to_size(len), to_size(alignment)));
 }
 
 void machine_rattle_realloc(u64 grant, u64 block, u64 old_len, u64 len, u64 alignment)
 {
-    answer(grant, rattle_realloc(at(block), bytes(old_len), bytes(len), bytes(alignment)));
+    store_grant(grant, rattle_realloc(at(block), to_size(old_len), to_size(len), to_size(alignment)));
 }
 
 void machine_rattle_dealloc(u64 block)

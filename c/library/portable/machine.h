@@ -1,8 +1,8 @@
 /* SPDX-License-Identifier: MIT */
 /*
- * What dist/calls.c calls: the instructions of 64-bit WebAssembly on numbers, and its loads and stores, which work on
- * the memory of the program. An address is a pointer as a number of 64 bits, even if pointers have 32, and a number in
- * memory is little-endian on every processor.
+ * Implements the instructions of 64-bit WebAssembly that dist/calls.c uses: arithmetic, and loads and stores, which
+ * access the memory of the process. An address is a pointer converted to 64 bits, even if pointers have 32 bits.
+ * Numbers in memory are little-endian on every processor.
  *
  * This is C99, and uses memcpy, memmove, memset and abort of the C library.
  */
@@ -18,13 +18,13 @@ typedef uint8_t u8;
 typedef uint32_t u32;
 typedef uint64_t u64;
 
-/* The calls for memory that calls.c makes, which are in allocation.c. The first two write to `grant` whether there is a
- * block, and where it is. */
+/* The functions by which calls.c allocates memory, in allocation.c. The first two write to `grant` whether the
+ * allocation succeeded, and the address. */
 void machine_rattle_alloc(u64 grant, u64 len, u64 alignment);
 void machine_rattle_realloc(u64 grant, u64 block, u64 old_len, u64 len, u64 alignment);
 void machine_rattle_dealloc(u64 block);
 
-/* Data at a multiple of so many bytes. */
+/* Aligns data to a multiple of this many bytes. */
 #if defined(__GNUC__) || defined(__TINYC__)
 #define ALIGNED(bytes) __attribute__((aligned(bytes)))
 #elif defined(_MSC_VER)
@@ -33,8 +33,8 @@ void machine_rattle_dealloc(u64 block);
 #define ALIGNED(bytes) _Alignas(bytes)
 #endif
 
-/* The stack of the machine and the table of addresses, in the frame of a function that is called from C. Each begins,
- * and the stack ends, at a multiple of 16. */
+/* The machine's stack and its table of addresses, which are in the frame of a function that is called from C. Both
+ * begin at a multiple of 16, and the stack also ends at one. */
 #define STACK(bytes) u64 stack_[(bytes) / 8 + 2]; const u64 sp = ((u64) (uintptr_t) stack_ + 15) / 16 * 16 + (bytes)
 #define TABLE(bytes) u64 table_[(bytes) / 8 + 3]; const u64 table = ((u64) (uintptr_t) table_ + 15) / 16 * 16
 
@@ -50,8 +50,8 @@ static inline u8 *at(u64 address)
 
 /* ---- Memory ---- */
 
-/* Whether the processor's numbers are little-endian, and whether they may have any address, so that one instruction
- * copies one. Otherwise a number is made of its bytes, which is right everywhere. */
+/* IS_LITTLE_ENDIAN: the processor's numbers are little-endian. IS_COPIED: besides, they may be at any address, so that
+ * a load or store is one instruction. Otherwise numbers are composed of bytes, which works everywhere. */
 #if defined(__BYTE_ORDER__) && __BYTE_ORDER__ == __ORDER_LITTLE_ENDIAN__
 #define IS_LITTLE_ENDIAN 1
 #else
@@ -149,7 +149,7 @@ static inline void store64(u64 a, u64 value)
 
 #endif
 
-/* (the addresses of no bytes may be any) */
+/* If there are no bytes, the addresses may be invalid. */
 static inline void copy(u64 to, u64 from, u64 len)
 {
     if (len != 0) {
@@ -166,7 +166,7 @@ static inline void fill(u64 to, u32 value, u64 len)
 
 /* ---- Signs ---- */
 
-/* Signed numbers of 8, 16 and 32 bits as those of 64. */
+/* Extend the sign of 8, 16 and 32 bits to 64 bits. */
 static inline u64 sign8(u64 value)
 {
     return ((value & 0xff) ^ 0x80) - 0x80;
@@ -182,7 +182,7 @@ static inline u64 sign32(u64 value)
     return ((value & UINT64_C(0xffffffff)) ^ UINT64_C(0x80000000)) - UINT64_C(0x80000000);
 }
 
-/* Signed numbers as unsigned ones in the same order. */
+/* Map signed numbers to unsigned numbers in the same order. */
 static inline u32 order32(u32 value)
 {
     return value ^ UINT32_C(0x80000000);
@@ -242,7 +242,7 @@ static inline u32 popcnt32(u32 x)
     return (u32) popcnt64(x);
 }
 
-/* The zeros above the highest 1, and below the lowest. */
+/* Count the zeros above the highest 1, and below the lowest 1. */
 static inline u64 clz64(u64 x)
 {
     x |= x >> 1;
@@ -271,7 +271,7 @@ static inline u32 ctz32(u32 x)
 
 /* ---- Dividing ---- */
 
-/* No call gets here. */
+/* A trap. The proved calls never reach it. */
 static inline void never(void)
 {
     abort();
@@ -303,7 +303,7 @@ static inline u32 rem_u32(u32 a, u32 b)
     return (u32) rem_u64(a, b);
 }
 
-/* A number without its sign. */
+/* Returns the absolute value. */
 static inline u64 bare(u64 value)
 {
     return value >> 63 ? 0 - value : value;

@@ -1,7 +1,8 @@
 /*
- * The calls of dist/calls.c, as the boundary makes them. dist/calls.c takes addresses as numbers of 64 bits, and numbers
- * in memory as little-endian. So numbers in a struct, or behind a pointer, are turned before a call and turned back after
- * it, unless the processor is little-endian itself. Made by tools/header.py.
+ * Calls the functions of dist/calls.c for boundary.c. dist/calls.c takes addresses as 64-bit numbers, and expects
+ * numbers in memory to be little-endian. On a big-endian processor, the numbers in structs and behind pointers are
+ * therefore converted before each call, and converted back after it. The part after this head is made by
+ * tools/header.py.
  *
  * SPDX-License-Identifier: MIT
  */
@@ -9,7 +10,7 @@
 
 #include "minisign_install.h"
 
-/* A struct that the call may not change: if numbers are turned, it gets a copy. */
+/* Passes a struct that the call must not change: a copy, if its numbers have to be converted. */
 #define LENT(kind, lent, kept) (IS_LITTLE_ENDIAN || (lent) == NULL ? (lent) : (*(kept) = *(lent), given_##kind(kept), (kept)))
 
 /* ---- Made by tools/header.py ---- */
