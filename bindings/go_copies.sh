@@ -1,34 +1,34 @@
 #!/bin/sh
 # SPDX-License-Identifier: MIT
 #
-# Writes into bindings/go the files from which the Go module is built: copies of files of dist/, c/library and include/. A Go
-# module has only the files of its own directory, and no build step before `go build`. git ignores the copies, but the
-# commit that a release is tagged on has them (packaging/tag.sh).
+# Copies the files of dist/, c/library and include/ that the Go module needs into bindings/go. A Go module has only the
+# files of its own directory, and no build step before `go build`. git ignores the copies, but the commit that a release is
+# tagged on contains them (packaging/tag.sh).
 #
 #     bindings/go_copies.sh         `make -C bindings go` calls this
 #
-# It needs only a shell and the standard tools. A file that is up to date is not written, so several runs at once are safe.
+# Needs only a shell and the standard tools. A file that is up to date is not written, so several runs at once are safe.
 set -eu
 cd "$(dirname "$0")/.."
 to=bindings/go
 
-# Build constraints. The file that links archives is for Linux with 64-bit pointers, where the library needs only memory. All other
-# systems, and builds with the tag `portable`, compile the calls as C.
-with_archives='linux && (amd64 || arm64 || loong64 || mips64 || mips64le || ppc64 || ppc64le || riscv64 || s390x)'
+# Build constraints. allocation.c is for Linux with 64-bit pointers, calls.c for systems without an archive, and for builds
+# with the tag `portable`.
+linux_64='linux && (amd64 || arm64 || loong64 || mips64 || mips64le || ppc64 || ppc64le || riscv64 || s390x)'
 as_c='portable || !linux || (!amd64 && !arm64)'
 
 part=$to/.part-$$
 trap 'rm -f "$part"' EXIT
 trap 'exit 1' HUP INT TERM
 
-# put NAME: replaces a file by $part, unless it is the same.
+# put NAME: moves $part to NAME, unless that has the same content.
 names=' '
 put() {
     names="$names$1 "
     cmp -s "$part" "$to/$1" 2>/dev/null || mv "$part" "$to/$1"
 }
 
-# copy FILE [NAME [CONSTRAINT [INCLUDE]]]: a C file begins with the constraint that tells Go where to compile it.
+# copy FILE [NAME [CONSTRAINT [INCLUDE]]]: copies a file. A C file gets the build constraint that says where Go compiles it.
 copy() {
     {
         if test -n "${3-}"; then
@@ -44,7 +44,7 @@ for file in dist/calls-*.a include/minisign.h include/minisign_install.h c/libra
     c/library/portable/machine.h; do
     copy "$file"
 done
-copy c/library/allocation.c allocation.c "$with_archives"
+copy c/library/allocation.c allocation.c "$linux_64"
 copy c/library/boundary.c boundary.c cgo archive.h
 copy c/library/clearing.c clearing.c cgo
 copy dist/calls.c calls.c "$as_c"
@@ -55,8 +55,8 @@ copy c/library/portable/allocation.c memory.c "$as_c"
     cat <<'END'
 /* SPDX-License-Identifier: MIT */
 /*
- * In the archives the proved calls have their public names, so here the boundary calls them by these names, and its own
- * functions, which programs call, get other names. Made from c/library/names by bindings/go_copies.sh.
+ * Renames functions, because in the archives the proved calls have the public names: boundary.c calls them by these names,
+ * and the functions that it defines for programs get other names. Made from c/library/names by bindings/go_copies.sh.
  */
 #ifndef MINISIGN_PORTABLE
 #define MINISIGN_PORTABLE
@@ -69,7 +69,7 @@ END
 } >"$part"
 put archive.h
 
-# Removes what an older version copied.
+# Remove the files that an older version of this script copied.
 for file in "$to"/*.[ach]; do
     case $names in *" ${file##*/} "*) ;; *) rm -f "$file" ;; esac
 done

@@ -12,10 +12,12 @@ import (
 	"syscall"
 )
 
-// WriteNew writes a new file, such as one of a secret key, that only its owner may read: its mode is 0600, whatever the
-// umask. The file and its directory are synced. If the file exists already, the error is os.ErrExist, and the file is
-// unchanged. After any other error there is no file. On Windows, which has no modes, the file inherits the access rights
-// of its directory: choose a directory that only its owner may read.
+// WriteNew creates a file, such as a secret key file, that only its owner can read and write: its mode is 0600, whatever
+// the umask is. It syncs the file and its directory.
+//
+// If the file exists, WriteNew returns an error that is os.ErrExist, and the file is unchanged. After any other error
+// there is no file. On Windows, which has no file modes, the file inherits the permissions of its directory, so choose a
+// directory that only its owner can read.
 func WriteNew(file string, text []byte) error {
 	created, err := os.OpenFile(file, os.O_WRONLY|os.O_CREATE|os.O_EXCL, 0o600)
 	if err != nil {
@@ -30,7 +32,7 @@ func WriteNew(file string, text []byte) error {
 	return err
 }
 
-// writeSecret writes, syncs and closes a file.
+// writeSecret writes text to a new file that only its owner can read, syncs it, and closes it.
 func writeSecret(file *os.File, text []byte) error {
 	err := allowOwnerOnly(file)
 	if err == nil {
@@ -39,24 +41,24 @@ func writeSecret(file *os.File, text []byte) error {
 	if err == nil {
 		err = file.Sync()
 	}
-	if closed := file.Close(); err == nil {
-		err = closed
+	if closeErr := file.Close(); err == nil {
+		err = closeErr
 	}
 	return err
 }
 
-// allowOwnerOnly sets the mode 0600 unless only the owner can read and write the file already: a umask can take rights
-// from the owner too, and some file systems reject fchmod.
+// allowOwnerOnly sets the mode 0600 unless the file has it already. It may not, because a umask can also remove
+// permissions of the owner. The mode is set only if needed, because some file systems reject fchmod.
 func allowOwnerOnly(file *os.File) error {
-	found, err := file.Stat()
-	if err != nil || found.Mode()&0o677 == 0o600 {
+	info, err := file.Stat()
+	if err != nil || info.Mode()&0o677 == 0o600 {
 		return err
 	}
 	return file.Chmod(0o600)
 }
 
-// syncDirectory syncs a directory, so that a new file survives a crash. Directories that cannot be opened, or that have
-// no sync (EINVAL), are skipped, as are all on Windows.
+// syncDirectory syncs a directory, so that a new file survives a crash. It does nothing on Windows, or if the directory
+// cannot be opened or does not support fsync (EINVAL).
 func syncDirectory(name string) error {
 	directory, err := os.Open(name)
 	if err != nil || runtime.GOOS == "windows" {

@@ -27,9 +27,9 @@ static enum minisign_error flat_minisign_signed_text(const minisign_public_key *
 */
 import "C"
 
-// The calls of minisign.h, made by tools/bindings.py. A password is sealed under where it is not nil.
+// The calls of minisign.h, made by tools/bindings.py. A nil password means that the key is not encrypted.
 
-// The proved calls take no NULL, also where there are no bytes.
+// What pointer returns for an empty slice, because the proved calls take no NULL.
 var nothing [1]byte
 
 func pointer(bytes []byte) *C.uint8_t {

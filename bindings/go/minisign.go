@@ -2,7 +2,8 @@
 
 //go:build cgo
 
-// Package minisign verifies and makes Minisign signatures with proved code. Its interface is that of go-minisign.
+// Package minisign verifies and makes Minisign signatures with proved code. Its functions for verifying have the names,
+// parameters and results of go-minisign.
 package minisign
 
 import (
@@ -17,41 +18,42 @@ import (
 	"strings"
 )
 
-// A PublicKey is a key under which signatures are verified: what its fields say, whatever it was read from.
+// A PublicKey verifies signatures. Verifying uses the current values of its fields.
 type PublicKey struct {
-	// "Ed", whatever the text of the key says here. Another one verifies nothing.
+	// "Ed" in every key that was read, whatever the key file says here. With any other value, verifying returns
+	// ErrUnsupportedAlgorithm.
 	SignatureAlgorithm [2]byte
 	KeyId              [8]byte
 	PublicKey          [32]byte
 }
 
-// KeyIdText is the key ID as minisign prints it: in upper-case hexadecimal digits, without leading zeros.
+// KeyIdText returns the key ID as the program minisign prints it: in upper-case hexadecimal digits without leading zeros.
 func (publicKey *PublicKey) KeyIdText() string { return keyIdText(publicKey.KeyId) }
 
 func keyIdText(keyId [8]byte) string {
 	return fmt.Sprintf("%X", binary.LittleEndian.Uint64(keyId[:]))
 }
 
-// A Signature is what stands in a file such as data.minisig, and it vouches for nothing before it was verified. What is
-// verified is what its fields say, whatever it was read from: a field that was changed is not what was signed.
+// A Signature is a parsed signature file, such as data.minisig. Parsing verifies nothing. Verifying checks the current
+// values of the fields, so changing any field except UntrustedComment makes the signature invalid.
 type Signature struct {
-	// The first line, with the words "untrusted comment: ", for which nobody vouches.
+	// The first line, including "untrusted comment: ". It is not signed.
 	UntrustedComment string
-	// "ED", or "Ed" where the signature is over the data itself.
+	// "ED", or "Ed" for a legacy signature, which signs the data itself instead of its digest.
 	SignatureAlgorithm [2]byte
 	KeyId              [8]byte
 	Signature          [64]byte
-	// The third line: what was signed with the data, after the words "trusted comment: ".
+	// The third line, including "trusted comment: ". What follows these words is signed.
 	TrustedComment string
 	// The comment signature. It is zeros if the file has fewer than 64 bytes of it; Verify rejects zeros with
 	// ErrWeakEd25519.
 	GlobalSignature [64]byte
 }
 
-// KeyIdText is the key ID as minisign prints it: in upper-case hexadecimal digits, without leading zeros.
+// KeyIdText returns the key ID as the program minisign prints it: in upper-case hexadecimal digits without leading zeros.
 func (signature *Signature) KeyIdText() string { return keyIdText(signature.KeyId) }
 
-// Encode makes the four lines of a file such as data.minisig.
+// Encode returns the four lines of a signature file, such as data.minisig.
 func (signature *Signature) Encode() string {
 	record := bytes.Join([][]byte{signature.SignatureAlgorithm[:], signature.KeyId[:], signature.Signature[:]}, nil)
 	lines := []string{
@@ -61,17 +63,18 @@ func (signature *Signature) Encode() string {
 	return strings.Join(lines, "\n") + "\n"
 }
 
-// NewPublicKey reads the base64 of a public key alone: its 56 letters.
+// NewPublicKey parses the 56 base64 characters of a public key, which are the second line of its file and the argument
+// of minisign -P.
 func NewPublicKey(publicKeyStr string) (PublicKey, error) {
 	return readPublicKey(publicKeyStr, true)
 }
 
-// DecodePublicKey reads both lines of a file such as minisign.pub.
+// DecodePublicKey parses the content of a public key file, such as minisign.pub: both lines.
 func DecodePublicKey(in string) (PublicKey, error) {
 	return readPublicKey(in, false)
 }
 
-// NewPublicKeyFromFile reads a file such as minisign.pub.
+// NewPublicKeyFromFile reads a public key file, such as minisign.pub.
 func NewPublicKeyFromFile(file string) (PublicKey, error) {
 	text, err := os.ReadFile(file)
 	if err != nil {
@@ -80,16 +83,16 @@ func NewPublicKeyFromFile(file string) (PublicKey, error) {
 	return DecodePublicKey(string(text))
 }
 
-// DecodeSignature reads the four lines of a file such as data.minisig.
+// DecodeSignature parses the content of a signature file, such as data.minisig: four lines. It verifies nothing.
 func DecodeSignature(in string) (Signature, error) {
-	signature, err := read(in)
+	parsed, err := parseSignature(in)
 	if err != nil {
 		return Signature{}, err
 	}
-	return signature.signature(), nil
+	return parsed.signature(), nil
 }
 
-// NewSignatureFromFile reads a file such as data.minisig.
+// NewSignatureFromFile reads a signature file, such as data.minisig. It verifies nothing.
 func NewSignatureFromFile(file string) (Signature, error) {
 	text, err := os.ReadFile(file)
 	if err != nil {
@@ -98,8 +101,9 @@ func NewSignatureFromFile(file string) (Signature, error) {
 	return DecodeSignature(string(text))
 }
 
-// Verify says whether a signature vouches for data, also one that is over the data itself, as Minisign made them before
-// version 0.10. It is true exactly where there is no error.
+// Verify returns true if the signature is valid for the data, and otherwise false and the reason: the errors of
+// NewVerifier, ErrSignatureRefused or ErrCommentSignatureRefused. It also accepts legacy signatures, which sign the data
+// itself, as Minisign made them before version 0.10.
 func (publicKey *PublicKey) Verify(bin []byte, signature Signature) (bool, error) {
 	verifier, err := begin(publicKey, signature, true)
 	if err == nil {
@@ -111,8 +115,8 @@ func (publicKey *PublicKey) Verify(bin []byte, signature Signature) (bool, error
 	return err == nil, err
 }
 
-// VerifyFromFile says whether a signature vouches for what a file holds. The file is held in memory where the signature
-// is over the data itself, and otherwise read in pieces.
+// VerifyFromFile verifies a file as Verify verifies data. It reads the file in pieces, but for a legacy signature keeps
+// the whole file in memory.
 func (publicKey *PublicKey) VerifyFromFile(file string, signature Signature) (bool, error) {
 	reader, err := os.Open(file)
 	if err != nil {
@@ -123,19 +127,19 @@ func (publicKey *PublicKey) VerifyFromFile(file string, signature Signature) (bo
 	if err != nil {
 		return false, err
 	}
-	var held bytes.Buffer
-	to := io.Writer(verifier)
+	var legacyData bytes.Buffer
+	writer := io.Writer(verifier)
 	if verifier.questions.isLegacy() {
-		to = io.MultiWriter(verifier, &held)
+		writer = io.MultiWriter(verifier, &legacyData)
 	}
-	if _, err = io.Copy(to, reader); err == nil {
-		err = verifier.end(held.Bytes())
+	if _, err = io.Copy(writer, reader); err == nil {
+		err = verifier.end(legacyData.Bytes())
 	}
 	return err == nil, err
 }
 
-// VerifyReader says whether a signature vouches for all that a reader gives until its end. One that is over the data
-// itself is rejected.
+// VerifyReader verifies the data of a reader, up to its end, as Verify verifies data. It rejects legacy signatures with
+// ErrLegacyNotAccepted.
 func (publicKey *PublicKey) VerifyReader(reader io.Reader, signature Signature) (bool, error) {
 	if reader == nil {
 		return false, errors.New("minisign: reader is nil")
@@ -150,19 +154,25 @@ func (publicKey *PublicKey) VerifyReader(reader io.Reader, signature Signature) 
 	return verifier.Verify()
 }
 
-// A Verifier takes data in pieces: it is an io.Writer, and then asked once. NewVerifier makes one.
+// A Verifier verifies data that arrives in pieces. It is an io.Writer: write the data, then call Verify once. Make one
+// with NewVerifier.
 type Verifier struct {
 	publicKey [32]byte
 	state     *state
 	questions *questions
 }
 
-// NewVerifier begins to verify. All that is wrong with the key and the signature but for the data is told here:
-// ErrBadComment is of a signature with a comment that no text has. One that is over the data itself is rejected.
+// NewVerifier begins a verification, and checks everything that does not depend on the data.
+//
+// It returns an error if publicKey is nil; ErrUnsupportedAlgorithm if its algorithm is not "Ed"; the errors of
+// DecodeSignature if a field of the signature is malformed; ErrDifferentKeyIds if the signature has another key ID;
+// ErrLegacyNotAccepted for a legacy signature; ErrWeakEd25519; and ErrBadComment if a comment could not be in a signature
+// file as it is, for example because it has a line feed.
 func NewVerifier(publicKey *PublicKey, signature Signature) (*Verifier, error) {
 	return begin(publicKey, signature, false)
 }
 
+// begin is NewVerifier, but accepts legacy signatures if allowLegacy is true.
 func begin(publicKey *PublicKey, signature Signature, allowLegacy bool) (*Verifier, error) {
 	if publicKey == nil {
 		return nil, errors.New("minisign: publicKey is nil")
@@ -170,23 +180,23 @@ func begin(publicKey *PublicKey, signature Signature, allowLegacy bool) (*Verifi
 	if publicKey.SignatureAlgorithm != [2]byte{'E', 'd'} {
 		return nil, ErrUnsupportedAlgorithm
 	}
-	read, err := read(signature.Encode())
+	parsed, err := parseSignature(signature.Encode())
 	if err != nil {
 		return nil, err
 	}
 	state := callInit()
-	asked, err := ask(state, publicKey, read, allowLegacy)
+	questions, err := ask(state, publicKey, parsed, allowLegacy)
 	if err != nil {
 		return nil, err
 	}
-	// (of a comment with a line feed the library reads other fields than the caller has)
-	if read.signature() != signature {
+	// If a comment has a line feed or white space at its end, parsing gives other fields than the caller passed.
+	if parsed.signature() != signature {
 		return nil, ErrBadComment
 	}
-	return &Verifier{publicKey.PublicKey, state, asked}, nil
+	return &Verifier{publicKey.PublicKey, state, questions}, nil
 }
 
-// Write takes in the next piece of the data, of any length.
+// Write adds the next piece of the data, of any length. After Verify it returns ErrNotBegun.
 func (verifier *Verifier) Write(piece []byte) (int, error) {
 	if verifier.state == nil {
 		return 0, ErrNotBegun
@@ -197,8 +207,9 @@ func (verifier *Verifier) Write(piece []byte) (int, error) {
 	return len(piece), nil
 }
 
-// VerifyTrustedComment says whether the owner of the key has signed the trusted comment: also before any data is there,
-// of which it says nothing.
+// VerifyTrustedComment returns true if the key has signed the trusted comment, and otherwise false and
+// ErrCommentSignatureRefused. You can call it before you have the data. It says nothing about the data. After Verify it
+// returns ErrNotBegun.
 func (verifier *Verifier) VerifyTrustedComment() (bool, error) {
 	if verifier.state == nil {
 		return false, ErrNotBegun
@@ -208,22 +219,24 @@ func (verifier *Verifier) VerifyTrustedComment() (bool, error) {
 }
 
 func (verifier *Verifier) acceptsComment() bool {
-	return accepts(verifier.publicKey, verifier.questions.message, verifier.questions.second())
+	return accepts(verifier.publicKey, verifier.questions.commentMessage, verifier.questions.commentSignature())
 }
 
-// accepts reports whether the Ed25519 of the standard library accepts a signature. It accepts some signatures that
-// libsodium rejects, but the library rejects those before it gives the questions (ErrWeakEd25519).
+// accepts returns true if the Ed25519 of the standard library accepts a signature. It accepts some signatures that
+// libsodium rejects, but ask has rejected those before (ErrWeakEd25519).
 func accepts(publicKey [32]byte, message []byte, signature [64]byte) bool {
 	return ed25519.Verify(publicKey[:], message, signature[:])
 }
 
-// Verify says whether the signature vouches for all that was written. After it nothing more is taken, and there is no
-// other verdict.
+// Verify returns true if the signature is valid for all data that was written, and otherwise false and
+// ErrSignatureRefused or ErrCommentSignatureRefused. Then use none of the data. Call it once: a second call returns
+// ErrNotBegun.
 func (verifier *Verifier) Verify() (bool, error) {
 	err := verifier.end(nil)
 	return err == nil, err
 }
 
+// end returns the verdict. For a legacy signature, bin is the data.
 func (verifier *Verifier) end(bin []byte) error {
 	if verifier.state == nil {
 		return ErrNotBegun
@@ -236,6 +249,6 @@ func (verifier *Verifier) end(bin []byte) error {
 	if verifier.questions.isLegacy() {
 		message = bin
 	}
-	first := accepts(verifier.publicKey, message, verifier.questions.first())
-	return callVerdict(verifier.state, first, verifier.acceptsComment())
+	isDataValid := accepts(verifier.publicKey, message, verifier.questions.dataSignature())
+	return callVerdict(verifier.state, isDataValid, verifier.acceptsComment())
 }

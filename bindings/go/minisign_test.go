@@ -12,8 +12,8 @@ import (
 )
 
 const (
-	aKey       = "RWQf6LRCGA9i53mlYecO4IzT51TGPpvWucNSCh1CBM0QTaLn73Y7GFO3"
-	aSignature = `untrusted comment: signature from minisign secret key
+	keyText       = "RWQf6LRCGA9i53mlYecO4IzT51TGPpvWucNSCh1CBM0QTaLn73Y7GFO3"
+	signatureText = `untrusted comment: signature from minisign secret key
 RUQf6LRCGA9i559r3g7V1qNyJDApGip8MfqcadIgT9CuhV3EMhHoN1mGTkUidF/z7SrlQgXdy8ofjb7bNJJylDOocrCo8KLzZwo=
 trusted comment: timestamp:1556193335	file:test
 y/rUw2y8/hOUYjZU71eHp/Wo1KZ40fGy2VJEDl34XMJM+TX48Ss/17u3IvIfbVR1FkZZSNCisQbuQY+bHwhEBg==
@@ -21,11 +21,11 @@ y/rUw2y8/hOUYjZU71eHp/Wo1KZ40fGy2VJEDl34XMJM+TX48Ss/17u3IvIfbVR1FkZZSNCisQbuQY+b
 )
 
 func ExamplePublicKey_Verify() {
-	key, err := NewPublicKey(aKey)
+	key, err := NewPublicKey(keyText)
 	if err != nil {
 		panic(err)
 	}
-	signature, err := DecodeSignature(aSignature)
+	signature, err := DecodeSignature(signatureText)
 	if err != nil {
 		panic(err)
 	}
@@ -39,15 +39,15 @@ func ExamplePublicKey_Verify() {
 }
 
 func ExamplePublicKey_VerifyReader() {
-	key, _ := NewPublicKey(aKey)
-	signature, _ := DecodeSignature(aSignature)
+	key, _ := NewPublicKey(keyText)
+	signature, _ := DecodeSignature(signatureText)
 	fmt.Println(key.VerifyReader(strings.NewReader("test"), signature))
 	// Output: true <nil>
 }
 
-func TestEndedVerifier(t *testing.T) {
-	key, _ := NewPublicKey(aKey)
-	signature, _ := DecodeSignature(aSignature)
+func TestEndedVerifierRejectsCalls(t *testing.T) {
+	key, _ := NewPublicKey(keyText)
+	signature, _ := DecodeSignature(signatureText)
 	verifier, err := NewVerifier(&key, signature)
 	if err != nil {
 		t.Fatal(err)
@@ -81,42 +81,42 @@ func TestEndedVerifier(t *testing.T) {
 	}
 }
 
-// The trusted comment is vouched for before there is data, and by its own signature alone.
-func TestTrustedComment(t *testing.T) {
-	key, _ := NewPublicKey(aKey)
-	signature, _ := DecodeSignature(aSignature)
+// VerifyTrustedComment verifies the comment signature only, and does so before there is data.
+func TestTrustedCommentIsVerifiedWithoutData(t *testing.T) {
+	key, _ := NewPublicKey(keyText)
+	signature, _ := DecodeSignature(signatureText)
 	longer := signature
 	longer.TrustedComment += "2"
-	for _, it := range []struct {
-		signature Signature
-		comment   error
-		data      string
-		all       error
+	for _, testCase := range []struct {
+		signature  Signature
+		commentErr error
+		data       string
+		err        error
 	}{
 		{signature, nil, "test", nil},
 		{signature, nil, "tests", ErrSignatureRefused},
 		{longer, ErrCommentSignatureRefused, "test", ErrCommentSignatureRefused},
 	} {
-		verifier, err := NewVerifier(&key, it.signature)
+		verifier, err := NewVerifier(&key, testCase.signature)
 		if err != nil {
 			t.Fatal(err)
 		}
-		for _, piece := range []string{"", it.data} {
+		for _, piece := range []string{"", testCase.data} {
 			fmt.Fprint(verifier, piece)
-			if good, err := verifier.VerifyTrustedComment(); good != (it.comment == nil) || err != it.comment {
+			if good, err := verifier.VerifyTrustedComment(); good != (testCase.commentErr == nil) || err != testCase.commentErr {
 				t.Fatal(good, err)
 			}
 		}
-		if good, err := verifier.Verify(); good != (it.all == nil) || err != it.all {
+		if good, err := verifier.Verify(); good != (testCase.err == nil) || err != testCase.err {
 			t.Fatal(good, err)
 		}
 	}
 }
 
-// Fields are what is verified, in pieces too.
-func TestChangedFields(t *testing.T) {
-	key, _ := NewPublicKey(aKey)
-	signature, _ := DecodeSignature(aSignature)
+// Verifying uses the current fields of a signature and a key.
+func TestChangedFieldsAreRejected(t *testing.T) {
+	key, _ := NewPublicKey(keyText)
+	signature, _ := DecodeSignature(signatureText)
 	changed := signature
 	changed.TrustedComment = "trusted comment: other"
 	if good, err := key.VerifyReader(strings.NewReader("test"), changed); good || err != ErrCommentSignatureRefused {
@@ -131,14 +131,13 @@ func TestChangedFields(t *testing.T) {
 	}
 }
 
-// What is nil is an error that names it.
-func TestNil(t *testing.T) {
-	key, _ := NewPublicKey(aKey)
-	signature, _ := DecodeSignature(aSignature)
+func TestNilArgumentIsNamedInError(t *testing.T) {
+	key, _ := NewPublicKey(keyText)
+	signature, _ := DecodeSignature(signatureText)
 	var none *PublicKey
 	_, err := NewVerifier(none, signature)
-	if good, again := none.Verify([]byte("test"), signature); good || again.Error() != err.Error() {
-		t.Fatal(good, again)
+	if good, verifyErr := none.Verify([]byte("test"), signature); good || verifyErr.Error() != err.Error() {
+		t.Fatal(good, verifyErr)
 	}
 	if err.Error() != "minisign: publicKey is nil" {
 		t.Fatal(err)
@@ -148,12 +147,12 @@ func TestNil(t *testing.T) {
 	}
 }
 
-// Threads verify at once over the same key and signature; the race detector looks on.
-func TestThreads(t *testing.T) {
-	key, _ := NewPublicKey(aKey)
-	signature, _ := DecodeSignature(aSignature)
+// Run with the race detector, this test also shows that verifying does not change keys and signatures.
+func TestThreadsShareKeyAndSignature(t *testing.T) {
+	key, _ := NewPublicKey(keyText)
+	signature, _ := DecodeSignature(signatureText)
 	var threads sync.WaitGroup
-	for number := 0; number < 8; number++ {
+	for thread := 0; thread < 8; thread++ {
 		threads.Add(1)
 		go func() {
 			defer threads.Done()
@@ -191,8 +190,7 @@ func ExampleSecretKey_SignBytes() {
 	// "untrusted comment: made by my program" "trusted comment: version:2\tfile:app"
 }
 
-// Keys that are written and read again sign as before, sealed by little work and not sealed.
-func TestKeysAgain(t *testing.T) {
+func TestDecodedKeySignsAsBefore(t *testing.T) {
 	secret, err := GenerateKey()
 	if err != nil {
 		t.Fatal(err)
@@ -201,25 +199,25 @@ func TestKeysAgain(t *testing.T) {
 	if err != nil {
 		t.Fatal(err)
 	}
-	sealed, err := secret.Encode([]byte("pass word"), Work{OperationsLimit: 1 << 19, MemoryLimit: 1 << 24})
+	encrypted, err := secret.Encode([]byte("pass word"), Work{OperationsLimit: 1 << 19, MemoryLimit: 1 << 24})
 	if err != nil {
 		t.Fatal(err)
 	}
-	bare, err := secret.EncodeUnsealed()
+	unencrypted, err := secret.EncodeUnsealed()
 	if err != nil {
 		t.Fatal(err)
 	}
-	for _, given := range []struct{ text, password []byte }{{sealed, []byte("pass word")}, {bare, nil}} {
-		again, err := DecodeSecretKey(given.text, given.password, Work{LowMemory: true})
+	for _, file := range []struct{ text, password []byte }{{encrypted, []byte("pass word")}, {unencrypted, nil}} {
+		decoded, err := DecodeSecretKey(file.text, file.password, Work{LowMemory: true})
 		if err != nil {
 			t.Fatal(err)
 		}
-		signature, err := again.Sign(strings.NewReader("data"), "c", "u")
-		if good, wrong := key.Verify([]byte("data"), signature); !good || again.IsWeak() || again.KeyId() != key.KeyId {
-			t.Fatal(err, wrong)
+		signature, err := decoded.Sign(strings.NewReader("data"), "c", "u")
+		if good, verifyErr := key.Verify([]byte("data"), signature); !good || decoded.IsWeak() || decoded.KeyId() != key.KeyId {
+			t.Fatal(err, verifyErr)
 		}
 	}
-	if _, err := DecodeSecretKey(sealed, []byte("pass"), Work{}); err != ErrWrongPassword {
+	if _, err := DecodeSecretKey(encrypted, []byte("pass"), Work{}); err != ErrWrongPassword {
 		t.Fatal(err)
 	}
 	if _, err := secret.Encode([]byte("pass word"), Work{OperationsLimit: 1}); err != ErrWeakLimits {

@@ -23,11 +23,10 @@ import (
 	"unsafe"
 )
 
-// An Error says why a text, a signature or a call was rejected: a number of minisign.h, in the words of
-// minisign_error_text.
+// An Error is an error code of minisign.h. Its text is that of minisign_error_text.
 type Error uint32
 
-// Name is the name that the error has in minisign.h, without MINISIGN_, or "" of another number.
+// Name returns the name of the error in minisign.h, without MINISIGN_. It returns "" for a number that is not an error.
 func (err Error) Name() string { return names[err] }
 
 func (err Error) Error() string {
@@ -36,46 +35,47 @@ func (err Error) Error() string {
 	return "minisign: " + C.GoString(&text[0])
 }
 
-// A state of the library, for one file.
+// A state is the library's state of one verification or signature.
 type state = C.minisign_state
 
-// A reading is the text of a signature, and what the library has read of it.
-type reading struct {
+// A parsedSignature is the content of a signature file, with the struct that the library has parsed it into.
+type parsedSignature struct {
 	text string
-	of   *C.minisign_signature
+	raw  *C.minisign_signature
 }
 
-func read(text string) (*reading, error) {
-	of, err := callReadSignature([]byte(text))
-	return &reading{text, of}, err
+func parseSignature(text string) (*parsedSignature, error) {
+	raw, err := callReadSignature([]byte(text))
+	return &parsedSignature{text, raw}, err
 }
 
-// The library tells all of a signature but its first line.
-func (it *reading) signature() Signature {
-	untrusted, _, _ := strings.Cut(it.text, "\n")
+// signature returns the fields. The first line comes from the text, because the library does not return it.
+func (parsed *parsedSignature) signature() Signature {
+	untrusted, _, _ := strings.Cut(parsed.text, "\n")
+	raw := parsed.raw
 	return Signature{
 		UntrustedComment:   strings.TrimRight(untrusted, "\r"),
-		SignatureAlgorithm: *(*[2]byte)(unsafe.Pointer(&it.of.algorithm)),
-		KeyId:              *(*[8]byte)(unsafe.Pointer(&it.of.key_id)),
-		Signature:          *(*[64]byte)(unsafe.Pointer(&it.of.signature)),
-		TrustedComment:     "trusted comment: " + it.text[it.of.comment_offset:][:it.of.comment_len],
-		GlobalSignature:    *(*[64]byte)(unsafe.Pointer(&it.of.comment_signature)),
+		SignatureAlgorithm: *(*[2]byte)(unsafe.Pointer(&raw.algorithm)),
+		KeyId:              *(*[8]byte)(unsafe.Pointer(&raw.key_id)),
+		Signature:          *(*[64]byte)(unsafe.Pointer(&raw.signature)),
+		TrustedComment:     "trusted comment: " + parsed.text[raw.comment_offset:][:raw.comment_len],
+		GlobalSignature:    *(*[64]byte)(unsafe.Pointer(&raw.comment_signature)),
 	}
 }
 
-// Questions are what Ed25519 has to answer, and the message of the second one.
+// Questions are the two signatures that Ed25519 has to check, and the message of the comment signature.
 type questions struct {
-	of      *C.minisign_questions
-	message []byte
+	raw            *C.minisign_questions
+	commentMessage []byte
 }
 
-// The key as the library has it, which takes only keys that it has read.
+// raw encodes the key and lets the library parse it, because the library takes only keys that it has parsed itself.
 func (publicKey *PublicKey) raw() (*C.minisign_public_key, error) {
 	record := append(append([]byte("Ed"), publicKey.KeyId[:]...), publicKey.PublicKey[:]...)
 	return callReadBarePublicKey([]byte(base64.StdEncoding.EncodeToString(record)))
 }
 
-func ask(of *state, publicKey *PublicKey, signature *reading, allowLegacy bool) (*questions, error) {
+func ask(state *state, publicKey *PublicKey, signature *parsedSignature, allowLegacy bool) (*questions, error) {
 	key, err := publicKey.raw()
 	if err != nil {
 		return nil, err
@@ -84,16 +84,18 @@ func ask(of *state, publicKey *PublicKey, signature *reading, allowLegacy bool) 
 	if allowLegacy {
 		legacy = 1
 	}
-	asked, message, err := callAsk(of, key, signature.of, []byte(signature.text), legacy)
-	return &questions{asked, message}, err
+	raw, commentMessage, err := callAsk(state, key, signature.raw, []byte(signature.text), legacy)
+	return &questions{raw, commentMessage}, err
 }
 
-func (asked *questions) isLegacy() bool { return asked.of.legacy == 1 }
+func (questions *questions) isLegacy() bool { return questions.raw.legacy == 1 }
 
-func (asked *questions) first() [64]byte { return *(*[64]byte)(unsafe.Pointer(&asked.of.signature)) }
+func (questions *questions) dataSignature() [64]byte {
+	return *(*[64]byte)(unsafe.Pointer(&questions.raw.signature))
+}
 
-func (asked *questions) second() [64]byte {
-	return *(*[64]byte)(unsafe.Pointer(&asked.of.comment_signature))
+func (questions *questions) commentSignature() [64]byte {
+	return *(*[64]byte)(unsafe.Pointer(&questions.raw.comment_signature))
 }
 
 func readPublicKey(text string, isBare bool) (PublicKey, error) {
@@ -106,28 +108,29 @@ func readPublicKey(text string, isBare bool) (PublicKey, error) {
 }
 
 func publicKeyOf(key *C.minisign_public_key) PublicKey {
-	of, id := *(*[32]byte)(unsafe.Pointer(&key.key)), *(*[8]byte)(unsafe.Pointer(&key.key_id))
-	return PublicKey{[2]byte{'E', 'd'}, id, of}
+	bytes, keyId := *(*[32]byte)(unsafe.Pointer(&key.key)), *(*[8]byte)(unsafe.Pointer(&key.key_id))
+	return PublicKey{[2]byte{'E', 'd'}, keyId, bytes}
 }
 
-// An opened key is a secret key as the library has it, whose bytes are cleared once nothing refers to it.
+// An openedKey is the library's struct of a decrypted secret key. A finalizer clears it after the last reference is gone.
 type openedKey C.minisign_secret_key
 
-func opened(key *C.minisign_secret_key) *openedKey {
+func withFinalizer(key *C.minisign_secret_key) *openedKey {
 	runtime.SetFinalizer((*openedKey)(key), (*openedKey).clear)
 	return (*openedKey)(key)
 }
 
-// A new key, of its key ID and the 64 bytes of a pair.
-func taken(keyId [8]byte, secret []byte) *openedKey {
+// newKey makes a key from a key ID and the 64 bytes of an Ed25519 secret key.
+func newKey(keyId [8]byte, secret []byte) *openedKey {
 	var key C.minisign_new_key
 	*(*[8]byte)(unsafe.Pointer(&key.key_id)) = keyId
 	*(*[64]byte)(unsafe.Pointer(&key.secret)) = *(*[64]byte)(secret)
 	defer func() { key = C.minisign_new_key{} }()
-	return opened(callTakeSecretKey(&key))
+	return withFinalizer(callTakeSecretKey(&key))
 }
 
-// (of a SecretKey that nobody made a key that was not opened)
+// raw returns the library's struct. For the zero value of SecretKey this is a struct of zeros, which the library rejects
+// with ErrKeyNotOpened.
 func (key *openedKey) raw() *C.minisign_secret_key {
 	if key == nil {
 		key = new(openedKey)
@@ -139,7 +142,7 @@ func (key *openedKey) clear() { *key = openedKey{} }
 
 func (key *openedKey) keyId() [8]byte { return *(*[8]byte)(unsafe.Pointer(&key.key_id)) }
 
-// The 64 bytes where they lie.
+// bytes returns the 64 secret bytes without copying them.
 func (key *openedKey) bytes() []byte { return (*[64]byte)(unsafe.Pointer(&key.secret))[:] }
 
 func (work Work) keepEvery() C.uint64_t {
@@ -149,15 +152,16 @@ func (work Work) keepEvery() C.uint64_t {
 	return C.MINISIGN_KEEP_EVERY_ROW
 }
 
-// A number of Work, of which 0 is the usual one.
-func chosen(number, usual C.uint64_t) C.uint64_t {
+// orDefault returns a number of Work, or the default if it is 0.
+func orDefault(number, defaultNumber C.uint64_t) C.uint64_t {
 	if number == 0 {
-		return usual
+		return defaultNumber
 	}
 	return number
 }
 
-// The key of a text, and whether it is weak.
+// openSecretKey decrypts the content of a secret key file. It also returns true if the file was encrypted with weak
+// limits.
 func openSecretKey(text, password []byte, work Work) (*openedKey, bool, error) {
 	unopened, err := callReadSecretKey(text)
 	if err != nil {
@@ -166,18 +170,18 @@ func openSecretKey(text, password []byte, work Work) (*openedKey, bool, error) {
 	defer func() { *unopened = C.minisign_unopened_key{} }()
 	if password == nil {
 		key, err := callOpenUnsealedKey(unopened)
-		return opened(key), false, err
+		return withFinalizer(key), false, err
 	}
-	mostRows := chosen(C.uint64_t(work.MostRows), C.MINISIGN_USUAL_ROWS)
+	mostRows := orDefault(C.uint64_t(work.MostRows), C.MINISIGN_USUAL_ROWS)
 	key, err := callOpenSealedKey(unopened, password, work.keepEvery(), mostRows)
-	return opened(key), unopened.log2_rows < C.MINISIGN_LEAST_LOG2_ROWS, err
+	return withFinalizer(key), unopened.log2_rows < C.MINISIGN_LEAST_LOG2_ROWS, err
 }
 
-// The text of the key, sealed where there is a password. Limits that are weak are rejected.
+// text returns the content of a secret key file, encrypted unless password is nil. It rejects weak limits.
 func (key *openedKey) text(password []byte, salt [32]byte, work Work) ([]byte, error) {
 	sealing := C.minisign_sealing{
-		operations_limit: chosen(C.uint64_t(work.OperationsLimit), C.MINISIGN_OPERATIONS_LIMIT),
-		memory_limit:     chosen(C.uint64_t(work.MemoryLimit), C.MINISIGN_MEMORY_LIMIT),
+		operations_limit: orDefault(C.uint64_t(work.OperationsLimit), C.MINISIGN_OPERATIONS_LIMIT),
+		memory_limit:     orDefault(C.uint64_t(work.MemoryLimit), C.MINISIGN_MEMORY_LIMIT),
 	}
 	if sealing.operations_limit < C.MINISIGN_LEAST_OPERATIONS_LIMIT || sealing.memory_limit < C.MINISIGN_LEAST_MEMORY_LIMIT {
 		return nil, ErrWeakLimits
@@ -195,10 +199,10 @@ func (key *openedKey) publicKey() (PublicKey, error) {
 	return publicKeyOf(public), err
 }
 
-func (key *openedKey) signedText(first, second *[64]byte, trusted, untrusted []byte) ([]byte, error) {
+func (key *openedKey) signatureText(dataSignature, commentSignature *[64]byte, trusted, untrusted []byte) ([]byte, error) {
 	public, err := callPublicKeyOf(key.raw())
 	if err != nil {
 		return nil, err
 	}
-	return callSignedText(public, first, second, trusted, untrusted)
+	return callSignedText(public, dataSignature, commentSignature, trusted, untrusted)
 }

@@ -14,27 +14,29 @@ import (
 	"os"
 )
 
-// ErrWeakLimits is that a key was to be sealed under limits below the weakest that Minisign's own program seals under.
+// ErrWeakLimits is returned by Encode for limits below the lowest that the program minisign encrypts a key with.
 var ErrWeakLimits = errors.New("minisign: the key limits are below 524288 operations or 16 MiB")
 
-// Work is how much memory and time a sealed key may take, and takes. Where a number is 0, it is that of minisign -G.
+// Work sets the memory and time of scrypt, which derives a key from a password. For a number that is 0, the default is
+// used, which is that of minisign -G.
 type Work struct {
-	// 65 MiB at most in place of 1 GiB, and some three times the time.
+	// LowMemory makes scrypt take at most 65 MiB instead of 1 GiB, and some three times as long.
 	LowMemory bool
-	// How many rows of scrypt may be made in all for a key that is opened: its N times its p.
+	// MostRows limits the work of decrypting a key file: the rows of scrypt in all, which are N times p. A key file
+	// that takes more is rejected with ErrWorkTooHigh.
 	MostRows uint64
-	// How much work a key that is sealed asks for, as libsodium counts it, and how many bytes.
+	// OperationsLimit and MemoryLimit, in bytes, are the limits that a key is encrypted with, as libsodium counts them.
 	OperationsLimit, MemoryLimit uint64
 }
 
-// A SecretKey is one that was opened or made. It is printed as its key ID alone. Its bytes are cleared by Clear, or once
-// nothing refers to it.
+// A SecretKey is a decrypted or new secret key. It prints as its key ID only. Clear clears its bytes; otherwise a
+// finalizer clears them after the last reference is gone.
 type SecretKey struct {
 	opened *openedKey
 	isWeak bool
 }
 
-// GenerateKey makes a new key of random bytes.
+// GenerateKey generates a new key from random bytes of the system.
 func GenerateKey() (*SecretKey, error) {
 	var keyId [8]byte
 	if _, err := rand.Read(keyId[:]); err != nil {
@@ -45,10 +47,11 @@ func GenerateKey() (*SecretKey, error) {
 		return nil, err
 	}
 	defer Wipe(secret)
-	return &SecretKey{opened: taken(keyId, secret)}, nil
+	return &SecretKey{opened: newKey(keyId, secret)}, nil
 }
 
-// DecodeSecretKey opens both lines of a file such as minisign.key. A password opens a sealed key, and nil one that is not.
+// DecodeSecretKey decrypts the content of a secret key file, such as minisign.key: both lines. Pass nil as the password of
+// a key that is not encrypted.
 func DecodeSecretKey(in, password []byte, work Work) (*SecretKey, error) {
 	opened, isWeak, err := openSecretKey(in, password, work)
 	if err != nil {
@@ -57,7 +60,7 @@ func DecodeSecretKey(in, password []byte, work Work) (*SecretKey, error) {
 	return &SecretKey{opened, isWeak}, nil
 }
 
-// NewSecretKeyFromFile opens a file such as minisign.key: see DecodeSecretKey.
+// NewSecretKeyFromFile reads and decrypts a secret key file, such as minisign.key: see DecodeSecretKey.
 func NewSecretKeyFromFile(file string, password []byte, work Work) (*SecretKey, error) {
 	text, err := os.ReadFile(file)
 	if err != nil {
@@ -67,15 +70,16 @@ func NewSecretKeyFromFile(file string, password []byte, work Work) (*SecretKey, 
 	return DecodeSecretKey(text, password, work)
 }
 
-// Wipe writes zeros over a password, or over the text of a secret key.
+// Wipe overwrites a password, or the content of a secret key file, with zeros.
 func Wipe(secret []byte) {
-	for at := range secret {
-		secret[at] = 0
+	for index := range secret {
+		secret[index] = 0
 	}
 }
 
-// Encode makes both lines of a file such as minisign.key, sealed under a password and a new salt: ErrWeakLimits. WriteNew
-// writes them to a file.
+// Encode returns the content of a secret key file for this key, encrypted with the password and a new salt. It returns an
+// error if the password is empty, and ErrWeakLimits if work has limits below the minimum of Minisign. Write the content to
+// a file with WriteNew.
 func (key *SecretKey) Encode(password []byte, work Work) ([]byte, error) {
 	if len(password) == 0 {
 		return nil, errors.New("minisign: password is empty; use EncodeUnsealed for a key without a password")
@@ -87,42 +91,43 @@ func (key *SecretKey) Encode(password []byte, work Work) ([]byte, error) {
 	return key.opened.text(password, salt, work)
 }
 
-// EncodeUnsealed makes both lines of a file that whoever reads it can sign with. WriteNew writes it so that only its
-// owner can.
+// EncodeUnsealed returns the content of a secret key file that is not encrypted: anybody who can read it can sign. Write
+// it with WriteNew, so that only its owner can read it.
 func (key *SecretKey) EncodeUnsealed() ([]byte, error) {
 	return key.opened.text(nil, [32]byte{}, Work{})
 }
 
-// IsWeak says whether the text that the key was opened from is sealed so weakly that passwords are tried fast: under
-// limits that Encode rejects. Seal such a key again.
+// IsWeak returns true if the file that the key was decrypted from was encrypted with limits that Encode rejects.
+// Passwords of such a file can be tried fast, so encrypt the key again.
 func (key *SecretKey) IsWeak() bool { return key.isWeak }
 
-// KeyId is the one that it shares with its public key.
+// KeyId returns the key ID, which is also that of the public key.
 func (key *SecretKey) KeyId() [8]byte { return key.opened.keyId() }
 
-// KeyIdText is the key ID as minisign prints it: in upper-case hexadecimal digits, without leading zeros.
+// KeyIdText returns the key ID as the program minisign prints it: in upper-case hexadecimal digits without leading zeros.
 func (key *SecretKey) KeyIdText() string { return keyIdText(key.KeyId()) }
 
-// PublicKey is the one under which its signatures are verified.
+// PublicKey returns the public key, which verifies the signatures of this key.
 func (key *SecretKey) PublicKey() (PublicKey, error) { return key.opened.publicKey() }
 
-// EncodePublicKey makes both lines of a file such as minisign.pub.
+// EncodePublicKey returns the content of a public key file, such as minisign.pub: both lines.
 func (key *SecretKey) EncodePublicKey() ([]byte, error) {
 	return key.opened.publicKeyText(key.KeyIdText())
 }
 
-// Clear writes zeros over the secret: it signs nothing from then on.
+// Clear overwrites the key with zeros. After that, it cannot sign.
 func (key *SecretKey) Clear() { key.opened.clear() }
 
-// Format prints the key ID alone, whatever the verb.
+// Format prints only the key ID, whatever the verb is.
 func (key SecretKey) Format(to fmt.State, _ rune) { fmt.Fprintf(to, "SecretKey(%s)", key.KeyIdText()) }
 
-// SignBytes signs data. The comments are one line each, and whoever verifies can trust the first one.
+// SignBytes signs data. The comments have one line each. trusted is signed with the data, and untrusted is not signed.
+// The errors are those of Signer.Sign.
 func (key *SecretKey) SignBytes(bin []byte, trusted, untrusted string) (Signature, error) {
 	return key.Sign(bytes.NewReader(bin), trusted, untrusted)
 }
 
-// SignFile signs what a file holds.
+// SignFile signs a file, as SignBytes signs data.
 func (key *SecretKey) SignFile(file, trusted, untrusted string) (Signature, error) {
 	reader, err := os.Open(file)
 	if err != nil {
@@ -132,7 +137,7 @@ func (key *SecretKey) SignFile(file, trusted, untrusted string) (Signature, erro
 	return key.Sign(reader, trusted, untrusted)
 }
 
-// Sign signs all that a reader gives until its end.
+// Sign signs the data of a reader, up to its end, as SignBytes signs data.
 func (key *SecretKey) Sign(reader io.Reader, trusted, untrusted string) (Signature, error) {
 	if reader == nil {
 		return Signature{}, errors.New("minisign: reader is nil")
@@ -147,13 +152,14 @@ func (key *SecretKey) Sign(reader io.Reader, trusted, untrusted string) (Signatu
 	return signer.Sign(trusted, untrusted)
 }
 
-// A Signer takes data in pieces: it is an io.Writer, and then asked once. NewSigner makes one.
+// A Signer signs data that arrives in pieces. It is an io.Writer: write the data, then call Sign once. Make one with
+// NewSigner.
 type Signer struct {
 	key   *SecretKey
 	state *state
 }
 
-// NewSigner begins to sign.
+// NewSigner begins a signature.
 func NewSigner(key *SecretKey) (*Signer, error) {
 	if key == nil {
 		return nil, errors.New("minisign: key is nil")
@@ -161,7 +167,7 @@ func NewSigner(key *SecretKey) (*Signer, error) {
 	return &Signer{key, callInit()}, nil
 }
 
-// Write takes in the next piece of the data, of any length.
+// Write adds the next piece of the data, of any length. After Sign it returns ErrAlreadyAsked.
 func (signer *Signer) Write(piece []byte) (int, error) {
 	if signer.state == nil {
 		return 0, ErrNotBegun
@@ -172,7 +178,11 @@ func (signer *Signer) Write(piece []byte) (int, error) {
 	return len(piece), nil
 }
 
-// Sign makes the signature of all that was written. After it nothing more is taken.
+// Sign returns the signature of all data that was written, after verifying it. Call it once.
+//
+// It returns ErrAlreadyAsked if called a second time; ErrKeyNotOpened after Clear; ErrSignatureRefused if the seed and the
+// public key in the secret key do not belong together, as in a damaged key; and ErrNotUtf8, ErrBadComment or
+// ErrUnreadableComment for a comment that Minisign could not read back.
 func (signer *Signer) Sign(trusted, untrusted string) (Signature, error) {
 	if signer.state == nil {
 		return Signature{}, ErrNotBegun
@@ -181,28 +191,28 @@ func (signer *Signer) Sign(trusted, untrusted string) (Signature, error) {
 	if err != nil {
 		return Signature{}, err
 	}
-	first, err := signer.signed(digest[:])
+	dataSignature, err := signer.signMessage(digest[:])
 	if err != nil {
 		return Signature{}, err
 	}
-	message, err := callCommentMessage(first, []byte(trusted))
+	message, err := callCommentMessage(dataSignature, []byte(trusted))
 	if err != nil {
 		return Signature{}, err
 	}
-	second, err := signer.signed(message)
+	commentSignature, err := signer.signMessage(message)
 	if err != nil {
 		return Signature{}, err
 	}
-	text, err := signer.key.opened.signedText(first, second, []byte(trusted), []byte(untrusted))
+	text, err := signer.key.opened.signatureText(dataSignature, commentSignature, []byte(trusted), []byte(untrusted))
 	if err != nil {
 		return Signature{}, err
 	}
 	return DecodeSignature(string(text))
 }
 
-// signed is a signature that was verified: one of a damaged key, whose halves do not belong together, would give the
-// secret half away.
-func (signer *Signer) signed(message []byte) (*[64]byte, error) {
+// signMessage signs a message, and verifies the signature before returning it: if the seed and the public key of a damaged
+// key do not belong together, its signatures reveal the secret.
+func (signer *Signer) signMessage(message []byte) (*[64]byte, error) {
 	key, err := signer.key.PublicKey()
 	if err != nil {
 		return nil, err

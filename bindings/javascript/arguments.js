@@ -1,73 +1,78 @@
 // SPDX-License-Identifier: MIT
-// Checks the arguments of the calls, before anything is done with them.
+// Checks the arguments of the public functions before anything is done with
+// them.
 
 import { TEXT_BYTES } from "./calls.js";
 
-// Throws a TypeError that names the argument and its type, unless `isOne`.
-export function mustBe(isOne, name, wanted, value) {
-  if (!isOne) {
+// Throws a TypeError that names the argument and its type, unless `isValid`.
+export function mustBe(isValid, name, expected, value) {
+  if (!isValid) {
     const kind = value === null ? "null" : typeof value;
-    throw new TypeError(`${name} must be ${wanted}, not ${kind}`);
+    throw new TypeError(`${name} must be ${expected}, not ${kind}`);
   }
 }
 
-// How long a buffer is, whatever realm it is of; of anything else it throws.
+// Returns the length of an ArrayBuffer of any realm, and throws for all other
+// objects.
 const { get: lengthOfBuffer } = Object.getOwnPropertyDescriptor(
   ArrayBuffer.prototype,
   "byteLength",
 );
 
-// The bytes where they lie, or nothing where it is none.
-export function bytesOf(it) {
-  if (ArrayBuffer.isView(it)) {
-    return new Uint8Array(it.buffer, it.byteOffset, it.byteLength);
+// Returns a view of the bytes of a buffer or a view, or null for anything else.
+export function bytesOf(value) {
+  if (ArrayBuffer.isView(value)) {
+    return new Uint8Array(value.buffer, value.byteOffset, value.byteLength);
   }
   try {
-    return new Uint8Array(it, 0, lengthOfBuffer.call(it));
+    return new Uint8Array(value, 0, lengthOfBuffer.call(value));
   } catch {
     return null;
   }
 }
 
-// The bytes of a text.
-export function textOf(it, name) {
-  const isText = typeof it === "string";
-  const bytes = isText ? new TextEncoder().encode(it) : bytesOf(it);
-  mustBe(bytes !== null, name, "a text, as a string or bytes", it);
+// Returns the bytes of a text: the UTF-8 of a string, or a view of bytes.
+export function textOf(value, name) {
+  const isText = typeof value === "string";
+  const bytes = isText ? new TextEncoder().encode(value) : bytesOf(value);
+  mustBe(bytes !== null, name, "a text, as a string or bytes", value);
   if (bytes.length >= TEXT_BYTES) {
     throw new TypeError(`${name} must have fewer than ${TEXT_BYTES} bytes`);
   }
   return bytes;
 }
 
-// Clears the bytes that `textOf` made of a string. Bytes are the caller's.
-export function clearCopy(bytes, given) {
-  if (typeof given === "string") {
+// Clears the bytes that `textOf` made from a string. If the caller passed
+// bytes, they are the caller's, and are not cleared.
+export function clearCopy(bytes, text) {
+  if (typeof text === "string") {
     bytes.fill(0);
   }
 }
 
-// The options by their names, each with its type. An option that is not here is
-// a text, which `textOf` checks when its bytes are taken. (Without a prototype,
-// so that a property of Object.prototype is no entry.)
-const TEXT = ["a text, as a string or bytes", (it) => it !== null];
-const BOOLEAN = ["true or false", (it) => typeof it === "boolean"];
-const isFunction = (it) => typeof it === "function";
+// The types of the options, by name. An option that is not here is a text,
+// which `textOf` checks when it is used. The table has no prototype, because a
+// property of Object.prototype would be an entry.
+const TEXT = ["a text, as a string or bytes", (value) => value !== null];
+const BOOLEAN = ["true or false", (value) => typeof value === "boolean"];
+const isFunction = (value) => typeof value === "function";
+const isRowCount = (value) => Number.isSafeInteger(value) && value > 0;
 const OPTIONS = {
   __proto__: null,
   allowLegacy: BOOLEAN,
   lowMemory: BOOLEAN,
-  mostRows: ["a number of rows", (it) => Number.isSafeInteger(it) && it > 0],
+  mostRows: ["a number of rows", isRowCount],
   progress: ["a function", isFunction],
-  signal: ["an AbortSignal", (it) => isFunction(it?.addEventListener)],
+  signal: ["an AbortSignal", (value) => isFunction(value?.addEventListener)],
 };
 
 const NOT_PLAIN =
   "options must be a plain object, not an instance of a class or an object " +
   "that inherits from another one";
 
-// Returns true if an object inherits from nothing, or from the Object.prototype
-// of any realm, which alone has its own `isPrototypeOf` and no prototype.
+// Returns true if an object inherits from nothing, or only from the
+// Object.prototype of any realm. That is the only object which has no prototype
+// and an `isPrototypeOf` of its own.
 function isPlain(object) {
   const prototype = Object.getPrototypeOf(object);
   return (
@@ -93,8 +98,8 @@ export function optionsOf(options, ...known) {
       throw new TypeError(`unknown option ${String(name)}`);
     }
     const value = options[name];
-    const [wanted, fits] = OPTIONS[name] ?? TEXT;
-    mustBe(value === undefined || fits(value), name, wanted, value);
+    const [expected, isValid] = OPTIONS[name] ?? TEXT;
+    mustBe(value === undefined || isValid(value), name, expected, value);
     copy[name] = value;
   }
   return copy;

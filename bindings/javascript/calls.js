@@ -1,25 +1,26 @@
 // SPDX-License-Identifier: MIT
-// The proved library, built from the crate minisign_page: all calls of its
-// module, which no other file knows. They are proved and built for 64-bit
-// WebAssembly; wasm-opt makes of that the module for a memory of 32 bits, whose
-// calls still take each address and length as a number of 64 bits. This loads
-// either. include/minisign.h says under "Requirements" what a caller has to do.
-// Each method copies in what it passes and copies out what was written: the
-// caller holds the state, and nothing lasts in the module from one call to the
-// next but what `place` puts there.
+// Calls the WebAssembly module of the proved library, which is built from the
+// crate minisign_page. No other file calls the module. It is proved and built
+// for 64-bit WebAssembly. wasm-opt turns it into a module with a memory of 32
+// bits, whose functions still take each address and length as a number of 64
+// bits. This file can load either module. include/minisign.h says under
+// "Requirements" what a caller has to do. Each method copies its arguments into
+// the memory of the module and copies the results out. The caller holds the
+// state of a verification, so nothing stays in the module between two calls,
+// except for a piece of data that `place` has put there.
 
-// A text of a key or of a signature is shorter than this.
+// Key files and signature files must be shorter than this.
 export const TEXT_BYTES = 65536;
-// Data is fed in pieces that are not longer, and not longer than the room that
-// the module's memory has for one.
+// The maximum size of a piece of data. It is smaller if the memory of the
+// module is.
 const MAX_PIECE_BYTES = 4 * 1048576;
 
-// ---- Of include/minisign.h, made by tools/bindings.py ----
+// ---- From include/minisign.h, made by tools/bindings.py ----
 
 const ANSWER_YES = 0x796573;
 const ANSWER_NO = 0x6e6f;
 
-// The structs: how long each is, and where each part begins that is read here.
+// The sizes of the structs, and the offsets of the fields that are read.
 const STATE_BYTES = 512;
 const KEY_BYTES = 48;
 const PUBLIC_KEY = { key: 8, key_id: 40 };
@@ -39,29 +40,30 @@ const QUESTIONS = {
 
 // ---- What is made ends here ----
 
-// Formats the eight bytes of a key ID as minisign prints it: one little-endian
-// number in hexadecimal digits, without leading zeros.
-export function identifierOf(bytes) {
-  const digits = (byte) => byte.toString(16).padStart(2, "0");
-  const all = Array.from(bytes, digits).reverse().join("").toUpperCase();
-  return all.replace(/^0+(?=.)/, "");
+// Formats the eight bytes of a key ID as the program minisign prints it: one
+// little-endian number in upper-case hexadecimal digits, without leading zeros.
+export function keyIdText(bytes) {
+  const digitsOf = (byte) => byte.toString(16).padStart(2, "0");
+  const digits = Array.from(bytes, digitsOf).reverse().join("").toUpperCase();
+  return digits.replace(/^0+(?=.)/, "");
 }
 
 export class Library {
   constructor(calls) {
     this.calls = calls;
     this.memory = new Uint8Array(calls.memory.buffer);
-    let at = Math.ceil(Number(calls.__heap_base.value) / 16) * 16;
-    const room = (length) => (at += length) - length;
-    this.state = room(STATE_BYTES);
-    this.questions = room(QUESTIONS_BYTES);
-    this.signature = room(208);
-    this.key = room(48);
-    this.words = room(128);
-    this.text = room(TEXT_BYTES);
-    this.message = room(TEXT_BYTES);
-    this.piece = at;
-    const texts = Math.floor((this.memory.length - at) / TEXT_BYTES);
+    // The addresses of buffers, which begin where the module's own data ends.
+    let end = Math.ceil(Number(calls.__heap_base.value) / 16) * 16;
+    const bufferOf = (length) => (end += length) - length;
+    this.state = bufferOf(STATE_BYTES);
+    this.questions = bufferOf(QUESTIONS_BYTES);
+    this.signature = bufferOf(208);
+    this.key = bufferOf(48);
+    this.words = bufferOf(128);
+    this.text = bufferOf(TEXT_BYTES);
+    this.message = bufferOf(TEXT_BYTES);
+    this.piece = end;
+    const texts = Math.floor((this.memory.length - end) / TEXT_BYTES);
     this.pieceBytes = Math.min(MAX_PIECE_BYTES, texts * TEXT_BYTES);
     if (this.pieceBytes < TEXT_BYTES) {
       throw new Error("the WebAssembly module is out of memory");
@@ -73,78 +75,80 @@ export class Library {
     return new Library(instance.exports);
   }
 
-  // Copies bytes to a place that has this much room; the pointer and the length
-  // that a call is passed.
-  put(place, room, bytes) {
-    if (bytes.length > room) {
+  // Copies bytes into the buffer at an address, which has this size. Returns
+  // the address and the length, as the functions of the module take them.
+  put(address, size, bytes) {
+    if (bytes.length > size) {
       throw new Error("the buffer of the WebAssembly module is too small");
     }
-    this.memory.set(bytes, place);
-    return [BigInt(place), BigInt(bytes.length)];
+    this.memory.set(bytes, address);
+    return [BigInt(address), BigInt(bytes.length)];
   }
 
-  bytesAt(place, length) {
-    return this.memory.slice(place, place + length);
+  // Copies bytes out of the memory of the module.
+  bytesAt(address, length) {
+    return this.memory.slice(address, address + length);
   }
 
-  // Makes a call on a state, which changes as the call says: its number.
+  // Passes a state to a function of the module, and updates it. Returns the
+  // error number, or 0.
   onState(state, call) {
     const number = call(this.put(this.state, STATE_BYTES, state)[0]) >>> 0;
     state.set(this.bytesAt(this.state, STATE_BYTES));
     return number;
   }
 
-  // What a number of an error means.
+  // Returns the text of an error number.
   errorText(number) {
-    const place = BigInt(this.words);
-    const length = Number(this.calls.page_error_text(number, place, 128n));
+    const address = BigInt(this.words);
+    const length = Number(this.calls.page_error_text(number, address, 128n));
     return new TextDecoder().decode(this.bytesAt(this.words, length));
   }
 
   // Reads a public key file, or only the base64 of a key. Returns its key ID
   // and the struct of the key, or the error number.
   readKey(text, isBare) {
-    const read = `page_read_${isBare ? "bare_" : ""}public_key`;
-    const given = this.put(this.text, TEXT_BYTES, text);
-    const number = this.calls[read](...given, BigInt(this.key)) >>> 0;
+    const call = `page_read_${isBare ? "bare_" : ""}public_key`;
+    const passed = this.put(this.text, TEXT_BYTES, text);
+    const number = this.calls[call](...passed, BigInt(this.key)) >>> 0;
     const key = this.bytesAt(this.key, number === 0 ? KEY_BYTES : 0);
-    const keyId = identifierOf(key.subarray(PUBLIC_KEY.key_id));
+    const keyId = keyIdText(key.subarray(PUBLIC_KEY.key_id));
     return { number, keyId, key };
   }
 
-  // Begins: a state that was fed nothing.
+  // Returns a new state, to which no data was fed.
   begin() {
     const state = new Uint8Array(STATE_BYTES);
-    this.onState(state, (place) => this.calls.page_init(place));
+    this.onState(state, (address) => this.calls.page_init(address));
     return state;
   }
 
-  // Reads the text of a signature. Returns what `ask` takes, the key ID that it
-  // names, and whether it is a legacy one; or the number of the error.
+  // Reads a signature file. Returns the text and the struct that `ask` takes,
+  // the key ID, and whether it is a legacy signature; or the error number.
   readSignature(text) {
     this.memory.fill(0, this.signature, this.signature + SIGNATURE_BYTES);
-    const given = this.put(this.text, TEXT_BYTES, text);
-    const to = BigInt(this.signature);
-    const number = this.calls.page_read_signature(...given, to) >>> 0;
+    const passed = this.put(this.text, TEXT_BYTES, text);
+    const address = BigInt(this.signature);
+    const number = this.calls.page_read_signature(...passed, address) >>> 0;
     const value = this.bytesAt(this.signature, SIGNATURE_BYTES);
-    const id = value.subarray(SIGNATURE.key_id, SIGNATURE.key_id + 8);
+    const keyId = value.subarray(SIGNATURE.key_id, SIGNATURE.key_id + 8);
     return {
       number,
       text: text.slice(),
       value,
-      keyId: identifierOf(id),
+      keyId: keyIdText(keyId),
       isLegacy: value[SIGNATURE.legacy] === 1,
     };
   }
 
-  // What Ed25519 has to answer about a signature under a key, both of which
-  // were read, and about the data that will be fed: 0 and the questions, but
-  // for the digest; or the number of why they are not asked.
+  // Takes a key and a signature that were read. Returns the number 0 and the
+  // two signatures that Ed25519 has to check, with their messages, except for
+  // the digest of the data; or an error number.
   ask(state, key, signature, allowsLegacy) {
     this.memory.fill(0, this.questions, this.questions + QUESTIONS_BYTES);
-    const number = this.onState(state, (place) =>
+    const number = this.onState(state, (address) =>
       this.calls.page_ask(
-        place,
+        address,
         this.put(this.key, KEY_BYTES, key)[0],
         this.put(this.signature, SIGNATURE_BYTES, signature.value)[0],
         ...this.put(this.text, TEXT_BYTES, signature.text),
@@ -170,21 +174,22 @@ export class Library {
     };
   }
 
-  // Puts a piece of the data, of at most pieceBytes, where `feedPlaced` takes
-  // it from.
+  // Copies a piece of the data, of at most pieceBytes, into the module, for
+  // `feedPlaced`.
   place(bytes) {
     this.placed = this.put(this.piece, this.pieceBytes, bytes);
   }
 
-  // Feeds the piece that was placed last: 0, or the number of a usage error.
+  // Feeds the piece that was placed last. Returns 0, or the number of an error
+  // of misuse.
   feedPlaced(state) {
-    return this.onState(state, (place) =>
-      this.calls.page_update(place, ...this.placed),
+    return this.onState(state, (address) =>
+      this.calls.page_update(address, ...this.placed),
     );
   }
 
-  // Feeds the next bytes of the data, however many: 0, or the number of a usage
-  // error.
+  // Feeds the next bytes of the data, of any length. Returns 0, or the number
+  // of an error of misuse.
   feed(state, bytes) {
     let number = 0;
     for (let at = 0; at < bytes.length && number === 0; at += this.pieceBytes) {
@@ -194,23 +199,26 @@ export class Library {
     return number;
   }
 
-  // Tells the questions the digest of all that was fed, after which no more is:
-  // 0, or the number of a usage error.
+  // Sets the digest of the questions to that of all data that was fed. After
+  // that no more data can be fed. Returns 0, or the number of an error of
+  // misuse.
   digest(state, questions) {
-    const at = this.questions + QUESTIONS.digest;
-    const number = this.onState(state, (place) =>
-      this.calls.page_digest(place, BigInt(at)),
+    const digest = this.questions + QUESTIONS.digest;
+    const number = this.onState(state, (address) =>
+      this.calls.page_digest(address, BigInt(digest)),
     );
-    questions.digest = this.bytesAt(at, 64);
+    questions.digest = this.bytesAt(digest, 64);
     return number;
   }
 
-  // The verdict from two answers, yes or no: 0 exactly where the texts vouch
-  // for what was fed, or the number of the first reason why not.
-  verdict(state, first, second) {
-    const answers = [first, second].map((it) => (it ? ANSWER_YES : ANSWER_NO));
-    return this.onState(state, (place) =>
-      this.calls.page_verdict(place, ...answers),
+  // Takes whether Ed25519 accepts the signature of the data and the comment
+  // signature. Returns 0 exactly if the signature is valid for all data that
+  // was fed, or otherwise the error number of the first check that fails.
+  verdict(state, isDataValid, isCommentValid) {
+    const answerOf = (isValid) => (isValid ? ANSWER_YES : ANSWER_NO);
+    const answers = [isDataValid, isCommentValid].map(answerOf);
+    return this.onState(state, (address) =>
+      this.calls.page_verdict(address, ...answers),
     );
   }
 }

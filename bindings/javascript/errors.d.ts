@@ -1,5 +1,6 @@
 // SPDX-License-Identifier: MIT
-// The names of the errors of include/minisign.h, made by tools/bindings.py.
+// Declares the names of the errors of include/minisign.h. Made by
+// tools/bindings.py.
 
 export type ErrorCode =
   | "NOT_BEGUN"

@@ -1,13 +1,13 @@
 // SPDX-License-Identifier: MIT
-// The errors of include/minisign.h with their numbers, made by
-// tools/bindings.py.
+// Defines MinisignError, and the names and numbers of the errors of
+// include/minisign.h. Made by tools/bindings.py.
 
 export class MinisignError extends Error {
-  constructor(number, words) {
-    super(words);
+  constructor(number, message) {
+    super(message);
     this.name = "MinisignError";
     this.number = number;
-    this.code = Object.keys(ERRORS).find((it) => ERRORS[it] === number);
+    this.code = Object.keys(ERRORS).find((code) => ERRORS[code] === number);
   }
 }
 

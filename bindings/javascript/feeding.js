@@ -1,72 +1,77 @@
 // SPDX-License-Identifier: MIT
-// Reads data of each kind to its end, in pieces; it cancels a stream that it
-// reads no further.
+// Reads data of any kind in pieces, and feeds it to a verifier or signer.
+// Cancels a stream that is not read to its end.
 
 import { bytesOf, mustBe, optionsOf } from "./arguments.js";
 import { ERRORS } from "./errors.js";
-import { held } from "./loaded.js";
+import { checked } from "./loaded.js";
 
-// The data is fed in slices of at most this many bytes, a few milliseconds of
-// hashing, between which other tasks run.
+// Data is fed in slices of at most this size, which takes a few milliseconds of
+// hashing. Other tasks run between two slices.
 const SLICE_BYTES = 1048576;
 
-// Takes data in pieces and answers once at its end, with what `more` adds.
-// After the end each call rejects.
+// Makes the object that createVerifier and createSigner return: it takes data
+// in pieces, and `end` resolves to the result of the parameter `end`. After
+// `end`, all calls fail with NOT_BEGUN. `more` returns further properties. It
+// takes a function that throws after the end.
 export function takingPieces(library, feed, end, more = () => ({})) {
-  let taken = 0;
+  let bytesFed = 0;
   let isEnded = false;
-  const goOn = () => held(library, { number: isEnded ? ERRORS.NOT_BEGUN : 0 });
+  const checkNotEnded = () =>
+    checked(library, { number: isEnded ? ERRORS.NOT_BEGUN : 0 });
   return Object.freeze({
-    ...more(goOn),
+    ...more(checkNotEnded),
     get bytes() {
-      return taken;
+      return bytesFed;
     },
     update(piece) {
-      goOn();
+      checkNotEnded();
       const bytes = bytesOf(piece);
       mustBe(bytes !== null, "a piece of data", "bytes", piece);
       feed(bytes);
-      taken += bytes.length;
+      bytesFed += bytes.length;
     },
     async end() {
-      goOn();
+      checkNotEnded();
       isEnded = true;
       return end();
     },
   });
 }
 
-// Feeds all of the data to the verifier or signer that `begin` makes of the
-// options that are not of feeding, and resolves to what its `end` resolves to.
+// Feeds all data to a verifier or signer, and resolves to the result of its
+// `end`. `begin` makes the verifier or signer, and takes the options except for
+// `progress` and `signal`. `known` has the names of all options.
 export async function feedAll(data, options, known, begin) {
   const bytes = bytesOf(data);
   const isBlob = bytes === null && typeof data?.stream === "function";
   const source = isBlob ? data.stream() : data;
   const total = isBlob ? data.size : bytes?.length;
-  const checked = () => optionsOf(options, ...known);
+  const readOptions = () => optionsOf(options, ...known);
   const stream = bytes === null ? source : null;
-  return closing(stream, checked, async ({ progress, signal, ...rest }) => {
-    // (without a prototype, as `checked` returns them)
-    const fed = await begin({ __proto__: null, ...rest });
+  return closing(stream, readOptions, async ({ progress, signal, ...rest }) => {
+    // Like the result of `readOptions`, this object has no prototype.
+    const consumer = await begin({ __proto__: null, ...rest });
     for await (const piece of piecesOf(source, signal)) {
-      fed.update(piece);
-      progress?.(fed.bytes, total);
+      consumer.update(piece);
+      progress?.(consumer.bytes, total);
     }
-    return fed.end();
+    return consumer.end();
   });
 }
 
-// Yields the data in pieces of at most SLICE_BYTES, until the signal aborts.
-// Between two of them that have as many bytes together other tasks run.
+// Yields the data in slices of at most SLICE_BYTES, until the signal aborts.
+// After each SLICE_BYTES of data, lets other tasks run.
 async function* piecesOf(source, signal) {
   let unpaused = 0;
-  for await (const piece of givenBy(source, signal)) {
+  for await (const piece of piecesGivenBy(source, signal)) {
     for (const slice of slicesOf(piece)) {
       if (signal?.aborted) {
         throw signal.reason;
       }
       yield slice;
-      // (before the next slice is cut, so that it is cut from what is there)
+      // Pause before the next slice is cut, because other tasks can change the
+      // buffer.
       unpaused += slice?.byteLength ?? 0;
       if (unpaused >= SLICE_BYTES) {
         await nextTask();
@@ -76,8 +81,8 @@ async function* piecesOf(source, signal) {
   }
 }
 
-// Cuts bytes into slices. Anything else is yielded as it is: `update` throws a
-// TypeError for it.
+// Cuts bytes into slices. Yields anything else unchanged, because `update`
+// throws a TypeError for it.
 function* slicesOf(piece) {
   const bytes = bytesOf(piece);
   if (bytes === null || bytes.length <= SLICE_BYTES) {
@@ -85,21 +90,22 @@ function* slicesOf(piece) {
     return;
   }
   const { length } = bytes;
-  for (let at = 0; at < length; at += SLICE_BYTES) {
-    const slice = bytes.subarray(at, at + SLICE_BYTES);
-    // (Other tasks can detach or shrink the buffer. What is left of the data
-    // must be neither verified nor signed.)
-    if (slice.length !== Math.min(SLICE_BYTES, length - at)) {
-      const what = "the data was detached or shortened while it was read";
-      throw new TypeError(what);
+  for (let begin = 0; begin < length; begin += SLICE_BYTES) {
+    const slice = bytes.subarray(begin, begin + SLICE_BYTES);
+    // Other tasks can detach or shrink the buffer. The rest of the data must be
+    // neither verified nor signed.
+    if (slice.length !== Math.min(SLICE_BYTES, length - begin)) {
+      const message = "the data was detached or shortened while it was read";
+      throw new TypeError(message);
     }
     yield slice;
   }
 }
 
-// Resolves in a later task, so that timers fire and events are handled before.
-// A message takes less time than a timer, which browsers delay by 4 ms, or by
-// a second if the tab is in the background. Without either, nothing runs.
+// Resolves in a later task, so that timers and events are handled before. A
+// message takes less time than a timer, which browsers delay by 4 ms, or by a
+// second if the tab is in the background. On a platform without both, resolves
+// at once.
 function nextTask() {
   const { MessageChannel, setTimeout } = globalThis;
   return new Promise((resolve) => {
@@ -115,20 +121,24 @@ function nextTask() {
   });
 }
 
-function givenBy(source, signal) {
+// Returns an iterable of the pieces of data of any kind.
+function piecesGivenBy(source, signal) {
   if (bytesOf(source) !== null) {
     return [source];
   }
   if (typeof source?.getReader === "function") {
-    return readBy(source.getReader(), signal);
+    return piecesReadBy(source.getReader(), signal);
   }
   const isList = typeof source === "object" && source?.[Symbol.iterator];
-  const gives = source?.[Symbol.asyncIterator] || isList;
-  mustBe(gives, "data", "bytes, a Blob, a stream or pieces of bytes", source);
+  const isIterable = source?.[Symbol.asyncIterator] || isList;
+  const expected = "bytes, a Blob, a stream or pieces of bytes";
+  mustBe(isIterable, "data", expected, source);
   return source;
 }
 
-async function* readBy(reader, signal) {
+// Yields the pieces of a web stream, and cancels the stream if the signal
+// aborts.
+async function* piecesReadBy(reader, signal) {
   const stop = () => reader.cancel(signal.reason).catch(() => {});
   signal?.addEventListener("abort", stop);
   try {
@@ -143,11 +153,12 @@ async function* readBy(reader, signal) {
   }
 }
 
-// Runs with the options that `checked` returns or throws for. Rejects at once
-// if a stream of Node fails meanwhile or the signal aborts. However it rejects,
-// the stream is given up. (The stream's listener stays: an error that nobody
-// listens to ends the program, and a stream that is given up can still fail.)
-async function closing(stream, checked, run) {
+// Calls `run` with the result of `readOptions`. Rejects at once if a stream of
+// Node fails meanwhile, or the signal aborts. If it rejects for any reason, it
+// gives up the stream. The listener for errors of the stream is not removed,
+// because a stream that is given up can still fail, and an error without a
+// listener would end the program.
+async function closing(stream, readOptions, run) {
   let reject;
   const stopped = new Promise((_, stop) => (reject = stop));
   stopped.catch(() => {});
@@ -155,7 +166,7 @@ async function closing(stream, checked, run) {
   let signal;
   const abort = () => reject(signal.reason);
   try {
-    const options = checked();
+    const options = readOptions();
     ({ signal } = options);
     signal?.addEventListener("abort", abort);
     if (signal?.aborted) {
@@ -163,8 +174,8 @@ async function closing(stream, checked, run) {
     }
     return await Promise.race([stopped, run(options)]);
   } catch (why) {
-    // (An error of giving up is not reported: the promise rejects for the
-    // reason that came first.)
+    // An error of `giveUp` is ignored: the promise rejects for the first
+    // reason.
     giveUp(stream, why).catch(() => {});
     throw why;
   } finally {
@@ -172,8 +183,8 @@ async function closing(stream, checked, run) {
   }
 }
 
-// Has a stream that is read no further give back what it holds: one of Node,
-// one of the web, or what gives pieces.
+// Releases what a stream of Node, a web stream or an iterator holds, if it is
+// not read to its end.
 async function giveUp(source, why) {
   if (source?.destroy) {
     return source.destroy();

@@ -1,8 +1,9 @@
 // SPDX-License-Identifier: MIT
-// What signing has of include/minisign.h: numbers, where fields stand in
-// structs, and calls, made by tools/bindings.py.
+// Calls the WebAssembly module for signing: the constants, the offsets of the
+// fields of structs, and the calls of include/minisign.h. Made by
+// tools/bindings.py.
 
-import { decoded, held, loaded } from "./loaded.js";
+import { checked, decoded, loaded } from "./loaded.js";
 
 export const VERSION_MAJOR = 0;
 export const VERSION_MINOR = 3;
@@ -61,16 +62,16 @@ export const STRUCTS = {
   },
 };
 
-// No bytes, where there is no password.
+// No bytes: passed if there is no password.
 const NOTHING = new Uint8Array(0);
 
-// The bytes of a field of a struct, where they lie.
+// Returns a view of the bytes of a field of a struct.
 export function fieldOf(struct, field, bytes) {
   const [begin, length] = STRUCTS[struct][field];
   return bytes.subarray(begin, begin + length);
 }
 
-// A struct of these fields: bytes, or numbers of 64 bits.
+// Makes a struct from the values of its fields: bytes, or numbers of 64 bits.
 export function structOf(struct, fields) {
   const bytes = new Uint8Array(STRUCTS[struct].size);
   const view = new DataView(bytes.buffer);
@@ -85,18 +86,18 @@ export function structOf(struct, fields) {
   return bytes;
 }
 
-// Returns the text that a call has written, of the length that it has written,
-// and clears its bytes: they may be those of a secret key.
+// Decodes the text that a call has written, with the length that it has
+// written, and clears the bytes, which may be those of a secret key.
 function cut(text, length) {
   const count = new DataView(length.buffer).getUint32(0, true);
-  const words = new TextDecoder().decode(text.subarray(0, count));
+  const string = new TextDecoder().decode(text.subarray(0, count));
   text.fill(0);
-  return words;
+  return string;
 }
 
-// The calls of the module that tools/signing_module.py makes, which no other
-// file knows. Each answers what it writes, and rejects with what it is rejected
-// for.
+// Calls the functions of the module that tools/signing_module.py makes. No
+// other file calls it. Each method resolves to what the function writes, or
+// rejects with a MinisignError.
 export class SigningCalls {
   static #compiling;
 
@@ -109,30 +110,32 @@ export class SigningCalls {
     return Object.assign(new this(), { library, module });
   }
 
-  // Makes a call in a memory of its own, which is cleared at the end: bytes are
-  // copied in, and what the call has made of them is copied out.
-  async make(name, ...given) {
+  // Makes a call in a new instance of the module, whose memory is cleared at
+  // the end. Arguments that are bytes are copied in, and copied out again after
+  // the call.
+  async make(name, ...passed) {
     const { exports } = await WebAssembly.instantiate(this.module, {});
-    let at = Number(exports.__heap_base.value);
-    const places = given.map((it) => {
-      const place = Math.ceil(at / 16) * 16;
-      at = it instanceof Uint8Array ? place + it.length : at;
-      return it instanceof Uint8Array ? place : null;
+    let end = Number(exports.__heap_base.value);
+    const addresses = passed.map((argument) => {
+      const address = Math.ceil(end / 16) * 16;
+      const isBytes = argument instanceof Uint8Array;
+      end = isBytes ? address + argument.length : end;
+      return isBytes ? address : null;
     });
-    const copied = (copy) =>
-      places.forEach((place, index) => {
+    const copyEach = (copy) =>
+      addresses.forEach((address, index) => {
         const memory = new Uint8Array(exports.memory.buffer);
-        return place === null || copy(memory, place, given[index]);
+        return address === null || copy(memory, address, passed[index]);
       });
-    const handed = places.map((place, index) =>
-      place === null ? given[index] : BigInt(place),
+    const converted = addresses.map((address, index) =>
+      address === null ? passed[index] : BigInt(address),
     );
     try {
-      copied((memory, place, bytes) => memory.set(bytes, place));
-      const number = exports[`machine_${name}`](...handed) >>> 0;
-      held(this.library, { number });
-      copied((memory, place, bytes) =>
-        bytes.set(memory.subarray(place, place + bytes.length)),
+      copyEach((memory, address, bytes) => memory.set(bytes, address));
+      const number = exports[`machine_${name}`](...converted) >>> 0;
+      checked(this.library, { number });
+      copyEach((memory, address, bytes) =>
+        bytes.set(memory.subarray(address, address + bytes.length)),
       );
     } finally {
       new Uint8Array(exports.memory.buffer).fill(0);

@@ -1,15 +1,15 @@
 // SPDX-License-Identifier: MIT
-// The types of the package, of the language alone: they need neither those of
-// the web nor those of Node.
+// Declares the public functions and types of the package. It uses only types of
+// the language: neither the DOM library nor those of Node.
 
 import type { ErrorCode } from "./errors.js";
 
 export type { ErrorCode };
 
-/** Bytes: a buffer, of any realm, or a view of one. */
+/** Bytes: an ArrayBuffer of any realm, or a view of one. */
 export type Bytes = ArrayBuffer | ArrayBufferView;
 
-/** What is read of a stream of bytes: a `ReadableStream` is one. */
+/** A web stream of bytes, such as a `ReadableStream`. */
 export interface ByteStream {
   getReader(): {
     read(): Promise<{ done: boolean; value?: Uint8Array }>;
@@ -19,15 +19,15 @@ export interface ByteStream {
   cancel(reason?: any): Promise<void>;
 }
 
-/** What has a stream of bytes: a `Blob` or a `File`. */
+/** A `Blob` or a `File`. */
 export interface ByteFile {
   readonly size: number;
   stream(): ByteStream;
 }
 
 /**
- * Bytes, a Blob or a File, a stream of bytes, or what gives pieces of bytes one
- * after another, as a stream of Node.
+ * Data to verify or sign: bytes, a `Blob` or `File`, a web stream, or any
+ * iterable of pieces of bytes, such as a stream of Node.
  */
 export type Data =
   | Bytes
@@ -36,10 +36,10 @@ export type Data =
   | AsyncIterable<Bytes>
   | Iterable<Bytes>;
 
-/** The text of a file, as its bytes or a string, of fewer than 65,536 bytes. */
+/** A text, as a string or its bytes in UTF-8: fewer than 65,536 bytes. */
 export type Text = string | Bytes;
 
-/** What says that nobody waits any longer: an `AbortSignal`. */
+/** An `AbortSignal`. */
 export interface Signal {
   readonly aborted: boolean;
   readonly reason?: any;
@@ -48,94 +48,104 @@ export interface Signal {
 }
 
 /**
- * Options are a plain object's own properties. An unknown property, and an
- * object that inherits from another one or is of a class, is a TypeError.
+ * Options must be own properties of a plain object. An unknown option, or an
+ * object that is an instance of a class or inherits from another object, is a
+ * TypeError.
  */
 export interface VerifierOptions {
   /**
-   * Whether signatures of the older kind are accepted, whose data is kept in
-   * memory as a whole. They are not by default.
+   * If true, also accepts legacy signatures, which sign the data itself instead
+   * of its digest. The data of a legacy signature is kept in memory as a whole.
+   * The default is false.
    */
   allowLegacy?: boolean;
 }
 
 export interface Options extends VerifierOptions {
   /**
-   * Is called after each piece, which has at most 1 MiB, with the number of
-   * bytes that were read, and for bytes and a Blob with their length.
+   * Is called after each piece of at most 1 MiB with the number of bytes read
+   * so far. `total` is the size of the data, if the data is bytes or a Blob.
    */
   progress?: (bytes: number, total?: number) => void;
   /**
-   * Rejects the promise with the signal's reason, and closes what gives the
-   * data. Other tasks run after each MiB, so that a timer can abort.
+   * If the signal aborts, rejects the promise with the signal's reason, and
+   * closes the stream. Other tasks run after each MiB of data, so that a timer
+   * can abort.
    */
   signal?: Signal;
 }
 
-/** The fields of a signature file, before it is verified. */
+/** A parsed signature file. Nothing is verified yet. */
 export interface Signature {
-  /** The key ID of the key that it names, as that of `PublicKey`. */
+  /** The key ID of the signer's key, in the form of `PublicKey.keyId`. */
   readonly keyId: string;
-  /** Whether it is of the older kind. */
+  /** True for a legacy signature, which signs the data, not its digest. */
   readonly isLegacy: boolean;
 }
 
-/** A public key that was read. */
+/** A parsed public key. */
 export interface PublicKey {
   /**
-   * Its key ID as `minisign` prints it: a number of 64 bits in upper-case
-   * hexadecimal digits, without leading zeros. Anybody can make a key with the
-   * same one.
+   * The key ID as the program minisign prints it: a number of 64 bits in
+   * upper-case hexadecimal digits without leading zeros. Anybody can make a key
+   * with the same key ID.
    */
   readonly keyId: string;
 }
 
 export interface Verified {
-  /** The trusted comment, which was signed with the data. It may be empty. */
+  /** The trusted comment, which is signed with the data. It may be empty. */
   trustedComment: string;
-  /** The key ID of the key. */
+  /** The key ID of the public key. */
   keyId: string;
+  /** True if the signature is a legacy one. */
   isLegacy: boolean;
 }
 
-/** Verifies data that comes in pieces. */
+/** Verifies data that arrives in pieces. */
 export interface Verifier {
-  /** The key ID of the key. */
+  /** The key ID of the public key. */
   readonly keyId: string;
-  /** Whether the signature is of the older kind. */
+  /** True if the signature is a legacy one. */
   readonly isLegacy: boolean;
-  /** How many bytes it was fed. */
+  /** The number of bytes that were passed to `update` so far. */
   readonly bytes: number;
   /**
-   * Resolves to the trusted comment where the key has signed it: also before
-   * the data is there, of which this says nothing. Otherwise it rejects with
-   * COMMENT_SIGNATURE_REFUSED, and after `end` with NOT_BEGUN.
+   * Verifies the comment signature, and resolves to the trusted comment. You
+   * can call it before you have the data. It says nothing about the data.
+   * Rejects with NOT_BEGUN after `end`, and with COMMENT_SIGNATURE_REFUSED if
+   * the comment signature is not valid.
    */
   trustedComment(): Promise<string>;
   /**
-   * Takes in the next piece of the data, of any length. It throws a TypeError
-   * of what is no bytes, and NOT_BEGUN after `end`.
+   * Adds the next piece of the data, of any length. Throws NOT_BEGUN after
+   * `end`, and a TypeError if the piece is not bytes.
    */
   update(piece: Bytes): void;
   /**
-   * Resolves where the signature vouches for all that it was fed, and otherwise
-   * rejects with a MinisignError. It is asked once: after that with NOT_BEGUN.
+   * Resolves if the signature is valid for all of the data, and otherwise
+   * rejects with a MinisignError: SIGNATURE_REFUSED or
+   * COMMENT_SIGNATURE_REFUSED. Then use none of the data. Call it once: a
+   * second call rejects with NOT_BEGUN.
    */
   end(): Promise<Verified>;
 }
 
 /**
- * Resolves exactly where the signature vouches for all of the data under the
- * key. Otherwise it rejects: with a MinisignError for the first reason why not,
- * and before any data is read where that is in the texts; with a TypeError,
- * which names it, where an argument or an option is of no such type; with what
- * the stream failed with; with the reason of the signal; with an Error where
- * there is no Ed25519 in WebCrypto, as in a page that was loaded by http. Where
- * it rejects, a stream of Node is destroyed, one of the web cancelled, and what
- * gives pieces is told by `return` that no more are taken.
+ * Verifies data. Resolves if the signature is valid for all of the data.
  *
- * A key is the text of its file, or as a string of one line its 56 letters
- * alone, after which white space is left out; or what `readPublicKey` told.
+ * `signature` is the content of the signature file, or an object of
+ * `readSignature`. `key` is the content of the public key file; or a string of
+ * one line with the 56 base64 characters of the key, after which white space is
+ * ignored; or an object of `readPublicKey`.
+ *
+ * Rejects with a TypeError, which names the argument, for an argument or option
+ * of a wrong type; with an Error if WebCrypto has no Ed25519, as in a page that
+ * was loaded over http; with a MinisignError if the key, the signature or the
+ * data is rejected, and before any data is read if this does not depend on the
+ * data; with the error of the stream if it fails; and with the signal's reason.
+ * If it rejects, a stream of Node is destroyed, a web stream is cancelled, and
+ * `return` of an iterator is called.
  */
 export function verify(
   data: Data,
@@ -145,8 +155,8 @@ export function verify(
 ): Promise<Verified>;
 
 /**
- * Begins to verify data that comes in pieces. It rejects as `verify` does for
- * what is wrong with the texts.
+ * Begins to verify data that arrives in pieces. Rejects as `verify` does for
+ * everything that does not depend on the data.
  */
 export function createVerifier(
   signature: Text | Signature,
@@ -155,94 +165,105 @@ export function createVerifier(
 ): Promise<Verifier>;
 
 /**
- * Reads the text of a signature, before its key is chosen and its data is
- * there. It rejects with a MinisignError for the first thing that is wrong with
- * the text, and else as `verify` does.
+ * Parses the content of a signature file, so that you can choose a key before
+ * you have the data. It verifies nothing. Rejects with a MinisignError if the
+ * content is malformed, and otherwise as `verify` does.
  */
 export function readSignature(signature: Text): Promise<Signature>;
 
-/** Reads a public key, as `verify` does. */
+/** Parses a public key, in each form that `verify` takes. */
 export function readPublicKey(key: Text): Promise<PublicKey>;
 
 /**
- * A secret key, which shows none of its bytes. They are in memory until
- * `clearSecretKey`, or until nothing refers to the key.
+ * A decrypted secret key. The object does not show the secret bytes. They are
+ * in memory until `clearSecretKey`, or until the object is garbage-collected.
  */
 export interface SecretKey {
-  /** Its key ID, which its public key has too. */
+  /** The key ID, which is also that of the public key. */
   readonly keyId: string;
   /**
-   * Whether the text that it was read from is sealed so weakly that passwords
-   * are tried fast: with fewer than 2^14 rows, the least that Minisign's own
-   * program seals with. Write it again.
+   * True if the file that the key was read from was encrypted with fewer than
+   * 2^14 rows of scrypt, the minimum of the program minisign. Passwords of such
+   * a file can be tried fast, so write the key again.
    */
   readonly isWeak: boolean;
 }
 
 export interface MemoryOptions {
   /**
-   * Whether a derivation takes 65 MiB at most, and some three times the time,
-   * in place of 1 GiB.
+   * If true, deriving a key from a password takes at most 65 MiB of memory
+   * instead of 1 GiB, and some three times as long.
    */
   lowMemory?: boolean;
 }
 
 export interface OpeningOptions extends MemoryOptions {
-  /** Opens a sealed key, and no other one. */
+  /** The password of an encrypted key. Omit it for a key without a password. */
   password?: Text;
   /**
-   * How many rows of scrypt may be made in all, its N times its p: 2^20 unless
-   * another number is given, enough for the keys of `minisign -G`.
+   * The maximum number of rows of scrypt in all, which is N times p. The
+   * default is 2^20, which is enough for the keys of `minisign -G`.
    */
   mostRows?: number;
 }
 
 export interface SignerOptions {
   /**
-   * One line, which is signed with the data. By default it is that of Minisign,
-   * `timestamp:`, `file:` and `hashed` with tabs between. `file:` has the last
-   * part of the name of a File, or of the path that a stream of Node reads;
-   * data without a name has no `file:`. A name with a line end in it, or one
-   * that is not UTF-8, is a TypeError.
+   * The trusted comment, one line, which is signed with the data. The default
+   * is that of Minisign: the fields `timestamp:`, `file:` and `hashed`,
+   * separated by tabs. `file:` has the last part of the name of a File, or of
+   * the path that a stream of Node reads. Data without a name has no `file:`. A
+   * name with a line break, or one that is not UTF-8, is a TypeError.
    */
   trustedComment?: Text;
-  /** The first line, after `untrusted comment: `, which is not signed. */
+  /** The text after `untrusted comment: ` in the first line, not signed. */
   untrustedComment?: Text;
 }
 
 export interface SigningOptions extends SignerOptions {
-  /** As those of `verify`. */
+  /** The option of `verify`. */
   progress?: (bytes: number, total?: number) => void;
+  /** The option of `verify`. */
   signal?: Signal;
 }
 
-/** Signs data that comes in pieces. */
+/** Signs data that arrives in pieces. */
 export interface Signer {
-  /** How many bytes it was fed. */
+  /** The number of bytes that were passed to `update` so far. */
   readonly bytes: number;
-  /** Takes in the next piece of the data, of any length. */
+  /** Adds the next piece of the data, of any length. Throws as a Verifier's. */
   update(piece: Bytes): void;
   /**
-   * Resolves to the text of the signature, four lines, once it was verified. It
-   * is asked once: after that it rejects with NOT_BEGUN. SIGNATURE_REFUSED is
-   * of a damaged key, BAD_COMMENT and UNREADABLE_COMMENT of comments that would
-   * not be read back, and KEY_NOT_OPENED of a key that was cleared.
+   * Verifies the new signature, and resolves to the content of the signature
+   * file: four lines. Call it once.
+   *
+   * Rejects with NOT_BEGUN if called a second time; with KEY_NOT_OPENED if the
+   * key was cleared; with SIGNATURE_REFUSED if the key is damaged; and with
+   * NOT_UTF8, BAD_COMMENT or UNREADABLE_COMMENT if Minisign could not read back
+   * a comment.
    */
   end(): Promise<string>;
 }
 
-/** Makes a secret key of random bytes. */
+/** Generates a secret key from random bytes. */
 export function generateSecretKey(): Promise<SecretKey>;
 
 /**
- * Opens both lines of a file such as minisign.key. It rejects with NOT_UTF8,
- * MISSING_SECRET_KEY_COMMENT, MISSING_SECRET_KEY, SECRET_KEY_NOT_BASE64 or
- * RECORD_TOO_SHORT for a damaged text, and with KEY_SEALED or KEY_NOT_SEALED if
- * a password is missing or not needed. A key without a password may be
- * KEY_CORRUPTED. For a sealed key the error may be UNSUPPORTED_KEY_DERIVATION,
- * PARAMETERS_TOO_HIGH, INVALID_PARAMETERS, WORK_TOO_HIGH, WRONG_PASSWORD or
- * OUT_OF_MEMORY. The thread waits while a key is derived, for seconds: do it in
- * a worker.
+ * Decrypts the content of a secret key file, such as minisign.key: both lines.
+ * Deriving a key from a password blocks the thread for seconds, so do it in a
+ * worker.
+ *
+ * Rejects:
+ *
+ * - if the content is malformed: with NOT_UTF8, MISSING_SECRET_KEY_COMMENT,
+ *   MISSING_SECRET_KEY, SECRET_KEY_NOT_BASE64 or RECORD_TOO_SHORT;
+ * - without a password: with KEY_SEALED if the key is encrypted, and with
+ *   KEY_CORRUPTED if its checksum does not match;
+ * - with a password: with NOT_UTF8 if the password is not UTF-8; with
+ *   KEY_NOT_SEALED if the key is not encrypted; with
+ *   UNSUPPORTED_KEY_DERIVATION, PARAMETERS_TOO_HIGH or INVALID_PARAMETERS if
+ *   the key derivation or its limits are not supported; with WORK_TOO_HIGH if
+ *   it takes more than `mostRows`; with WRONG_PASSWORD or OUT_OF_MEMORY.
  */
 export function readSecretKey(
   text: Text,
@@ -250,9 +271,9 @@ export function readSecretKey(
 ): Promise<SecretKey>;
 
 /**
- * Makes both lines of a file such as minisign.key, sealed under the password
- * with the limits of `minisign -G`; with null the key is not sealed. An empty
- * password is a TypeError.
+ * Resolves to the content of a secret key file for this key: both lines. The
+ * key is encrypted with the password and the limits of `minisign -G`, or not
+ * encrypted if the password is null. An empty password is a TypeError.
  */
 export function writeSecretKey(
   secretKey: SecretKey,
@@ -260,15 +281,16 @@ export function writeSecretKey(
   options?: MemoryOptions,
 ): Promise<string>;
 
-/** Makes both lines of a file such as minisign.pub. */
+/** Resolves to the content of a public key file for this key: both lines. */
 export function writePublicKey(secretKey: SecretKey): Promise<string>;
 
-/** Writes zeros over the key's bytes: it signs nothing from then on. */
+/** Overwrites the bytes of the key with zeros. After that, it cannot sign. */
 export function clearSecretKey(secretKey: SecretKey): void;
 
 /**
- * Signs all of the data: resolves to the text of the signature. It rejects as
- * `Signer.end` does, and as `verify` does of arguments and of streams.
+ * Signs data, and verifies the new signature. Resolves to the content of the
+ * signature file. Rejects as `Signer.end` does, and as `verify` does for
+ * arguments, streams and the signal.
  */
 export function sign(
   data: Data,
@@ -276,18 +298,20 @@ export function sign(
   options?: SigningOptions,
 ): Promise<string>;
 
-/** Begins to sign data that comes in pieces. */
+/** Begins to sign data that arrives in pieces. */
 export function createSigner(
   secretKey: SecretKey,
   options?: SignerOptions,
 ): Promise<Signer>;
 
-/** The errors of the library, with the numbers of include/minisign.h. */
+/** The errors of the library: their names and numbers in include/minisign.h. */
 export declare const ERRORS: Readonly<Record<ErrorCode, number>>;
 
-/** Why something was rejected. */
+/** An error of the library. Its `message` is a sentence. */
 export class MinisignError extends Error {
   readonly name: "MinisignError";
+  /** The name of the error in include/minisign.h, such as SIGNATURE_REFUSED. */
   readonly code: ErrorCode;
+  /** The number of the error in include/minisign.h. */
   readonly number: number;
 }

@@ -3,74 +3,78 @@
 
 import { optionsOf, textOf } from "./arguments.js";
 import { feedAll, takingPieces } from "./feeding.js";
-import { held, loaded } from "./loaded.js";
+import { checked, loaded } from "./loaded.js";
 import { Verification } from "./verification.js";
 
 export * from "./errors.js";
 export * from "./signing.js";
 
-// What the library has read, by the object that a caller holds and cannot
-// change.
-const readSignatures = new WeakMap();
-const readKeys = new WeakMap();
+// The results of the library for the objects that readSignature and
+// readPublicKey returned. They are not properties, so a caller cannot change
+// them.
+const parsedSignatures = new WeakMap();
+const parsedKeys = new WeakMap();
 
-// What reads a signature, which is a text or was read before.
+// Checks the argument `signature`, which is a text or an object of
+// readSignature. Returns a function that parses it with the library.
 function signatureReader(signature) {
-  const read = readSignatures.get(signature);
-  const text = read ? null : textOf(signature, "signature");
-  return (library) => read ?? held(library, library.readSignature(text));
+  const parsed = parsedSignatures.get(signature);
+  const text = parsed ? null : textOf(signature, "signature");
+  return (library) => parsed ?? checked(library, library.readSignature(text));
 }
 
-// What reads a public key, which is a text or was read before. A string of one
-// line is its letters alone.
+// Checks the argument `key`, which is a text or an object of readPublicKey.
+// Returns a function that parses it with the library. A string of one line is
+// the base64 of a key.
 function keyReader(key) {
-  const read = readKeys.get(key);
+  const parsed = parsedKeys.get(key);
   const isBare = typeof key === "string" && !key.trimEnd().includes("\n");
-  const text = read ? null : textOf(isBare ? key.trimEnd() : key, "key");
-  return (library) => read ?? held(library, library.readKey(text, isBare));
+  const text = parsed ? null : textOf(isBare ? key.trimEnd() : key, "key");
+  return (library) => parsed ?? checked(library, library.readKey(text, isBare));
 }
 
 // ---- Reading ----
 
 export async function readSignature(signature) {
   const reader = signatureReader(textOf(signature, "signature"));
-  const read = reader(await loaded());
-  const told = Object.freeze({ keyId: read.keyId, isLegacy: read.isLegacy });
-  readSignatures.set(told, read);
-  return told;
+  const parsed = reader(await loaded());
+  const { keyId, isLegacy } = parsed;
+  const fields = Object.freeze({ keyId, isLegacy });
+  parsedSignatures.set(fields, parsed);
+  return fields;
 }
 
 export async function readPublicKey(key) {
   const reader = keyReader(typeof key === "string" ? key : textOf(key, "key"));
-  const read = reader(await loaded());
-  const told = Object.freeze({ keyId: read.keyId });
-  readKeys.set(told, read);
-  return told;
+  const parsed = reader(await loaded());
+  const fields = Object.freeze({ keyId: parsed.keyId });
+  parsedKeys.set(fields, parsed);
+  return fields;
 }
 
 // ---- Verifying ----
 
 export async function createVerifier(signature, key, options = {}) {
   const { allowLegacy = false } = optionsOf(options, "allowLegacy");
-  const ofSignature = signatureReader(signature);
-  const ofKey = keyReader(key);
+  const readSignatureWith = signatureReader(signature);
+  const readKeyWith = keyReader(key);
   const library = await loaded();
-  const { key: bytes, keyId } = ofKey(library);
-  const read = ofSignature(library);
-  const { isLegacy } = read;
-  const verification = new Verification(library, bytes, read, allowLegacy);
-  held(library, verification);
+  const { key: bytes, keyId } = readKeyWith(library);
+  const parsed = readSignatureWith(library);
+  const { isLegacy } = parsed;
+  const verification = new Verification(library, bytes, parsed, allowLegacy);
+  checked(library, verification);
   const feed = (piece) => verification.feed(piece);
   const end = async () => {
-    held(library, await verification.end());
+    checked(library, await verification.end());
     return { trustedComment: verification.comment(), keyId, isLegacy };
   };
-  return takingPieces(library, feed, end, (goOn) => ({
+  return takingPieces(library, feed, end, (checkNotEnded) => ({
     keyId,
     isLegacy,
     async trustedComment() {
-      goOn();
-      held(library, { number: await verification.commentVerdict() });
+      checkNotEnded();
+      checked(library, { number: await verification.commentVerdict() });
       return verification.comment();
     },
   }));

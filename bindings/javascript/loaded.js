@@ -1,5 +1,5 @@
 // SPDX-License-Identifier: MIT
-// Loads the library once, and turns its answers into errors.
+// Loads the library once, and turns error numbers into exceptions.
 
 import { Library } from "./calls.js";
 import { hasEd25519 } from "./ed25519.js";
@@ -8,10 +8,10 @@ import { MODULE } from "./module.js";
 
 let loading;
 
-// Decodes base64. This is here, and not beside the calls for signing, so that a
-// program that only verifies imports nothing of those.
-export function decoded(letters) {
-  return Uint8Array.from(atob(letters), (it) => it.charCodeAt(0));
+// Decodes base64. This function is not in header.js, because a program that
+// only verifies must not import that file.
+export function decoded(base64) {
+  return Uint8Array.from(atob(base64), (letter) => letter.charCodeAt(0));
 }
 
 async function load() {
@@ -21,6 +21,7 @@ async function load() {
   return Library.load(decoded(MODULE));
 }
 
+// Resolves to the library. After an error, the next call tries again.
 export function loaded() {
   loading ??= load().catch((why) => {
     loading = undefined;
@@ -29,11 +30,12 @@ export function loaded() {
   return loading;
 }
 
-// What the library answers, unless that is the number of an error.
-export function held(library, answer) {
-  if (answer.number !== 0) {
-    const words = library.errorText(answer.number);
-    throw new MinisignError(answer.number, words);
+// Returns the result of a call of the library, or throws a MinisignError if its
+// error number is not 0.
+export function checked(library, result) {
+  if (result.number !== 0) {
+    const message = library.errorText(result.number);
+    throw new MinisignError(result.number, message);
   }
-  return answer;
+  return result;
 }

@@ -1,5 +1,6 @@
 // SPDX-License-Identifier: MIT
-// The types of the calls that need Node, of the language alone, as index.d.ts.
+// Declares the function that needs Node. Like index.d.ts, this file uses only
+// types of the language.
 
 import type { Text } from "./index.js";
 
@@ -9,12 +10,12 @@ export type Path =
   | { readonly href: string; readonly protocol: string };
 
 /**
- * Writes a text, such as that of a secret key, to a new file that only its
- * owner can read: mode 0600, whatever the umask is. On Windows the file
- * inherits the access rights of its directory.
+ * Writes a text, such as the content of a secret key file, to a new file that
+ * only its owner can read and write: its mode is 0600, whatever the umask is.
+ * Resolves when the file and its directory are synced.
  *
- * It replaces nothing: if anything has the name, even a link, it rejects with
- * the error of Node whose `code` is `EEXIST`. It resolves when the file and its
- * directory are synced. After any other error there is no file.
+ * If the path exists, even as a symbolic link, rejects with an error of Node
+ * whose `code` is `EEXIST`, and changes nothing. After any other error there is
+ * no file. On Windows the file inherits the permissions of its directory.
  */
 export function writeNew(path: Path, text: Text): Promise<void>;

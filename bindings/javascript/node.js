@@ -1,6 +1,6 @@
 // SPDX-License-Identifier: MIT
-// The calls that need Node, as node.d.ts says. index.js imports none of them,
-// so that it runs in browsers.
+// Writes key files in Node, as node.d.ts says. index.js does not import this
+// file, so that it runs in browsers.
 
 import { open, unlink } from "node:fs/promises";
 import { dirname } from "node:path";
@@ -8,12 +8,13 @@ import { fileURLToPath } from "node:url";
 
 import { clearCopy, textOf } from "./arguments.js";
 
-// Fails if anything has the name already, even a link that leads nowhere.
+// The flags that make opening fail if the name exists, even as a dangling
+// symbolic link.
 const ONLY_NEW = "wx";
 const OWNER_ONLY = 0o600;
-// All rights but the owner's right to run the file.
+// All permissions except for the owner's permission to execute the file.
 const CHECKED = 0o677;
-// How syncing a directory fails if the system has no such call.
+// The errors of syncing a directory on systems that do not support it.
 const NOT_SYNCED = ["EINVAL", "EPERM"];
 
 export async function writeNew(path, text) {
@@ -21,7 +22,7 @@ export async function writeNew(path, text) {
   const bytes = textOf(text, "text");
   try {
     const file = await open(name, ONLY_NEW, OWNER_ONLY);
-    await written(file, bytes, dirname(name)).catch(async (why) => {
+    await writeAndSync(file, bytes, dirname(name)).catch(async (why) => {
       await unlink(name).catch(() => {});
       throw why;
     });
@@ -31,7 +32,7 @@ export async function writeNew(path, text) {
 }
 
 // Writes and syncs the file and its directory, and closes the file.
-async function written(file, bytes, directory) {
+async function writeAndSync(file, bytes, directory) {
   try {
     await allowOwnerOnly(file);
     await file.writeFile(bytes);
@@ -42,8 +43,9 @@ async function written(file, bytes, directory) {
   await syncDirectory(directory);
 }
 
-// Gives the file its mode if a umask took rights of the owner. (Some file
-// systems have one mode for all files, and reject another one.)
+// Sets the mode if it is not right yet, which happens if a umask removed
+// permissions of the owner. It is set only if needed, because some file systems
+// have one mode for all files, and reject another mode.
 async function allowOwnerOnly(file) {
   const { mode } = await file.stat();
   if ((mode & CHECKED) !== OWNER_ONLY) {
@@ -51,8 +53,8 @@ async function allowOwnerOnly(file) {
   }
 }
 
-// Syncs a directory, so that a crash does not take the new name. One that
-// cannot be opened, or has no sync, is left as it is.
+// Syncs a directory, so that the new file survives a crash. Does nothing if the
+// directory cannot be opened or synced on this system.
 async function syncDirectory(name) {
   const directory = await open(name, "r").catch(() => null);
   try {

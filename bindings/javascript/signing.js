@@ -1,6 +1,7 @@
 // SPDX-License-Identifier: MIT
-// Makes secret keys and signatures, as index.d.ts says. The calls of a secret
-// key are in a module of their own, which the first of them loads.
+// Makes secret keys and signatures, as index.d.ts says. The functions for
+// secret keys are in a separate WebAssembly module, which is loaded on first
+// use.
 
 import {
   bytesOf,
@@ -9,12 +10,12 @@ import {
   optionsOf,
   textOf,
 } from "./arguments.js";
-import { identifierOf } from "./calls.js";
+import { keyIdText } from "./calls.js";
 import { ED25519, accepts, platformCrypto } from "./ed25519.js";
 import { ERRORS } from "./errors.js";
 import { feedAll, takingPieces } from "./feeding.js";
 import * as h from "./header.js";
-import { held } from "./loaded.js";
+import { checked } from "./loaded.js";
 
 const OPENING = ["password", "lowMemory", "mostRows"];
 const COMMENTS = ["trustedComment", "untrustedComment"];
@@ -24,7 +25,8 @@ const BEFORE_SEED = [48, 46, 2, 1, 0, 48, 5, 6, 3, 43, 101, 112, 4, 34, 4, 32];
 const NOT_IN_COMMENT =
   "cannot be in the default trusted comment; pass a trustedComment";
 
-// The bytes of a secret key, by what a caller has of it, which shows none.
+// The bytes of each secret key, by the object that the caller has, which does
+// not show them.
 const secretKeys = new WeakMap();
 
 function bytesOfKey(secretKey) {
@@ -33,10 +35,10 @@ function bytesOfKey(secretKey) {
   return bytes;
 }
 
-// Joins secret bytes in an ArrayBuffer of their own, which the caller clears.
-// (Engines keep a short typed array that is made in any other way, as by
-// Uint8Array.of, on their own heap. The garbage collector moves it there, and
-// leaves copies that nobody can clear.)
+// Concatenates secret bytes in a separate ArrayBuffer, which the caller clears.
+// Engines keep a short typed array that is made in any other way, such as by
+// Uint8Array.of, on their own heap. There the garbage collector moves it, and
+// leaves copies that nobody can clear.
 function joinedApart(first, second) {
   const both = new Uint8Array(new ArrayBuffer(first.length + second.length));
   both.set(first);
@@ -44,14 +46,14 @@ function joinedApart(first, second) {
   return both;
 }
 
-// Of how many rows of a derivation one is kept.
-function rowsOf(lowMemory) {
+// Returns the parameter keep_every of the C library.
+function keepEveryOf(lowMemory) {
   return lowMemory ? h.KEEP_FEW_ROWS : h.KEEP_EVERY_ROW;
 }
 
-// What a caller has of a key.
-function told(bytes, isWeak) {
-  const keyId = identifierOf(h.fieldOf("secret_key", "key_id", bytes));
+// Makes the object for a secret key that the caller gets.
+function secretKeyOf(bytes, isWeak) {
+  const keyId = keyIdText(h.fieldOf("secret_key", "key_id", bytes));
   const secretKey = Object.freeze({ keyId, isWeak });
   secretKeys.set(secretKey, bytes);
   return secretKey;
@@ -66,42 +68,43 @@ export async function generateSecretKey() {
   const pair = await subtle.generateKey(ED25519, true, ["sign", "verify"]);
   const exported = await subtle.exportKey("pkcs8", pair.privateKey);
   const seed = new Uint8Array(exported, BEFORE_SEED.length, 32);
-  const half = new Uint8Array(await subtle.exportKey("raw", pair.publicKey));
-  const secret = joinedApart(seed, half);
+  const rawKey = await subtle.exportKey("raw", pair.publicKey);
+  const secret = joinedApart(seed, new Uint8Array(rawKey));
   const keyId = crypto.getRandomValues(new Uint8Array(8));
-  const made = h.structOf("new_key", { key_id: keyId, secret });
-  const bytes = await calls.takeSecretKey(made);
-  [seed, secret, made].forEach((it) => it.fill(0));
-  return told(bytes, false);
+  const newKey = h.structOf("new_key", { key_id: keyId, secret });
+  const bytes = await calls.takeSecretKey(newKey);
+  [seed, secret, newKey].forEach((copy) => copy.fill(0));
+  return secretKeyOf(bytes, false);
 }
 
 export async function readSecretKey(text, options = {}) {
   const { password, lowMemory, mostRows } = optionsOf(options, ...OPENING);
   const bytes = textOf(text, "text");
-  const typed = password === undefined ? null : textOf(password, "password");
+  const passwordBytes =
+    password === undefined ? null : textOf(password, "password");
   const calls = await h.SigningCalls.load();
   let unopened;
   try {
     unopened = await calls.readSecretKey(bytes);
-    if (typed === null) {
-      return told(await calls.openUnsealedKey(unopened), false);
+    if (passwordBytes === null) {
+      return secretKeyOf(await calls.openUnsealedKey(unopened), false);
     }
-    const work = [rowsOf(lowMemory), mostRows ?? h.USUAL_ROWS];
-    const opened = await calls.openSealedKey(unopened, typed, ...work);
+    const work = [keepEveryOf(lowMemory), mostRows ?? h.USUAL_ROWS];
+    const opened = await calls.openSealedKey(unopened, passwordBytes, ...work);
     const [log2Rows] = h.fieldOf("unopened_key", "log2_rows", unopened);
-    return told(opened, log2Rows < h.LEAST_LOG2_ROWS);
+    return secretKeyOf(opened, log2Rows < h.LEAST_LOG2_ROWS);
   } finally {
     unopened?.fill(0);
     clearCopy(bytes, text);
-    clearCopy(typed, password);
+    clearCopy(passwordBytes, password);
   }
 }
 
 export async function writeSecretKey(secretKey, password, options = {}) {
   const { lowMemory } = optionsOf(options, "lowMemory");
   const bytes = bytesOfKey(secretKey);
-  const typed = password === null ? null : textOf(password, "password");
-  if (typed?.length === 0) {
+  const passwordBytes = password === null ? null : textOf(password, "password");
+  if (passwordBytes?.length === 0) {
     throw new TypeError("password must not be empty; use null for no password");
   }
   const calls = await h.SigningCalls.load();
@@ -110,12 +113,12 @@ export async function writeSecretKey(secretKey, password, options = {}) {
     operations_limit: h.OPERATIONS_LIMIT,
     memory_limit: h.MEMORY_LIMIT,
   });
-  const line = textOf(h.SECRET_KEY_COMMENT);
-  const rows = rowsOf(lowMemory);
+  const comment = textOf(h.SECRET_KEY_COMMENT);
+  const work = [sealing, keepEveryOf(lowMemory)];
   try {
-    return await calls.secretKeyText(bytes, typed, sealing, rows, line);
+    return await calls.secretKeyText(bytes, passwordBytes, ...work, comment);
   } finally {
-    clearCopy(typed, password);
+    clearCopy(passwordBytes, password);
   }
 }
 
@@ -132,14 +135,15 @@ export function clearSecretKey(secretKey) {
 
 // ---- Signing ----
 
-// Signs a message, and verifies the signature: one by a damaged key, whose
-// halves do not belong together, would give the secret half away.
-async function signed(library, secretKey, publicKey, message) {
+// Signs a message, and verifies the signature before returning it: if the seed
+// and the public key of a damaged key do not belong together, its signatures
+// reveal the secret.
+async function signMessage(library, secretKey, publicKey, message) {
   const key = await importedKey(secretKey);
   const { subtle } = await platformCrypto();
   const signature = new Uint8Array(await subtle.sign(ED25519, key, message));
-  const isGood = await accepts(publicKey, signature, message);
-  held(library, { number: isGood ? 0 : ERRORS.SIGNATURE_REFUSED });
+  const isValid = await accepts(publicKey, signature, message);
+  checked(library, { number: isValid ? 0 : ERRORS.SIGNATURE_REFUSED });
   return signature;
 }
 
@@ -169,7 +173,8 @@ function nameOf(data) {
   return isStream ? lastPart(data.path, isWindows ? /[/\\]/ : "/") : "";
 }
 
-// Returns what is after the last separator of a name, as a string or in UTF-8.
+// Returns the part of a name after the last separator. The name is a string, or
+// bytes in UTF-8. For any other value, returns an empty string.
 function lastPart(name, separator) {
   const bytes = bytesOf(name);
   const isName = typeof name === "string" || bytes !== null;
@@ -185,8 +190,8 @@ function decodedName(name) {
   }
 }
 
-// Makes the trusted comment that Minisign makes of the time and a file name, or
-// one without a file if there is no name.
+// Returns Minisign's default trusted comment, with the time and the file name.
+// If the name is empty, the comment has no field `file:`.
 function defaultComment(name) {
   if (/[\r\n]/.test(name)) {
     throw new TypeError(`a file name with a line break ${NOT_IN_COMMENT}`);
@@ -199,6 +204,7 @@ export async function createSigner(secretKey, options = {}) {
   return begin(secretKey, optionsOf(options, ...COMMENTS), () => "");
 }
 
+// Makes a signer. `name` returns the file name for the default trusted comment.
 async function begin(secretKey, { trustedComment, untrustedComment }, name) {
   const comment = trustedComment ?? defaultComment(name());
   const trusted = textOf(comment, "trustedComment");
@@ -209,20 +215,21 @@ async function begin(secretKey, { trustedComment, untrustedComment }, name) {
   const state = library.begin();
   const feed = (piece) => library.feed(state, piece);
   const end = async () => {
-    const fed = {};
-    library.digest(state, fed);
-    const known = await calls.publicKeyOf(bytes);
-    const by = [library, bytes, h.fieldOf("public_key", "key", known)];
-    const first = await signed(...by, fed.digest);
-    const message = await calls.commentMessage(first, trusted);
-    const second = await signed(...by, message);
-    return calls.signedText(known, first, second, trusted, untrusted);
+    const questions = {};
+    library.digest(state, questions);
+    const publicKey = await calls.publicKeyOf(bytes);
+    const keys = [bytes, h.fieldOf("public_key", "key", publicKey)];
+    const dataSignature = await signMessage(library, ...keys, questions.digest);
+    const message = await calls.commentMessage(dataSignature, trusted);
+    const commentSignature = await signMessage(library, ...keys, message);
+    const signatures = [dataSignature, commentSignature];
+    return calls.signedText(publicKey, ...signatures, trusted, untrusted);
   };
   return takingPieces(library, feed, end);
 }
 
 export async function sign(data, secretKey, options = {}) {
   const known = [...COMMENTS, "progress", "signal"];
-  const beginning = (rest) => begin(secretKey, rest, () => nameOf(data));
-  return feedAll(data, options, known, beginning);
+  const beginWith = (rest) => begin(secretKey, rest, () => nameOf(data));
+  return feedAll(data, options, known, beginWith);
 }

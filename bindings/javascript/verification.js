@@ -1,81 +1,83 @@
 // SPDX-License-Identifier: MIT
-// One verification in the order of the calls: the questions, the data in
-// pieces, the digest, the verdict. Several can go on side by side over one
-// library.
+// Runs a verification: makes the calls of the library in their order, and the
+// two Ed25519 checks. Several verifications can share one library.
 
 import { accepts } from "./ed25519.js";
 
 export class Verification {
-  // Asks about a signature under a key, both of which the library has read.
-  // `number` is 0, or why it is rejected. The data of a legacy signature, where
-  // one is allowed, is kept in memory, as its signature is over the data
-  // itself.
+  // Begins to verify a signature with a key, both of which the library has
+  // read. `number` is 0, or the error number if the signature is rejected
+  // without looking at data. The data of a legacy signature, if allowed, is
+  // kept in memory, because the signature is of the data itself.
   constructor(library, key, signature, allowsLegacy) {
     this.library = library;
-    this.asked = [key, signature, allowsLegacy];
+    this.askArguments = [key, signature, allowsLegacy];
     this.state = library.begin();
-    this.questions = library.ask(this.state, ...this.asked);
+    this.questions = library.ask(this.state, ...this.askArguments);
     this.number = this.questions.number;
-    this.kept = [];
+    this.legacyData = [];
   }
 
-  // Feeds the next bytes of the data, however many.
+  // Feeds the next bytes of the data, of any length.
   feed(bytes) {
-    hold(this.library.feed(this.state, bytes));
+    checkUse(this.library.feed(this.state, bytes));
     if (this.questions.isLegacy) {
-      this.kept.push(bytes.slice());
+      this.legacyData.push(bytes.slice());
     }
   }
 
-  // Whether the key has signed the trusted comment.
+  // Resolves to true if Ed25519 accepts the comment signature.
   acceptsComment() {
     const { publicKey, commentSignature, message } = this.questions;
     return accepts(publicKey, commentSignature, message);
   }
 
-  // What the comment's own signature says of the trusted comment: 0 where the
-  // key has signed it, or why not, also before the data is there. It is the
-  // verdict over no data, for which the other answer is yes.
+  // Resolves to 0 if the key has signed the trusted comment, and otherwise to
+  // the error number. It needs no data: it gets the verdict for no data, and
+  // says that the signature of the data is valid.
   async commentVerdict() {
     const { library } = this;
     const state = library.begin();
-    hold(library.digest(state, library.ask(state, ...this.asked)));
+    checkUse(library.digest(state, library.ask(state, ...this.askArguments)));
     return library.verdict(state, true, await this.acceptsComment());
   }
 
-  // The verdict, once all data was fed: 0 exactly where the texts vouch for it,
-  // or why not; and the first answer.
+  // Takes the verdict for all data that was fed. Resolves to the number 0
+  // exactly if the signature is valid, or otherwise to the error number; and to
+  // `first`, which is true if Ed25519 accepts the signature of the data.
   async end() {
     const { library, state, questions } = this;
-    hold(library.digest(state, questions));
-    const data = questions.isLegacy ? joined(this.kept) : questions.digest;
-    const first = await accepts(questions.publicKey, questions.signature, data);
-    const second = await this.acceptsComment();
-    this.number = library.verdict(state, first, second);
+    checkUse(library.digest(state, questions));
+    const { isLegacy, publicKey, signature } = questions;
+    const message = isLegacy ? joined(this.legacyData) : questions.digest;
+    const first = await accepts(publicKey, signature, message);
+    const isCommentValid = await this.acceptsComment();
+    this.number = library.verdict(state, first, isCommentValid);
     return { number: this.number, first };
   }
 
-  // The trusted comment, as it stands in the message of the second question.
-  // (The library has read it as UTF-8.)
+  // Returns the trusted comment, from the message that the comment signature
+  // signs. The library has checked that it is UTF-8.
   comment() {
     const decoder = new TextDecoder("utf-8", { fatal: true, ignoreBOM: true });
     return decoder.decode(this.questions.comment);
   }
 }
 
-// Pieces of bytes as one.
+// Concatenates pieces of bytes.
 function joined(pieces) {
-  const bytes = new Uint8Array(pieces.reduce((sum, it) => sum + it.length, 0));
-  let at = 0;
+  const length = pieces.reduce((sum, piece) => sum + piece.length, 0);
+  const bytes = new Uint8Array(length);
+  let end = 0;
   for (const piece of pieces) {
-    bytes.set(piece, at);
-    at += piece.length;
+    bytes.set(piece, end);
+    end += piece.length;
   }
   return bytes;
 }
 
-// A call that is made in its order is not rejected.
-function hold(number) {
+// Throws if a call returns an error: none can if they are made in their order.
+function checkUse(number) {
   if (number !== 0) {
     throw new Error(`the library was misused: error ${number}`);
   }

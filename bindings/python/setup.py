@@ -1,10 +1,12 @@
 # SPDX-License-Identifier: MIT
-"""Builds the shared library from what the package carries, or from the repository
-around it, and puts it into the wheel, which is for this kind of machine and any Python
-3. It takes the C compiler that CC names, or that Python was built by: on Linux, x86-64
-and AArch64, over the archives of dist/, and everywhere else, or with
-MINISIGN_PORTABLE=1, over the same calls as C. On Linux it has the host that
-installs."""
+"""Builds the shared library libminisign.so and the wheel that contains it. The wheel
+works with any Python 3 on one kind of machine.
+
+The C files are in the directory `library` of a packed archive, or in the repository.
+The C compiler is the one that CC names, or the one that Python was built with. On Linux
+on x86-64 and AArch64 the library is linked with the archives of proved functions in
+dist/. Elsewhere, or with MINISIGN_PORTABLE=1, it is compiled from the same functions
+translated to C. On Linux it also contains the installer in C."""
 
 import os
 import re
@@ -20,22 +22,22 @@ from wheel.bdist_wheel import bdist_wheel
 TOP = "library" if os.path.isdir("library") else os.path.join("..", "..")
 CALLS = ["c/library/boundary.c", "c/library/clearing.c"]
 PORTABLE = ["c/library/portable/pointers.c", "c/library/portable/allocation.c"]
-IN_HOST = "handles permissions stages streams"
-HOST = [
+SHARED = "handles permissions stages streams"
+INSTALLER = [
     "c/install/installing.c",
     "c/install/directory.c",
-    *(f"c/shared/{name}.c" for name in IN_HOST.split()),
+    *(f"c/shared/{name}.c" for name in SHARED.split()),
 ]
 INCLUDED = ["include", "c", "c/library", "c/library/portable"]
-# Which kind of machine a compiler builds for, by what it defines.
+# The kinds of machines, with the macros that a C compiler for them defines.
 MACHINES = {
     "linux_x86_64": {"__linux__", "__LP64__", "__x86_64__"},
     "linux_aarch64": {"__linux__", "__LP64__", "__AARCH64EL__"},
     "win_amd64": {"_WIN64", "__x86_64__"},
 }
 NO_COMPILER = (
-    "minisign-proved is built by a C compiler with GNU's options, as gcc and clang have"
-    " them: {} is none, so name one in CC"
+    "minisign-proved needs a C compiler with GNU options, such as gcc or clang, and {}"
+    " is none: name one in CC"
 )
 
 
@@ -43,8 +45,8 @@ def path_of(name):
     return os.path.join(TOP, *name.split("/"))
 
 
-def said_by(*words):
-    """What a command prints, and nothing where it fails."""
+def output_of(*words):
+    """Returns the output of a command, or an empty string if it fails."""
     quiet = {"stdin": subprocess.DEVNULL, "stderr": subprocess.DEVNULL}
     try:
         return subprocess.check_output(words, text=True, **quiet).strip()
@@ -53,19 +55,19 @@ def said_by(*words):
 
 
 def compiler():
-    """The words that call a C compiler, and the macros that it defines."""
+    """Returns the command and flags of the C compiler, and the macros it defines."""
     named = os.environ.get("CC") or sysconfig.get_config_var("CC") or "gcc"
     words = [named] if os.path.isfile(named) else shlex.split(named)
     words += ["-O2", *shlex.split(os.environ.get("CFLAGS", ""))]
-    macros = said_by(*words, "-dM", "-E", "-x", "c", os.devnull)
-    found = {line.split()[1] for line in macros.splitlines()}
-    if "__GNUC__" not in found:
+    macros = output_of(*words, "-dM", "-E", "-x", "c", os.devnull)
+    names = {line.split()[1] for line in macros.splitlines()}
+    if "__GNUC__" not in names:
         sys.exit(NO_COMPILER.format(named))
-    return words, found
+    return words, names
 
 
-def names_of(path, pattern):
-    """What the pattern finds in a file."""
+def find_in(path, pattern):
+    """Returns all matches of a pattern in a file."""
     with open(path_of(path), encoding="utf-8") as file:
         return re.findall(pattern, file.read(), re.M)
 
@@ -74,15 +76,15 @@ class BuildWithLibrary(build_py):
     def run(self):
         super().run()
         words, macros = compiler()
-        made = os.path.join(self.build_lib, "minisign_proved", "libminisign.so")
-        self.spawn([*words, "-shared", *self.parts(words, macros), "-o", made])
+        output = os.path.join(self.build_lib, "minisign_proved", "libminisign.so")
+        self.spawn([*words, "-shared", *self.parts(words, macros), "-o", output])
 
     def parts(self, words, macros):
-        """The sources, the archives, and the flags."""
-        names = names_of("c/library/names", r"^minisign_\w+") + ["minisign_version"]
-        room = os.path.join(self.build_lib, "..", "minisign-objects")
-        os.makedirs(room, exist_ok=True)
-        archives = self.archives(words, macros, names, room)
+        """Returns the arguments of the compiler: flags, sources and archives."""
+        names = find_in("c/library/names", r"^minisign_\w+") + ["minisign_version"]
+        objects = os.path.join(self.build_lib, "..", "minisign-objects")
+        os.makedirs(objects, exist_ok=True)
+        archives = self.archives(words, macros, names, objects)
         sources, flags = [*CALLS], [f"-I{path_of(name)}" for name in INCLUDED]
         if {"__linux__", "__LP64__"} <= macros:
             sources.append("c/library/allocation.c")
@@ -93,43 +95,48 @@ class BuildWithLibrary(build_py):
         if not archives:
             flags.append("-DMINISIGN_PORTABLE")
         if "__linux__" in macros:
-            sources += HOST
-            names += names_of("c/install/installing.h", r"^[\w ]+?\*?(\w+)\(")
+            sources += INSTALLER
+            names += find_in("c/install/installing.h", r"^[\w ]+?\*?(\w+)\(")
         if "_WIN32" not in macros:
             flags += ["-fPIC", "-pthread", "-fstack-protector-strong"]
         if "__ELF__" in macros:
-            shown = os.path.join(room, "shown")
-            with open(shown, "w", encoding="ascii") as file:
+            exported = os.path.join(objects, "exported")
+            with open(exported, "w", encoding="ascii") as file:
                 file.write(f"{{ global: {'; '.join(names)}; local: *; }};\n")
-            flags += [f"-Wl,--version-script,{shown}", "-Wl,-z,relro,-z,now,-z,defs"]
+            flags += [f"-Wl,--version-script,{exported}"]
+            flags += ["-Wl,-z,relro,-z,now,-z,defs"]
         return [*flags, *map(path_of, sources), *archives]
 
-    def archives(self, words, macros, names, room):
-        """The archives that are linked, whose calls get a prefix."""
-        found = said_by(*words, "-print-prog-name=objcopy")
+    def archives(self, words, macros, names, objects):
+        """Copies the archives that the library is linked with, and returns the paths.
+        Their functions get a prefix, because c/library/boundary.c defines functions of
+        the same names."""
+        objcopy = output_of(*words, "-print-prog-name=objcopy")
         is_portable = os.environ.get("MINISIGN_PORTABLE") == "1"
         kinds = []
         if MACHINES["linux_x86_64"] <= macros:
             kinds = ["calls-x86-64-v2", "calls-x86-64-v3"]
         elif MACHINES["linux_aarch64"] <= macros:
             kinds = ["calls-aarch64"]
-        if is_portable or not said_by(found or "objcopy", "--version"):
+        if is_portable or not output_of(objcopy or "objcopy", "--version"):
             return []
         for kind in kinds:
             prefix = kind.rpartition("-")[2]
             renamed = [f"--redefine-sym={name}={prefix}_{name}" for name in names]
-            archive, made = path_of(f"dist/{kind}.a"), os.path.join(room, f"{kind}.a")
-            self.spawn([found or "objcopy", *renamed, archive, made])
-        return [os.path.join(room, f"{kind}.a") for kind in kinds]
+            copy = os.path.join(objects, f"{kind}.a")
+            self.spawn(
+                [objcopy or "objcopy", *renamed, path_of(f"dist/{kind}.a"), copy]
+            )
+        return [os.path.join(objects, f"{kind}.a") for kind in kinds]
 
 
 class WheelForMachine(bdist_wheel):
     def get_tag(self):
         macros = compiler()[1]
-        found = [name for name, wanted in MACHINES.items() if wanted <= macros]
-        return ("py3", "none", found[0] if found else super().get_tag()[2])
+        machines = [name for name, defined in MACHINES.items() if defined <= macros]
+        return ("py3", "none", machines[0] if machines else super().get_tag()[2])
 
 
-# (so the wheel is one for a kind of machine)
+# Without this, setuptools builds a wheel for all kinds of machines.
 Distribution.has_ext_modules = lambda self: True
 setup(cmdclass={"build_py": BuildWithLibrary, "bdist_wheel": WheelForMachine})

@@ -1,76 +1,82 @@
 // SPDX-License-Identifier: MIT
-//! Builds the library over the proved calls, from what this crate carries or from the repository
-//! around it, by a C compiler for cargo's target: on Linux on x86-64 and AArch64 over the archives
-//! of `dist/`, and everywhere else, or with `MINISIGN_PORTABLE=1`, over the same calls as C.
+//! Builds the C library with a C compiler for cargo's target. The C files are in the directory
+//! `library` of a packed crate, or in the repository.
+//!
+//! On Linux on x86-64 and AArch64 the library is linked with the archives of proved functions in
+//! `dist/`. Elsewhere, or with `MINISIGN_PORTABLE=1`, it is compiled from the same functions
+//! translated to C.
 
 use std::process::{exit, Command, Stdio};
 use std::{env, fs, path::Path};
 
-const OWN: &str = env!("CARGO_MANIFEST_DIR");
+const CRATE: &str = env!("CARGO_MANIFEST_DIR");
 
 fn main() {
-    let carried = format!("{OWN}/library");
-    let is_packed = Path::new(&carried).is_dir();
-    let own = if is_packed {
-        carried
+    let packed = format!("{CRATE}/library");
+    let default = if Path::new(&packed).is_dir() {
+        packed
     } else {
-        format!("{OWN}/../..")
+        format!("{CRATE}/../..")
     };
-    let from = variable("MINISIGN_SOURCES").unwrap_or(own);
+    let from = user_variable("MINISIGN_SOURCES").unwrap_or(default);
     watch(&from);
     check_dist(&from);
     if Path::new(&format!("{from}/crates")).exists() {
         check_sources(&from);
     }
     build(&from, &compiler());
-    println!("cargo:rustc-link-search=native={}", of("OUT_DIR"));
+    println!(
+        "cargo:rustc-link-search=native={}",
+        cargo_variable("OUT_DIR")
+    );
 }
 
-/// Names the files whose changes make cargo run this again. (A packed crate has no sources of the
-/// proved calls, and cargo would run this each time for a path that does not exist.)
+/// Tells cargo which files make it run this script again when they change. Only paths that exist:
+/// cargo would run the script every time for a missing path, and a packed crate does not have the
+/// sources of the proved calls.
 fn watch(from: &str) {
-    for it in ["c", "crates", "crates.txt", "dist", "include", "tools"] {
-        if Path::new(&format!("{from}/{it}")).exists() {
-            println!("cargo:rerun-if-changed={from}/{it}");
+    for name in ["c", "crates", "crates.txt", "dist", "include", "tools"] {
+        if Path::new(&format!("{from}/{name}")).exists() {
+            println!("cargo:rerun-if-changed={from}/{name}");
         }
     }
 }
 
-/// A variable that cargo sets.
-fn of(name: &str) -> String {
+/// Returns an environment variable that cargo sets.
+fn cargo_variable(name: &str) -> String {
     env::var(name).unwrap_or_default()
 }
 
-/// What cargo says of the target.
+/// Returns a property of cargo's target, such as its OS.
 fn target(part: &str) -> String {
-    of(&format!("CARGO_CFG_TARGET_{part}"))
+    cargo_variable(&format!("CARGO_CFG_TARGET_{part}"))
 }
 
-/// A variable that the user sets, for this target or for all.
-fn variable(name: &str) -> Option<String> {
-    let own = format!("{name}_{}", of("TARGET").replace('-', "_"));
-    [own, name.to_string()].into_iter().find_map(|it| {
-        println!("cargo:rerun-if-env-changed={it}");
-        env::var(it).ok().filter(|it| !it.is_empty())
+/// Returns an environment variable that the user sets, for this target only or for all targets.
+fn user_variable(name: &str) -> Option<String> {
+    let for_target = format!("{name}_{}", cargo_variable("TARGET").replace('-', "_"));
+    [for_target, name.to_string()].into_iter().find_map(|name| {
+        println!("cargo:rerun-if-env-changed={name}");
+        env::var(name).ok().filter(|value| !value.is_empty())
     })
 }
 
-/// Ends the build with a sentence.
+/// Prints the reason and ends the build.
 fn fail(why: String) -> ! {
     eprintln!("minisign-proved: {why}");
     exit(1)
 }
 
 fn run(command: &mut Command) {
-    if !command.status().map_or(false, |it| it.success()) {
+    if !command.status().map_or(false, |status| status.success()) {
         fail(format!("this command failed: {command:?}"));
     }
 }
 
-/// What a command prints, and nothing where it fails.
-fn said_by(command: &mut Command) -> String {
-    let ran = command.output().ok().filter(|it| it.status.success());
-    ran.map_or(String::new(), |it| {
+/// Returns the output of a command, or an empty string if it fails.
+fn output_of(command: &mut Command) -> String {
+    let output = command.output().ok().filter(|it| it.status.success());
+    output.map_or(String::new(), |it| {
         String::from_utf8_lossy(&it.stdout).trim().to_string()
     })
 }
@@ -104,19 +110,19 @@ fn check_dist(from: &str) {
             fail(format!("{path} is missing"));
         }
         let line = format!("{}  {name}", sum_by(command, &path));
-        if !sums.lines().any(|it| it == line) {
+        if !sums.lines().any(|each| each == line) {
             fail(format!("{path} is damaged: {list} has another sum"));
         }
     }
 }
 
-/// Returns the first of the commands that works here.
+/// Returns the first command for SHA-256 sums that works on this system.
 fn sha256_command() -> &'static str {
-    let path = format!("{}/abc", of("OUT_DIR"));
+    let path = format!("{}/abc", cargo_variable("OUT_DIR"));
     fs::write(&path, "abc").unwrap_or_else(|why| fail(format!("{path}: {why}")));
     let mut commands = SHA256.into_iter();
     commands
-        .find(|it| sum_by(it, &path) == SUM_OF_ABC)
+        .find(|command| sum_by(command, &path) == SUM_OF_ABC)
         .unwrap_or_else(|| {
             let why = "no SHA-256 program works here: install sha256sum, shasum or sha256";
             fail(why.to_string())
@@ -127,49 +133,52 @@ fn sha256_command() -> &'static str {
 fn sum_by(command: &str, path: &str) -> String {
     let mut words = command.split(' ');
     let mut command = Command::new(words.next().unwrap_or_default());
-    let said = said_by(command.args(words.map(|it| if it == "FILE" { path } else { it })));
-    // (sha256sum puts a backslash before the sum if the path has one)
-    let mut said = said.split(|it: char| it.is_whitespace() || it == '\\');
-    let is_sum = |it: &&str| it.len() == 64 && it.bytes().all(|byte| byte.is_ascii_hexdigit());
-    said.find(is_sum).unwrap_or_default().to_string()
+    let words = words.map(|word| if word == "FILE" { path } else { word });
+    let output = output_of(command.args(words));
+    // sha256sum puts a backslash before the sum if the path has one.
+    let mut parts = output.split(|letter: char| letter.is_whitespace() || letter == '\\');
+    let is_sum =
+        |part: &&str| part.len() == 64 && part.bytes().all(|byte| byte.is_ascii_hexdigit());
+    parts.find(is_sum).unwrap_or_default().to_string()
 }
 
-/// Checks that `dist/` was built from the sources of the proved calls beside it.
+/// Checks that `dist/` was built from the sources of the proved calls in this repository.
 fn check_sources(from: &str) {
     let proved = fs::read_to_string(format!("{from}/dist/PROVED")).unwrap_or_default();
     let script = format!("{from}/tools/sources.sh");
     let mut command = Command::new("sh");
-    let sum = said_by(command.args([&*script, "calls"]).stderr(Stdio::inherit()));
+    let sum = output_of(command.args([&*script, "calls"]).stderr(Stdio::inherit()));
     if sum.is_empty() {
         fail(format!(
             "the sources of the proved calls cannot be checked: `sh {script} calls` failed"
         ));
     }
     let line = format!("sources of the calls: {sum}");
-    if !proved.lines().any(|it| it == line) {
+    if !proved.lines().any(|each| each == line) {
         fail(format!(
             "{from}/dist is not built from the sources of the proved calls there"
         ));
     }
 }
 
-/// A call of a C compiler with flags, and with these words.
-fn call(compiler: &[String], words: &[&str]) -> Command {
+/// Returns a command that runs a C compiler with its flags and these arguments.
+fn command_of(compiler: &[String], words: &[&str]) -> Command {
     let mut command = Command::new(&compiler[0]);
     command.args(&compiler[1..]).args(words);
     command
 }
 
-/// The C compiler that the user names, or the first of the usual ones that is for the target.
+/// Returns the command and flags of the C compiler: the one that the user names, or the first
+/// usual compiler that builds for the target.
 fn compiler() -> Vec<String> {
-    let triple = of("TARGET");
+    let triple = cargo_variable("TARGET");
     let cross = triple
         .replace("-unknown", "")
         .replace("gc-", "-")
         .replace("armv7-", "arm-");
     let cross = cross.replace("pc-windows-gnu", "w64-mingw32") + "-gcc";
     let usual = match &*triple {
-        it if it == of("HOST") => "cc gcc clang".to_string(),
+        it if it == cargo_variable("HOST") => "cc gcc clang".to_string(),
         it if it.contains("musl") => cross + " musl-gcc",
         _ => cross,
     };
@@ -177,38 +186,37 @@ fn compiler() -> Vec<String> {
         "windows" => "-std=c11 -O2",
         _ => "-std=c11 -O2 -fPIC -pthread -fstack-protector-strong -D_FORTIFY_SOURCE=2",
     };
-    let flags = format!("{flags} {}", variable("CFLAGS").unwrap_or_default());
-    let named = variable("CC");
-    let tried = match &named {
-        Some(it) if Path::new(it).is_file() => vec![vec![&**it]],
-        Some(it) => vec![it.split_whitespace().collect()],
-        None => usual.split(' ').map(|it| vec![it]).collect(),
+    let flags = format!("{flags} {}", user_variable("CFLAGS").unwrap_or_default());
+    let named = user_variable("CC");
+    let candidates = match &named {
+        Some(path) if Path::new(path).is_file() => vec![vec![&**path]],
+        Some(words) => vec![words.split_whitespace().collect()],
+        None => usual.split(' ').map(|name| vec![name]).collect(),
     };
-    let mut with_flags = tried.iter().map(|it| {
-        let words = it.iter().copied().chain(flags.split_whitespace());
+    let mut with_flags = candidates.iter().map(|candidate| {
+        let words = candidate.iter().copied().chain(flags.split_whitespace());
         words.map(String::from).collect::<Vec<_>>()
     });
-    if let Some(found) = with_flags.find(|it| is_for_target(it)) {
-        return found;
+    if let Some(compiler) = with_flags.find(|candidate| is_for_target(candidate)) {
+        return compiler;
     }
-    let (of_target, said) = (triple.replace('-', "_"), named.as_ref().unwrap_or(&usual));
-    let why =
-        "there is no C compiler with GNU's options, as gcc and clang have them, that builds for";
+    let (of_target, tried) = (triple.replace('-', "_"), named.as_ref().unwrap_or(&usual));
     fail(format!(
-        "{why} {triple}: name one in CC_{of_target} (tried: {said})"
+        "no C compiler with GNU options, such as gcc or clang, builds for {triple}: name one in \
+         CC_{of_target} (tried: {tried})"
     ))
 }
 
-/// Whether a compiler has GNU's options, and builds for the processor and the system of the target.
+/// Returns true if a compiler has GNU options, and builds for the target's processor and system.
 fn is_for_target(compiler: &[String]) -> bool {
-    let machine = said_by(&mut call(compiler, &["-dumpmachine"]));
-    let empty = format!("{}/empty.c", of("OUT_DIR"));
+    let machine = output_of(&mut command_of(compiler, &["-dumpmachine"]));
+    let empty = format!("{}/empty.c", cargo_variable("OUT_DIR"));
     let macros =
-        fs::write(&empty, "").map(|_| said_by(&mut call(compiler, &["-dM", "-E", &empty])));
-    let has = |it: &str| {
+        fs::write(&empty, "").map(|_| output_of(&mut command_of(compiler, &["-dM", "-E", &empty])));
+    let has = |name: &str| {
         macros
             .as_ref()
-            .map_or(false, |all| all.contains(&format!("#define {it}")))
+            .map_or(false, |all| all.contains(&format!("#define {name}")))
     };
     let bytes = target("POINTER_WIDTH").parse().unwrap_or(0) / 8;
     let order = target("ENDIAN").to_uppercase();
@@ -227,23 +235,28 @@ fn is_for_target(compiler: &[String]) -> bool {
     processor && system && has_numbers && has("__GNUC__")
 }
 
-/// Builds what is linked, as `c/Makefile` does: over the archives for the target, where an objcopy
-/// can give their calls a prefix, with the C beside them that older processors take; or over C
-/// alone.
+/// Builds the libraries to link, as `c/Makefile` does. If there are archives for the target, and an
+/// objcopy to give their functions a prefix, links them together with the C that older processors
+/// need. Otherwise compiles everything from C.
 fn build(from: &str, compiler: &[String]) {
     let (out, names) = (
-        of("OUT_DIR"),
+        cargo_variable("OUT_DIR"),
         fs::read_to_string(format!("{from}/c/library/names")),
     );
     let names = names.unwrap_or_else(|why| {
         fail(format!(
-            "{from} has not what the library is built of: {why}"
+            "{from} does not contain the sources of the library: {why}"
         ))
     });
-    let tool = |name: &str| said_by(&mut call(compiler, &[&format!("-print-prog-name={name}")]));
+    let tool = |name: &str| {
+        output_of(&mut command_of(
+            compiler,
+            &[&format!("-print-prog-name={name}")],
+        ))
+    };
     let has_pages = target("OS") == "linux" && target("POINTER_WIDTH") == "64";
-    let can_rename = said_by(Command::new(tool("objcopy")).arg("--version")) != "";
-    let is_portable = variable("MINISIGN_PORTABLE").as_deref() == Some("1");
+    let can_rename = output_of(Command::new(tool("objcopy")).arg("--version")) != "";
+    let is_portable = user_variable("MINISIGN_PORTABLE").as_deref() == Some("1");
     let archives = match &*target("ARCH") {
         _ if is_portable || !has_pages || !can_rename => "",
         "x86_64" => "calls-x86-64-v2 calls-x86-64-v3",
@@ -257,19 +270,19 @@ fn build(from: &str, compiler: &[String]) {
         }
         (_, false) => "boundary clearing portable/pointers portable/allocation ../../dist/calls",
     };
-    // (another library of the kit has calls for memory by the same names)
-    let of_memory = ["alloc", "realloc", "dealloc"].map(|it| format!("rattle_{it}=minisign_{it}"));
-    let mut macros = of_memory.clone().map(|it| format!("-D{it}")).to_vec();
+    // Renamed, because another library of the Rattle kit has memory functions of the same names.
+    let renamed = ["alloc", "realloc", "dealloc"].map(|it| format!("rattle_{it}=minisign_{it}"));
+    let mut macros = renamed.clone().map(|each| format!("-D{each}")).to_vec();
     macros.extend((!has_pages).then(|| "-DMINISIGN_MALLOC_ALONE".into()));
     macros.extend(archives.is_empty().then(|| "-DMINISIGN_PORTABLE".into()));
-    let mut archiving = Command::new(variable("AR").unwrap_or_else(|| tool("ar")));
+    let mut archiving = Command::new(user_variable("AR").unwrap_or_else(|| tool("ar")));
     archiving.arg("crs").arg(format!("{out}/libminisign.a"));
     for source in sources.split(' ') {
         let object = format!("{out}/{}.o", source.replace('/', "-"));
         let path = format!("{from}/c/library/{source}.c");
-        let mut compiling = call(compiler, &["-c", "-o", &object, &path]);
-        for it in ["include", "c/library", "c/library/portable"] {
-            compiling.arg(format!("-I{from}/{it}"));
+        let mut compiling = command_of(compiler, &["-c", "-o", &object, &path]);
+        for directory in ["include", "c/library", "c/library/portable"] {
+            compiling.arg(format!("-I{from}/{directory}"));
         }
         run(compiling.args(&macros));
         archiving.arg(object);
@@ -280,8 +293,8 @@ fn build(from: &str, compiler: &[String]) {
     for archive in archives.split_whitespace() {
         let prefix = archive.rsplit('-').next().unwrap_or_default();
         let mut renaming = Command::new(tool("objcopy"));
-        renaming.args(of_memory.iter().map(|it| format!("--redefine-sym={it}")));
-        for name in names.lines().filter(|it| !it.starts_with('#')) {
+        renaming.args(renamed.iter().map(|each| format!("--redefine-sym={each}")));
+        for name in names.lines().filter(|line| !line.starts_with('#')) {
             renaming.arg(format!("--redefine-sym={name}={prefix}_{name}"));
         }
         renaming.arg(format!("{from}/dist/{archive}.a"));

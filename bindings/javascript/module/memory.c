@@ -1,7 +1,7 @@
 /*
- * Memory for the calls that the package for JavaScript signs by: tools/signing_module.py compiles it with dist/calls.c for
- * WebAssembly. A module is instantiated for one call, and its memory is given up after that: so a block is taken from the
- * end of the memory, and none is taken again.
+ * Allocates memory in the WebAssembly module for signing of the package for JavaScript. tools/signing_module.py compiles
+ * this file with dist/calls.c. The module is instantiated anew for each call, and its memory is dropped afterwards, so
+ * malloc takes each block from the end of the memory, and free does nothing.
  *
  * SPDX-License-Identifier: MIT
  */
@@ -11,19 +11,19 @@
 #define PAGE_BYTES 65536
 #define ALIGNMENT 16
 
-/* Where the next block begins, and where the memory that was taken for blocks ends. */
+/* The address of the next block, and the end of the memory for blocks. */
 static uintptr_t next, end;
 
-/* Takes so many more pages: whether they were given. */
+/* Adds this many pages to the memory. Returns 0 if the engine refuses. */
 static int grow(size_t pages)
 {
-    const uintptr_t at = __builtin_wasm_memory_grow(0, pages);
+    const uintptr_t first = __builtin_wasm_memory_grow(0, pages);
 
-    if (at == UINTPTR_MAX) {
+    if (first == UINTPTR_MAX) {
         return 0;
     }
-    next = next == 0 ? at * PAGE_BYTES : next;
-    end = (at + pages) * PAGE_BYTES;
+    next = next == 0 ? first * PAGE_BYTES : next;
+    end = (first + pages) * PAGE_BYTES;
     return 1;
 }
 

@@ -1,5 +1,5 @@
 /* SPDX-License-Identifier: MIT */
-/* What dist/calls.c needs of the C library: instructions of WebAssembly for the compiler. */
+/* Declares the functions of <string.h> that dist/calls.c uses. The compiler makes instructions of WebAssembly of them. */
 #ifndef STRING_H
 #define STRING_H
 

@@ -1,5 +1,5 @@
 // SPDX-License-Identifier: MIT
-// The examples of README.md are one program, and doctests would be built one by one.
+// README.md is not part of doctests, because its examples make one program together.
 #![cfg_attr(not(doctest), doc = include_str!("../README.md"))]
 #![deny(unsafe_code, missing_docs)]
 
@@ -11,8 +11,8 @@ pub use files::write_new;
 pub use signing::{SecretKey, Signer, Work};
 use std::{fmt, fs, io, path::Path};
 
-/// Why something was rejected, as `minisign.h` numbers it. It is shown in the words of
-/// `minisign_error_text`, and with `{:?}` by the name that it has there.
+/// An error code of `minisign.h`. `Display` prints its text, a sentence, and `Debug` its name in
+/// the header, without `MINISIGN_`.
 #[derive(Clone, Copy, Eq, PartialEq, Hash)]
 pub struct Reason(pub u32);
 
@@ -33,33 +33,34 @@ impl fmt::Display for Reason {
 
 impl std::error::Error for Reason {}
 
-/// Why a call failed: the errors of `minisign-verify`, and one for all else. It is shown in the
-/// words of its reason.
+/// An error of this crate: the variants of `minisign-verify`, and two more. `Display` prints a
+/// sentence.
 #[derive(Debug)]
 pub enum Error {
-    /// The text of a public key or of a signature is not well formed, for this reason.
+    /// A public key or a signature file is malformed, for this reason.
     InvalidEncoding(Reason),
-    /// The signature of the data or that of the trusted comment is not valid, or the public key or
-    /// a signature is weak (`Reason::WEAK_ED25519`). The reason says which.
+    /// The signature of the data or the comment signature is not valid, or the public key or one of
+    /// them is weak (`Reason::WEAK_ED25519`). The reason says which.
     InvalidSignature(Reason),
     /// A file could not be read, or is not UTF-8.
     IoError(io::Error),
-    /// A signature is over the data itself, which was not allowed.
+    /// The signature is a legacy one, and `allow_legacy` is false.
     UnexpectedAlgorithm,
-    /// A signature was made with another key.
+    /// The signature was made with a key that has another key ID.
     UnexpectedKeyId,
-    /// The algorithm of a signature is none of Minisign's.
+    /// The algorithm of the signature is not one of Minisign's.
     UnsupportedAlgorithm,
-    /// A signature is over the data itself, and cannot be verified in pieces.
+    /// The signature is a legacy one, which cannot be verified in pieces.
     UnsupportedLegacyMode,
-    /// A key was to be sealed under limits below the least that Minisign's own program seals with.
+    /// `encode` was called with limits below the minimum of the program minisign.
     WeakLimits,
-    /// What `minisign-verify` has no name for: of signing, of keys, of usage errors.
+    /// Any other error: of signing, of secret keys, or API misuse.
     Rejected(Reason),
 }
 
 impl Error {
-    /// Why it was, and nothing where the system could not read a file, or limits are weak.
+    /// Returns the error code of `minisign.h`. Returns `None` for `WeakLimits`, and for an
+    /// `IoError` of the system.
     pub fn reason(&self) -> Option<&Reason> {
         match self {
             Error::InvalidEncoding(it) | Error::InvalidSignature(it) | Error::Rejected(it) => {
@@ -83,7 +84,7 @@ impl From<Reason> for Error {
             Reason::SIGNATURE_REFUSED
             | Reason::COMMENT_SIGNATURE_REFUSED
             | Reason::WEAK_ED25519 => Error::InvalidSignature(reason),
-            // (of both texts, and of the base64 of a key alone)
+            // The errors of malformed public keys and signatures, as files or in base64.
             Reason(16..=27 | 44..=45) => Error::InvalidEncoding(reason),
             _ => Error::Rejected(reason),
         }
@@ -103,38 +104,39 @@ impl fmt::Display for Error {
             Error::WeakLimits => {
                 f.write_str("the key limits are below 524288 operations or 16 MiB")
             }
-            other => other.reason().map_or(Ok(()), |it| it.fmt(f)),
+            _ => self.reason().map_or(Ok(()), |reason| reason.fmt(f)),
         }
     }
 }
 
-/// Its source is the `Reason`, or the error of the system.
+/// The source is the `Reason`, or the error of the system.
 impl std::error::Error for Error {
     fn source(&self) -> Option<&(dyn std::error::Error + 'static)> {
         match self {
             Error::IoError(error) => Some(error),
-            other => other.reason().map(|it| it as _),
+            _ => self.reason().map(|reason| reason as _),
         }
     }
 }
 
-/// An implementation of Ed25519. The crate takes its results as they are, but rejects public keys
-/// and signatures of small order or with a non-canonical encoding itself
-/// (`Reason::WEAK_ED25519`), so `accepts` need not reject them. An implementation that only
-/// verifies leaves the other methods at their defaults.
+/// An implementation of Ed25519. The crate trusts its results. It rejects public keys and
+/// signatures of small order or with a non-canonical encoding itself (`Reason::WEAK_ED25519`), so
+/// `accepts` need not reject them. An implementation that only verifies can leave the other methods
+/// at their defaults.
 pub trait Ed25519: Sync {
-    /// Whether the signature is one of the message under the public key.
+    /// Returns true if the signature is valid for the message and the public key.
     fn accepts(&self, signature: &[u8; 64], message: &[u8], public_key: &[u8; 32]) -> bool;
-    /// The signature of the message under a secret key: the 32 bytes of the seed, and the 32 of
-    /// its public key.
+    /// Signs the message with a secret key: the 32 bytes of the seed, then the 32 bytes of the
+    /// public key. Returns `None` on failure, which is the default.
     fn sign(&self, _message: &[u8], _secret_key: &[u8; 64]) -> Option<[u8; 64]> {
         None
     }
-    /// Writes the secret key of a seed, and answers whether it did.
+    /// Writes the secret key that belongs to a seed. Returns false on failure, which is the
+    /// default.
     fn expand(&self, _seed: &[u8; 32], _secret_key: &mut [u8; 64]) -> bool {
         false
     }
-    /// Writes random bytes that nobody can guess, and answers whether it did.
+    /// Writes random bytes that nobody can guess. Returns false on failure, which is the default.
     fn random(&self, _bytes: &mut [u8]) -> bool {
         false
     }
@@ -151,27 +153,27 @@ impl fmt::Debug for dyn Ed25519 + '_ {
 #[derive(Clone, Copy, Debug, Default)]
 pub struct Sodium;
 
-/// The text of a file.
+/// Reads a file, which must be UTF-8.
 fn text_of_file(path: &Path) -> io::Result<String> {
     let not_utf8 = |_| io::Error::new(io::ErrorKind::InvalidData, Reason::NOT_UTF8);
     String::from_utf8(fs::read(path)?).map_err(not_utf8)
 }
 
-/// A key ID as `minisign` prints it.
+/// Formats a key ID as the program minisign prints it: one little-endian number.
 fn key_id_text(key_id: &[u8; 8]) -> String {
     format!("{:X}", u64::from_le_bytes(*key_id))
 }
 
-/// Hands over the pieces of what a reader gives until its end, each with how many bytes that were
+/// Reads to the end of a reader, and passes each piece to a function, with the number of bytes read
 /// so far.
 fn read_pieces(mut from: impl io::Read, mut take: impl FnMut(&[u8], u64)) -> io::Result<()> {
-    let (mut piece, mut taken) = (vec![0; 1 << 16], 0);
+    let (mut piece, mut bytes_read) = (vec![0; 1 << 16], 0);
     loop {
         match from.read(&mut piece) {
             Ok(0) => return Ok(()),
             Ok(len) => {
-                taken += len as u64;
-                take(&piece[..len], taken);
+                bytes_read += len as u64;
+                take(&piece[..len], bytes_read);
             }
             Err(error) if error.kind() == io::ErrorKind::Interrupted => {}
             Err(error) => return Err(error),
@@ -179,7 +181,7 @@ fn read_pieces(mut from: impl io::Read, mut take: impl FnMut(&[u8], u64)) -> io:
     }
 }
 
-/// A public key.
+/// A public key, which verifies signatures.
 #[derive(Clone, Debug, Eq, PartialEq, Ord, PartialOrd, Hash)]
 pub struct PublicKey {
     untrusted_comment: Option<String>,
@@ -187,54 +189,67 @@ pub struct PublicKey {
 }
 
 impl PublicKey {
-    fn with(comment: Option<&str>, key: raw::PublicKey) -> Self {
+    fn new(comment: Option<&str>, key: raw::PublicKey) -> Self {
         PublicKey {
             untrusted_comment: comment.map(String::from),
             key,
         }
     }
 
-    /// Reads both lines of a file such as `minisign.pub`.
+    /// Parses the content of a public key file, such as `minisign.pub`: both lines.
     pub fn decode(lines: &str) -> Result<Self, Error> {
         let key = raw::read_public_key(lines.as_bytes())?;
-        Ok(Self::with(lines.lines().next(), key))
+        Ok(Self::new(lines.lines().next(), key))
     }
 
-    /// Reads the base64 of a public key alone: its 56 letters.
+    /// Parses the 56 base64 characters of a public key, which are the second line of its file and
+    /// the argument of `minisign -P`.
     pub fn from_base64(public_key: &str) -> Result<Self, Error> {
         let key = raw::read_bare_public_key(public_key.as_bytes())?;
-        Ok(Self::with(None, key))
+        Ok(Self::new(None, key))
     }
 
-    /// Reads a file such as `minisign.pub`.
+    /// Reads a public key file, such as `minisign.pub`.
     pub fn from_file<P: AsRef<Path>>(path: P) -> Result<Self, Error> {
         Self::decode(&text_of_file(path.as_ref())?)
     }
 
-    /// The first line of the key's text, for which nobody vouches.
+    /// Returns the first line of the key file, which is not signed. Returns `None` for a key from
+    /// base64.
     pub fn untrusted_comment(&self) -> Option<&str> {
         self.untrusted_comment.as_deref()
     }
 
-    /// The 8 bytes of its key ID, which is one little-endian number. Anybody can make a key with
-    /// the same one.
+    /// Returns the 8 bytes of the key ID, which is one little-endian number. Anybody can make a key
+    /// with the same key ID.
     pub fn key_id(&self) -> &[u8; 8] {
         &self.key.key_id
     }
 
-    /// The key ID as `minisign` prints it: in upper-case hexadecimal digits, without leading zeros.
+    /// Returns the key ID as the program minisign prints it: in upper-case hexadecimal digits
+    /// without leading zeros.
     pub fn key_id_text(&self) -> String {
         key_id_text(&self.key.key_id)
     }
 
-    /// Verifies data at once. With `allow_legacy` signatures over the data itself will do, which
-    /// Minisign made before version 0.10.
+    /// Verifies data in memory. If `allow_legacy` is true, also accepts legacy signatures, which
+    /// sign the data itself instead of its digest, as Minisign made them before version 0.10.
+    ///
+    /// # Errors
+    ///
+    /// `UnexpectedKeyId` if the signature has another key ID; `UnexpectedAlgorithm` for a legacy
+    /// signature that is not allowed; `InvalidSignature` if the signature is not valid, or weak.
     #[cfg(feature = "sodium")]
-    pub fn verify(&self, data: &[u8], by: &Signature, allow_legacy: bool) -> Result<(), Error> {
-        self.verify_with(&Sodium, data, by, allow_legacy)
+    pub fn verify(
+        &self,
+        data: &[u8],
+        signature: &Signature,
+        allow_legacy: bool,
+    ) -> Result<(), Error> {
+        self.verify_with(&Sodium, data, signature, allow_legacy)
     }
 
-    /// Verifies data at once, by this Ed25519.
+    /// Verifies data in memory as `verify` does, with this implementation of Ed25519.
     pub fn verify_with(
         &self,
         ed25519: &dyn Ed25519,
@@ -247,93 +262,101 @@ impl PublicKey {
         verifier.end(data)
     }
 
-    /// Begins to verify data that comes in pieces. All that is wrong with the signature's text is
-    /// told here.
+    /// Begins to verify data that arrives in pieces, and checks everything that does not depend on
+    /// the data.
+    ///
+    /// # Errors
+    ///
+    /// `UnexpectedKeyId` if the signature has another key ID; `UnsupportedLegacyMode` for a legacy
+    /// signature; `InvalidSignature` for a weak public key or signature.
     #[cfg(feature = "sodium")]
     pub fn verify_stream<'a>(&self, signature: &'a Signature) -> Result<StreamVerifier<'a>, Error> {
         self.verify_stream_with(&Sodium, signature)
     }
 
-    /// Begins to verify data that comes in pieces, by this Ed25519.
+    /// Begins to verify data as `verify_stream` does, with this implementation of Ed25519.
     pub fn verify_stream_with<'a>(
         &self,
         ed25519: &'a dyn Ed25519,
         signature: &'a Signature,
     ) -> Result<StreamVerifier<'a>, Error> {
-        let begun = StreamVerifier::begin(&self.key, ed25519, signature, false);
-        begun.map_err(|reason| match reason {
+        let verifier = StreamVerifier::begin(&self.key, ed25519, signature, false);
+        verifier.map_err(|reason| match reason {
             Reason::LEGACY_NOT_ACCEPTED => Error::UnsupportedLegacyMode,
             _ => reason.into(),
         })
     }
 }
 
-/// A signature, which vouches for nothing before it was verified.
+/// A parsed signature file. Parsing verifies nothing.
 #[derive(Clone, Debug, Eq, PartialEq, Hash)]
 pub struct Signature {
     text: String,
-    read: raw::Signature,
+    parsed: raw::Signature,
 }
 
 impl Signature {
-    /// Reads the four lines of a file such as `data.minisig`.
+    /// Parses the content of a signature file, such as `data.minisig`: four lines.
     pub fn decode(lines: &str) -> Result<Self, Error> {
-        let (text, read) = (lines.into(), raw::read_signature(lines.as_bytes())?);
-        Ok(Signature { text, read })
+        let (text, parsed) = (lines.into(), raw::read_signature(lines.as_bytes())?);
+        Ok(Signature { text, parsed })
     }
 
-    /// Reads a file such as `data.minisig`.
+    /// Reads a signature file, such as `data.minisig`.
     pub fn from_file<P: AsRef<Path>>(path: P) -> Result<Self, Error> {
         Self::decode(&text_of_file(path.as_ref())?)
     }
 
-    /// The trusted comment, which was signed with the data: trust it only once the signature was
-    /// verified, or once `StreamVerifier::trusted_comment` has told it.
+    /// Returns the trusted comment, which is signed with the data. Trust it only after the
+    /// signature was verified, or if `StreamVerifier::trusted_comment` returned it.
     pub fn trusted_comment(&self) -> &str {
-        &self.text[self.read.comment_offset as usize..][..self.read.comment_len as usize]
+        &self.text[self.parsed.comment_offset as usize..][..self.parsed.comment_len as usize]
     }
 
-    /// The first line of the text, for which nobody vouches.
+    /// Returns the first line of the signature file, which is not signed.
     pub fn untrusted_comment(&self) -> &str {
         self.text.lines().next().unwrap_or_default()
     }
 
-    /// The 8 bytes of the key ID that it names, by which its key can be chosen.
+    /// Returns the 8 bytes of the key ID of the signer's key. Use it to choose the public key.
+    /// Nothing is verified: anybody can write any key ID.
     pub fn key_id(&self) -> &[u8; 8] {
-        &self.read.key_id
+        &self.parsed.key_id
     }
 
-    /// The key ID as `minisign` prints it: in upper-case hexadecimal digits, without leading zeros.
+    /// Returns the key ID as the program minisign prints it: in upper-case hexadecimal digits
+    /// without leading zeros.
     pub fn key_id_text(&self) -> String {
-        key_id_text(&self.read.key_id)
+        key_id_text(&self.parsed.key_id)
     }
 
-    /// Whether it is over the data itself, as Minisign made signatures before version 0.10.
+    /// Returns true for a legacy signature, which signs the data itself instead of its digest, as
+    /// Minisign made them before version 0.10.
     pub fn is_legacy(&self) -> bool {
-        self.read.legacy == 1
+        self.parsed.legacy == 1
     }
 }
 
-/// The text of the signature, as it was read or made.
+/// Prints the content of the signature file, unchanged.
 impl fmt::Display for Signature {
     fn fmt(&self, f: &mut fmt::Formatter) -> fmt::Result {
         f.write_str(&self.text)
     }
 }
 
-/// Verifies data that comes in pieces.
+/// Verifies data that arrives in pieces: call `update` for each piece, and `finalize` at the end.
 #[derive(Clone, Debug)]
 pub struct StreamVerifier<'a> {
     ed25519: &'a dyn Ed25519,
     signature: &'a Signature,
     state: raw::State,
     questions: raw::Questions,
-    message: Vec<u8>,
+    comment_message: Vec<u8>,
 }
 
 impl<'a> StreamVerifier<'a> {
-    /// Asks what Ed25519 has to answer about a signature under a key, and the message of the second
-    /// question.
+    /// Begins a verification: gets the two signatures that Ed25519 has to check, and the message of
+    /// the comment signature.
     fn begin(
         key: &raw::PublicKey,
         ed25519: &'a dyn Ed25519,
@@ -342,59 +365,66 @@ impl<'a> StreamVerifier<'a> {
     ) -> Result<Self, Reason> {
         let (text, legacy, mut state) =
             (signature.text.as_bytes(), allow_legacy.into(), raw::init());
-        let (questions, message) = raw::ask(&mut state, key, &signature.read, text, legacy)?;
+        let (questions, comment_message) =
+            raw::ask(&mut state, key, &signature.parsed, text, legacy)?;
         Ok(StreamVerifier {
             ed25519,
             signature,
             state,
             questions,
-            message,
+            comment_message,
         })
     }
 
-    /// Takes in the next piece of the data, of any length.
+    /// Adds the next piece of the data, of any length.
     pub fn update(&mut self, piece: &[u8]) {
-        // (only once the verdict was asked for is it rejected, and then so is another verdict)
+        // This fails only after `finalize`, and then a second `finalize` fails too.
         let _ = raw::update(&mut self.state, piece);
     }
 
-    /// Takes in all that a reader gives until its end, and after each piece of it tells how many
-    /// bytes that were so far.
+    /// Adds the data of a reader, up to its end. Calls `progress` after each piece with the number
+    /// of bytes read so far.
     pub fn update_from(
         &mut self,
         from: impl io::Read,
         mut progress: impl FnMut(u64),
     ) -> io::Result<()> {
-        read_pieces(from, |piece, taken| {
+        read_pieces(from, |piece, bytes_read| {
             self.update(piece);
-            progress(taken)
+            progress(bytes_read)
         })
     }
 
-    /// The trusted comment, where the key has signed it: also before the data is there, of which
-    /// this says nothing.
+    /// Verifies the comment signature, and returns the trusted comment. You can call this before
+    /// you have the data. It says nothing about the data. After `finalize` it returns an error.
     pub fn trusted_comment(&self) -> Result<&'a str, Error> {
         raw::comment_verdict(&self.state, self.accepts_comment())?;
         Ok(self.signature.trusted_comment())
     }
 
-    /// Whether the signature vouches for all of the pieces. It is asked once: after that each call
-    /// rejects.
+    /// Returns `Ok` if the signature is valid for all of the data, and otherwise
+    /// `InvalidSignature`. Then use none of the data. Call it once: a second call returns an error.
     pub fn finalize(&mut self) -> Result<(), Error> {
         self.end(&[])
     }
 
     fn accepts_comment(&self) -> bool {
-        let it = &self.questions;
-        let (of, message) = (&it.comment_signature, &self.message);
-        self.ed25519.accepts(of, message, &it.public_key)
+        let questions = &self.questions;
+        let (signature, key) = (&questions.comment_signature, &questions.public_key);
+        self.ed25519.accepts(signature, &self.comment_message, key)
     }
 
+    /// Returns the verdict. For a legacy signature, `data` is all of the data.
     fn end(&mut self, data: &[u8]) -> Result<(), Error> {
-        let (digest, it) = (raw::digest(&mut self.state)?, &self.questions);
-        let message = if it.legacy == 1 { data } else { &digest };
-        let first = self.ed25519.accepts(&it.signature, message, &it.public_key);
-        let second = self.accepts_comment();
-        Ok(raw::verdict(&mut self.state, first, second)?)
+        let (digest, questions) = (raw::digest(&mut self.state)?, &self.questions);
+        let message = if questions.legacy == 1 { data } else { &digest };
+        let (signature, key) = (&questions.signature, &questions.public_key);
+        let is_data_valid = self.ed25519.accepts(signature, message, key);
+        let is_comment_valid = self.accepts_comment();
+        Ok(raw::verdict(
+            &mut self.state,
+            is_data_valid,
+            is_comment_valid,
+        )?)
     }
 }

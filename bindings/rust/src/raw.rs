@@ -1,6 +1,5 @@
 // SPDX-License-Identifier: MIT
-//! All of this crate that is `unsafe`: the calls of `minisign.h`, made from it, and those of
-//! libsodium.
+//! Calls the C library and libsodium. All `unsafe` code of this crate is in this module.
 #![allow(unsafe_code)]
 
 mod header;

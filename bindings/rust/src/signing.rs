@@ -1,27 +1,28 @@
 // SPDX-License-Identifier: MIT
-//! Signing, and making keys.
+//! Makes secret keys and signatures.
 
 use crate::{key_id_text, raw, read_pieces, text_of_file};
 use crate::{Ed25519, Error, PublicKey, Reason, Signature};
 use std::{fmt, fs, io, path::Path};
 
-/// How much memory and time a sealed key may take, and takes.
+/// The memory and time of scrypt, which derives a key from a password.
 #[derive(Clone, Copy, Debug)]
 pub struct Work {
-    /// Of scrypt's rows each one of so many is kept in memory, and the others are made again: 1
-    /// keeps all, 16 takes 65 MiB at most.
+    /// Every `keep_every`-th row of scrypt is kept in memory, and the others are computed again
+    /// when they are needed. 1 keeps all rows and is the fastest. 16 takes at most 65 MiB, and some
+    /// three times as long.
     pub keep_every: u64,
-    /// How many rows may be made in all for a key that is opened: scrypt's N times its p.
+    /// The maximum work of decrypting a key file: the rows of scrypt in all, which are N times p.
     pub most_rows: u64,
-    /// How much work a key that is made asks for, as libsodium counts it: 524,288 at least, which
-    /// is the least that Minisign's own program seals with.
+    /// The work that a key is encrypted with, as libsodium counts it. At least 524,288, the minimum
+    /// of the program minisign.
     pub operations_limit: u64,
-    /// How many bytes a key that is made asks for: 2^24 at least, and at most 2^30.
+    /// The memory that a key is encrypted with, in bytes: from 2^24 to 2^30.
     pub memory_limit: u64,
 }
 
 impl Work {
-    /// That of `minisign -G`: 1 GiB, and a few seconds.
+    /// The limits of `minisign -G`: 1 GiB of memory, and a few seconds.
     pub const USUAL: Work = Work {
         keep_every: raw::KEEP_EVERY_ROW as u64,
         most_rows: raw::USUAL_ROWS as u64,
@@ -30,41 +31,49 @@ impl Work {
     };
 }
 
-/// A secret key, opened. Its bytes are cleared at its end.
-pub struct SecretKey(Box<raw::SecretKey>, bool);
+/// A decrypted or new secret key. Its bytes are cleared when it is dropped.
+pub struct SecretKey {
+    key: Box<raw::SecretKey>,
+    is_weak: bool,
+}
 
 impl SecretKey {
-    /// A new key of random bytes.
+    /// Generates a new key from random bytes.
     pub fn generate(ed25519: &dyn Ed25519) -> Result<SecretKey, Error> {
         let (mut new, mut seed) = (raw::NewKey::ZEROS, [0; 32]);
-        let is_drawn = ed25519.random(&mut new.key_id) && ed25519.random(&mut seed);
-        let is_made = is_drawn && ed25519.expand(&seed, &mut new.secret);
-        let key = SecretKey(raw::take_secret_key(&new), false);
+        let is_complete = ed25519.random(&mut new.key_id)
+            && ed25519.random(&mut seed)
+            && ed25519.expand(&seed, &mut new.secret);
+        let key = raw::take_secret_key(&new);
         raw::clear(&mut seed);
-        let failed = Reason::RANDOM_SOURCE_FAILED.into();
-        is_made.then_some(key).ok_or(failed)
+        is_complete
+            .then_some(SecretKey {
+                key,
+                is_weak: false,
+            })
+            .ok_or_else(|| Reason::RANDOM_SOURCE_FAILED.into())
     }
 
-    /// Reads both lines of a file such as `minisign.key`. A password opens a sealed key, and no
-    /// other one.
+    /// Decrypts the content of a secret key file, such as `minisign.key`: both lines. Pass `None`
+    /// as the password of a key that is not encrypted.
     pub fn decode(lines: &str, password: Option<&str>, work: &Work) -> Result<SecretKey, Error> {
         let (unopened, every) = (raw::read_secret_key(lines.as_bytes())?, work.keep_every);
-        let opened = match password.map(str::as_bytes) {
-            Some(typed) => raw::open_sealed_key(&unopened, typed, every, work.most_rows),
+        let key = match password.map(str::as_bytes) {
+            Some(password) => raw::open_sealed_key(&unopened, password, every, work.most_rows),
             None => raw::open_unsealed_key(&unopened),
-        };
+        }?;
         let is_weak =
             unopened.is_sealed == 1 && usize::from(unopened.log2_rows) < raw::LEAST_LOG2_ROWS;
-        Ok(SecretKey(opened?, is_weak))
+        Ok(SecretKey { key, is_weak })
     }
 
-    /// Whether the text that it was opened from is sealed so weakly that passwords are tried fast:
-    /// under limits that `encode` rejects. Seal such a key again.
+    /// Returns true if the file that the key was read from was encrypted with limits that `encode`
+    /// rejects. Passwords of such a file can be tried fast, so encrypt the key again.
     pub fn is_weak(&self) -> bool {
-        self.1
+        self.is_weak
     }
 
-    /// Reads a file such as `minisign.key`.
+    /// Reads and decrypts a secret key file, such as `minisign.key`: see `decode`.
     pub fn from_file<P: AsRef<Path>>(
         path: P,
         password: Option<&str>,
@@ -76,9 +85,15 @@ impl SecretKey {
         key
     }
 
-    /// The text of the key, both lines of a file such as `minisign.key`, sealed under a password if
-    /// there is one: `WeakLimits` if the limits of the work are too low for that. `write_new`
-    /// writes it to a file.
+    /// Returns the content of a secret key file for this key: both lines. Write it with
+    /// `write_new`.
+    ///
+    /// The key is encrypted with the password and a new salt, or not encrypted if the password is
+    /// `None`.
+    ///
+    /// # Errors
+    ///
+    /// With a password, `WeakLimits` if the limits in `work` are below the minimum.
     pub fn encode(
         &self,
         ed25519: &dyn Ed25519,
@@ -98,29 +113,34 @@ impl SecretKey {
         if password.is_some() && !ed25519.random(&mut sealing.salt) {
             return Err(Reason::RANDOM_SOURCE_FAILED.into());
         }
-        let (key, typed, every) = (&self.0, password.map(str::as_bytes), work.keep_every);
-        let comment = raw::SECRET_KEY_COMMENT.as_bytes();
-        Ok(raw::secret_key_text(key, typed, &sealing, every, comment)?)
+        Ok(raw::secret_key_text(
+            &self.key,
+            password.map(str::as_bytes),
+            &sealing,
+            work.keep_every,
+            raw::SECRET_KEY_COMMENT.as_bytes(),
+        )?)
     }
 
-    /// The key ID as `minisign` prints it: in upper-case hexadecimal digits, without leading zeros.
+    /// Returns the key ID as the program minisign prints it: in upper-case hexadecimal digits
+    /// without leading zeros.
     pub fn key_id_text(&self) -> String {
-        key_id_text(&self.0.key_id)
+        key_id_text(&self.key.key_id)
     }
 
-    /// The text of its public key, both lines of a file such as `minisign.pub`.
+    /// Returns the content of a public key file for this key, such as `minisign.pub`: both lines.
     pub fn public_key_text(&self) -> Result<String, Error> {
         let comment = format!("{}{}", raw::PUBLIC_KEY_COMMENT, self.key_id_text());
-        Ok(raw::public_key_text(&self.0, comment.as_bytes())?)
+        Ok(raw::public_key_text(&self.key, comment.as_bytes())?)
     }
 
-    /// Its public key.
+    /// Returns the public key, which verifies the signatures of this key.
     pub fn public_key(&self) -> Result<PublicKey, Error> {
-        Ok(PublicKey::with(None, raw::public_key_of(&self.0)?))
+        Ok(PublicKey::new(None, raw::public_key_of(&self.key)?))
     }
 
-    /// Signs data at once. The comments are one line each; whoever verifies can trust the first
-    /// one.
+    /// Signs data in memory. The comments have one line each. `trusted` is signed with the data,
+    /// and `untrusted` is not signed. The errors are those of `Signer::finalize`.
     pub fn sign(
         &self,
         ed25519: &dyn Ed25519,
@@ -133,7 +153,7 @@ impl SecretKey {
         signer.finalize(trusted, untrusted)
     }
 
-    /// Signs what a file holds: see `sign`.
+    /// Signs a file, as `sign` signs data.
     pub fn sign_file<P: AsRef<Path>>(
         &self,
         ed25519: &dyn Ed25519,
@@ -146,7 +166,7 @@ impl SecretKey {
         signer.finalize(trusted, untrusted)
     }
 
-    /// Begins to sign data that comes in pieces.
+    /// Begins to sign data that arrives in pieces.
     pub fn sign_stream<'a>(&'a self, ed25519: &'a dyn Ed25519) -> Signer<'a> {
         Signer {
             ed25519,
@@ -156,14 +176,14 @@ impl SecretKey {
     }
 }
 
-/// Shows the key ID alone.
+/// Prints only the key ID.
 impl fmt::Debug for SecretKey {
     fn fmt(&self, f: &mut fmt::Formatter) -> fmt::Result {
         write!(f, "SecretKey({})", self.key_id_text())
     }
 }
 
-/// Signs data that comes in pieces.
+/// Signs data that arrives in pieces: call `update` for each piece, and `finalize` at the end.
 #[derive(Clone, Debug)]
 pub struct Signer<'a> {
     ed25519: &'a dyn Ed25519,
@@ -172,34 +192,47 @@ pub struct Signer<'a> {
 }
 
 impl Signer<'_> {
-    /// Takes in the next piece of the data, of any length.
+    /// Adds the next piece of the data, of any length.
     pub fn update(&mut self, piece: &[u8]) {
-        // (a state that was begun rejects nothing before its digest was told, which ends this)
+        // This cannot fail before the digest is computed, which only `finalize` does.
         let _ = raw::update(&mut self.state, piece);
     }
 
-    /// Takes in all that a reader gives until its end.
+    /// Adds the data of a reader, up to its end.
     pub fn update_from(&mut self, from: impl io::Read) -> io::Result<()> {
         read_pieces(from, |piece, _| self.update(piece))
     }
 
-    /// The signature of all pieces.
+    /// Returns the signature of all data, after verifying it.
+    ///
+    /// # Errors
+    ///
+    /// `InvalidSignature` if the seed and the public key in the secret key do not belong together,
+    /// as in a damaged key; `Rejected` with `BAD_COMMENT` or `UNREADABLE_COMMENT` for a comment
+    /// that Minisign could not read back.
     pub fn finalize(mut self, trusted: &str, untrusted: &str) -> Result<Signature, Error> {
         let (trusted, untrusted) = (trusted.as_bytes(), untrusted.as_bytes());
         let digest = raw::digest(&mut self.state)?;
-        let first = self.signed(&digest)?;
-        let second = self.signed(&raw::comment_message(&first, trusted)?)?;
-        let key = raw::public_key_of(&self.key.0)?;
-        let text = raw::signed_text(&key, &first, &second, trusted, untrusted)?;
+        let data_signature = self.sign_message(&digest)?;
+        let message = raw::comment_message(&data_signature, trusted)?;
+        let comment_signature = self.sign_message(&message)?;
+        let key = raw::public_key_of(&self.key.key)?;
+        let text = raw::signed_text(
+            &key,
+            &data_signature,
+            &comment_signature,
+            trusted,
+            untrusted,
+        )?;
         Signature::decode(&text)
     }
 
-    /// A signature that was verified: one of a damaged key, whose halves do not belong together,
-    /// would give the secret half away.
-    fn signed(&self, message: &[u8]) -> Result<[u8; 64], Error> {
+    /// Signs a message, and verifies the signature before returning it: if the seed and the public
+    /// key of a damaged key do not belong together, its signatures reveal the secret.
+    fn sign_message(&self, message: &[u8]) -> Result<[u8; 64], Error> {
         let (key, ed25519) = (self.key.public_key()?.key.key, self.ed25519);
-        let signature = ed25519.sign(message, &self.key.0.secret);
-        let verified = signature.filter(|it| ed25519.accepts(it, message, &key));
+        let signature = ed25519.sign(message, &self.key.key.secret);
+        let verified = signature.filter(|signature| ed25519.accepts(signature, message, &key));
         verified.ok_or_else(|| Reason::SIGNATURE_REFUSED.into())
     }
 }

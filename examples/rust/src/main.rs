@@ -1,18 +1,18 @@
-//! How a Rust updater verifies a file: `minisign-verify PUBLIC_KEY DATA SIGNATURE`, over the
-//! package of `bindings/rust`.
+//! Shows how an updater in Rust verifies a file, with the crate in `bindings/rust`:
+//! `minisign-verify PUBLIC_KEY DATA SIGNATURE`.
 //!
-//! Its exit status is 0 where the texts vouch for the data, and it prints the trusted comment; else
-//! 1, or 2 where a file could not be read. Legacy signatures, which are over the data itself, are
-//! rejected.
+//! If the signature is valid, it prints the trusted comment and exits with status 0. Otherwise the
+//! exit status is 1, or 2 if a file cannot be read. Legacy signatures, which sign the data itself
+//! instead of its digest, are rejected.
 
 use minisign_proved::{Error, PublicKey, Signature};
 use std::{env, fs::File, process::ExitCode};
 
-/// The trusted comment, where the signature vouches for all of the data under the key.
+/// Returns the trusted comment if the signature is valid for the data.
 fn verify(key: &str, data: &str, signature: &str) -> Result<String, Error> {
     let (key, signature) = (PublicKey::from_file(key)?, Signature::from_file(signature)?);
     let mut verifier = key.verify_stream(&signature)?;
-    verifier.update_from(File::open(data)?, |_taken| ())?;
+    verifier.update_from(File::open(data)?, |_bytes_read| ())?;
     verifier.finalize()?;
     Ok(signature.trusted_comment().into())
 }

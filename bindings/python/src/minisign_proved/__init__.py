@@ -1,6 +1,6 @@
 # SPDX-License-Identifier: MIT
-"""Minisign signatures by the proved calls of include/minisign.h: verifying, signing,
-keys, and installing updates."""
+"""Verifies and makes Minisign signatures, reads and writes keys, and installs updates,
+with the proved functions of include/minisign.h."""
 
 from . import _keys, errors
 from ._arguments import Path as Path, Text as Text

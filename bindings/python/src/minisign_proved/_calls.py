@@ -1,7 +1,7 @@
 # SPDX-License-Identifier: MIT
-"""What is outside of Python: the calls of the library, which `_header.py` declares, and
-Ed25519 of libsodium or of the package `cryptography`. An error of a call is raised as
-its exception."""
+"""Loads the shared library, whose calls `_header.py` declares, and an implementation of
+Ed25519: libsodium or the package `cryptography`. If a call returns an error code, the
+exception for this code is raised."""
 
 import base64
 import ctypes.util
@@ -12,29 +12,30 @@ from . import _header as h
 from ._arguments import choice
 from .errors import BY_NUMBER, MinisignError, WeakEd25519
 
-# The 64 bytes of a secret key: the seed, and its public key.
+# The 64 bytes of an Ed25519 secret key: the seed and the public key.
 Secret = ctypes.Array[ctypes.c_ubyte]
 
 
 def error_of(number: int) -> MinisignError:
-    """The exception of a number."""
+    """Returns the exception for an error code."""
     return BY_NUMBER.get(number, MinisignError)(calls.error_text(number).decode())
 
 
-def _must(number: int) -> None:
+def _raise_error(number: int) -> None:
+    """Raises the exception for an error code, unless the code is 0."""
     if number != 0:
         raise error_of(number)
 
 
 HERE = os.path.dirname(os.path.abspath(__file__))
 library = ctypes.CDLL(os.path.join(HERE, "libminisign.so"))
-calls = h.Calls(library, _must)
+calls = h.Calls(library, _raise_error)
 
 # ---- Ed25519 ----
 
 
 class Sodium:
-    """libsodium, by its shared library."""
+    """Ed25519 of libsodium, which is loaded as a shared library."""
 
     def __init__(self) -> None:
         found = ctypes.util.find_library("sodium")
@@ -48,68 +49,77 @@ class Sodium:
 
     def sign(self, message: bytes, secret: Secret) -> bytes:
         signature, length = ctypes.create_string_buffer(64), len(message)
-        made = self._library.crypto_sign_detached
-        _must(made(signature, None, message, ctypes.c_ulonglong(length), secret))
+        sign = self._library.crypto_sign_detached
+        _raise_error(sign(signature, None, message, ctypes.c_ulonglong(length), secret))
         return signature.raw
 
     def pair(self) -> Secret:
-        pair = (ctypes.c_ubyte * 64)()
-        _must(self._library.crypto_sign_keypair((ctypes.c_ubyte * 32)(), pair))
-        return pair
+        secret, public = (ctypes.c_ubyte * 64)(), (ctypes.c_ubyte * 32)()
+        _raise_error(self._library.crypto_sign_keypair(public, secret))
+        return secret
 
 
 class Cryptography:
-    """The package `cryptography`. It accepts some signatures of small order or with
-    non-canonical encodings, which libsodium rejects. The library rejects those first,
-    except in `minisign_install_ask`: see `is_strict`."""
+    """Ed25519 of the package `cryptography`. It accepts some signatures of small order
+    or with non-canonical encodings, which libsodium rejects. `minisign_ask` rejects
+    them before Ed25519 is called. `minisign_install_ask` does not: see `is_strict`."""
 
     def __init__(self) -> None:
         from cryptography.hazmat.primitives.asymmetric import ed25519
 
-        self._of = ed25519
+        self._module = ed25519
 
     def accepts(self, signature: bytes, message: bytes, key: bytes) -> bool:
         from cryptography.exceptions import InvalidSignature
 
         try:
-            self._of.Ed25519PublicKey.from_public_bytes(key).verify(signature, message)
+            public_key = self._module.Ed25519PublicKey.from_public_bytes(key)
+            public_key.verify(signature, message)
         except (InvalidSignature, ValueError):
             return False
         return True
 
     def sign(self, message: bytes, secret: Secret) -> bytes:
         seed = bytes(secret)[:32]
-        return self._of.Ed25519PrivateKey.from_private_bytes(seed).sign(message)
+        return self._module.Ed25519PrivateKey.from_private_bytes(seed).sign(message)
 
     def pair(self) -> Secret:
         from cryptography.hazmat.primitives.serialization import Encoding, PublicFormat
 
         seed = os.urandom(32)
-        key = self._of.Ed25519PrivateKey.from_private_bytes(seed).public_key()
+        key = self._module.Ed25519PrivateKey.from_private_bytes(seed).public_key()
         public = key.public_bytes(Encoding.Raw, PublicFormat.Raw)
         return (ctypes.c_ubyte * 64)(*seed, *public)
 
 
-Kind = Union[Sodium, Cryptography]
-KINDS: Dict[str, Type[Kind]] = {"libsodium": Sodium, "cryptography": Cryptography}
-_chosen: List[Kind] = []
+Ed25519 = Union[Sodium, Cryptography]
+IMPLEMENTATIONS: Dict[str, Type[Ed25519]] = {
+    "libsodium": Sodium,
+    "cryptography": Cryptography,
+}
+# The implementation in use, or nothing before the first use.
+_current: List[Ed25519] = []
 
 
 def use_ed25519(name: str) -> None:
-    """Takes Ed25519 from `libsodium` or from `cryptography`; otherwise it is the first
-    of them that is there. ImportError or OSError where that one is not, and ValueError
-    of another name."""
-    _chosen[:] = [choice("name", name, KINDS)()]
+    """Chooses the implementation of Ed25519: "libsodium" or "cryptography". Without
+    this call, the package uses libsodium if it is installed, and otherwise
+    cryptography.
+
+    Raises ValueError for any other name, and OSError or ImportError if libsodium or
+    cryptography cannot be loaded. Then the implementation is unchanged.
+    """
+    _current[:] = [choice("name", name, IMPLEMENTATIONS)()]
 
 
-def ed25519() -> Kind:
-    """The Ed25519 that was chosen, or the first that is there."""
-    if not _chosen:
+def ed25519() -> Ed25519:
+    """Returns the implementation that `use_ed25519` chose, or the default one."""
+    if not _current:
         try:
             use_ed25519("libsodium")
         except OSError:
             use_ed25519("cryptography")
-    return _chosen[0]
+    return _current[0]
 
 
 # ---- What strict Ed25519 rejects ----
@@ -118,9 +128,10 @@ STRICT_TEXT = b"untrusted comment: -\n%s\ntrusted comment: -\n%s\n"
 
 
 def is_strict(signature: bytes, key: bytes) -> bool:
-    """Returns whether `minisign_ask` accepts the bytes of a signature and a public key,
-    and does not raise WeakEd25519. `minisign_install_ask` does not test them, so an
-    installation asks `minisign_ask` about a text made of the signature."""
+    """Returns False if a public key or a signature is weak, which is the case if
+    `minisign_ask` rejects them with WeakEd25519. `minisign_install_ask` does not check
+    this. So an installation calls `minisign_ask` with a signature file that is made
+    from the bytes of the signature."""
     line = base64.b64encode(b"ED" + bytes(8) + signature)
     text = STRICT_TEXT % (line, base64.b64encode(signature))
     public_key = calls.read_bare_public_key(base64.b64encode(b"Ed" + bytes(8) + key))

@@ -1,7 +1,7 @@
 # SPDX-License-Identifier: MIT
-"""The numbers, structs and calls of the library.
+"""Declares the constants, structs and calls of the library for ctypes.
 
-Made by tools/bindings.py from include/minisign.h.
+Made by tools/bindings.py from include/minisign.h and include/minisign_install.h.
 """
 
 from ctypes import CDLL, POINTER, Array, Structure, create_string_buffer
@@ -30,7 +30,7 @@ SIGNATURE_COMMENT = "signature from minisign secret key"
 TRUSTED_COMMENT_FORMAT = "timestamp:%llu\tfile:%s\thashed"
 SECRET_KEY_COMMENT = "minisign encrypted secret key"
 PUBLIC_KEY_COMMENT = "minisign public key "
-# Sizes to which the length of what is put in is added.
+# Sizes without the lengths of the comments, which the caller adds.
 TEXT_BYTES = 240
 SECRET_KEY_BYTES = 233
 PUBLIC_KEY_BYTES = 77
@@ -184,7 +184,8 @@ Octets = Union[bytes, "Array[c_ubyte]"]
 
 
 class Calls:
-    """The calls of a library: what answers an error is passed through a function."""
+    """Calls the functions of a library. Error codes are passed to the function `error`,
+    which raises an exception for them."""
 
     def __init__(self, library: CDLL, error: Callable[[int], object]) -> None:
         self._library = library

@@ -1,5 +1,5 @@
 # SPDX-License-Identifier: MIT
-"""Public keys, signatures and verifying; secret keys and signing."""
+"""Reads public keys and signatures, verifies, makes secret keys, and signs."""
 
 import ctypes
 import os
@@ -21,29 +21,30 @@ from .errors import ReadingFailed
 __all__ = ["Data", "Password", "Progress", "PublicKey", "SecretKey", "Signature"]
 __all__ += ["TooLong", "Verifier", "change_password", "sign", "verify", "write_new"]
 
-# How many bytes were read, and how many the file has, 0 where that is not known.
+# Is called with the number of bytes read so far, and the size of the file, or 0 if the
+# size is not known.
 Progress = Callable[[int, int], None]
 # Bytes, a binary file, or pieces of bytes.
 Data = Union[bytes, IO[bytes], Iterable[bytes]]
 
 TEXT_BYTES, PIECE_BYTES = 1 << 20, 1 << 18
-# None where a key is not sealed.
+# None for a key that is not encrypted.
 Password = Optional[Text]
 UNTRUSTED_COMMENT = "signature from minisign secret key"
-# How many rows of a derivation are kept, by whether it is to take little memory.
-ROWS = {False: h.KEEP_EVERY_ROW, True: h.KEEP_FEW_ROWS}
+# The parameter keep_every of the C library, by the value of low_memory.
+KEEP_EVERY = {False: h.KEEP_EVERY_ROW, True: h.KEEP_FEW_ROWS}
 
 
 # ---- Verifying ----
 
 
 class TooLong(ReadingFailed):
-    """The text of a key or a signature has more than 1 MiB, or data more than is
-    allowed."""
+    """A key file or signature file has more than 1 MiB, or data is larger than the
+    limit `most` of `install`."""
 
 
 def read_text(path: Path) -> bytes:
-    """The bytes of a text."""
+    """Reads a key file or signature file. Raises TooLong if it has more than 1 MiB."""
     name = path_text("path", path)
     with open(name, "rb") as file:
         text = file.read(TEXT_BYTES + 1)
@@ -53,19 +54,19 @@ def read_text(path: Path) -> bytes:
 
 
 def is_file(data: object) -> bool:
-    """Whether an object is read, as a file that is open."""
+    """Returns True if data is passed as an open file, not as bytes or pieces."""
     return hasattr(data, "read")
 
 
 def pieces(data: Data) -> Iterator[bytes]:
-    """The data in pieces of bytes, which nobody else changes."""
+    """Yields the data in pieces, each a copy that nobody else can change."""
     if is_file(data):
         file = cast("IO[bytes]", data)
         return iter(lambda: octets("what data reads", file.read(PIECE_BYTES)), b"")
     try:
         return iter([octets("data", data, "bytes, a binary file or pieces of bytes")])
     except TypeError:
-        # (the pieces of a text would be its letters)
+        # A str is iterable, but yields str.
         if isinstance(data, str) or not isinstance(data, Iterable):
             raise
     return (octets("a piece of data", piece) for piece in data)
@@ -74,12 +75,13 @@ def pieces(data: Data) -> Iterator[bytes]:
 def pieces_of(
     data: Union[str, IO[bytes]], progress: Optional[Progress]
 ) -> Iterable[bytes]:
-    """The pieces of a file, which stays open where it was."""
-    with ExitStack() as opened:
+    """Yields the pieces of a path or an open file. Closes only a file that it opened.
+    Calls `progress` after each piece."""
+    with ExitStack() as stack:
         if is_file(data):
             file = cast("IO[bytes]", data)
         else:
-            file = opened.enter_context(open(cast(str, data), "rb", buffering=0))
+            file = stack.enter_context(open(cast(str, data), "rb", buffering=0))
         size, done = 0 if file is data else os.fstat(file.fileno()).st_size, 0
         for piece in pieces(file):
             yield piece
@@ -88,43 +90,51 @@ def pieces_of(
                 progress(done, size)
 
 
-def identifier(key_id: Iterable[int]) -> str:
-    """The 8 bytes of a key ID as minisign shows them, in hexadecimal digits."""
+def key_id_text(key_id: Iterable[int]) -> str:
+    """Formats the 8 bytes of a key ID as the program minisign prints it: one
+    little-endian number in upper-case hexadecimal digits, without leading zeros."""
     return f"{int.from_bytes(bytes(key_id), 'little'):X}"
 
 
 class Signature:
-    """The text of a signature, as in a file `data.minisig`: a `str` or its UTF-8. It is
-    parsed when a part of it is asked for, or when it is verified. Of a `str` that UTF-8
-    cannot encode none is made: NotUtf8."""
+    """Holds the content of a signature file, such as data.minisig, as `str` or its
+    UTF-8 bytes. Nothing is verified until you pass it to `verify` or a `Verifier`.
+
+    Creating a Signature raises NotUtf8 for a `str` that UTF-8 cannot encode, but does
+    not parse the content. `key_id`, `is_legacy` and verifying do. If the content is
+    malformed, they raise NotUtf8, MissingUntrustedComment, MissingSignature,
+    MissingTrustedComment, MissingCommentSignature, UntrustedCommentPrefix,
+    SignatureNotBase64 or RecordTooShort (of the second line), TrustedCommentPrefix,
+    UnsupportedAlgorithm, or SignatureNotBase64 (of the fourth line).
+    """
 
     def __init__(self, text: Text) -> None:
         self._text = text_octets("text", text)
-        self._kept: Optional[h.Signature] = None
+        self._struct: Optional[h.Signature] = None
 
     @property
     def text(self) -> bytes:
-        """Its UTF-8."""
+        """The content of the file, as bytes."""
         return self._text
 
     @property
-    def _read(self) -> h.Signature:
-        """What its text reads as."""
-        if self._kept is None:
-            self._kept = calls.read_signature(self._text)
-        return self._kept
+    def _parsed(self) -> h.Signature:
+        """The struct that the library parses the content into, on first use."""
+        if self._struct is None:
+            self._struct = calls.read_signature(self._text)
+        return self._struct
 
     @property
     def key_id(self) -> str:
-        """The identifier of the key that it names, by which a key can be chosen, as
-        minisign shows it. NotUtf8, and the errors of the text of a signature."""
-        return identifier(self._read.key_id)
+        """The key ID of the signer's key, as the program minisign prints it. Use it to
+        choose the public key. Nothing is verified: anybody can write any key ID."""
+        return key_id_text(self._parsed.key_id)
 
     @property
     def is_legacy(self) -> bool:
-        """Whether it is over the data itself, as Minisign made signatures before
-        version 0.10. It raises what `key_id` raises."""
-        return bool(self._read.legacy)
+        """True for a legacy signature, as Minisign made them before version 0.10. It
+        signs the data itself instead of its digest."""
+        return bool(self._parsed.legacy)
 
     def __repr__(self) -> str:
         return f"Signature({self._text!r})"
@@ -137,48 +147,60 @@ class Signature:
 
     @classmethod
     def from_file(cls, path: Path) -> "Signature":
-        """Reads a file of at most 1 MiB: TooLong otherwise, and OSError where it cannot
-        be read."""
+        """Reads a signature file, without parsing it. Raises OSError if it cannot be
+        read, and TooLong if it has more than 1 MiB."""
         return cls(read_text(path))
 
 
 class PublicKey:
-    """A public key, under which signatures are verified."""
+    """Holds a public key, which verifies signatures."""
 
-    def __init__(self, text: Text, *, _read: Optional[h.PublicKey] = None) -> None:
-        """Reads both lines of a file such as minisign.pub, as `str` or as its UTF-8.
-        NotUtf8, also of a `str` that UTF-8 cannot encode; MissingPublicKeyComment,
-        MissingPublicKey, PublicKeyLength, PublicKeyNotBase64, RecordTooShort."""
-        self._read = _read or calls.read_public_key(text_octets("text", text))
+    def __init__(self, text: Text, *, _parsed: Optional[h.PublicKey] = None) -> None:
+        """Parses the content of a public key file, such as minisign.pub: both lines, as
+        `str` or UTF-8 bytes.
+
+        Raises NotUtf8, MissingPublicKeyComment, MissingPublicKey, PublicKeyLength,
+        PublicKeyNotBase64 or RecordTooShort if the content is malformed.
+        """
+        self._parsed = _parsed or calls.read_public_key(text_octets("text", text))
 
     @property
     def key(self) -> bytes:
-        """Its 32 bytes."""
-        return bytes(self._read.key)
+        """The 32 bytes of the Ed25519 public key."""
+        return bytes(self._parsed.key)
 
     @property
     def key_id(self) -> str:
-        """Its identifier as minisign shows it, in hexadecimal digits."""
-        return identifier(self._read.key_id)
+        """The key ID as the program minisign prints it: upper-case hexadecimal digits
+        without leading zeros."""
+        return key_id_text(self._parsed.key_id)
 
     @classmethod
     def from_file(cls, path: Path) -> "PublicKey":
-        """Reads a file such as minisign.pub of at most 1 MiB: TooLong otherwise, and
-        OSError where it cannot be read."""
+        """Reads a public key file, such as minisign.pub. Raises OSError if it cannot be
+        read, TooLong if it has more than 1 MiB, and otherwise the errors of
+        `PublicKey`."""
         return cls(read_text(path))
 
     @classmethod
     def from_base64(cls, letters: Text) -> "PublicKey":
-        """Reads the 56 letters that stand in the second line and after minisign -P.
-        NotUtf8, BarePublicKeyLength, BarePublicKeyNotBase64, RecordTooShort."""
-        read = calls.read_bare_public_key(text_octets("letters", letters))
-        return cls(b"", _read=read)
+        """Parses the 56 base64 characters of a public key, which are the second line of
+        its file and the argument of minisign -P.
+
+        Raises NotUtf8, BarePublicKeyLength, BarePublicKeyNotBase64 or RecordTooShort if
+        they are malformed.
+        """
+        parsed = calls.read_bare_public_key(text_octets("letters", letters))
+        return cls(b"", _parsed=parsed)
 
     def verify(
         self, data: Data, signature: Signature, allow_legacy: bool = False
     ) -> str:
-        """The trusted comment, where the signature vouches for the data under this key;
-        see `Verifier`."""
+        """Verifies data, and returns the trusted comment if the signature is valid.
+
+        `data` is bytes, a binary file, or an iterable of pieces of bytes. Raises the
+        errors of `Verifier` and of `Verifier.finish`.
+        """
         verifier = Verifier(self, signature, allow_legacy)
         for piece in pieces(data):
             verifier.update(piece)
@@ -188,18 +210,25 @@ class PublicKey:
         return f"<PublicKey {self.key_id}>"
 
     def __eq__(self, other: object) -> bool:
-        return isinstance(other, PublicKey) and bytes(self._read) == bytes(other._read)
+        return isinstance(other, PublicKey) and bytes(self._parsed) == bytes(
+            other._parsed
+        )
 
     def __hash__(self) -> int:
-        return hash(bytes(self._read))
+        return hash(bytes(self._parsed))
 
 
 class Verifier:
-    """Verifies data that comes in pieces. Where the texts reject already, it is not
-    made: NotUtf8, the errors of the text of a signature, DifferentKeyIds,
-    LegacyNotAccepted, WeakEd25519. Signatures over the data itself are taken where
-    `allow_legacy` is true: the data is then kept in memory until the end. Threads may
-    share one: their calls are made one after another.
+    """Verifies data that arrives in pieces: call `update` for each piece, and `finish`
+    at the end.
+
+    Creating a Verifier checks everything that does not depend on the data. It raises
+    the errors that `Signature` lists for malformed content; DifferentKeyIds, if the
+    signature has another key ID than the key; LegacyNotAccepted, for a legacy signature
+    unless `allow_legacy` is true; and WeakEd25519.
+
+    The data of a legacy signature is kept in memory until `finish`. Several threads may
+    use one Verifier, because it has a lock.
     """
 
     def __init__(
@@ -208,53 +237,67 @@ class Verifier:
         signature: Signature,
         allow_legacy: bool = False,
         *,
-        _fed: Optional[h.State] = None,
+        _state: Optional[h.State] = None,
     ) -> None:
         check_kind("key", key, PublicKey)
         check_kind("signature", signature, Signature)
         check_kind("allow_legacy", allow_legacy, bool)
-        self._state = _fed or calls.init()
-        self._asked, self._message = calls.ask(
-            self._state, key._read, signature._read, signature.text, int(allow_legacy)
+        self._state = _state or calls.init()
+        self._questions, self._comment_message = calls.ask(
+            self._state,
+            key._parsed,
+            signature._parsed,
+            signature.text,
+            int(allow_legacy),
         )
-        self._turn = threading.Lock()
-        self._held: List[bytes] = []
+        self._lock = threading.Lock()
+        self._legacy_data: List[bytes] = []
 
     def update(self, piece: bytes) -> None:
-        """Feeds the next bytes, as many as there are."""
+        """Adds the next piece of the data, of any length. Raises NotBegun after
+        `finish`."""
         piece = octets("piece", piece)
-        with self._turn:
+        with self._lock:
             calls.update(self._state, piece)
-            if self._asked.legacy == 1:
-                self._held.append(piece)
+            if self._questions.legacy == 1:
+                self._legacy_data.append(piece)
 
     @property
     def _comment(self) -> str:
-        """The trusted comment, as it stands in the message of the second question."""
-        begin, length = self._asked.comment_offset, self._asked.comment_len
-        return self._message[begin:][:length].decode()
+        """The trusted comment, from the message that the comment signature signs."""
+        questions = self._questions
+        end = questions.comment_offset + questions.comment_len
+        return self._comment_message[questions.comment_offset : end].decode()
 
     def _accepts_comment(self) -> bool:
-        second, key = self._asked.comment_signature, self._asked.public_key
-        return ed25519().accepts(bytes(second), self._message, bytes(key))
+        """Returns whether Ed25519 accepts the comment signature."""
+        signature, key = self._questions.comment_signature, self._questions.public_key
+        return ed25519().accepts(bytes(signature), self._comment_message, bytes(key))
 
     def trusted_comment(self) -> str:
-        """The trusted comment, where the key has signed it: also before the data is
-        there, of which this says nothing. Otherwise CommentSignatureRefused; and
-        NotBegun where it was finished."""
-        with self._turn:
+        """Returns the trusted comment, after verifying the comment signature. You can
+        call it before you have the data. It says nothing about the data.
+
+        Raises NotBegun after `finish`, and CommentSignatureRefused if the comment
+        signature is not valid.
+        """
+        with self._lock:
             calls.comment_verdict(self._state, self._accepts_comment())
             return self._comment
 
     def finish(self) -> str:
-        """The trusted comment, where the signature vouches for all that was fed.
-        Otherwise SignatureRefused or CommentSignatureRefused; and NotBegun where it was
-        finished before."""
-        with self._turn:
-            digest, key = calls.digest(self._state), bytes(self._asked.public_key)
-            message = b"".join(self._held) if self._asked.legacy == 1 else digest
-            first = ed25519().accepts(bytes(self._asked.signature), message, key)
-            calls.verdict(self._state, first, self._accepts_comment())
+        """Returns the trusted comment if the signature is valid for all of the data.
+
+        Raises NotBegun if called a second time. Raises SignatureRefused if the
+        signature of the data is not valid, or CommentSignatureRefused if the comment
+        signature is not. Then use none of the data.
+        """
+        questions = self._questions
+        with self._lock:
+            digest, key = calls.digest(self._state), bytes(questions.public_key)
+            message = b"".join(self._legacy_data) if questions.legacy == 1 else digest
+            is_data_valid = ed25519().accepts(bytes(questions.signature), message, key)
+            calls.verdict(self._state, is_data_valid, self._accepts_comment())
             return self._comment
 
 
@@ -266,54 +309,64 @@ def verify(
     allow_legacy: bool = False,
     progress: Optional[Progress] = None,
 ) -> str:
-    """The trusted comment, where a signature vouches for a file under a key: without
-    one it is that of the file `path`.minisig. Raises what `Verifier` and its calls
-    raise, OSError where a file cannot be read, and TooLong. `progress` is told how far
-    it is.
+    """Verifies a file, and returns the trusted comment if the signature is valid.
+
+    Without `signature`, reads it from the file `path`.minisig. `progress` is called
+    after each piece with the number of bytes read so far, and the size of the file, or
+    0 if the size is not known. Returning means that the bytes which were read are
+    signed; if others can write to the file, they can change it afterwards.
+
+    Raises OSError if a file cannot be read, TooLong if the signature file has more than
+    1 MiB, and the errors of `Verifier` and of `Verifier.finish`.
     """
     name = path_text("path", path)
     check_kind("key", key, PublicKey)
     check_function("progress", progress)
-    text = Signature.from_file(name + ".minisig") if signature is None else signature
-    return key.verify(pieces_of(name, progress), text, allow_legacy)
+    if signature is None:
+        signature = Signature.from_file(name + ".minisig")
+    return key.verify(pieces_of(name, progress), signature, allow_legacy)
 
 
 # ---- Signing ----
 
 
 def old_password(name: str, password: Password) -> Optional[bytes]:
-    """The bytes of a password that opens a key."""
+    """Returns the bytes of a password that decrypts a key."""
     return None if password is None else text_octets(name, password)
 
 
 def new_password(name: str, password: Password) -> Optional[bytes]:
-    """The bytes of a password that is to seal a key."""
+    """Returns the bytes of a password that encrypts a key. Rejects an empty one."""
     if (text := old_password(name, password)) == b"":
         raise ValueError(f"{name} must not be empty; use None for no password")
     return text
 
 
 class SecretKey(AbstractContextManager["SecretKey"]):
-    """A secret key that is open. `clear`, also at the end of a `with`, sets its secret
-    bytes to zeros; what Python has copied of a password or a text stays in memory. With
-    `low_memory` a derivation takes 65 MiB and some three times the time, instead of 1
-    GiB.
+    """Holds a decrypted secret key, which signs. Make one with `generate`, `from_bytes`
+    or `from_file`.
+
+    `clear`, which the end of a `with` block calls too, sets the secret bytes to zeros.
+    Copies that Python made of a password or of the content of a key file stay in
+    memory. Deriving a key from a password takes 1 GiB of memory with the limits of
+    minisign -G. With `low_memory` it takes 65 MiB, and some three times as long.
     """
 
     def __init__(self, opened: h.SecretKey, *, _weak: bool = False) -> None:
         check_kind("opened", opened, h.SecretKey)
         self._opened, self._weak = opened, _weak
-        self._public_key = PublicKey(b"", _read=calls.public_key_of(opened))
+        self._public_key = PublicKey(b"", _parsed=calls.public_key_of(opened))
 
     @property
     def public_key(self) -> PublicKey:
-        """Its public key, also after it was cleared."""
+        """The public key, which you can read even after `clear`."""
         return self._public_key
 
     @property
     def is_weak(self) -> bool:
-        """Whether the text that it was opened from is sealed so weakly that passwords
-        are tried fast: under limits that `to_bytes` rejects. Seal such a key again."""
+        """True if the file that the key was read from was encrypted with limits below
+        the minimum of Minisign, which `to_bytes` rejects. Passwords of such a file can
+        be tried fast, so encrypt the key again."""
         return self._weak
 
     def __repr__(self) -> str:
@@ -324,7 +377,7 @@ class SecretKey(AbstractContextManager["SecretKey"]):
 
     @classmethod
     def generate(cls) -> "SecretKey":
-        """A new key, of the system's random bytes."""
+        """Generates a new key from random bytes of the system."""
         pair = ed25519().pair()
         new = h.NewKey((ctypes.c_ubyte * 8)(*secrets.token_bytes(8)))
         ctypes.memmove(new.secret, pair, ctypes.sizeof(new.secret))
@@ -342,26 +395,32 @@ class SecretKey(AbstractContextManager["SecretKey"]):
         low_memory: bool = False,
         most_rows: int = h.USUAL_ROWS,
     ) -> "SecretKey":
-        """Opens both lines of a file such as minisign.key, as `str` or as its UTF-8.
+        """Decrypts the content of a secret key file, such as minisign.key: both lines,
+        as `str` or UTF-8 bytes. Pass None as the password of a key that is not
+        encrypted. `most_rows` limits the work of scrypt: N times p.
 
-        Raises NotUtf8, also for a `str` that UTF-8 cannot encode;
-        MissingSecretKeyComment, MissingSecretKey, SecretKeyNotBase64 or RecordTooShort
-        for a damaged text; KeySealed if the key needs a password and there is none,
-        KeyNotSealed if it needs none. A key without a password may be KeyCorrupted. A
-        sealed key may be UnsupportedKeyDerivation, ParametersTooHigh or
-        InvalidParameters; WorkTooHigh if it asks for more than `most_rows` rows of
-        scrypt in all (N times p); and WrongPassword.
+        Raises:
+
+        - NotUtf8, MissingSecretKeyComment, MissingSecretKey, SecretKeyNotBase64 or
+          RecordTooShort, if the content is malformed;
+        - without a password: KeySealed, if the key is encrypted; KeyCorrupted, if its
+          checksum does not match;
+        - with a password: NotUtf8, for a password that is not UTF-8; KeyNotSealed, if
+          the key is not encrypted; UnsupportedKeyDerivation, ParametersTooHigh or
+          InvalidParameters, if its key derivation or its limits are not supported;
+          WorkTooHigh, if it takes more than `most_rows` rows of scrypt; WrongPassword.
         """
-        typed = old_password("password", password)
+        password_bytes = old_password("password", password)
         check_kind("low_memory", low_memory, bool)
         check_number("most_rows", most_rows, 1, h.ANY_ROWS)
         unopened = calls.read_secret_key(text_octets("text", text))
         try:
-            if typed is None:
+            if password_bytes is None:
                 return cls(calls.open_unsealed_key(unopened))
-            rows, is_weak = ROWS[low_memory], unopened.log2_rows < h.LEAST_LOG2_ROWS
-            opened = calls.open_sealed_key(unopened, typed, rows, most_rows)
-            return cls(opened, _weak=is_weak)
+            opened = calls.open_sealed_key(
+                unopened, password_bytes, KEEP_EVERY[low_memory], most_rows
+            )
+            return cls(opened, _weak=unopened.log2_rows < h.LEAST_LOG2_ROWS)
         finally:
             ctypes.memset(ctypes.byref(unopened), 0, ctypes.sizeof(unopened))
 
@@ -374,8 +433,9 @@ class SecretKey(AbstractContextManager["SecretKey"]):
         low_memory: bool = False,
         most_rows: int = h.USUAL_ROWS,
     ) -> "SecretKey":
-        """Opens a file such as minisign.key of at most 1 MiB: see `from_bytes`.
-        TooLong, and OSError where it cannot be read."""
+        """Reads and decrypts a secret key file, such as minisign.key. Raises OSError if
+        it cannot be read, TooLong if it has more than 1 MiB, and otherwise the errors
+        of `from_bytes`."""
         return cls.from_bytes(
             read_text(path), password, low_memory=low_memory, most_rows=most_rows
         )
@@ -389,26 +449,45 @@ class SecretKey(AbstractContextManager["SecretKey"]):
         operations_limit: int = h.OPERATIONS_LIMIT,
         memory_limit: int = h.MEMORY_LIMIT,
     ) -> bytes:
-        """The text of the key, sealed under the password and a new salt, with the
-        limits of minisign -G unless others are given; with None it is not sealed. An
-        empty password is a ValueError, and so are limits below the least that minisign
-        -G seals with."""
-        typed = new_password("password", password)
+        """Returns the content of a secret key file for this key. Write it with
+        `write_new`.
+
+        The key is encrypted with the password and a new salt, or not encrypted if
+        `password` is None. The limits of scrypt are those of minisign -G unless you
+        pass others: `operations_limit` is the work, and `memory_limit` the memory in
+        bytes, as libsodium counts them. `comment` is the untrusted comment in the first
+        line.
+
+        Raises ValueError for an empty password, and for limits below the lowest that
+        minisign -G encrypts with. Raises KeyNotOpened after `clear`; NotUtf8,
+        BadComment or UnreadableComment for a comment that Minisign could not read back;
+        ParametersTooHigh or InvalidParameters for limits that scrypt rejects.
+        """
+        password_bytes = new_password("password", password)
         check_kind("low_memory", low_memory, bool)
         least, most = h.LEAST_OPERATIONS_LIMIT, h.ANY_ROWS
         check_number("operations_limit", operations_limit, least, most)
         check_number("memory_limit", memory_limit, h.LEAST_MEMORY_LIMIT, h.MEMORY_LIMIT)
         salt = (ctypes.c_ubyte * 32)(*secrets.token_bytes(32))
         sealing = h.Sealing(salt, operations_limit, memory_limit)
-        rows, told = ROWS[low_memory], text_octets("comment", comment)
-        return calls.secret_key_text(self._opened, typed, sealing, rows, told)
+        return calls.secret_key_text(
+            self._opened,
+            password_bytes,
+            sealing,
+            KEEP_EVERY[low_memory],
+            text_octets("comment", comment),
+        )
 
     def public_bytes(self, comment: Optional[Text] = None) -> bytes:
-        """The text of its public key, with the comment of minisign -G where there is
-        none."""
-        usual = h.PUBLIC_KEY_COMMENT + self.public_key.key_id
-        told = text_octets("comment", usual if comment is None else comment)
-        return calls.public_key_text(self._opened, told)
+        """Returns the content of a public key file for this key. The default comment is
+        that of minisign -G.
+
+        Raises KeyNotOpened after `clear`, and NotUtf8, BadComment or UnreadableComment
+        for a comment that Minisign could not read back.
+        """
+        default = h.PUBLIC_KEY_COMMENT + self.public_key.key_id
+        text = text_octets("comment", default if comment is None else comment)
+        return calls.public_key_text(self._opened, text)
 
     def sign(
         self,
@@ -418,16 +497,20 @@ class SecretKey(AbstractContextManager["SecretKey"]):
         untrusted_comment: Text = UNTRUSTED_COMMENT,
         progress: Optional[Progress] = None,
     ) -> Signature:
-        """Signs a file. Without a trusted comment it has the time and the file's name,
-        as minisign -S writes them. BadComment, UnreadableComment; SignatureRefused
-        where the halves of the key do not belong together; OSError where it cannot be
-        read.
+        """Signs a file, and verifies the signature before returning it. The default
+        trusted comment has the time and the name of the file, as minisign -S writes it.
+
+        Raises NotUtf8 for a comment that is not UTF-8; OSError if the file cannot be
+        read; KeyNotOpened after `clear`; BadComment or UnreadableComment for a comment
+        that Minisign could not read back; and SignatureRefused if the seed and the
+        public key in the secret key do not belong together, as in a damaged key.
         """
         name = path_text("path", path)
         check_function("progress", progress)
-        usual = f"timestamp:{int(time.time())}\tfile:{os.path.basename(name)}\thashed"
-        trusted = usual if trusted_comment is None else trusted_comment
-        return self._sign(pieces_of(name, progress), trusted, untrusted_comment)
+        if trusted_comment is None:
+            file = os.path.basename(name)
+            trusted_comment = f"timestamp:{int(time.time())}\tfile:{file}\thashed"
+        return self._sign(pieces_of(name, progress), trusted_comment, untrusted_comment)
 
     def sign_data(
         self,
@@ -436,33 +519,39 @@ class SecretKey(AbstractContextManager["SecretKey"]):
         trusted_comment: Optional[Text] = None,
         untrusted_comment: Text = UNTRUSTED_COMMENT,
     ) -> Signature:
-        """Signs data that is not, or not only, a file: see `sign`. Without a trusted
-        comment it has the time alone."""
-        usual = f"timestamp:{int(time.time())}\thashed"
-        trusted = usual if trusted_comment is None else trusted_comment
-        return self._sign(pieces(data), trusted, untrusted_comment)
+        """Signs data, and verifies the signature before returning it. `data` is bytes,
+        a binary file, or an iterable of pieces of bytes. The default trusted comment
+        has only the time. Raises the errors of `sign`."""
+        if trusted_comment is None:
+            trusted_comment = f"timestamp:{int(time.time())}\thashed"
+        return self._sign(pieces(data), trusted_comment, untrusted_comment)
 
     def _sign(
         self, data: Iterable[bytes], trusted_comment: Text, untrusted_comment: Text
     ) -> Signature:
         trusted = text_octets("trusted_comment", trusted_comment)
         untrusted = text_octets("untrusted_comment", untrusted_comment)
-        state, signs, secret = calls.init(), ed25519().sign, self._opened.secret
+        state, ed25519_sign, secret = calls.init(), ed25519().sign, self._opened.secret
         for piece in data:
             calls.update(state, piece)
-        fed = h.State.from_buffer_copy(state)
-        first = signs(calls.digest(state), secret)
-        second = signs(calls.comment_message(first, trusted), secret)
+        state_before_digest = h.State.from_buffer_copy(state)
+        data_signature = ed25519_sign(calls.digest(state), secret)
+        message = calls.comment_message(data_signature, trusted)
+        comment_signature = ed25519_sign(message, secret)
         key = calls.public_key_of(self._opened)
-        text = calls.signed_text(key, first, second, trusted, untrusted)
-        # (one that the public half does not verify would give the secret of a damaged
-        # key away)
-        signature = Signature(text)
-        Verifier(PublicKey(b"", _read=key), signature, _fed=fed).finish()
+        signature = Signature(
+            calls.signed_text(
+                key, data_signature, comment_signature, trusted, untrusted
+            )
+        )
+        # Never return a signature that does not verify: if the seed and the public key
+        # of a damaged key do not belong together, its signatures reveal the secret.
+        public_key = PublicKey(b"", _parsed=key)
+        Verifier(public_key, signature, _state=state_before_digest).finish()
         return signature
 
     def clear(self, *_: object) -> None:
-        """Sets its secret bytes to zeros: it signs nothing from then on."""
+        """Sets the secret bytes to zeros. After that, the key cannot sign."""
         ctypes.memset(ctypes.byref(self._opened), 0, ctypes.sizeof(self._opened))
 
     __exit__ = clear
@@ -476,10 +565,15 @@ def sign(
     untrusted_comment: Text = UNTRUSTED_COMMENT,
     progress: Optional[Progress] = None,
 ) -> Signature:
-    """Signs a file, and writes the signature to the file `path`.minisig: see
-    `SecretKey.sign`. An older signature is replaced in one step, by a file of the same
-    mode: after an error, as OSError on a full disk, it is unchanged, and no other file
-    is left. If `path`.minisig is a link, the file that it leads to is replaced."""
+    """Signs a file, writes the signature to the file `path`.minisig, and returns it.
+
+    An existing signature file is replaced in one step, and keeps its mode. If
+    `path`.minisig is a symbolic link, the file that it leads to is replaced.
+
+    Raises the errors of `SecretKey.sign`, and OSError if the signature cannot be
+    written, for example because the disk is full. After an error an existing signature
+    file is unchanged, and no new file is left.
+    """
     name = path_text("path", path)
     check_kind("key", key, SecretKey)
     signature = key.sign(
@@ -495,12 +589,18 @@ def sign(
 def change_password(
     path: Path, old: Password, new: Password, *, low_memory: bool = False
 ) -> None:
-    """Seals the secret key of a file under another password. The file is replaced in
-    one step, by one that only its owner may read: after an error it is unchanged, and
-    no other file is left. If `path` is a link, the file that it leads to is replaced.
-    With None as `new` the key is not sealed; an empty one is a ValueError."""
+    """Encrypts the key of a secret key file with another password. Pass None for a key
+    that is not encrypted, as `old`, or is not to be encrypted, as `new`.
+
+    The file is replaced in one step by one that only its owner can read. If `path` is a
+    symbolic link, the file that it leads to is replaced.
+
+    Raises ValueError if `new` is empty, the errors of `SecretKey.from_file`, and
+    OSError if the file cannot be written. After an error the file is unchanged, and no
+    other file is left.
+    """
     name = path_text("path", path)
-    opening, sealing = old_password("old", old), new_password("new", new)
-    with SecretKey.from_file(name, opening, low_memory=low_memory) as key:
-        text = key.to_bytes(sealing, low_memory=low_memory)
+    old_bytes, new_bytes = old_password("old", old), new_password("new", new)
+    with SecretKey.from_file(name, old_bytes, low_memory=low_memory) as key:
+        text = key.to_bytes(new_bytes, low_memory=low_memory)
     replace_file(name, text, is_secret=True)

@@ -1,36 +1,37 @@
 # SPDX-License-Identifier: MIT
-"""An exception for each error.
+"""Defines an exception for each error code of the library.
 
 Made by tools/bindings.py from include/minisign.h.
 """
 
 
 class MinisignError(Exception):
-    """What the library rejected, or could not do: its number in include/minisign.h."""
+    """Base class of all errors of the library. `number` is the error code in
+    include/minisign.h, and the message is a sentence."""
 
     number = 0
 
 
 class NotBegun(MinisignError):
-    """The state was never begun, or was ended by a verdict."""
+    """The state was not initialized, or a verdict has finished it."""
 
     number = 1
 
 
 class AlreadyAsked(MinisignError):
-    """The questions were asked before, or the digest was told."""
+    """minisign_ask, minisign_install_ask or minisign_digest was called already."""
 
     number = 2
 
 
 class NotAsked(MinisignError):
-    """The questions were not asked, or the digest was not told."""
+    """minisign_ask, minisign_install_ask or minisign_digest was not called yet."""
 
     number = 3
 
 
 class BadAnswer(MinisignError):
-    """An answer is neither MINISIGN_ANSWER_YES nor MINISIGN_ANSWER_NO."""
+    """A result of a check is neither MINISIGN_ANSWER_YES nor MINISIGN_ANSWER_NO."""
 
     number = 4
 
@@ -54,13 +55,14 @@ class OutOfMemory(MinisignError):
 
 
 class NotUtf8(MinisignError):
-    """A text, a typed line, a password or a comment is not UTF-8."""
+    """The input is not UTF-8: a file, a typed line, a password, a comment or a name."""
 
     number = 8
 
 
 class BadComment(MinisignError):
-    """A comment of a signature would not be read back as it is."""
+    """This library would not read a comment back unchanged, for example because it
+    contains a line feed."""
 
     number = 9
 
@@ -72,14 +74,14 @@ class BadPasswordFlag(MinisignError):
 
 
 class UnreadableComment(MinisignError):
-    """A comment of a signature is one that Minisign would not read back: too long, or
-    with a zero byte or a carriage return."""
+    """This library would read a comment back, but Minisign would not, because it is too
+    long or contains a zero byte or a carriage return."""
 
     number = 11
 
 
 class NotDue(MinisignError):
-    """A call of installing is not due, or cannot go so."""
+    """The installation does not expect this call, or this error, at this point."""
 
     number = 12
 
@@ -91,14 +93,14 @@ class BadOption(MinisignError):
 
 
 class BadNumbering(MinisignError):
-    """A numbering is neither MINISIGN_NUMBERING_TIMESTAMP nor
+    """numbering is neither MINISIGN_NUMBERING_TIMESTAMP nor
     MINISIGN_NUMBERING_VERSION."""
 
     number = 14
 
 
 class KeyNotOpened(MinisignError):
-    """A secret key was neither opened nor taken in."""
+    """The secret key was neither opened nor set by minisign_take_secret_key."""
 
     number = 15
 
@@ -128,7 +130,7 @@ class PublicKeyNotBase64(MinisignError):
 
 
 class RecordTooShort(MinisignError):
-    """There are fewer bytes than the record needs."""
+    """A decoded key or signature has too few bytes."""
 
     number = 20
 
@@ -158,7 +160,8 @@ class MissingCommentSignature(MinisignError):
 
 
 class UntrustedCommentPrefix(MinisignError):
-    """The first line of the signature file does not begin with untrusted comment: ."""
+    """The first line of the signature file does not begin with "untrusted comment:
+    "."""
 
     number = 25
 
@@ -170,7 +173,7 @@ class SignatureNotBase64(MinisignError):
 
 
 class TrustedCommentPrefix(MinisignError):
-    """The third line of the signature file does not begin with trusted comment: ."""
+    """The third line of the signature file does not begin with "trusted comment: "."""
 
     number = 27
 
@@ -224,7 +227,8 @@ class SecretKeyNotBase64(MinisignError):
 
 
 class KeySealed(MinisignError):
-    """A secret key that should be unencrypted names a key derivation."""
+    """The key was to be opened without a password, but it names a key derivation, so it
+    may be encrypted."""
 
     number = 36
 
@@ -236,19 +240,21 @@ class KeyCorrupted(MinisignError):
 
 
 class KeyNotSealed(MinisignError):
-    """A secret key that should be encrypted names no key derivation."""
+    """The key was to be opened with a password, but it names no key derivation, so it
+    is not encrypted."""
 
     number = 38
 
 
 class UnsupportedKeyDerivation(MinisignError):
-    """An encrypted key names a key derivation other than Sc."""
+    """An encrypted key names a key derivation other than Sc, which is scrypt."""
 
     number = 39
 
 
 class ParametersTooHigh(MinisignError):
-    """The memory or work limit of an encrypted key is higher than allowed."""
+    """The memory limit of an encrypted key is above 2^30 bytes, or its limits give
+    scrypt more than 2^20 rows."""
 
     number = 40
 
@@ -267,7 +273,7 @@ class WrongPassword(MinisignError):
 
 
 class WorkTooHigh(MinisignError):
-    """Decrypting the key takes more work than the caller allows."""
+    """Decrypting the key takes more rows of scrypt than the caller allows."""
 
     number = 43
 
@@ -285,21 +291,19 @@ class BarePublicKeyNotBase64(MinisignError):
 
 
 class TargetInUse(MinisignError):
-    """Another run holds the lock on this target."""
+    """Another installation holds the lock on this target."""
 
     number = 46
 
 
 class NoRecord(MinisignError):
-    """No number is kept beside the target, and this was not said to be the first
-    installation."""
+    """No version is recorded for this target, and is_first is not set."""
 
     number = 47
 
 
 class DamagedRecord(MinisignError):
-    """What is kept beside the target does not read as a number, and this was not said
-    to be the first installation."""
+    """The version record of this target contains no number, and is_first is not set."""
 
     number = 48
 
@@ -311,93 +315,93 @@ class OtherFile(MinisignError):
 
 
 class NoNumber(MinisignError):
-    """The trusted comment has no number in decimal digits alone under the label that
-    the caller chose, or none below 2^64."""
+    """The trusted comment has no field of the chosen numbering, or its value is not a
+    decimal number below 2^64."""
 
     number = 50
 
 
 class OlderUpdate(MinisignError):
-    """The number of the trusted comment is below the one that is kept."""
+    """The version number of the update is below the recorded one."""
 
     number = 51
 
 
 class DirectoryNotSynced(MinisignError):
-    """The update stands at the target, but a crash may still bring back what stood
-    there before."""
+    """The update is installed but could not be synced, so a crash may bring back the
+    previous file."""
 
     number = 52
 
 
 class KeptByTimestamp(MinisignError):
-    """The number that is kept is a timestamp and not a version, and this was not said
-    to be the first installation."""
+    """The version record holds a timestamp and not a version, and is_first is not
+    set."""
 
     number = 53
 
 
 class KeptByVersion(MinisignError):
-    """The number that is kept is a version and not a timestamp, and this was not said
-    to be the first installation."""
+    """The version record holds a version and not a timestamp, and is_first is not
+    set."""
 
     number = 54
 
 
 class Expired(MinisignError):
-    """The update has expired at the moment that the caller passes."""
+    """The update has expired at the time that the caller passes."""
 
     number = 55
 
 
 class BadExpiry(MinisignError):
-    """The trusted comment has more than one field for when the update expires, or one
-    with no number in decimal digits alone, or none below 2^64."""
+    """The trusted comment has more than one field "expires:", or its value is not a
+    decimal number below 2^64."""
 
     number = 56
 
 
 class SameNumber(MinisignError):
-    """The number of the trusted comment is the one that is kept, other data stands at
-    the target, and the caller did not ask for the update to be installed again."""
+    """This version is already recorded, but the installed file is different, and again
+    is not set."""
 
     number = 57
 
 
 class NoExpiry(MinisignError):
-    """The trusted comment has no field for when the update expires, and the caller
-    wants one."""
+    """The trusted comment has no field "expires:", and must_expire is set."""
 
     number = 58
 
 
 class BadSize(MinisignError):
-    """The trusted comment has more than one field for the length of the data, or one
-    with no number in decimal digits alone, or none below 2^64."""
+    """The trusted comment has more than one field "size:", or its value is not a
+    decimal number below 2^64."""
 
     number = 59
 
 
 class OtherSize(MinisignError):
-    """The data is longer than the trusted comment says, or shorter."""
+    """The data is longer or shorter than the trusted comment says."""
 
     number = 60
 
 
 class OtherSignatureText(MinisignError):
-    """The text is not the one that the signature was read from."""
+    """The signature was read from another signature file than the one that was
+    passed."""
 
     number = 61
 
 
 class SignatureNotRead(MinisignError):
-    """A signature that is asked about was not read."""
+    """The signature was not read."""
 
     number = 62
 
 
 class KeyNotRead(MinisignError):
-    """A secret key that is to be opened was not read."""
+    """The secret key that is to be opened was not read."""
 
     number = 63
 
@@ -429,7 +433,7 @@ class WeakEd25519(MinisignError):
 
 
 class PublicKeyNotRead(MinisignError):
-    """A public key was not read."""
+    """The public key was not read."""
 
     number = 82
 

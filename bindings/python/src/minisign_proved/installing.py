@@ -1,7 +1,7 @@
 # SPDX-License-Identifier: MIT
-"""Installing an update that a signature vouches for. The host of
-c/install/installing.c, in the library, makes the calls of the system. This receives
-open files, asks Ed25519, and raises errors."""
+"""Installs updates and checks for them. The library contains the installer in C
+(c/install/installing.c), which makes the system calls. This module fills in its
+parameters, reads open files, calls Ed25519, and raises the errors."""
 
 import ctypes
 import os
@@ -21,21 +21,25 @@ from ._calls import ed25519, error_of, is_strict, library
 from ._keys import Progress, PublicKey, Signature, TooLong, is_file, pieces_of
 from .errors import OlderUpdate
 
-# One key, or two during a change of keys.
+# One public key, or two during a change of keys.
 Keys = Union[PublicKey, Sequence[PublicKey]]
 NUMBERINGS = {"timestamp": h.NUMBERING_TIMESTAMP, "version": h.NUMBERING_VERSION}
-LONGEST = 2**63 - 1
+MAX_SIZE = 2**63 - 1
 
-# What Ed25519 answers. Where this raises anything, as an interruption, the host is
-# answered 0: neither yes nor no, which ends the run.
+# The type of the function that checks an Ed25519 signature for the installer. If the
+# Python function raises, for example KeyboardInterrupt, ctypes returns 0, which is
+# neither ANSWER_YES nor ANSWER_NO and ends the run.
 AT = ctypes.c_void_p
 Answer = ctypes.CFUNCTYPE(ctypes.c_uint, AT, AT, ctypes.c_size_t, AT)
 
 
 class Offer(IntEnum):
-    """What `install` would do with an update: NEWER, it would be installed, also where
-    a run was cut off and this update has to be put there again; THERE, it stands at the
-    target already; OLDER, its number is below the one that is kept.
+    """Says what `install` would do with an update.
+
+    - NEWER: install it. It is newer than the recorded version, or a run that installed
+      it was interrupted.
+    - THERE: nothing, because it is already installed.
+    - OLDER: reject it, because its version number is below the recorded one.
     """
 
     NEWER = 1
@@ -45,9 +49,13 @@ class Offer(IntEnum):
 
 @dataclass(frozen=True, eq=False)
 class Checked:
-    """What `check` tells: as an `Offer` its `status`, to which it is equal; of the
-    update its `number`, and `comment`, the signed comment, as the key has signed it.
-    What a person is to see of that, control characters too, is for the caller to say.
+    """Holds the result of `check`. It is equal to its `status`, so that you can write
+    `check(..) == Offer.NEWER`.
+
+    - `status`: the `Offer`.
+    - `number`: the version number of the update.
+    - `comment`: the trusted comment of the update, exactly as it was signed. It may
+      contain control characters, so escape them before you print it.
     """
 
     status: Offer
@@ -62,7 +70,7 @@ class Checked:
 
 
 class Wanted(ctypes.Structure):
-    """`struct wanted` of c/install/installing.h."""
+    """Mirrors `struct wanted` of c/install/installing.h: the parameters of a run."""
 
     _fields_ = [
         ("target", ctypes.c_char_p),
@@ -87,8 +95,9 @@ class Wanted(ctypes.Structure):
 
 
 class Installing(ctypes.Structure):
-    """The first fields of `struct installing`, and of its directory: what could not be
-    used, if anything."""
+    """Mirrors the first fields of `struct installing` of c/install/installing.h: the
+    state of a run. `shown`, `cause` and `number` are the file that could not be used,
+    the reason, and errno."""
 
     _fields_ = [
         ("machine", h.Installation),
@@ -103,61 +112,66 @@ class Installing(ctypes.Structure):
     ]
 
 
-# (on other systems than Linux the library has no host)
-HAS_HOST = hasattr(library, "begin_installing")
-if HAS_HOST:
+# The library contains the installer on Linux only.
+HAS_INSTALLER = hasattr(library, "begin_installing")
+if HAS_INSTALLER:
     library.begin_installing.restype = ctypes.POINTER(Installing)
     library.make_call.restype = ctypes.c_bool
     library.vouched_comment.restype = ctypes.c_void_p
 
-# What asks for the end. For some of them Python has a handler, which it runs once a
-# call of the host has returned; others would end the process at once.
-ENDS = ("SIGHUP", "SIGINT", "SIGQUIT", "SIGTERM")
+# The signals that ask a process to end. If Python has a handler for one, it runs once
+# the current call of the library has returned. Without a handler, the signal ends the
+# process at once.
+END_SIGNALS = ("SIGHUP", "SIGINT", "SIGQUIT", "SIGTERM")
 
 
-def _make_call(begun: "ctypes._Pointer[Installing]") -> bool:
-    """Has the host make the call that is due; where that is the renaming of the record,
-    also those until the target has its name. Then, in the main thread, which alone may,
-    what would end the process at once is noted, and sent again at the end. (The host
-    holds signals back from the thread that calls it alone, and one for the process then
-    goes to any other thread. Python loses a signal that comes while its handler is
-    replaced, so they are blocked there.)"""
-    came: list[int] = []
-    due = library.minisign_install_due(begun.contents.machine)
+def _make_call(run_pointer: "ctypes._Pointer[Installing]") -> bool:
+    """Makes the call that is due, and returns whether another call is due. If the
+    record is to be renamed, the library makes all calls up to the renaming of the
+    target at once.
+
+    No signal must end the process between these two. The library blocks signals only in
+    the calling thread, so a signal that is sent to the process goes to another thread.
+    Therefore signals without a handler get one here, which notes the signal, and they
+    are raised again at the end. Python allows this only in the main thread.
+    """
+    noted: list[int] = []
+    due = library.minisign_install_due(run_pointer.contents.machine)
     is_main = threading.current_thread() is threading.main_thread()
-    is_held = due == h.DUE_RENAME_RECORD and is_main
-    ends = [getattr(signal, name) for name in ENDS if is_held]
-    ends = [end for end in ends if signal.getsignal(end) == signal.SIG_DFL]
+    is_deferring = due == h.DUE_RENAME_RECORD and is_main
+    numbers = [getattr(signal, name) for name in END_SIGNALS if is_deferring]
+    numbers = [each for each in numbers if signal.getsignal(each) == signal.SIG_DFL]
     try:
-        for end in ends:
-            signal.signal(end, lambda number, _: came.append(number))
-        return bool(library.make_call(begun))
+        for number in numbers:
+            signal.signal(number, lambda number, _: noted.append(number))
+        return bool(library.make_call(run_pointer))
     finally:
-        # (by then another thread that took a signal has noted it)
-        threading.Event().wait(0.01 * len(ends))
-        mask = signal.pthread_sigmask(signal.SIG_BLOCK, ends)
-        for end in ends:
-            signal.signal(end, signal.SIG_DFL)
+        # Another thread may have received a signal: give it the time to note it.
+        threading.Event().wait(0.01 * len(numbers))
+        # Python loses a signal that arrives while its handler is replaced.
+        mask = signal.pthread_sigmask(signal.SIG_BLOCK, numbers)
+        for number in numbers:
+            signal.signal(number, signal.SIG_DFL)
         signal.pthread_sigmask(signal.SIG_SETMASK, mask)
-        for number in dict.fromkeys(came):
+        for number in dict.fromkeys(noted):
             signal.raise_signal(number)
 
 
-def _received(
+def _receive(
     data: IO[bytes], directory: str, most: int, progress: Optional[Progress]
 ) -> IO[bytes]:
-    """Data that may stand still, in a file without a name: so the target is locked no
-    longer than the work takes."""
-    held = tempfile.TemporaryFile(dir=directory)
+    """Copies an open file, whose data may arrive slowly, into a temporary file without
+    a name, so that the target is not locked while the data arrives."""
+    file = tempfile.TemporaryFile(dir=directory)
     for piece in pieces_of(data, progress):
-        held.write(piece)
-        if held.tell() > most:
+        file.write(piece)
+        if file.tell() > most:
             raise TooLong("the data is larger than the limit")
-    held.seek(0)
-    return held
+    file.seek(0)
+    return file
 
 
-def _wanted(
+def _wanted_struct(
     key: Keys,
     signature: Signature,
     target: Path,
@@ -166,7 +180,8 @@ def _wanted(
     numbering: str,
     name: Optional[Path],
 ) -> Wanted:
-    """What an installation and a check have, once it was looked at."""
+    """Checks the parameters that `install` and `check` share, and returns the struct
+    that has them."""
     keys: list[PublicKey] = list(key) if isinstance(key, Sequence) else [key]
     for public_key in keys:
         check_kind("key", public_key, PublicKey)
@@ -176,26 +191,29 @@ def _wanted(
     check_kind("first", first, bool)
     check_kind("must_expire", must_expire, bool)
     field = choice("numbering", numbering, NUMBERINGS)
-    place = path_text("target", target)
-    last = os.path.basename(place)
-    if last in ("", ".", ".."):
-        raise ValueError(f"target must end with a file name, not {place!r}")
-    file_name = last if name is None else path_text("name", name)
+    target_path = path_text("target", target)
+    last_part = os.path.basename(target_path)
+    if last_part in ("", ".", ".."):
+        raise ValueError(f"target must end with a file name, not {target_path!r}")
+    file_name = last_part if name is None else path_text("name", name)
     accepts = ed25519().accepts
 
-    def answer(signature: int, data: int, length: int, key: int) -> int:
-        text, public = ctypes.string_at(signature, 64), ctypes.string_at(key, 32)
-        message = ctypes.string_at(data, length)
-        is_accepted = is_strict(text, public) and accepts(text, message, public)
-        return h.ANSWER_YES if is_accepted else h.ANSWER_NO
+    def answer(signature_at: int, data_at: int, length: int, key_at: int) -> int:
+        signature = ctypes.string_at(signature_at, 64)
+        message = ctypes.string_at(data_at, length)
+        public_key = ctypes.string_at(key_at, 32)
+        is_valid = is_strict(signature, public_key) and accepts(
+            signature, message, public_key
+        )
+        return h.ANSWER_YES if is_valid else h.ANSWER_NO
 
     return Wanted(
-        target=os.fsencode(place),
+        target=os.fsencode(target_path),
         name=os.fsencode(file_name),
         is_first=first,
         must_expire=must_expire,
         numbering=field,
-        keys=(h.PublicKey * len(keys))(*(public_key._read for public_key in keys)),
+        keys=(h.PublicKey * len(keys))(*(public_key._parsed for public_key in keys)),
         key_count=len(keys),
         signature=signature.text,
         signature_len=len(signature.text),
@@ -204,27 +222,29 @@ def _wanted(
 
 
 @contextmanager
-def _begun(wanted: Wanted) -> Iterator["ctypes._Pointer[Installing]"]:
-    """A run, which is ended, and what it has begun removed."""
-    if not HAS_HOST:
+def _run_of(wanted: Wanted) -> Iterator["ctypes._Pointer[Installing]"]:
+    """Begins a run, and ends it with the block: removes its temporary files, closes
+    what it opened, and unlocks the target."""
+    if not HAS_INSTALLER:
         raise NotImplementedError("installing is supported only on Linux")
-    begun = library.begin_installing(ctypes.byref(wanted))
-    if not begun:
+    run_pointer = library.begin_installing(ctypes.byref(wanted))
+    if not run_pointer:
         raise MemoryError()
     try:
-        yield begun
+        yield run_pointer
     finally:
-        library.end_installing(begun)
+        library.end_installing(run_pointer)
 
 
-def _must(run: Installing) -> None:
-    """Raises what a run was rejected for, or which call failed."""
+def _raise_error(run: Installing) -> None:
+    """Raises the error that ended a run, if there is one. Its `__cause__` is an OSError
+    with the file that could not be used, if there is one."""
     if run.error != 0:
-        why = (run.cause or b"").decode() or os.strerror(run.number)
+        reason = (run.cause or b"").decode() or os.strerror(run.number)
         too_long = TooLong("the data is larger than the limit")
-        raised = too_long if run.is_too_long else error_of(run.error)
-        at = os.fsdecode(run.shown or b"")
-        raise raised from (OSError(run.number, why, at) if run.shown else None)
+        error = too_long if run.is_too_long else error_of(run.error)
+        path = os.fsdecode(run.shown or b"")
+        raise error from (OSError(run.number, reason, path) if run.shown else None)
 
 
 def install(
@@ -243,47 +263,57 @@ def install(
     wait: int = 0,
     progress: Optional[Progress] = None,
 ) -> bool:
-    """Installs the data of an update at a target. It raises nothing where the update
-    stands there, whole and synced: true where it was installed now, and false where it
-    stood there already and was synced alone. What an earlier run of the same update has
-    left, which was cut off, is finished.
+    """Verifies an update, and installs it at the path `target` in one step. Returns
+    True if it has installed the update, and False if the update was already installed.
 
-    `data` is a path or a binary file. What is no path of a regular file, as that of a
-    pipe, or a file that is open, is received first, into a file without a name in the
-    directory of the target. `key` is a public key, or two, of which the signature has
-    the identifier of one; where both have it, either may have signed. `first` takes an
-    update also where no number of the field is kept, or the number of another key, and
-    `again` one of the number that is kept, where that is kept of other data. With
-    `must_expire` the signed comment has to say when the update expires.
-    `numbering` is the field that has the number: `timestamp` or `version`. `name` is
-    the file that the signed comment has to name, otherwise the last part of `target`.
-    `mode` has the permissions, from 0 to 0o777, otherwise they are those of the file at
-    the target, or 0o600; what stands there already keeps its own. Data of more than
-    `most` bytes is rejected. For a lock that another installation holds it is waited so
-    many seconds at most as `wait` says, up to a day.
+    When `install` returns, the update is installed and synced to disk. If an earlier
+    run for the same update was interrupted, `install` finishes it.
 
-    Raises the errors of verifying; OtherFile, NoNumber, NoExpiry, BadExpiry, Expired,
-    BadSize, OtherSize, OlderUpdate; TargetInUse; NoRecord, DamagedRecord,
-    KeptByTimestamp, KeptByVersion; SameNumber; TooLong; ReadingFailed, WritingFailed,
-    RandomSourceFailed, OutOfMemory. Then the target is as before. With
-    DirectoryNotSynced the update stands there, and a crash may bring back what stood
-    there before. `__cause__` says which call failed, and of Expired by which time the
-    clock is wrong, where it shows less than when the record was written. What
-    `progress` raises comes out of it, and the target is as before. After an
-    interruption, as KeyboardInterrupt, the update may stand there or not: it comes
-    before the record gets its name, or after the target has.
+    - `key`: a public key, or two during a change of keys. The signature must have the
+      key ID of one of them. If both have this key ID, either may have signed.
+    - `data`: a path or a binary file. Data that is not a path of a regular file, but a
+      pipe or an open file, is first read into a temporary file without a name, in the
+      directory of the target.
+    - `first`: install even if no version number is recorded, or if the record is
+      damaged, has the number of the other field, or was made with another key. Use it
+      for the first installation only.
+    - `again`: replace other data that was installed with the same version number.
+    - `must_expire`: reject an update whose trusted comment has no expiry date.
+    - `numbering`: the field of the trusted comment that has the version number,
+      "timestamp" or "version".
+    - `name`: the file name that the trusted comment must contain. The default is the
+      last part of `target`.
+    - `mode`: the permissions of the new file, from 0 to 0o777. The default is those of
+      the installed file, or 0o600 if there is none. If the update is already installed,
+      its permissions are unchanged.
+    - `most`: the maximum size of the data, in bytes.
+    - `wait`: for how many seconds, at most a day, to wait for the lock if another
+      installation holds it.
+    - `progress`: is called as by `verify`, while the data is read.
 
-    In the main thread no signal that asks for the end (SIGHUP, SIGINT, SIGQUIT,
-    SIGTERM) ends the process between these two: one for which nothing is set, or for
-    which Python has a handler, is held back until then. In another thread that holds of
-    those for which Python has a handler, as for SIGINT, and of those that are sent to
-    that thread alone: another one ends the process there, and so does SIGKILL in any.
-    The next run of the same update then finishes it. Python may lose a signal that
-    another thread has taken and not noted in the 30 ms after that: the process goes on.
+    Raises TypeError or ValueError, which name the argument, for an argument that is not
+    valid, and ValueError if `target` does not end with a file name. Raises OSError if
+    the directory or the data cannot be opened, or data that is not a regular file
+    cannot be read. Raises the errors of verifying; OtherFile, NoNumber, NoExpiry,
+    BadExpiry, Expired, BadSize, OtherSize, OlderUpdate; TargetInUse; NoRecord,
+    DamagedRecord, KeptByTimestamp, KeptByVersion; SameNumber; TooLong; ReadingFailed,
+    WritingFailed, RandomSourceFailed, OutOfMemory. After each of these errors, and
+    after an exception that `progress` raises, the target is unchanged.
 
-    OSError where the directory or the data cannot be opened, or what is no regular file
-    cannot be received; ValueError where `target` does not end with the name of a file,
-    and TypeError or ValueError, which name it, of an argument that is none of these.
+    After DirectoryNotSynced the update is installed but not yet on disk: after a crash
+    the old file may be back. If a system call failed, `__cause__` says which one. If
+    the system clock shows a time before the record was written, an update that expires
+    is Expired, and `__cause__` says when the record was written.
+
+    After KeyboardInterrupt the update may be installed or not. The interruption comes
+    either before the record is renamed or after the target is. If `install` runs in the
+    main thread, SIGHUP, SIGINT, SIGQUIT and SIGTERM do not end the process between
+    these two either: they are delayed if they have the default action or a Python
+    handler. In another thread, a signal is delayed only if it has a Python handler, as
+    SIGINT has, or if it is sent to that thread only; any other of these signals ends
+    the process at once, and so does SIGKILL in any thread. Then the next run for the
+    same update finishes the installation. A signal can be lost: if another thread
+    receives it, and does not note it within the next 30 ms, the process goes on.
     """
     check_kind("again", again, bool)
     check_number("mode", 0 if mode is None else mode, 0, 0o777, oct)
@@ -293,27 +323,27 @@ def install(
     source: Union[str, IO[bytes]] = (
         cast("IO[bytes]", data) if is_file(data) else path_text("data", data)
     )
-    wanted = _wanted(key, signature, target, first, must_expire, numbering, name)
+    wanted = _wanted_struct(key, signature, target, first, must_expire, numbering, name)
     wanted.again, wanted.wait = again, wait
     wanted.has_mode, wanted.mode = mode is not None, mode or 0
-    wanted.most = LONGEST if most is None else min(most, LONGEST)
+    wanted.most = MAX_SIZE if most is None else min(most, MAX_SIZE)
     directory = os.path.dirname(os.fsdecode(wanted.target)) or "."
     os.close(os.open(directory, os.O_RDONLY | os.O_DIRECTORY))
-    # (what is open already may be anything, and is read as Python reads it)
-    with open(source, "rb", buffering=0) if isinstance(source, str) else _received(
+    # An open file can be any object with a method read, so Python reads it.
+    with open(source, "rb", buffering=0) if isinstance(source, str) else _receive(
         source, directory, wanted.most, progress
     ) as file:
         wanted.shown = os.fsencode(source if isinstance(source, str) else directory)
         wanted.data = file.fileno()
-        with _begun(wanted) as begun:
-            run = begun.contents
-            while _make_call(begun):
+        with _run_of(wanted) as run_pointer:
+            run = run_pointer.contents
+            while _make_call(run_pointer):
                 if progress is not None and run.call in (h.DUE_RECEIVE, h.DUE_COPY):
                     progress(run.done, run.size)
                 if library.minisign_install_due(run.machine) == h.DUE_RECEIVE:
-                    # (the host waits without an end, and nothing would interrupt it)
+                    # Wait here: while C code waits, Python handles no signal.
                     select.select([file], [], [])
-            _must(run)
+            _raise_error(run)
             return bool(run.call == h.DUE_INSTALLED)
 
 
@@ -327,30 +357,34 @@ def check(
     numbering: str = "timestamp",
     name: Optional[Path] = None,
 ) -> Checked:
-    """Tells what `install` would do with an update, by its signature, the record and
-    what stands at the target: so an updater knows whether there is anything to install
-    before it fetches the data. Nothing is written, and no lock is taken. What it tells
-    is equal to an `Offer`, and has the number of the update and its signed comment.
+    """Returns what `install` would do with an update, without its data: from the
+    signature, the record and the installed file. So an updater can find out whether
+    there is an update before it downloads the data. `check` writes nothing, and takes
+    no lock. Its parameters are those of `install`.
 
-    Raises what `install` raises of the same arguments: the errors of the text and of
-    the signature of the comment; OtherFile, NoNumber, NoExpiry, BadExpiry, Expired,
-    BadSize; NoRecord, DamagedRecord, KeptByTimestamp, KeptByVersion; SameNumber;
-    ReadingFailed and OutOfMemory, of which `__cause__` says which call failed. An older
-    update is answered, and not raised.
+    The result is equal to an `Offer`, and has the version number and the trusted
+    comment of the update. If the update is older than the recorded version, this is a
+    result, `Offer.OLDER`, and not an error.
+
+    Raises the errors of `install` for the same arguments: those of a malformed
+    signature file and of a comment signature that is not valid; OtherFile, NoNumber,
+    NoExpiry, BadExpiry, Expired, BadSize; NoRecord, DamagedRecord, KeptByTimestamp,
+    KeptByVersion; SameNumber; ReadingFailed and OutOfMemory, whose `__cause__` says
+    which call failed.
     """
-    wanted = _wanted(key, signature, target, first, must_expire, numbering, name)
+    wanted = _wanted_struct(key, signature, target, first, must_expire, numbering, name)
     wanted.is_check = True
-    with _begun(wanted) as begun:
-        run = begun.contents
-        while library.make_call(begun):
+    with _run_of(wanted) as run_pointer:
+        run = run_pointer.contents
+        while library.make_call(run_pointer):
             pass
         offer = Offer.THERE if run.call == h.DUE_ALREADY else Offer.NEWER
         try:
-            _must(run)
+            _raise_error(run)
         except OlderUpdate:
             offer = Offer.OLDER
         length = ctypes.c_size_t()
-        comment = library.vouched_comment(begun, ctypes.byref(length))
+        comment = library.vouched_comment(run_pointer, ctypes.byref(length))
         number = library.minisign_install_number(run.machine)
         text = ctypes.string_at(comment, length.value).decode()
         return Checked(offer, number, text)

@@ -1,7 +1,8 @@
 // SPDX-License-Identifier: MIT
-//! The numbers, structs and calls of `minisign.h`, made by `tools/bindings.py`. Each function makes
-//! one call, over what it borrows for as long as that takes, and hands over the lengths of slices
-//! as they are.
+//! Declares the constants, structs and functions of `minisign.h`. Made by `tools/bindings.py`.
+//!
+//! Each safe function here makes one call. Its arguments are borrowed until the call returns, and
+//! the lengths that are passed are those of the slices.
 #![allow(dead_code, clippy::too_many_arguments)]
 
 use crate::Reason;
@@ -9,13 +10,13 @@ use crate::Reason;
 impl Reason {
     /// No error.
     pub const OK: Reason = Reason(0);
-    /// The state was never begun, or was ended by a verdict.
+    /// The state was not initialized, or a verdict has finished it.
     pub const NOT_BEGUN: Reason = Reason(1);
-    /// The questions were asked before, or the digest was told.
+    /// minisign_ask, minisign_install_ask or minisign_digest was called already.
     pub const ALREADY_ASKED: Reason = Reason(2);
-    /// The questions were not asked, or the digest was not told.
+    /// minisign_ask, minisign_install_ask or minisign_digest was not called yet.
     pub const NOT_ASKED: Reason = Reason(3);
-    /// An answer is neither MINISIGN_ANSWER_YES nor MINISIGN_ANSWER_NO.
+    /// A result of a check is neither MINISIGN_ANSWER_YES nor MINISIGN_ANSWER_NO.
     pub const BAD_ANSWER: Reason = Reason(4);
     /// A buffer is too short.
     pub const NO_ROOM: Reason = Reason(5);
@@ -23,22 +24,23 @@ impl Reason {
     pub const BAD_LEGACY_FLAG: Reason = Reason(6);
     /// An allocation failed, or its size is too large for any allocation.
     pub const OUT_OF_MEMORY: Reason = Reason(7);
-    /// A text, a typed line, a password or a comment is not UTF-8.
+    /// The input is not UTF-8: a file, a typed line, a password, a comment or a name.
     pub const NOT_UTF8: Reason = Reason(8);
-    /// A comment of a signature would not be read back as it is.
+    /// This library would not read a comment back unchanged, for example because it contains a line
+    /// feed.
     pub const BAD_COMMENT: Reason = Reason(9);
     /// with_password is not 0, 1 or 2.
     pub const BAD_PASSWORD_FLAG: Reason = Reason(10);
-    /// A comment of a signature is one that Minisign would not read back: too long, or with a zero
-    /// byte or a carriage return.
+    /// This library would read a comment back, but Minisign would not, because it is too long or
+    /// contains a zero byte or a carriage return.
     pub const UNREADABLE_COMMENT: Reason = Reason(11);
-    /// A call of installing is not due, or cannot go so.
+    /// The installation does not expect this call, or this error, at this point.
     pub const NOT_DUE: Reason = Reason(12);
     /// An option of an installation is neither 0 nor 1.
     pub const BAD_OPTION: Reason = Reason(13);
-    /// A numbering is neither MINISIGN_NUMBERING_TIMESTAMP nor MINISIGN_NUMBERING_VERSION.
+    /// numbering is neither MINISIGN_NUMBERING_TIMESTAMP nor MINISIGN_NUMBERING_VERSION.
     pub const BAD_NUMBERING: Reason = Reason(14);
-    /// A secret key was neither opened nor taken in.
+    /// The secret key was neither opened nor set by minisign_take_secret_key.
     pub const KEY_NOT_OPENED: Reason = Reason(15);
     /// The public key file has no comment line.
     pub const MISSING_PUBLIC_KEY_COMMENT: Reason = Reason(16);
@@ -48,7 +50,7 @@ impl Reason {
     pub const PUBLIC_KEY_LENGTH: Reason = Reason(18);
     /// The second line of the public key file is not base64.
     pub const PUBLIC_KEY_NOT_BASE64: Reason = Reason(19);
-    /// There are fewer bytes than the record needs.
+    /// A decoded key or signature has too few bytes.
     pub const RECORD_TOO_SHORT: Reason = Reason(20);
     /// The signature file has no untrusted comment line.
     pub const MISSING_UNTRUSTED_COMMENT: Reason = Reason(21);
@@ -58,11 +60,11 @@ impl Reason {
     pub const MISSING_TRUSTED_COMMENT: Reason = Reason(23);
     /// The signature file has no comment signature line.
     pub const MISSING_COMMENT_SIGNATURE: Reason = Reason(24);
-    /// The first line of the signature file does not begin with untrusted comment: .
+    /// The first line of the signature file does not begin with "untrusted comment: ".
     pub const UNTRUSTED_COMMENT_PREFIX: Reason = Reason(25);
     /// A line of the signature file is not base64.
     pub const SIGNATURE_NOT_BASE64: Reason = Reason(26);
-    /// The third line of the signature file does not begin with trusted comment: .
+    /// The third line of the signature file does not begin with "trusted comment: ".
     pub const TRUSTED_COMMENT_PREFIX: Reason = Reason(27);
     /// The algorithm of the signature is neither Ed nor ED.
     pub const UNSUPPORTED_ALGORITHM: Reason = Reason(28);
@@ -80,68 +82,68 @@ impl Reason {
     pub const MISSING_SECRET_KEY: Reason = Reason(34);
     /// The second line of the secret key file is not base64.
     pub const SECRET_KEY_NOT_BASE64: Reason = Reason(35);
-    /// A secret key that should be unencrypted names a key derivation.
+    /// The key was to be opened without a password, but it names a key derivation, so it may be
+    /// encrypted.
     pub const KEY_SEALED: Reason = Reason(36);
     /// The checksum of an unencrypted secret key does not match.
     pub const KEY_CORRUPTED: Reason = Reason(37);
-    /// A secret key that should be encrypted names no key derivation.
+    /// The key was to be opened with a password, but it names no key derivation, so it is not
+    /// encrypted.
     pub const KEY_NOT_SEALED: Reason = Reason(38);
-    /// An encrypted key names a key derivation other than Sc.
+    /// An encrypted key names a key derivation other than Sc, which is scrypt.
     pub const UNSUPPORTED_KEY_DERIVATION: Reason = Reason(39);
-    /// The memory or work limit of an encrypted key is higher than allowed.
+    /// The memory limit of an encrypted key is above 2^30 bytes, or its limits give scrypt more
+    /// than 2^20 rows.
     pub const PARAMETERS_TOO_HIGH: Reason = Reason(40);
     /// The limits of an encrypted key give parameters that scrypt rejects.
     pub const INVALID_PARAMETERS: Reason = Reason(41);
     /// The checksum does not match after decryption, so the password is probably wrong.
     pub const WRONG_PASSWORD: Reason = Reason(42);
-    /// Decrypting the key takes more work than the caller allows.
+    /// Decrypting the key takes more rows of scrypt than the caller allows.
     pub const WORK_TOO_HIGH: Reason = Reason(43);
     /// A bare base64 public key is not 56 bytes long.
     pub const BARE_PUBLIC_KEY_LENGTH: Reason = Reason(44);
     /// A bare public key is not base64.
     pub const BARE_PUBLIC_KEY_NOT_BASE64: Reason = Reason(45);
-    /// Another run holds the lock on this target.
+    /// Another installation holds the lock on this target.
     pub const TARGET_IN_USE: Reason = Reason(46);
-    /// No number is kept beside the target, and this was not said to be the first installation.
+    /// No version is recorded for this target, and is_first is not set.
     pub const NO_RECORD: Reason = Reason(47);
-    /// What is kept beside the target does not read as a number, and this was not said to be the
-    /// first installation.
+    /// The version record of this target contains no number, and is_first is not set.
     pub const DAMAGED_RECORD: Reason = Reason(48);
     /// The trusted comment does not name the file that the caller expects.
     pub const OTHER_FILE: Reason = Reason(49);
-    /// The trusted comment has no number in decimal digits alone under the label that the caller
-    /// chose, or none below 2^64.
+    /// The trusted comment has no field of the chosen numbering, or its value is not a decimal
+    /// number below 2^64.
     pub const NO_NUMBER: Reason = Reason(50);
-    /// The number of the trusted comment is below the one that is kept.
+    /// The version number of the update is below the recorded one.
     pub const OLDER_UPDATE: Reason = Reason(51);
-    /// The update stands at the target, but a crash may still bring back what stood there before.
+    /// The update is installed but could not be synced, so a crash may bring back the previous
+    /// file.
     pub const DIRECTORY_NOT_SYNCED: Reason = Reason(52);
-    /// The number that is kept is a timestamp and not a version, and this was not said to be the
-    /// first installation.
+    /// The version record holds a timestamp and not a version, and is_first is not set.
     pub const KEPT_BY_TIMESTAMP: Reason = Reason(53);
-    /// The number that is kept is a version and not a timestamp, and this was not said to be the
-    /// first installation.
+    /// The version record holds a version and not a timestamp, and is_first is not set.
     pub const KEPT_BY_VERSION: Reason = Reason(54);
-    /// The update has expired at the moment that the caller passes.
+    /// The update has expired at the time that the caller passes.
     pub const EXPIRED: Reason = Reason(55);
-    /// The trusted comment has more than one field for when the update expires, or one with no
-    /// number in decimal digits alone, or none below 2^64.
+    /// The trusted comment has more than one field "expires:", or its value is not a decimal number
+    /// below 2^64.
     pub const BAD_EXPIRY: Reason = Reason(56);
-    /// The number of the trusted comment is the one that is kept, other data stands at the target,
-    /// and the caller did not ask for the update to be installed again.
+    /// This version is already recorded, but the installed file is different, and again is not set.
     pub const SAME_NUMBER: Reason = Reason(57);
-    /// The trusted comment has no field for when the update expires, and the caller wants one.
+    /// The trusted comment has no field "expires:", and must_expire is set.
     pub const NO_EXPIRY: Reason = Reason(58);
-    /// The trusted comment has more than one field for the length of the data, or one with no
-    /// number in decimal digits alone, or none below 2^64.
+    /// The trusted comment has more than one field "size:", or its value is not a decimal number
+    /// below 2^64.
     pub const BAD_SIZE: Reason = Reason(59);
-    /// The data is longer than the trusted comment says, or shorter.
+    /// The data is longer or shorter than the trusted comment says.
     pub const OTHER_SIZE: Reason = Reason(60);
-    /// The text is not the one that the signature was read from.
+    /// The signature was read from another signature file than the one that was passed.
     pub const OTHER_SIGNATURE_TEXT: Reason = Reason(61);
-    /// A signature that is asked about was not read.
+    /// The signature was not read.
     pub const SIGNATURE_NOT_READ: Reason = Reason(62);
-    /// A secret key that is to be opened was not read.
+    /// The secret key that is to be opened was not read.
     pub const KEY_NOT_READ: Reason = Reason(63);
     /// Reading from a source, a file or a prompt failed.
     pub const READING_FAILED: Reason = Reason(64);
@@ -152,14 +154,14 @@ impl Reason {
     /// The public key or a signature is one that strict Ed25519 rejects: a point has a small order
     /// or is not canonical, or the second half of a signature is not below the group order.
     pub const WEAK_ED25519: Reason = Reason(81);
-    /// A public key was not read.
+    /// The public key was not read.
     pub const PUBLIC_KEY_NOT_READ: Reason = Reason(82);
     /// The password is empty, and with_password does not allow that.
     pub const EMPTY_PASSWORD: Reason = Reason(83);
     /// The salt is all zeros, or a limit is below the minimum of Minisign.
     pub const WEAK_SEALING: Reason = Reason(84);
 
-    /// The name that it has in `minisign.h`, without `MINISIGN_`: of another number "".
+    /// Returns the name in `minisign.h` without `MINISIGN_`, or "" for an unknown number.
     pub fn name(self) -> &'static str {
         match self.0 {
             0 => "OK",
@@ -372,7 +374,7 @@ impl UnopenedKey {
     };
 }
 
-/// It is cleared at its end.
+/// Clears the secret.
 impl Drop for UnopenedKey {
     fn drop(&mut self) {
         clear(&mut self.bytes);
@@ -394,7 +396,7 @@ impl SecretKey {
     };
 }
 
-/// It is cleared at its end.
+/// Clears the secret.
 impl Drop for SecretKey {
     fn drop(&mut self) {
         clear(&mut self.secret);
@@ -414,7 +416,7 @@ impl NewKey {
     };
 }
 
-/// It is cleared at its end.
+/// Clears the secret.
 impl Drop for NewKey {
     fn drop(&mut self) {
         clear(&mut self.secret);
@@ -563,7 +565,7 @@ extern "C" {
     ) -> u32;
 }
 
-/// Writes zeros, also where nothing reads them.
+/// Writes zeros, by volatile writes, which the compiler does not remove.
 pub fn clear(bytes: &mut [u8]) {
     bytes
         .iter_mut()
@@ -574,7 +576,7 @@ fn done(number: u32) -> Result<(), Reason> {
     Some(()).filter(|()| number == 0).ok_or(Reason(number))
 }
 
-/// The calls write UTF-8 alone.
+/// Makes a string of the text that a call has written. The calls write only UTF-8.
 fn text_of(mut text: Vec<u8>, len: usize) -> Result<String, Reason> {
     text.truncate(len);
     String::from_utf8(text).map_err(|_| Reason::NOT_UTF8)

@@ -1,5 +1,5 @@
 // SPDX-License-Identifier: MIT
-//! The Ed25519 of libsodium, whose calls are told here.
+//! Implements `Ed25519` with libsodium, whose functions are declared here.
 
 use std::ptr::null_mut;
 
@@ -13,8 +13,8 @@ extern "C" {
         public_key: &[u8; 32],
     ) -> i32;
     fn crypto_sign_detached(
-        made: &mut [u8; 64],
-        made_len: *mut u64,
+        signature: &mut [u8; 64],
+        signature_len: *mut u64,
         message: *const u8,
         len: u64,
         secret: &[u8; 64],
@@ -23,7 +23,7 @@ extern "C" {
     fn randombytes_buf(bytes: *mut u8, len: usize);
 }
 
-/// Whether libsodium is ready.
+/// Initializes libsodium, which has an effect only once. Returns false if it fails.
 fn is_ready() -> bool {
     unsafe { sodium_init() >= 0 }
 }
@@ -35,10 +35,10 @@ impl crate::Ed25519 for crate::Sodium {
     }
 
     fn sign(&self, message: &[u8], secret: &[u8; 64]) -> Option<[u8; 64]> {
-        let (mut made, from, len) = ([0; 64], message.as_ptr(), message.len() as u64);
-        let is_made = is_ready()
-            && unsafe { crypto_sign_detached(&mut made, null_mut(), from, len, secret) == 0 };
-        is_made.then_some(made)
+        let (mut signature, from, len) = ([0; 64], message.as_ptr(), message.len() as u64);
+        let is_signed = is_ready()
+            && unsafe { crypto_sign_detached(&mut signature, null_mut(), from, len, secret) == 0 };
+        is_signed.then_some(signature)
     }
 
     fn expand(&self, seed: &[u8; 32], secret: &mut [u8; 64]) -> bool {

@@ -1,5 +1,5 @@
 /* SPDX-License-Identifier: MIT */
-/* What src/c_calls.rt declares, by libsodium: a slice is a pointer and a length. */
+/* Implements the functions that src/c_calls.rt declares with libsodium. Rattle passes a slice as a pointer and a length. */
 #include <stdbool.h>
 #include <stddef.h>
 #include <stdint.h>
