@@ -1,13 +1,13 @@
 // SPDX-License-Identifier: MIT
-// The begin: the page says what the browser lacks, or loads the library and takes files. The same script runs once more in
-// the threads that hash, which have no document.
+// Starts the page: shows what the browser lacks, or loads the library and accepts files. The same script runs in the worker
+// threads, which have no document.
 
-// The shortest module with a memory of 32-bit addresses and a function that takes a number of 64 bits.
+// The shortest module with a 32-bit memory and a function that takes a 64-bit number.
 const SHORTEST = Uint8Array.of(0, 97, 115, 109, 1, 0, 0, 0, 1, 5, 1, 96, 1, 126, 0, 5, 3, 1, 0, 1);
 
 const FROM_DISK = "Save the page and open it from disk, or open it by https.";
 
-// What the browser lacks, in words.
+// Returns what the browser lacks, in words.
 async function lackingParts() {
   const hasWebAssembly = typeof WebAssembly === "object" && WebAssembly.validate(SHORTEST);
   const parts = hasWebAssembly ? [] : ["WebAssembly"];
@@ -18,16 +18,16 @@ async function lackingParts() {
   return parts;
 }
 
-// Says why the page verifies nothing.
-function reject(words) {
-  at("lacking").textContent = words;
+// Shows why the page cannot verify anything.
+function showUnusable(words) {
+  byId("lacking").textContent = words;
   document.documentElement.dataset.ready = "no";
 }
 
 async function begin(script) {
   const parts = await lackingParts();
   if (parts.length > 0) {
-    reject(`This browser lacks ${parts.join(", and ")}, so this page cannot verify anything in it. ` +
+    showUnusable(`This browser lacks ${parts.join(", and ")}, so this page cannot verify anything in it. ` +
       (isSecureContext ? "A newer browser may have it." : FROM_DISK));
     return;
   }
@@ -36,48 +36,48 @@ async function begin(script) {
     library = await Library.load(module);
   } catch (why) {
     const isPolicy = why instanceof WebAssembly.CompileError && WebAssembly.validate(module);
-    reject(isPolicy ? `The server of this page forbids WebAssembly, so the page cannot verify anything. ${FROM_DISK}`
+    showUnusable(isPolicy ? `The server of this page forbids WebAssembly, so the page cannot verify anything. ${FROM_DISK}`
       : "This browser cannot run the proved library, so this page cannot verify anything. A newer browser may run it.");
     return;
   }
   engineBegun = beginEngine(script);
-  takeCarried();
+  takePresets();
   hideAnswered();
   listen();
-  at("lacking").hidden = true;
-  at("controls").hidden = false;
+  byId("lacking").hidden = true;
+  byId("controls").hidden = false;
   document.documentElement.dataset.ready = "yes";
 }
 
-// Nothing is asked, or told of, that the page has: a key that is built in, and signatures. Where a download alone is wanted, there
-// are no steps, and the key stands below.
+// Hides the fields and texts for what the page already has: a built-in key, and signatures. If it only needs the download, there
+// are no numbered steps, and the key is shown below.
 function hideAnswered() {
-  const has = {key: BUILT_IN_KEY !== "", signature: carried.length > 0};
+  const has = {key: BUILT_IN_KEY !== "", signature: presetSignatures.length > 0};
   has.steps = has.key || key !== null && has.signature;
   for (const part of document.querySelectorAll("[data-unless]")) {
     part.hidden = has[part.dataset.unless];
   }
   if (has.steps) {
-    at("controls").append(at("key"));
+    byId("controls").append(byId("key"));
   }
 }
 
 function listen() {
   for (const [name, take] of [["key-text", typed => inTurnOfKey(() => takeKeyText(typed))], ["signature-text", inTurnOfSignature]]) {
-    at(name).value = "";
-    at(name).addEventListener("input", () => take(at(name).value));
+    byId(name).value = "";
+    byId(name).addEventListener("input", () => take(byId(name).value));
   }
-  // Choosing leaves the place empty, so that the same file can be chosen again.
+  // The input is emptied after a choice, so that the same file can be chosen again.
   for (const [name, take] of [["key-file", inTurnOfKeyFile], ["files", inTurnOfFiles]]) {
-    at(name).addEventListener("change", () => {
-      const files = [...at(name).files];
-      at(name).value = "";
+    byId(name).addEventListener("change", () => {
+      const files = [...byId(name).files];
+      byId(name).value = "";
       take(files);
     });
   }
-  at("key-remove").addEventListener("click", () => inTurnOfKey(removeKey));
-  at("clear").addEventListener("click", () => inTurn(clearList));
-  // Whoever opened this page can change what stands after # of its address: then all begins anew.
+  byId("key-remove").addEventListener("click", () => inTurnOfKey(removeKey));
+  byId("clear").addEventListener("click", () => inTurn(clearList));
+  // A site that opened this page can change the part of the address after #. Then the page starts again.
   addEventListener("hashchange", () => location.reload());
   for (const name of ["dragenter", "dragover", "dragleave", "drop"]) {
     addEventListener(name, event => {
@@ -92,7 +92,7 @@ function listen() {
       takeDroppedText(section?.querySelector("textarea"), event.dataTransfer.getData("text/plain"));
       return;
     }
-    const isKey = files.length === 1 && !hasDirectories && !BUILT_IN_KEY && section === at("key");
+    const isKey = files.length === 1 && !hasDirectories && !BUILT_IN_KEY && section === byId("key");
     if (isKey) {
       inTurnOfKeyFile(files);
     } else {
@@ -101,7 +101,7 @@ function listen() {
   });
 }
 
-// A text that was dragged to a part of the page is what stands in the field there.
+// Puts a text that was dropped on a section into the field of this section.
 function takeDroppedText(field, text) {
   if (text !== "" && field?.checkVisibility()) {
     field.value = text;
@@ -109,7 +109,7 @@ function takeDroppedText(field, text) {
   }
 }
 
-// The files that were dropped, and whether there were directories among them.
+// Returns the files that were dropped, and true if there were directories among them.
 function droppedFiles(transfer) {
   const items = [...transfer.items].filter(item => item.kind === "file");
   const isDirectory = item => item.webkitGetAsEntry()?.isDirectory === true;

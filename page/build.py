@@ -1,21 +1,26 @@
 #!/usr/bin/env python3
 # SPDX-License-Identifier: MIT
-"""Builds the page that verifies a download: one file, with the module in it, that loads nothing. It proves the crate
-minisign_page for 64-bit WebAssembly and builds it, and wasm-opt makes of that a module with a memory of 32 bits,
-which each browser of the last years runs.
+"""Builds the page that verifies a download: one HTML file that loads nothing.
 
     page/build.py [OUT] [--key LETTERS [--signature FILE.minisig ..]] [--title TITLE] [--from PAGE]
     page/build.py [OUT] --package [--from PAGE]
 
-OUT is the page, by default `page/minisign.html`. It has the script, the style and the module in it, and a policy that
-allows exactly these. With --key it has this public key, a line of 56 letters and digits, and takes no other; with
---signature it has these signatures, too, and takes a download alone; --title is its heading. With --from the module
-is that of an existing page, and neither the kit nor wasm-opt is needed. The same sources give the same bytes, whose
-SHA-256 sum is printed. The page names its version; and the sum of its sources, which `tools/sources.sh page` prints,
-where `dist/PROVED` names that sum and the module, and otherwise says that it is not what that names.
+OUT is the page; the default is `page/minisign.html`. It contains the script, the style, the module, and a content
+security policy that allows only these. The script proves the crate minisign_page for 64-bit WebAssembly and builds it.
+Then wasm-opt turns the result into a module with 32-bit memory, which more browsers run.
 
-`rt` proves the crate for this processor, and `rt ci` takes none for WebAssembly, so this calls the prover. It takes
-libraries below it that stand proved as they are, and proves the others first (`tests/shared/proved.py`).
+    --key LETTERS      build in this public key, a line of 56 letters and digits; the page then accepts no other key
+    --signature FILE   build in these signatures too; the page then only asks for the download
+    --title TITLE      the heading of the page
+    --from PAGE        use the module of an existing page; this needs neither the kit nor wasm-opt
+    --package          write the module as a JavaScript module for the package in bindings/javascript, and no page
+
+The same sources give the same bytes; their SHA-256 sum is printed. The page shows its version. If `dist/PROVED` records
+the module and the sum of the sources (`tools/sources.sh page`), the page shows this sum too. Otherwise it says that
+nothing is known about its proof.
+
+The command `rt` can only prove for the processor on which it runs, so this script calls the prover itself. It uses
+libraries that are already proved, and proves the others first (`tests/shared/proved.py`).
 
 Needs Python 3.9 or later, the kit, and Debian's binaryen.
 """
@@ -41,82 +46,79 @@ import needs
 import proved
 
 CRATE = "minisign_page"
-# A stack of 1 MiB, and 5 MiB for what is copied in and out: a piece of the data of 4 MiB, and texts.
+# A stack of 1 MiB, and 5 MiB for what is copied in and out: a piece of the data of 4 MiB, keys and signatures.
 MEMORY = 6 * 1048576
 PACKAGE = "bindings/javascript"
-# The scripts, in their order: the modules of the package for JavaScript but for its own calls, and the page around them.
+# The scripts, in their order: modules of the JavaScript package, and then those of the page.
 SCRIPTS = (*(f"{PACKAGE}/{name}" for name in ("calls.js", "ed25519.js", "verification.js")),
            *(f"page/{name}" for name in ("engine.js", "texts.js", "words.js", "page.js", "rows.js", "begin.js")))
 TITLE = "Verify a download"
 KEY_LETTERS = 56
 KEY_BYTES = 42
-# The two lines of a signature that are base64, by their places: how they begin, and how many bytes they have.
+# The base64 lines of a signature file, by their indices: how the decoded bytes begin, and their number.
 RECORDS = {1: ((b"ED", b"Ed"), 74), 3: (b"", 64)}
 SIGNATURE_ENDING = ".minisig"
-# How its other two lines begin.
+# How the other two lines begin.
 COMMENTS = {0: "untrusted comment:", 2: "trusted comment:"}
 
-# What dist/PROVED says of the page: by what its lines begin, which tools/dist.py writes.
+# The keys of two lines of dist/PROVED, which tools/dist.py writes.
 SOURCES_SUM, MODULE_SUM = "sources of the page", "its module has the SHA-256 sum"
 
-# What wasm-opt is told: which parts of WebAssembly the proved module may use, and to make its addresses numbers of 32 bits.
+# The arguments of wasm-opt: the features of WebAssembly that the module may use, and the lowering to 32-bit addresses.
 FEATURES = ("memory64", "bulk-memory", "mutable-globals", "sign-ext", "nontrapping-float-to-int")
 LOWERING = (*(f"--enable-{feature}" for feature in FEATURES), "--memory64-lowering")
 
 
 class NotPossible(Exception):
-    """Why no page is written."""
+    """The page cannot be built, for the reason in the message."""
 
 
 # ---- The sources ----
 
 
 def read(path):
-    """The text of one of the sources, by its path in the repository."""
+    """Returns the text of a file, by its path in the repository."""
     with open(os.path.join(TOP, path), encoding="utf-8") as file:
         return file.read()
 
 
 def script_of(path):
-    """
-    A script as it stands in the page, where all are one: a module without what it takes in, and without `export`. The comments
-    are for whoever reads the sources, whose sum the page names.
-    """
+    """Returns a script as it is in the page, where all scripts are one: without imports, `export` and comments."""
     return re.sub(r"(?m)^export ", "", re.sub(r"(?m)^(import .*;| *//.*)\n", "", read(path)))
 
 
 def style():
-    """The style as it stands in the page, without comments."""
+    """Returns the style as it is in the page, without comments."""
     return re.sub(r"(?m)^ */\*.*\*/\n", "", read("page/page.css"))
 
 
 def sources_sum(part="page"):
-    """The sum of the sources of a part of dist/, as dist/PROVED has it."""
+    """Returns the sum of the sources of a part of dist/, as tools/sources.sh prints it."""
     command = ["sh", os.path.join(TOP, "tools", "sources.sh"), part]
     ran = subprocess.run(command, stdin=subprocess.DEVNULL, stdout=subprocess.PIPE, stderr=subprocess.PIPE)
-    said, why = ran.stdout.decode().strip(), ran.stderr.decode(errors="replace").strip()
-    if ran.returncode != 0 or not said:
-        raise NotPossible(f"the sum of the sources of the {part} is not known: {why}")
-    return said
+    digits, why = ran.stdout.decode().strip(), ran.stderr.decode(errors="replace").strip()
+    if ran.returncode != 0 or not digits:
+        raise NotPossible(f"tools/sources.sh {part} failed: {why}")
+    return digits
 
 
 def named_sums():
-    """The sums of the page's module and of its sources that dist/PROVED names, or nothing where it is not there."""
+    """Returns the sums of the module and of the sources that dist/PROVED records, or None if it does not exist or has none."""
     try:
-        said = read("dist/PROVED")
+        text = read("dist/PROVED")
     except OSError:
         return None
-    found = [re.search(f"^{name}: (.*)$", said, re.M) for name in (MODULE_SUM, SOURCES_SUM)]
-    return tuple(it[1] for it in found) if all(found) else None
+    lines = [re.search(f"^{name}: (.*)$", text, re.M) for name in (MODULE_SUM, SOURCES_SUM)]
+    return tuple(line[1] for line in lines) if all(lines) else None
 
 
 def sum_of(module):
-    """The SHA-256 sum of a module."""
+    """Returns the SHA-256 sum of a module."""
     return hashlib.sha256(module).hexdigest()
 
 
 def version():
-    """The version that the header names."""
+    """Returns the version in include/minisign.h."""
     with open(os.path.join(TOP, "include", "minisign.h"), encoding="utf-8") as file:
         return re.search(r'#define MINISIGN_VERSION_TEXT "(.*)"', file.read())[1]
 
@@ -125,12 +127,12 @@ def version():
 
 
 def proved_module():
-    """The module for a memory of 64 bits, proved and built."""
+    """Proves the library and builds it. Returns the 64-bit module."""
     if shutil.which("rt") is None:
-        raise NotPossible("the page's library is proved and built by the kit of Rattle, whose command `rt` is not here.")
-    print("page: building its module, and proving first what is not proved", flush=True)
-    with tempfile.TemporaryDirectory(prefix="minisign-page-") as room:
-        archive, linked = f"{room}/lib{CRATE}.a", f"{room}/{CRATE}.wasm"
+        raise NotPossible("building the module needs the kit of Rattle, but there is no command rt; use --from to take the module of a page")
+    print("page: building its module, after proving what is not proved yet", flush=True)
+    with tempfile.TemporaryDirectory(prefix="minisign-page-") as directory:
+        archive, linked = f"{directory}/lib{CRATE}.a", f"{directory}/{CRATE}.wasm"
         proved.build_archive(CRATE, archive, "--target", proved.WASM)
         proved.link_module(archive, linked, MEMORY)
         with open(linked, "rb") as file:
@@ -138,27 +140,27 @@ def proved_module():
 
 
 def lowered(wasm):
-    """The module for a memory of 32 bits that wasm-opt makes of one for 64."""
-    with tempfile.TemporaryDirectory(prefix="minisign-page-") as room:
-        wide, narrow = f"{room}/wide.wasm", f"{room}/narrow.wasm"
+    """Returns the 32-bit module that wasm-opt makes from a 64-bit one."""
+    with tempfile.TemporaryDirectory(prefix="minisign-page-") as directory:
+        wide, narrow = f"{directory}/wide.wasm", f"{directory}/narrow.wasm"
         with open(wide, "wb") as file:
             file.write(wasm)
         ran = subprocess.run([needs.wasm_opt(), *LOWERING, wide, "-o", narrow], stdin=subprocess.DEVNULL,
                              stdout=subprocess.PIPE, stderr=subprocess.STDOUT, errors="replace")
         if ran.returncode != 0:
-            raise NotPossible(f"wasm-opt made no module: {ran.stdout[-300:]}")
+            raise NotPossible(f"wasm-opt failed: {ran.stdout[-300:]}")
         with open(narrow, "rb") as file:
             return file.read()
 
 
 def lowering():
-    """What made the module for 32 bits: the program with its version."""
+    """Returns the name and the version of wasm-opt."""
     ran = subprocess.run([needs.wasm_opt(), "--version"], stdin=subprocess.DEVNULL, stdout=subprocess.PIPE, check=True)
     return ran.stdout.decode().strip().split(" (")[0]
 
 
 def taken_from(path):
-    """The module of a page that was built before, and what made it for 32 bits."""
+    """Returns the module of an existing page, and the name of the tool that lowered it to 32 bits."""
     try:
         with open(path, encoding="utf-8") as file:
             text = file.read()
@@ -174,15 +176,13 @@ def taken_from(path):
 
 
 def digest(text):
-    """How a policy names a script or a style."""
+    """Returns the hash of a script or a style, in the form of a content security policy."""
     return f"'sha256-{base64.b64encode(hashlib.sha256(text.encode()).digest()).decode()}'"
 
 
 def policy(script, style):
-    """
-    The page's policy: this script, this style and WebAssembly, this script once more in a thread, no text made into markup,
-    and nothing from anywhere.
-    """
+    """Returns the content security policy. It allows this script, WebAssembly, this style, and worker threads from blobs. Nothing may be
+    loaded, and no text may become markup."""
     return "; ".join([
         "default-src 'none'", f"script-src {digest(script)} 'wasm-unsafe-eval'", "worker-src blob:",
         f"style-src {digest(style)}", "img-src data:", "base-uri 'none'", "form-action 'none'",
@@ -191,31 +191,31 @@ def policy(script, style):
 
 
 def checked_key(letters):
-    """The line of a public key that can be built in."""
+    """Returns the key if it has the form of a public key."""
     try:
         record = base64.b64decode(letters, validate=True)
     except (binascii.Error, ValueError):
         record = b""
     if len(letters) != KEY_LETTERS or len(record) != KEY_BYTES or record[:2] != b"Ed":
-        raise NotPossible(f"a key is one line of {KEY_LETTERS} letters and digits that begins with RW, and {letters!r:.80} is none")
+        raise NotPossible(f"{letters!r:.80} is not a public key: a key is one line of {KEY_LETTERS} letters and digits that begins with RW")
     return letters
 
 
 def checked_signatures(paths, key):
-    """The names and texts of signatures that can be built in beside a key."""
+    """Returns the names and texts of signature files that belong to a key."""
     found = {}
     for path in paths:
         name = os.path.basename(path)
         if not name.endswith(SIGNATURE_ENDING) or name == SIGNATURE_ENDING:
-            raise NotPossible(f"{path} is not named as a signature, FILE{SIGNATURE_ENDING}: the page that is written is named first")
+            raise NotPossible(f"{path} is not named as a signature, FILE{SIGNATURE_ENDING}; if it is the page to write, put it first")
         if name in found:
-            raise NotPossible(f"two signatures are named {name}, and so would be of the same file")
+            raise NotPossible(f"two signatures are named {name}, so both would be for the same file")
         found[name] = checked_signature(path, key)
     return list(found.items())
 
 
 def checked_signature(path, key):
-    """The text of a signature that can be built in beside a key. (The page verifies it; here it has to look like one.)"""
+    """Returns the text of a signature file that has the form of one and the key ID of the key. Only the page verifies it."""
     try:
         with open(path, encoding="utf-8", newline="") as file:
             text = file.read()
@@ -226,8 +226,8 @@ def checked_signature(path, key):
         records = {at: base64.b64decode(lines[at], validate=True) for at in RECORDS}
     except (IndexError, binascii.Error, ValueError):
         raise NotPossible(f"{path} is no signature") from None
-    is_one = all(records[at].startswith(begin) and len(records[at]) == length for at, (begin, length) in RECORDS.items())
-    if not is_one or not all(lines[at].startswith(begin) for at, begin in COMMENTS.items()):
+    has_records = all(records[at].startswith(begin) and len(records[at]) == length for at, (begin, length) in RECORDS.items())
+    if not has_records or not all(lines[at].startswith(begin) for at, begin in COMMENTS.items()):
         raise NotPossible(f"{path} is no signature")
     if records[1][2:10] != base64.b64decode(key)[2:10]:
         raise NotPossible(f"{path} was made with another key")
@@ -235,12 +235,12 @@ def checked_signature(path, key):
 
 
 def constant(name, value):
-    """A line of the script with a constant, in which nothing can be taken for markup."""
+    """Returns a line of the script that defines a constant. It contains no `<`, so that it cannot end the script."""
     return f"const {name} = {json.dumps(value)};".replace("<", "\\u003c")
 
 
 def made_from(module, by, sums):
-    """What the page says of the sources and the proof of its module, where that and they have these sums; or that nobody says so."""
+    """Returns what the page says about its sources and its proof. `sums` are those of the module and the sources in dist/PROVED."""
     if sums != (sum_of(module), sources_sum()):
         return "This page and the library inside are not those that dist/PROVED of the sources names, so nothing is said of their proof."
     return (f'Made from the sources with the SHA-256 sum <span class="letters" translate="no">{sums[1]}</span>. The library inside is '
@@ -249,10 +249,8 @@ def made_from(module, by, sums):
 
 
 def page(module, by, key="", title=TITLE, signatures=(), sums=None):
-    """
-    The page around a module for 32 bits that was made by this program, with this key, and these signatures by their names,
-    built in. The sums are those of dist/PROVED where none are named.
-    """
+    """Returns the page with a 32-bit module, which the tool `by` made, and with a built-in key and signatures, as pairs of name and
+    text. `sums` are those of the module and the sources that are proved; the default is those in dist/PROVED."""
     constants = [constant("MODULE", base64.b64encode(module).decode()), constant("LOWERED_BY", by),
                  constant("BUILT_IN_KEY", key and checked_key(key)), constant("BUILT_IN_SIGNATURES", signatures)]
     script = "\n".join(['"use strict";', *constants, *map(script_of, SCRIPTS)])
@@ -262,7 +260,7 @@ def page(module, by, key="", title=TITLE, signatures=(), sums=None):
 
 
 def package_module(module, by):
-    """The module as one of the package for JavaScript."""
+    """Returns the module as a JavaScript module for the package."""
     return f"""// SPDX-License-Identifier: MIT
 // Made by page/build.py: the proved module, of which {by} made one for a memory of 32 bits, in base64.
 export const MODULE = "{base64.b64encode(module).decode()}";
@@ -270,7 +268,7 @@ export const MODULE = "{base64.b64encode(module).decode()}";
 
 
 def write(out, text):
-    """Writes a page or a module, and says its length and its sum."""
+    """Writes a page or a module, and prints its length and its sum."""
     data = text.encode()
     with open(out, "wb") as file:
         file.write(data)
@@ -278,31 +276,31 @@ def write(out, text):
 
 
 def options(words):
-    """What is asked for."""
+    """Parses the command line."""
     parser = argparse.ArgumentParser(prog="page/build.py", description="Writes the page that verifies a download.")
-    parser.add_argument("--key", default="", metavar="LETTERS", help="the key that is built in: its line of 56 letters and digits")
+    parser.add_argument("--key", default="", metavar="LETTERS", help="build in this public key, a line of 56 letters and digits")
     parser.add_argument("--signature", default=[], nargs="+", action="extend", metavar="FILE.minisig",
-                        help="signatures that are built in beside the key, so that a download is taken alone")
-    parser.add_argument("--title", default=TITLE, metavar="TITLE", help="the page's heading")
-    parser.add_argument("--from", dest="built", metavar="PAGE", help="a page that was built before, whose module is taken")
-    parser.add_argument("--package", action="store_true", help="write the module of the package for JavaScript, and no page")
-    parser.add_argument("out", nargs="?", metavar="OUT", help="the page that is written, or the module")
+                        help="build in these signatures too, so that the page only asks for the download")
+    parser.add_argument("--title", default=TITLE, metavar="TITLE", help="the heading of the page")
+    parser.add_argument("--from", dest="built", metavar="PAGE", help="use the module of this existing page")
+    parser.add_argument("--package", action="store_true", help="write the module of the JavaScript package, and no page")
+    parser.add_argument("out", nargs="?", metavar="OUT", help="the page or the module to write")
     return parser.parse_args(words)
 
 
 def main(words):
-    asked = options(words)
+    given = options(words)
     try:
-        if asked.package:
-            module, by = taken_from(asked.built or os.path.join(TOP, "dist", "minisign.html"))
-            write(os.path.abspath(asked.out or os.path.join(TOP, PACKAGE, "module.js")), package_module(module, by))
+        if given.package:
+            module, by = taken_from(given.built or os.path.join(TOP, "dist", "minisign.html"))
+            write(os.path.abspath(given.out or os.path.join(TOP, PACKAGE, "module.js")), package_module(module, by))
             return 0
-        key = asked.key and checked_key(asked.key)
-        if asked.signature and not key:
-            raise NotPossible("a page with signatures has a key, too: name it by --key")
-        signatures = checked_signatures(asked.signature, key)
-        module, by = taken_from(asked.built) if asked.built else (lowered(proved_module()), lowering())
-        write(os.path.abspath(asked.out or os.path.join(HERE, "minisign.html")), page(module, by, key, asked.title, signatures))
+        key = given.key and checked_key(given.key)
+        if given.signature and not key:
+            raise NotPossible("a page with signatures has a key, too: use --key")
+        signatures = checked_signatures(given.signature, key)
+        module, by = taken_from(given.built) if given.built else (lowered(proved_module()), lowering())
+        write(os.path.abspath(given.out or os.path.join(HERE, "minisign.html")), page(module, by, key, given.title, signatures))
     except (NotPossible, needs.Missing, proved.NotBuilt, OSError) as why:
         print(f"page/build.py: {why}", file=sys.stderr)
         return 1

@@ -1,29 +1,30 @@
 // SPDX-License-Identifier: MIT
-// Hashes data in three threads, which run the page's script once more. They take turns: while one hashes a slice of the file,
-// the others read the next ones into the module's memory, which takes a browser up to twice as long. The state goes from one
-// to the next.
-// If the browser or the server of the page allows no such threads, the page's own does all.
+// Hashes a file in three worker threads, which take turns.
+//
+// While one thread hashes a slice of the file, the others read the next slices into the memory of their module, because
+// reading takes a browser up to twice as long as hashing. The state is passed from one thread to the next. The threads run
+// the script of the page. If the browser or the server does not allow worker threads, the page hashes in its own thread.
 
-// How long a thread may take to begin, or a text to be read, in milliseconds.
+// The maximum time in milliseconds for starting a thread, and for reading a key or signature file.
 const MAX_MILLISECONDS = 10000;
 const THREADS = 3;
-// How many bytes of the file a thread reads and hashes at a time. Of a slice there are two copies for a moment, and the page is
-// to take at most 32 MiB more than an empty one.
+// The number of bytes that a thread reads and hashes at a time. For a moment each thread has two copies of a slice, and the page
+// should take at most 32 MiB more than an empty page.
 const SLICE_BYTES = 3 * 1048576;
-// A file of at most so many bytes is hashed in the page's own thread, before another one would have answered.
+// A file of at most this size is hashed in the page's own thread, which is faster than waiting for another one.
 const MAX_NEAR_BYTES = 1048576;
-// What a thread hashes before there is a file, and how often, so that the browser compiles the module well meanwhile.
+// Before it gets a file, each thread hashes this number of bytes this many times, so that the browser optimizes the module.
 const WARMING_BYTES = 262144;
 const WARMING_TIMES = 8;
 
-// Whether this is Firefox, which alone has such errors. It gives back at once what a buffer leaves behind that is cut to
-// nothing, which Chromium keeps.
+// True in Firefox, which is the only browser with this error class. Firefox frees the memory of a buffer that is transferred to
+// size 0 at once; Chromium does not.
 const IS_FIREFOX = typeof InternalError === "function";
 
 // ---- In the thread ----
 
-// Gives the memory of bytes back at once, by posting it to nobody: else it stays until the browser collects garbage, and may
-// grow to hundreds of megabytes.
+// Frees the memory of a buffer at once, by posting it to a closed port. Otherwise it would stay until the next garbage
+// collection, and could grow to hundreds of megabytes.
 function giveBack(bytes) {
   if (IS_FIREFOX && bytes.buffer.transfer) {
     bytes.buffer.transfer(0);
@@ -35,13 +36,13 @@ function giveBack(bytes) {
   port1.close();
 }
 
-// Puts a slice of a file where the library takes it from: whether all of it was read.
-function placeSlice(own, file, begin, end) {
+// Reads a slice of a file into the memory of the library. Returns true if all of it was read.
+function placeSlice(threadLibrary, file, begin, end) {
   try {
     const bytes = new Uint8Array(new FileReaderSync().readAsArrayBuffer(file.slice(begin, end)));
     const isWhole = bytes.length === Math.min(end, file.size) - begin;
     if (isWhole) {
-      own.place(bytes);
+      threadLibrary.place(bytes);
     }
     giveBack(bytes);
     return isWhole;
@@ -50,18 +51,18 @@ function placeSlice(own, file, begin, end) {
   }
 }
 
-// Answers the page: a file and where its slice begins is read; a state is fed that slice and goes back, or nothing where the
-// slice was not read, and then the thread's next slice is read.
+// Handles the messages of the page. For a file and an offset, the thread reads the slice at this offset. For a state, it feeds
+// the slice to the state and posts the state back, or null if the slice could not be read; then it reads its next slice.
 async function serve() {
-  const own = await Library.load(bytesOfBase64(MODULE));
-  const slice = Math.min(own.pieceBytes, SLICE_BYTES);
+  const threadLibrary = await Library.load(bytesOfBase64(MODULE));
+  const slice = Math.min(threadLibrary.pieceBytes, SLICE_BYTES);
   for (let times = 0; times < WARMING_TIMES; times += 1) {
-    own.feed(own.begin(), new Uint8Array(WARMING_BYTES));
+    threadLibrary.feed(threadLibrary.begin(), new Uint8Array(WARMING_BYTES));
   }
   let file = null, begin = 0, isPlaced = false;
   const place = at => {
     begin = at;
-    isPlaced = begin < file.size && placeSlice(own, file, begin, begin + slice);
+    isPlaced = begin < file.size && placeSlice(threadLibrary, file, begin, begin + slice);
   };
   onmessage = ({data}) => {
     if (data.file) {
@@ -69,7 +70,7 @@ async function serve() {
       place(data.begin);
       return;
     }
-    const isFed = isPlaced && own.feedPlaced(data.state) === 0;
+    const isFed = isPlaced && threadLibrary.feedPlaced(data.state) === 0;
     postMessage(isFed ? data.state : null);
     place(begin + THREADS * slice);
   };
@@ -82,7 +83,7 @@ function bytesOfBase64(letters) {
   return Uint8Array.from(atob(letters), letter => letter.charCodeAt(0));
 }
 
-// The bytes of a part of a file, or null where it cannot be read.
+// Returns the bytes of a part of a file, or null if it cannot be read.
 async function bytesOfFile(file, begin, end) {
   try {
     const bytes = new Uint8Array(await (begin === 0 && end >= file.size ? file : file.slice(begin, end)).arrayBuffer());
@@ -92,15 +93,16 @@ async function bytesOfFile(file, begin, end) {
   }
 }
 
-// Hashing in the page's own thread.
+// Hashes in the page's own thread.
 class NearEngine {
-  // Feeds a file to a verification, and tells how far it is, unless that answers no: whether all of it was fed.
-  async feedFile(file, verification, goesOn) {
+  // Feeds a file to a verification, and calls reportProgress with the number of bytes before each slice. Returns true if all of the file
+  // was fed, and false if it could not be read or reportProgress returned false.
+  async feedFile(file, verification, reportProgress) {
     const slice = verification.library.pieceBytes;
     let next = bytesOfFile(file, 0, slice);
     for (let begin = 0; begin < file.size; begin += slice) {
       const bytes = await next;
-      if (bytes === null || !goesOn(begin)) {
+      if (bytes === null || !reportProgress(begin)) {
         return false;
       }
       next = begin + slice < file.size ? bytesOfFile(file, begin + slice, begin + 2 * slice) : null;
@@ -110,17 +112,17 @@ class NearEngine {
   }
 }
 
-// Hashing in threads.
+// Hashes in worker threads.
 class FarEngine {
   constructor(threads) {
     this.threads = threads;
   }
 
-  async feedFile(file, verification, goesOn) {
+  async feedFile(file, verification, reportProgress) {
     this.threads.forEach((thread, index) => thread.postMessage({file, begin: index * this.slice}));
     for (let begin = 0, turn = 0; begin < file.size; begin += this.slice, turn = (turn + 1) % THREADS) {
       const state = await answerOf(this.threads[turn], {state: verification.state});
-      if (state === null || !goesOn(begin)) {
+      if (state === null || !reportProgress(begin)) {
         return false;
       }
       verification.state = state;
@@ -145,18 +147,18 @@ class FarEngine {
   }
 }
 
-// What a thread answers next, once it is told this, if anything.
-function answerOf(thread, told) {
+// Posts a message to a thread, if there is one, and returns the next message from it.
+function answerOf(thread, message) {
   return new Promise((resolve, reject) => {
     thread.onmessage = ({data}) => resolve(data);
     thread.onerror = thread.onmessageerror = () => reject(new Error("the thread failed"));
-    if (told) {
-      thread.postMessage(told);
+    if (message) {
+      thread.postMessage(message);
     }
   });
 }
 
-// The address of the script for threads, by a policy that can be made once and allows no other.
+// The URL of the script for the threads. It is created once, because its Trusted Types policy can be created only once.
 let threadAddress;
 
 function addressOf(script) {

@@ -1,42 +1,42 @@
 // SPDX-License-Identifier: MIT
-// The page: it takes a public key, files and signatures, verifies one file after another by the proved library and the
-// browser's Ed25519, and shows the verdicts.
+// Accepts a public key, files and signatures from the visitor, and verifies one file after another with the proved library and the
+// browser's Ed25519.
 
 const SIGNATURE_ENDING = ".minisig";
 const KEY_ENDING = ".pub";
 // The name of a signature that was pasted.
 const PASTED = "pasted.minisig";
-// The data of a legacy signature is held in memory as a whole, up to this many bytes.
+// The maximum size of a file with a legacy signature, because all of it has to be in memory.
 const MAX_LEGACY_BYTES = 64 * 1048576;
-// How many milliseconds a shown progress stays at least: showing it takes long.
+// The minimum time in milliseconds between two updates of the progress, because drawing takes long.
 const SHOWN_MILLISECONDS = 100;
 
-const at = id => document.getElementById(id);
+const byId = id => document.getElementById(id);
 
-// The library in the page's own thread reads texts and gives the verdict; the engine that has begun is where data is hashed.
+// The library in the page's own thread reads texts and returns the verdicts. engineBegun is a promise of the engine that hashes data.
 let library;
 let engineBegun;
-// The public key, or null while there is none: its bytes as the library has read them, its key ID, its 56 letters, and its source,
-// which is a kind of SOURCES and the name of a file.
+// The public key, or null if there is none: its struct, its key ID, its 56 letters, and its source, which is a key of SOURCES and the
+// name of a file.
 let key = null;
-// The signatures that are built into the page (isBuiltIn) or that its link has, as files, each with the names that its file may have.
-const carried = [];
-// A file, its signature and its row, by the file's name and in the order in which they came.
+// The signatures that are built into the page (isBuiltIn) or in its link, as files, each with the names that its download may have.
+const presetSignatures = [];
+// The downloads by the names of their files, in the order in which they came: file, signature and row.
 const downloads = new Map();
-// Downloads that are to be verified again.
+// The downloads that have to be verified again.
 const changed = new Set();
 let isWorking = false;
-// The signature that was last pasted into its field, as a file, and how many were.
+// The signature that was last pasted, as a file, and the number of signatures that were pasted.
 let pasted = null, pastedCount = 0;
-// Acts of the person are done in their order. An act may have to read a file first, to know what the file is.
+// The actions of the visitor are handled in their order. An action may have to read a file first, to recognize its kind.
 let lastTurn = Promise.resolve();
-// For each act that is not done yet, a function that returns true for the downloads that the act may change.
+// For each unfinished action, a function that returns true for the downloads that the action may change.
 const unfinished = new Set();
-// The person's last act, and whether a verdict that it brought was shown.
+// The last action of the visitor. isAnswered is true once a verdict that it caused was shown.
 let lastAct = {isAnswered: false};
 
-// Does what the person asks for once all before it is done. The downloads that this may change become unverified at once, and stay so
-// until it is done: reading a key, a file or a signature from a slow disk takes seconds.
+// Runs an action after all earlier ones. The downloads that it may change become unverified at once, and stay so until it has ended,
+// because reading a key, a file or a signature from a slow disk takes seconds.
 function inTurn(act, mayChange = () => false) {
   const isChanging = download => mayChange(download);
   const begin = () => {
@@ -57,7 +57,7 @@ function inTurn(act, mayChange = () => false) {
   });
 }
 
-// Returns true while an act that may change this download is not done yet.
+// Returns true if an unfinished action may change this download.
 function isHeld(download) {
   return [...unfinished].some(isChanging => isChanging(download));
 }
@@ -67,33 +67,33 @@ function isHeld(download) {
 function setKey(text, isBare, source) {
   dropKey();
   if (text.length >= TEXT_BYTES) {
-    sayOfKey(TOO_LONG_A_KEY, ...beside(source));
+    sayOfKey(TOO_LONG_A_KEY, ...nameInParentheses(source));
     return;
   }
   const {number: numberRead, keyId, key: bytes} = library.readKey(text, isBare);
   const words = new TextDecoder().decode(text);
   const letters = numberRead === 0 ? lettersOf(bytes) : "";
-  // The library accepts a key of any algorithm, as the Rust crate does. Only "Ed" is the one of a public key.
+  // The library accepts a key with any algorithm, as the Rust crate does. The page accepts only "Ed", as Minisign writes it.
   const isOther = numberRead === 0 && !(isBare ? words : words.split("\n")[1]).includes(letters);
   const number = isOther ? UNKNOWN_ALGORITHM : numberRead;
   if (number === 0) {
     key = {bytes, keyId, letters, source};
     sayOfKey("Key ", lettersBox(keyId), ", ", ...sourceOf(source), ".");
-    at("key-whole").replaceChildren("In full: ", lettersBox(key.letters));
-    at("key-whole").hidden = false;
-    at("key-remove").hidden = source.kind === "page";
+    byId("key-whole").replaceChildren("In full: ", lettersBox(key.letters));
+    byId("key-whole").hidden = false;
+    byId("key-remove").hidden = source.kind === "page";
   } else {
-    // (8: it is no text)
+    // 8: the key is not UTF-8.
     const hint = number === 8 ? "" : hintOf(words);
     const isShown = HINTS_WITH_KEY.includes(hint) && SOURCES.get(source.kind).isGiven;
     sayOfKey(`No public key: ${HINTS.get(hint) ?? WHY_NO_KEY.get(number) ?? WENT_WRONG}`, ...(isShown ? [" ", lettersBox(keyIn(words))] : []),
-      ...beside(source));
+      ...nameInParentheses(source));
   }
-  at("key-said").dataset.number = number;
+  byId("key-said").dataset.number = number;
 }
 
-// The name of a file that is no key, after what is said of it.
-function beside({name}) {
+// Returns the name of a file in parentheses, if the key came in a file.
+function nameInParentheses({name}) {
   return name === undefined ? [] : [" (", nameOf(name), ")"];
 }
 
@@ -102,22 +102,22 @@ function clearKey() {
   sayOfKey();
 }
 
-// Forgets the key, and with it all verdicts.
+// Removes the key and all verdicts.
 function dropKey() {
   key = null;
-  emptyLog();
-  delete at("key-said").dataset.number;
-  at("key-whole").hidden = at("key-remove").hidden = true;
+  clearLog();
+  delete byId("key-said").dataset.number;
+  byId("key-whole").hidden = byId("key-remove").hidden = true;
   for (const download of downloads.values()) {
     renew(download);
   }
 }
 
 function sayOfKey(...words) {
-  at("key-said").replaceChildren(...words);
+  byId("key-said").replaceChildren(...words);
 }
 
-// Does an act that gives or removes the key, before which the old key is forgotten at once.
+// Runs an action that sets or removes the key. The old key is removed at once.
 function inTurnOfKey(act) {
   clearKey();
   inTurn(act, () => true);
@@ -127,7 +127,7 @@ function inTurnOfKeyFile([file]) {
   inTurnOfKey(() => takeKeyFile(file, "chosen"));
 }
 
-// A text that was typed or pasted: two lines, or the base64 alone.
+// Takes a key that was typed or pasted: the two lines of its file, or only the second one.
 function takeKeyText(typed) {
   const text = typed.trim();
   if (text === "") {
@@ -137,69 +137,69 @@ function takeKeyText(typed) {
   }
 }
 
-// A file that is the key, as its place was given it ("chosen") or as it came among the files ("files").
+// Takes a key file that was chosen as the key (kind "chosen"), or came with the downloads ("files").
 async function takeKeyFile(file, kind) {
   clearKey();
-  at("key-text").value = "";
+  byId("key-text").value = "";
   const bytes = await textOfFile(file);
   if (bytes === null) {
-    sayOfKey(TOO_LONG_A_KEY, ...beside(file));
+    sayOfKey(TOO_LONG_A_KEY, ...nameInParentheses(file));
   } else {
     setKey(bytes, false, {kind, name: file.name});
   }
 }
 
 function removeKey() {
-  at("key-text").value = "";
+  byId("key-text").value = "";
   clearKey();
-  at("key-text").focus();
+  byId("key-text").focus();
 }
 
-// Takes what is built into the page, and what its address has; no key of that where the page has its own.
-function takeCarried() {
+// Takes the key and the signatures that are built into the page or in its link. A built-in key takes precedence over one in the link.
+function takePresets() {
   const {keys, letters, signatures} = partsOfLink(location.hash.slice(1));
-  const carry = (name, text, isBuiltIn) => {
+  const take = (name, text, isBuiltIn) => {
     if (kindOfText(text) === "signature") {
-      carried.push({file: new File([text], name), names: [nameOfSigned(name), ...namesIn(text)], isBuiltIn});
+      presetSignatures.push({file: new File([text], name), names: [nameOfSigned(name), ...namesIn(text)], isBuiltIn});
     } else {
       sayOfFiles(NO_SIGNATURE_IN_ADDRESS);
     }
   };
-  BUILT_IN_SIGNATURES.forEach(([name, text]) => carry(name, text, true));
-  signatures.forEach(text => carry((namesIn(text)[0] ?? "link") + SIGNATURE_ENDING, text, false));
+  BUILT_IN_SIGNATURES.forEach(([name, text]) => take(name, text, true));
+  signatures.forEach(text => take((namesIn(text)[0] ?? "link") + SIGNATURE_ENDING, text, false));
   if (BUILT_IN_KEY || letters) {
     setKey(new TextEncoder().encode(BUILT_IN_KEY || letters), true, {kind: BUILT_IN_KEY ? "page" : "link"});
   } else if (keys.length > 0) {
     sayOfKey(NO_KEY_IN_ADDRESS);
   }
   if (BUILT_IN_KEY && keys.some(key => key !== BUILT_IN_KEY)) {
-    at("key-said").append(" ", OTHER_KEY_IN_ADDRESS);
+    byId("key-said").append(" ", OTHER_KEY_IN_ADDRESS);
   }
 }
 
-// Returns the signatures by which a download is verified, in the order in which they are tried. First come those that are built into
-// the page, so that an older file with an older signature does not pass for the file of this release. Then comes the signature that was
-// given with the file, or else those of the link. Of the built-in ones, and of those of the link, only the ones for the file's name
-// are tried (isNamed), or all if none is for it.
+// Returns the signatures with which a download is verified, in the order in which they are tried. The built-in ones come first, so that
+// an older file with its older signature does not pass for the file of this release. Then comes the signature that was given with the
+// file, or else those of the link. Of the built-in ones, and of those of the link, only the ones for the name of the file are tried
+// (isNamed), or all of them if none is for this name.
 function signaturesOf({name, signature}) {
-  const carriedFor = isBuiltIn => {
-    const all = carried.filter(each => each.isBuiltIn === isBuiltIn);
+  const presetsFor = isBuiltIn => {
+    const all = presetSignatures.filter(each => each.isBuiltIn === isBuiltIn);
     const named = all.filter(each => each.names.some(other => isAlikeName(other, name)));
     const isNamed = named.length > 0;
     return (isNamed ? named : all).map(({file}) => ({file, isBuiltIn, isNamed}));
   };
-  return [...carriedFor(true), ...(signature ? [{file: signature, isBuiltIn: false, isNamed: true}] : carriedFor(false))];
+  return [...presetsFor(true), ...(signature ? [{file: signature, isBuiltIn: false, isNamed: true}] : presetsFor(false))];
 }
 
 // ---- The files ----
 
-// The bytes of a text, which is not long, or null where it cannot be read, or hangs for MAX_MILLISECONDS.
+// Returns the bytes of a key or signature file, or null if it is too long, cannot be read, or takes more than MAX_MILLISECONDS.
 async function textOfFile(file) {
   const late = new Promise(resolve => setTimeout(resolve, MAX_MILLISECONDS, null));
   return file.size < TEXT_BYTES ? await Promise.race([bytesOfFile(file, 0, file.size), late]) : null;
 }
 
-// What a file is by its text, or by the ending of its name where the text is of no kind.
+// Returns the kind of a file: by its text, or else by its name.
 async function kindOfFile(file) {
   const bytes = await textOfFile(file);
   const kind = bytes === null ? "" : kindOfText(new TextDecoder().decode(bytes));
@@ -213,33 +213,33 @@ async function kindOfFile(file) {
   return file.name.endsWith(SIGNATURE_ENDING) ? "signature" : isKey ? "key" : "data";
 }
 
-// The name of the file that a signature of this name is of.
+// Returns the name of the download to which a signature file with this name belongs.
 function nameOfSigned(name) {
   const end = name.lastIndexOf(SIGNATURE_ENDING);
   return end > 0 ? name.slice(0, end) : name.replace(/([^])\.[^.]*$/, "$1");
 }
 
-// Does the act of giving these files, which may change the downloads that have their names or names like them.
+// Runs the action of adding files, which may change the downloads with the same or similar names.
 function inTurnOfFiles(files, hasDirectories = false) {
   const names = new Set(files.flatMap(({name}) => [name, nameOfSigned(name)]).map(bareName));
   inTurn(() => takeFiles(files, hasDirectories), ({name}) => names.has(bareName(name)));
 }
 
-// Takes files that were chosen or dropped together: each is a public key, a signature or data. One file and one signature
-// belong together whatever their names are.
+// Takes files that were chosen or dropped together. Each is a public key, a signature or a download. If there are only one download
+// and one signature, they belong together, whatever their names are.
 async function takeFiles(files, hasDirectories = false) {
-  emptySaid();
+  clearMessages();
   if (hasDirectories) {
     sayOfFiles(HAS_DIRECTORIES);
   }
   const names = new Set(files.map(file => file.name));
-  // A file that was taken for a download before, or comes with its signature, is one whatever is in it.
+  // A file is a download, whatever its content, if it was one before or comes with its signature.
   const isDownload = ({name}) => !name.endsWith(SIGNATURE_ENDING) &&
-    (names.has(name + SIGNATURE_ENDING) || downloads.has(name) || carried.some(each => each.names.includes(name)));
+    (names.has(name + SIGNATURE_ENDING) || downloads.has(name) || presetSignatures.some(each => each.names.includes(name)));
   const kindOf = async file => isDownload(file) ? "data" : await kindOfFile(file);
   const given = await Promise.all(files.map(async file => ({file, kind: await kindOf(file)})));
-  const of = kind => given.filter(each => each.kind === kind).map(each => each.file);
-  const [data, signatures] = [of("data"), of("signature")];
+  const filesOf = kind => given.filter(each => each.kind === kind).map(each => each.file);
+  const [data, signatures] = [filesOf("data"), filesOf("signature")];
   const isPair = data.length === 1 && signatures.length === 1;
   for (const {file, kind} of given) {
     if (kind === "data") {
@@ -249,15 +249,15 @@ async function takeFiles(files, hasDirectories = false) {
     }
   }
   for (const kind of ["secret key", "PGP"]) {
-    for (const file of of(kind)) {
+    for (const file of filesOf(kind)) {
       sayOfFiles(nameOf(file.name), ` ${HINTS.get(kind)}`);
     }
   }
   joinLone();
-  await takeKeysAmongFiles(of("key"));
+  await takeKeysAmongFiles(filesOf("key"));
 }
 
-// Does the act of changing the text of the signature's field. The signature that was pasted before no longer holds.
+// Runs the action of changing the field for the signature. The signature that was pasted before is no longer used.
 function inTurnOfSignature(typed) {
   inTurn(() => takeSignatureText(typed), isOfPasted);
 }
@@ -266,9 +266,9 @@ function isOfPasted({signature}) {
   return signature !== null && signature === pasted;
 }
 
-// Takes a text that was pasted as a signature. It replaces the one that was pasted before, whichever file that was for.
+// Takes a pasted text as a signature. It replaces the one that was pasted before, even if that was for another file.
 function takeSignatureText(typed) {
-  emptySaid();
+  clearMessages();
   const text = typed.trim().replace(/\n\s+/g, "\n");
   const kind = kindOfText(text);
   const file = kind === "signature" ? fileOfPasted(text) : undefined;
@@ -281,8 +281,8 @@ function takeSignatureText(typed) {
   }
 }
 
-// Returns the download that a pasted signature is for, if any. Of those without another signature it is the only one that has the signed
-// name, or else the only one for which none was pasted before, or else the last one for which one was.
+// Returns the download for a pasted signature, if any. Among the downloads without another signature, it is the only one with the
+// signed name, or else the only one for which no signature was pasted, or else the last one for which one was pasted.
 function fileOfPasted(text) {
   const names = namesIn(text), free = [...downloads.values()].filter(download => !download.signature || isOfPasted(download));
   const named = free.filter(({name}) => names.some(other => isAlikeName(name, other)));
@@ -301,11 +301,11 @@ function withdrawSignature(download) {
   }
 }
 
-// Joins a file and a signature, each of which came alone, if their names are alike or if they are the only ones. A file that has a
-// signature of the page or the link takes only one of its own name.
+// Joins a file without a signature and a signature without a file if their names are alike, or if there is only one of each. If the
+// page or the link has signatures, the names must be alike.
 function joinLone() {
-  const files = lacking("signature"), signatures = lacking("data");
-  const isPair = files.length === 1 && signatures.length === 1 && carried.length === 0;
+  const files = downloadsWithout("signature"), signatures = downloadsWithout("data");
+  const isPair = files.length === 1 && signatures.length === 1 && presetSignatures.length === 0;
   for (const signature of signatures) {
     const file = files.find(other => !other.signature && (isPair || isAlikeName(other.name, signature.name)));
     if (file) {
@@ -315,18 +315,18 @@ function joinLone() {
   }
 }
 
-function lacking(part) {
+function downloadsWithout(part) {
   return [...downloads.values()].filter(download => !download[part]);
 }
 
-// Of keys that came among files one is taken where there is no key, and nothing in its field. What is there stays.
+// Takes a key that came with the files, if there is only one, there is no key yet, and the field for the key is empty.
 async function takeKeysAmongFiles(files) {
-  if (key || at("key-text").value.trim() !== "") {
-    // (it stands below where a download alone is wanted)
-    const side = at("key").nextElementSibling ? "above" : "below";
+  if (key || byId("key-text").value.trim() !== "") {
+    // On a page that only needs the download, the key is shown below.
+    const side = byId("key").nextElementSibling ? "above" : "below";
     for (const file of files) {
-      const stays = key ? [`the key ${side} is kept, `, lettersBox(key.keyId), "."] : [`the text in the field ${side} ${NO_KEY_IN_FIELD}`];
-      sayOfFiles(nameOf(file.name), " came with the files and was ignored: ", ...stays);
+      const reason = key ? [`the key ${side} is kept, `, lettersBox(key.keyId), "."] : [`the text in the field ${side} ${NO_KEY_IN_FIELD}`];
+      sayOfFiles(nameOf(file.name), " came with the files and was ignored: ", ...reason);
     }
   } else if (files.length > 1) {
     clearKey();
@@ -336,22 +336,22 @@ async function takeKeysAmongFiles(files) {
   }
 }
 
-// Says something of what was chosen or dropped, in a line below what was said before.
+// Adds a message about the files that were chosen or dropped.
 function sayOfFiles(...words) {
-  at("files-said").append(element("p", "", ...words));
+  byId("files-said").append(element("p", "", ...words));
 }
 
-function emptySaid() {
-  emptyLog();
-  at("files-said").replaceChildren();
+function clearMessages() {
+  clearLog();
+  byId("files-said").replaceChildren();
 }
 
-// Takes a file as the data or the signature of a download.
+// Sets the data or the signature of a download.
 function takeDownload(file, name, part) {
   if (!downloads.has(name)) {
     const row = element("li", "");
     downloads.set(name, {name, data: null, signature: null, pastedAt: 0, tried: null, row, run: null, act: null});
-    at("verdicts").append(downloads.get(name).row);
+    byId("verdicts").append(downloads.get(name).row);
   }
   const download = downloads.get(name);
   download[part] = file;
@@ -361,7 +361,7 @@ function takeDownload(file, name, part) {
   renew(download);
 }
 
-// Makes a download unverified, and has it verified again. The verdict then comes of what the person did last.
+// Makes a download unverified, so that it is verified again. The new verdict is attributed to the last action.
 function renew(download) {
   stop(download);
   changed.add(download);
@@ -381,8 +381,8 @@ function clearList() {
   for (const download of [...downloads.values()]) {
     remove(download);
   }
-  emptySaid();
-  at("files").focus();
+  clearMessages();
+  byId("files").focus();
 }
 
 // ---- Verifying ----
@@ -392,7 +392,7 @@ function stop(download) {
   download.run?.stop();
 }
 
-// A verification that can be stopped, whatever it waits for.
+// Returns a verification that can be stopped, whatever it is waiting for.
 function beginRun() {
   const run = {isStopped: false, key};
   run.ended = new Promise(resolve => {
@@ -401,22 +401,22 @@ function beginRun() {
   return run;
 }
 
-// Shows what waits, and has it verified.
+// Shows the state of all unverified downloads, and verifies them.
 function reviewAll() {
   changed.forEach(showWaiting);
-  at("nothing").hidden = downloads.size > 0;
-  at("clear").hidden = downloads.size === 0;
+  byId("nothing").hidden = downloads.size > 0;
+  byId("clear").hidden = downloads.size === 0;
   showBand();
   work();
 }
 
-// Returns true if everything is there that the verdict on a download needs.
+// Returns true if a download has everything that is needed to verify it.
 function isComplete(download) {
   return key !== null && download.data !== null && signaturesOf(download).length > 0;
 }
 
-// Takes the next download that can be verified, or returns undefined. One that an unfinished act may change has to wait for the end of
-// the act. Whatever else changes a download later has it verified again.
+// Removes the next download that can be verified from `changed`, and returns it, or undefined. A download that an unfinished action may
+// change has to wait. Everything that changes a download later adds it again.
 function takeChanged() {
   for (const download of changed) {
     if (!isHeld(download)) {
@@ -429,7 +429,7 @@ function takeChanged() {
   return undefined;
 }
 
-// Verifies what can be verified, one after another: the library has one state.
+// Verifies the downloads one after another, because the library has only one state.
 async function work() {
   if (isWorking) {
     return;
@@ -444,7 +444,7 @@ async function work() {
 async function verify(download) {
   const run = download.run = beginRun();
   const verdict = await Promise.race([verdictOn(download, run), run.ended]).catch(() => ({verdict: "bad", why: WENT_WRONG}));
-  // Other threads hash from now on: those before may still answer about a file that was given up.
+  // New threads are started, because the old ones may still send results for the file that was stopped.
   if (run.isStopped || verdict.why === WENT_WRONG) {
     engineBegun.then(engine => engine.end?.());
     engineBegun = beginEngine();
@@ -459,7 +459,7 @@ function rejected(number, keyIds) {
   return {verdict, why: WHY_NOT.get(number) ?? WENT_WRONG, number, keyIds};
 }
 
-// Returns the verdict on a download by the first of its signatures that fits, or null if the run is stopped before.
+// Returns the verdict for the first valid signature of a download, or for all of them if none is valid, or null if the run was stopped.
 async function verdictOn(download, run) {
   const signatures = signaturesOf(download), isRelease = signatures[0].isBuiltIn, failed = [];
   for (const signature of signatures) {
@@ -472,7 +472,7 @@ async function verdictOn(download, run) {
       return signedVerdict(verdict, download, signature.isBuiltIn, isRelease);
     }
     failed.push({...verdict, ...signature});
-    // (the file cannot be read, or it is the one that was signed, but with another comment)
+    // The file cannot be read, or the signature is for this file but its comment was changed. Then other signatures do not help.
     if (verdict.number === undefined || verdict.number === COMMENT_NOT_SIGNED) {
       return verdict;
     }
@@ -482,20 +482,20 @@ async function verdictOn(download, run) {
   return verdict;
 }
 
-// Returns the verdict on a download that a signature fits. It is good only if the file has the signed name and, on the page of a
-// release, the signature is built in.
+// Returns the verdict on a download with a valid signature. It is good only if the file has the signed name and, on a release page, the
+// signature is built in.
 function signedVerdict(verdict, {data, tried}, isBuiltIn, isRelease) {
-  const inComment = toldByComment(verdict.comment).names;
+  const inComment = fieldsOfComment(verdict.comment).names;
   const names = isBuiltIn && inComment.length === 0 ? [nameOfSigned(tried.name)] : inComment;
-  // (how letters with marks are written makes no other name)
+  // Names are compared after Unicode normalization, because accented letters have several encodings.
   const signedNames = names.filter(name => name.normalize() !== data.name.normalize());
   const otherNames = signedNames.filter(name => !isSignedName(data.name, name));
-  const found = isRelease && !isBuiltIn ? "unlisted" : otherNames.length > 0 ? "renamed" : "good";
-  return {...verdict, verdict: found, signedNames, otherNames};
+  const finalVerdict = isRelease && !isBuiltIn ? "unlisted" : otherNames.length > 0 ? "renamed" : "good";
+  return {...verdict, verdict: finalVerdict, signedNames, otherNames};
 }
 
-// Returns the verdict on a download that no signature fits. It is that of the signature that was given for it, or else of the built-in
-// one for its name. Of several there is no single reason.
+// Returns the verdict on a download without a valid signature: that for the signature that was given for it, or else for the built-in one
+// for its name. If there are several, no single reason is given.
 function failedVerdict(failed, isRelease) {
   const uncertain = failed.find(({verdict, isBuiltIn}) => verdict === "unsupported" && isBuiltIn === isRelease);
   const [given, otherGiven] = failed.filter(({isBuiltIn, isNamed}) => isNamed && !isBuiltIn);
@@ -504,7 +504,7 @@ function failedVerdict(failed, isRelease) {
     return uncertain;
   }
   if (given && !otherGiven) {
-    // (a legacy signature from anybody does not make a file look better that the signatures of the release reject)
+    // On a release page, a legacy signature of somebody else must not turn the verdict from red to amber.
     return isRelease ? {...given, verdict: "bad", more: NOT_OF_RELEASE} : given;
   }
   if (builtIn && !otherBuiltIn) {
@@ -515,19 +515,19 @@ function failedVerdict(failed, isRelease) {
 
 async function verdictBy(signature, download, run) {
   const {data} = download;
-  // Shows how many bytes were read, and answers whether the run goes on.
-  const goesOn = done => {
+  // Shows the number of bytes that were read. Returns false if the run was stopped.
+  const reportProgress = done => {
     if (!run.isStopped) {
       draw(download, () => showProgress(download, done), SHOWN_MILLISECONDS);
     }
     return !run.isStopped;
   };
-  goesOn(0);
+  reportProgress(0);
   const text = await textOfFile(signature);
   if (text === null) {
     return {verdict: "bad", why: "The signature file cannot be read, or is too large for a signature."};
   }
-  // What is wrong with the texts is known before any data is read.
+  // The key and the signature are checked before any data is read.
   const read = library.readSignature(text), keyIds = {publicKeyId: run.key.keyId, signatureKeyId: read.keyId};
   if (read.number !== 0) {
     return rejected(read.number, keyIds);
@@ -537,8 +537,8 @@ async function verdictBy(signature, download, run) {
     return rejected(verification.number, keyIds);
   }
   const engine = read.isLegacy || data.size <= MAX_NEAR_BYTES ? new NearEngine() : await engineBegun;
-  // (one that was stopped would take the next one's threads)
-  const isRead = !run.isStopped && await engine.feedFile(data, verification, goesOn);
+  // A stopped run must not use the threads of the next one.
+  const isRead = !run.isStopped && await engine.feedFile(data, verification, reportProgress);
   if (run.isStopped) {
     return null;
   }
@@ -553,7 +553,7 @@ async function verdictBy(signature, download, run) {
   return first && await isOfOtherEnds(new TextDecoder().decode(text), verification) ? {...verdict, why: WHY_NOT_ENDS} : verdict;
 }
 
-// Whether the trusted comment, which is not the one that was signed, differs from that by white space at its ends alone.
+// Returns true if the trusted comment differs from the signed one only in white space at its beginning or end.
 async function isOfOtherEnds(signatureText, verification) {
   const {questions} = verification;
   const comments = commentsWithEnds(signatureText, verification.comment());

@@ -1,21 +1,21 @@
 // SPDX-License-Identifier: MIT
-// The rows of the list: one for each download, whose heading begins with its verdict.
+// Shows the list of downloads, one row for each, and the band with the worst verdict.
 
 function button(words, call) {
-  const made = element("button", "", words);
-  made.addEventListener("click", call);
-  return made;
+  const node = element("button", "", words);
+  node.addEventListener("click", call);
+  return node;
 }
 
-// Returns a verdict as its sign and its words, with more after them.
-function signed(verdict, ...more) {
-  const [sign, words] = VERDICTS.get(verdict);
-  const picture = element("span", "", `${sign} `);
-  picture.ariaHidden = "true";
-  return element("span", "verdict", picture, words, ...more);
+// Returns a verdict as its symbol and its words, followed by `more`.
+function verdictBox(verdict, ...more) {
+  const [symbol, words] = VERDICTS.get(verdict);
+  const symbolBox = element("span", "", `${symbol} `);
+  symbolBox.ariaHidden = "true";
+  return element("span", "verdict", symbolBox, words, ...more);
 }
 
-// The most files that the band names. (How many there is room for decides page.css.)
+// The maximum number of files that the band names. page.css cuts off names for which there is no space.
 const MAX_NAMED = 20;
 
 // Shows at the top of the window the worst verdict, the files that have it, and the next step.
@@ -23,38 +23,38 @@ function showBand() {
   const all = [...downloads.values()], verdictsOf = download => download.row.dataset.verdict;
   const found = new Set(all.map(verdictsOf));
   const verdict = [...VERDICTS.keys()].find(each => found.has(each));
-  at("band").hidden = verdict === undefined;
+  byId("band").hidden = verdict === undefined;
   if (verdict === undefined) {
     return;
   }
   const files = all.filter(download => verdictsOf(download) === verdict);
   const count = all.length > 1 ? ` (${files.length} of ${all.length} files)` : "";
-  // (a file that was just given may be what is missing)
+  // A file that is being read may be the missing one.
   const step = verdict === "waiting" && unfinished.size > 0 ? "reading" : verdict;
-  at("band").dataset.verdict = verdict;
-  at("band").replaceChildren(element("p", "", signed(verdict, `${count}: `, ...namesOf(files))), element("p", "", VERDICTS.get(step)[2]));
+  byId("band").dataset.verdict = verdict;
+  byId("band").replaceChildren(element("p", "", verdictBox(verdict, `${count}: `, ...namesOf(files))), element("p", "", VERDICTS.get(step)[2]));
 }
 
 // Returns the names of files, each of which is cut if it is long, with commas between them.
 function namesOf(files) {
-  const names = files.slice(0, MAX_NAMED).map(({name}) => verbatim("bdi", "", ...shown(shortened(name))));
+  const names = files.slice(0, MAX_NAMED).map(({name}) => verbatim("bdi", "", ...nodesOf(shortened(name))));
   const more = files.length > MAX_NAMED ? [` and ${files.length - MAX_NAMED} more`] : [];
   return [...names.flatMap((name, at) => at === 0 ? [name] : [", ", name]), ...more];
 }
 
-// Returns a line with the size of the file, and the name of the signature if it is not the file's with its ending.
+// Returns a line with the size of the file, and the name of the signature unless it is the default NAME.minisig.
 function partsLine({name, data, signature, tried}) {
-  const size = data ? sizeOf(data.size) : "", its = tried ?? signature;
-  const isOther = its && its.name !== name + SIGNATURE_ENDING;
-  const other = isOther ? ["with the signature ", nameOf(its.name)] : [];
-  return element("p", "aside", size, size && other.length > 0 ? ", " : "", ...other);
+  const size = data ? sizeOf(data.size) : "", shownSignature = tried ?? signature;
+  const isDefault = !shownSignature || shownSignature.name === name + SIGNATURE_ENDING;
+  const more = isDefault ? [] : ["with the signature ", nameOf(shownSignature.name)];
+  return element("p", "aside", size, size && more.length > 0 ? ", " : "", ...more);
 }
 
-// What rows are to show next, and when some were last drawn.
+// The functions that draw rows that have changed, the time at which rows were last drawn, and the timer for the next time.
 const undrawn = new Map();
 let drawnAt = -Infinity, drawing;
 
-// Has a row drawn: now, or with others, so many milliseconds after the last ones.
+// Schedules the drawing of a row, at least `after` milliseconds after rows were last drawn. Many rows are drawn less often.
 function draw(download, show, after = 0) {
   undrawn.set(download, show);
   clearTimeout(drawing);
@@ -69,20 +69,21 @@ function drawAll() {
   drawnAt = performance.now();
 }
 
-// Fills a row anew, below its heading, which is the verdict and the name in its box. A focus that was in it goes on to the row's button, or to the row.
+// Replaces the content of a row: its heading, which is the verdict and the name, and the lines below it. If the row had the focus,
+// its button gets it, or else the row itself.
 function fill(download, verdict, ...inside) {
   const {row} = download;
   const hadFocus = row.contains(document.activeElement);
   row.dataset.verdict = verdict;
   delete row.dataset.number;
-  row.replaceChildren(element("h3", "", signed(verdict), " ", nameOf(download.name)), ...inside);
+  row.replaceChildren(element("h3", "", verdictBox(verdict), " ", nameOf(download.name)), ...inside);
   if (hadFocus) {
     row.tabIndex = -1;
     (row.querySelector("button") ?? row).focus();
   }
 }
 
-// Shows what an unverified download waits for.
+// Shows for what an unverified download waits.
 function showWaiting(download) {
   const {name, data} = download;
   const [state, ...why] = isHeld(download) ? ["queued", "It waits until the files that you added last have been read."]
@@ -97,7 +98,7 @@ function showProgress(download, done) {
   const {row, data} = download;
   if (row.dataset.verdict !== "reading") {
     const bar = element("progress", "");
-    bar.ariaLabel = `Reading ${seeable(download.name)}`;
+    bar.ariaLabel = `Reading ${withCodes(download.name)}`;
     fill(download, "reading", partsLine(download), bar, element("p", "share"), button("Stop", () => stopByHand(download)));
   }
   row.querySelector("progress").max = Math.max(data.size, 1);
@@ -115,7 +116,7 @@ function stopByHand(download) {
   say(download, `${VERDICTS.get("stopped")[1]}.`);
 }
 
-// Shows a verdict, which is never the best one under a key that nobody gave. The first that an act brings comes into view.
+// Shows a verdict. If nobody gave the key on purpose, it is never "good". The first verdict after an action is scrolled into view.
 function showVerdict(download, verdict, source) {
   const {why, number, keyIds, comment, otherNames = []} = verdict, isSigned = comment !== undefined;
   const {isGiven, fits, fails} = SOURCES.get(source.kind);
@@ -128,7 +129,7 @@ function showVerdict(download, verdict, source) {
     download.row.dataset.number = number;
   }
   const [, words] = VERDICTS.get(name);
-  const names = otherNames.map(other => `The signature is for a file named ${seeable(other)}.`);
+  const names = otherNames.map(other => `The signature is for a file named ${withCodes(other)}.`);
   say(download, [`${words}.`, isSigned ? `The key is ${keyIds.publicKeyId}.` : why, warning, ...names, ofKey].filter(each => each).join(" "));
   if (!download.act.isAnswered) {
     download.act.isAnswered = true;
@@ -136,7 +137,7 @@ function showVerdict(download, verdict, source) {
   }
 }
 
-// Returns the lines of a file that a signature fits.
+// Returns the lines for a file with a valid signature.
 function signedLines({keyIds, comment, signedNames, otherNames}, source) {
   const first = element("p", "", "This file is exactly what was signed with the key ", lettersBox(keyIds.publicKeyId), ", ",
     ...sourceOf(source), ".");
@@ -144,18 +145,18 @@ function signedLines({keyIds, comment, signedNames, otherNames}, source) {
   if (comment === "") {
     return [first, ...names, element("p", "", "The trusted comment, which was signed with the file, is empty.")];
   }
-  const box = verbatim("div", "comment", ...shown(comment));
+  const box = verbatim("div", "comment", ...nodesOf(comment));
   box.tabIndex = 0;
   box.role = "group";
   box.ariaLabel = "Trusted comment";
-  const {time} = toldByComment(comment);
+  const {time} = fieldsOfComment(comment);
   return [
     first, ...names, element("p", "", "The trusted comment, which was signed with the file:"), box,
     ...(time ? [element("p", "", `According to the signer's clock, it was signed on ${time}.`)] : []),
   ];
 }
 
-// Returns the line that tells the signed name, as a warning if that is another one.
+// Returns the line with the signed name, which is a warning if the file has another name.
 function nameLine(name, isOther) {
   const line = element("p", isOther ? "caution" : "", "The signature is for a file named ", nameOf(name), ".");
   if (isOther) {
@@ -180,12 +181,12 @@ function badLines({why, more, number, keyIds}) {
   return lines;
 }
 
-// Has a screen reader say something of a download: the verdict first.
+// Makes a screen reader read words about a download. The verdict comes first.
 function say(download, words) {
-  at("log").append(element("p", "", `${words} The file's name: ${seeable(download.name)}`));
+  byId("log").append(element("p", "", `${words} The file's name: ${withCodes(download.name)}`));
 }
 
-// What was said holds no more.
-function emptyLog() {
-  at("log").replaceChildren();
+// Removes what screen readers have read, because it is no longer true.
+function clearLog() {
+  byId("log").replaceChildren();
 }

@@ -1,15 +1,15 @@
 // SPDX-License-Identifier: MIT
-// What a text is: a key, a secret key, a signature, a command line; which key an address has; what a signed comment tells.
+// Recognizes texts: keys, secret keys, signatures and command lines. Also parses links and trusted comments.
 
-// The second lines begin with an algorithm: "Ed" for a public key and a legacy signature (RWQ to RWT in base64), "ED" for a prehashed
-// signature (RUQ to RUT), and those of a secret key, with a password and without one.
+// The second line begins with the algorithm: "Ed" for a public key and a legacy signature (RWQ to RWT in base64), "ED" for a prehashed
+// signature (RUQ to RUT). A secret key also names its key derivation: with a password or without one.
 const KEY_LINE = /^RW[Q-T][A-Za-z0-9+/]{53}$/;
 const SIGNATURE_LINE = /^R[UW][A-Za-z0-9+/]{97}=$/;
-// A part of a prehashed signature's line, which may be as long as a key.
+// A part of the line of a prehashed signature, which may be as long as a key.
 const CUT_SIGNATURE_LINE = /^RU[Q-T][A-Za-z0-9+/]{20,}$/;
 const SECRET_KEY_LINE = /RW(RTY0Iy|QAAEIy)[A-Za-z0-9+/]{100}/;
 const PGP_LINE = /^-----BEGIN PGP /;
-// How a file of PGP is named that is no text: its first byte is greater than this.
+// A binary PGP file has such a name, and its first byte is greater than MAX_ASCII.
 const PGP_NAME = /\.(asc|gpg|pgp|sig)$/i;
 const MAX_ASCII = 0x7f;
 const COMMAND = /\bminisign(-verify)?(\.exe)?["']?\s+-|(^|\s)-P\s*["']?RW/;
@@ -18,7 +18,7 @@ function linesOf(text) {
   return text.split("\n").map(line => line.trim());
 }
 
-// "secret key", "PGP", "signature", "key", also the line of one alone, or nothing where it is none of them.
+// Returns "secret key", "PGP", "signature", "key" (also for the second line of a key file), or "" for any other text.
 function kindOfText(text) {
   const lines = linesOf(text);
   if (lines.some(line => SECRET_KEY_LINE.test(line))) {
@@ -36,14 +36,14 @@ function kindOfText(text) {
   return lines[0].startsWith("untrusted comment:") && KEY_LINE.test(lines[1] ?? "") ? "key" : "";
 }
 
-// The key that stands in a text between other characters, or broken over lines, where there is one alone.
+// Returns the only key in a text with other characters or line breaks, or "".
 function keyIn(text) {
   const joined = linesOf(text).filter(line => !line.startsWith("untrusted comment:")).join("");
   const found = new Set([joined, ...text.split(/[^A-Za-z0-9+/]+/)].filter(word => KEY_LINE.test(word)));
   return found.size === 1 ? [...found][0] : "";
 }
 
-// What stands where a key should, in a word of HINTS, or nothing where it cannot be told.
+// Returns the key of HINTS for a text in the field for the key, or "" if there is no hint.
 function hintOf(text) {
   const lines = linesOf(text);
   const kind = kindOfText(text);
@@ -62,17 +62,18 @@ function hintOf(text) {
   if (COMMAND.test(text)) {
     return "command";
   }
-  const found = keyIn(text);
-  return found === "" ? "" : text.trim() === found ? "alone" : text.includes(found) ? "words" : "broken";
+  const key = keyIn(text);
+  return key === "" ? "" : text.trim() === key ? "alone" : text.includes(key) ? "words" : "broken";
 }
 
-// Returns the 56 letters of a public key, as minisign writes them, from the struct of the key.
+// Returns the 56 letters of a public key, as Minisign writes them, from the struct of the key.
 function lettersOf(key) {
   const {key: begin, key_id: end} = PUBLIC_KEY;
   return btoa(String.fromCharCode(0x45, 0x64, ...key.subarray(end), ...key.subarray(begin, end)));
 }
 
-// What stands in a part of a link, percent-encoded, or the text whose base64 stands there; or nothing where it is neither.
+// Decodes a part of a link, which is percent-encoded. If isText is true, it may also be the base64 of a text. Returns "" after an
+// error.
 function decoded(part, isText) {
   try {
     const words = decodeURIComponent(part);
@@ -82,8 +83,8 @@ function decoded(part, isText) {
   }
 }
 
-// What a link has after #: the texts of signatures, as sig=; what it has as a key, as key=, or everything else where there is none
-// of that; and the 56 letters of that, or nothing where they are none, or there are more. Other words are never taken.
+// Parses the part of a link after #. `signatures` are the values of sig=. `keys` are the values of key=, or if there are none all
+// other parts. `letters` is the key if there is exactly one and it has the form of a key, otherwise "".
 function partsOfLink(after) {
   const parts = after.split("&").filter(part => part !== "");
   const valuesOf = (name, isText) => parts.filter(part => part.startsWith(name)).map(part => decoded(part.slice(name.length), isText));
@@ -93,26 +94,25 @@ function partsOfLink(after) {
   return {keys, letters, signatures: valuesOf("sig=", true)};
 }
 
-// The names that the trusted comment of a signature's text gives the file, before anybody knows who wrote them.
+// Returns the file names in the trusted comment of a signature file, before the comment is verified.
 function namesIn(signatureText) {
-  return toldByComment((linesOf(signatureText)[2] ?? "").replace("trusted comment: ", "")).names;
+  return fieldsOfComment((linesOf(signatureText)[2] ?? "").replace("trusted comment: ", "")).names;
 }
 
-// What Minisign writes into a signed comment where the signer names none: the file's names and the time, as far as they are
-// there.
-function toldByComment(comment) {
-  const told = {names: [], time: ""};
+// Returns the file names and the time in a trusted comment, as Minisign writes them by default, if they are there.
+function fieldsOfComment(comment) {
+  const fields = {names: [], time: ""};
   for (const part of comment.split("\t")) {
     if (part.startsWith("file:")) {
-      told.names.push(part.slice(5));
+      fields.names.push(part.slice(5));
     } else if (/^timestamp:\d{1,11}$/.test(part)) {
-      told.time = `${new Date(1000 * Number(part.slice(10))).toISOString().slice(0, 16).replace("T", ", ")} UTC`;
+      fields.time = `${new Date(1000 * Number(part.slice(10))).toISOString().slice(0, 16).replace("T", ", ")} UTC`;
     }
   }
-  return told;
+  return fields;
 }
 
-// Returns the name without directories, a number in parentheses, and the difference between large and small letters.
+// Returns the name in lower case, without directories and without a number in parentheses.
 function bareName(name) {
   return withoutDirectories(name).replace(/\s?\(\d+\)(?=(\.[^.\s]+)*$)/, "").normalize().toLowerCase();
 }
@@ -132,16 +132,16 @@ const SUFFIX = /^(.+?)\s?\(\d{1,2}\)((?:\.[^.\s()]+)*)$/s;
 // Returns true if a file's name, or its name without one SUFFIX, is the signed one. A browser shows the page no directories, so those of
 // the signed name are not compared.
 function isSignedName(name, signedName) {
-  const own = name.normalize(), signed = signedName.normalize();
-  return [own, own.replace(SUFFIX, "$1$2")].some(each => each === signed || each === withoutDirectories(signed));
+  const fileName = name.normalize(), expected = signedName.normalize();
+  return [fileName, fileName.replace(SUFFIX, "$1$2")].some(each => each === expected || each === withoutDirectories(expected));
 }
 
-// The trusted comments that may have been signed where the text's own, cut of white space, was not: with what stands at its
-// ends in the text, and with some white space that was lost there.
+// Returns trusted comments that may have been signed if the comment without white space at its ends was not: the comment with the
+// white space in the file, and with white space that may have been lost.
 function commentsWithEnds(signatureText, comment) {
   const line = signatureText.split("\n")[2] ?? "";
-  const asItStands = line.slice(line.indexOf(":") + 1).replace(/^ /, "");
+  const inFile = line.slice(line.indexOf(":") + 1).replace(/^ /, "");
   const lost = [" ", "  ", "\t", "\r"];
-  return [asItStands, asItStands.replace(/\r$/, ""), ...lost.map(letters => comment + letters), ...lost.map(letters => letters + comment)]
+  return [inFile, inFile.replace(/\r$/, ""), ...lost.map(letters => comment + letters), ...lost.map(letters => letters + comment)]
     .filter(other => other !== comment);
 }

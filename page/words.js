@@ -1,12 +1,12 @@
 // SPDX-License-Identifier: MIT
-// The words of the page: why a file is not verified, by the numbers of include/minisign.h, what helps if something else was
-// given than was asked for, and how a stranger's text is shown.
+// The texts of the page: verdicts, reasons by the error numbers of include/minisign.h, and hints for wrong input. Also shows texts
+// of unknown origin safely.
 
 const DAMAGED = "Download the signature again: it is incomplete or damaged, or it is not a Minisign signature.";
 const NO_KEY = "Get the public key again: it is incomplete or damaged, or it is not a Minisign key.";
 
-// Error numbers of include/minisign.h that the page knows by name. It gives the first for a public key, too: the library does not check
-// the algorithm of a key.
+// Error numbers of include/minisign.h that the page treats specially. The page uses the first one for a public key, too, because
+// the library does not check the algorithm of a key.
 const UNKNOWN_ALGORITHM = 28, OTHER_KEY = 29, LEGACY_NOT_ACCEPTED = 30, COMMENT_NOT_SIGNED = 32;
 
 const WHY_NO_KEY = new Map([
@@ -40,7 +40,7 @@ const WHY_NOT = new Map([
   [81, "The public key or the signature is weak or malformed, so it proves nothing about any file. Do not use the file."],
 ]);
 
-// For a comment that differs from the signed one only by white space at its ends, which the library ignores.
+// For a comment that differs from the signed one only in white space at its beginning or end, which the library ignores.
 const WHY_NOT_ENDS = "The file is the one that was signed, but its trusted comment was signed with other white space at " +
   "its beginning or end, and this page accepts only comments without such white space. This need not be an attack: ask the " +
   "signer for a signature with a comment that begins and ends without white space.";
@@ -48,7 +48,7 @@ const WHY_NOT_ENDS = "The file is the one that was signed, but its trusted comme
 const WENT_WRONG = "This page failed, so the file was not verified.";
 const TOO_LONG_A_KEY = "No public key: this file cannot be read, or is too large for a public key.";
 
-// What stands where a key should, by the words of hintOf.
+// Hints for other input in the field for the key, by the results of hintOf.
 const HINTS = new Map([
   ["secret key", "This is a secret key. Nobody but its owner may see it, and no web page needs it. " +
     "The public key is in another file, usually minisign.pub."],
@@ -63,7 +63,7 @@ const HINTS = new Map([
   ["broken", "The key is broken over several lines. Paste it as one line:"],
   ["alone", "This is only the key, without the first line of a public key file. Paste it into the field:"],
 ]);
-// After these words the key itself stands.
+// The hints that are followed by the key.
 const HINTS_WITH_KEY = ["command", "words", "broken", "alone"];
 const NO_SIGNATURE = "This is not a signature. A signature has four lines, and the first one begins with “untrusted comment:”.";
 
@@ -82,8 +82,8 @@ const WITH_FILES = "The key came with the files, so whoever made the files may h
 const BY_LINK = "The key came with the link to this page, so whoever made the link chose it.";
 const PASTE = "Before you use the file, get the key from where the project publishes it, and paste it into the field for the key.";
 
-// The verdicts, and the states before one, the worst first: the sign, the words, and the next step. (page.css gives each its colour.) A file
-// that is read comes before one that waits for something, so that nobody is asked for what is just being read.
+// The verdicts, and the states before a verdict, from worst to best: symbol, words and next step. Their colours are in page.css.
+// A file that is being read comes before one that waits for input, so that nobody is asked for a file that is being read.
 const VERDICTS = new Map([
   ["bad", ["✗", "NOT verified", `Do not use the file: get it${BUILT_IN_KEY ? "" : ", its signature and the key"} again from the project.`]],
   ["unchecked", ["?", "Signed, by a key that you have not checked", "Before you use the file, paste the key that the project publishes."]],
@@ -97,8 +97,9 @@ const VERDICTS = new Map([
   ["good", ["✓", "Verified", `You can use the file, if ${BUILT_IN_KEY ? "this page" : "the key"} is the project's own.`]],
 ]);
 
-// How a key came here, by its source: how it goes on after "the key ..", whether somebody gave it who checked it, and what stands
-// beside the verdict on a signature that fits, and on another one. NAME stands for the name of its file.
+// The sources of a key. `from` completes a sentence after "the key .."; NAME stands for the name of its file. `isGiven` is true if
+// the visitor or the builder of the page gave the key on purpose. `fits` and `fails` are shown with a valid signature and with
+// one that is not.
 const SOURCES = new Map([
   ["typed", {from: ["which you pasted or typed"], isGiven: true, fits: WHOSE, fails: ""}],
   ["chosen", {from: ["which you chose as the file ", "NAME"], isGiven: true, fits: WHOSE, fails: ""}],
@@ -112,32 +113,31 @@ const SOURCES = new Map([
   }],
 ]);
 
-// A character that is not shown as one in its place: a control character other than a tab, one that is ignored where it
-// cannot be shown, one that turns the direction or joins, a line's or a paragraph's end, a letter without ink, and one that
-// Unicode does not have.
+// Characters that are invisible or change how other characters are shown: control characters other than tab, characters that
+// change the direction or join others, line and paragraph separators, blank letters, private and unassigned characters.
 const UNSEEABLE = /(?!\t)[\p{Cc}\p{Cf}\p{Cs}\p{Co}\p{Cn}\p{Zl}\p{Zp}\p{Default_Ignorable_Code_Point}\u2800]/gu;
 
 function codeOf(character) {
   return `U+${character.codePointAt(0).toString(16).toUpperCase().padStart(4, "0")}`;
 }
 
-// The text with each unseeable character as its number.
-function seeable(text) {
+// Returns the text with each invisible character replaced by its number.
+function withCodes(text) {
   return text.replace(UNSEEABLE, character => `[${codeOf(character)}]`);
 }
 
-// Makes an element of a class with these nodes and texts in it. A text is never read as markup.
+// Returns an element with a class, and these nodes and texts in it. A text is never parsed as markup.
 function element(name, className, ...inside) {
-  const made = document.createElement(name);
+  const node = document.createElement(name);
   if (className) {
-    made.className = className;
+    node.className = className;
   }
-  made.append(...inside);
-  return made;
+  node.append(...inside);
+  return node;
 }
 
-// The same text as nodes, in which a number cannot be taken for letters of the text.
-function shown(text) {
+// Returns the text as nodes. The number of an invisible character has its own element, so that it is not mistaken for text.
+function nodesOf(text) {
   const nodes = [];
   let at = 0;
   for (const found of text.matchAll(UNSEEABLE)) {
@@ -147,33 +147,33 @@ function shown(text) {
   return [...nodes, text.slice(at)];
 }
 
-// An element that no browser translates.
+// Returns an element that browsers do not translate.
 function verbatim(...parts) {
-  const made = element(...parts);
-  made.translate = false;
-  return made;
+  const node = element(...parts);
+  node.translate = false;
+  return node;
 }
 
-// The most characters of a name that are shown where there is little room, and how many of them are its last ones.
+// The maximum length of a name in the band, and how many of these characters are the last ones of the name.
 const MAX_NAME = 40, NAME_END = 16;
 
-// Returns the name without its middle if it is long. What tells versions apart is mostly at the end.
+// Returns the name without its middle if it is long. The version is mostly at the end.
 function shortened(name) {
   const letters = [...name];
   return letters.length <= MAX_NAME ? name : `${letters.slice(0, MAX_NAME - NAME_END - 1).join("")}…${letters.slice(-NAME_END).join("")}`;
 }
 
-// The name of a file, in its own box.
+// Returns the name of a file, in a box.
 function nameOf(name) {
-  return verbatim("bdi", "name", ...shown(name));
+  return verbatim("bdi", "name", ...nodesOf(name));
 }
 
-// The letters of a key, or its identifier.
+// Returns the letters of a key or a key ID, in a box.
 function lettersBox(letters) {
   return verbatim("code", "letters", letters);
 }
 
-// How a key came here, as nodes.
+// Returns the nodes that say where a key came from.
 function sourceOf({kind, name}) {
   return SOURCES.get(kind).from.map(part => part === "NAME" ? nameOf(name) : part);
 }

@@ -1,14 +1,15 @@
-"""Reads the headers, `include/minisign.h` and `include/minisign_install.h`, as clang reads them: constants, enums, structs,
-calls with their comments, and the roles that the headers state by `MINISIGN_ROLE`. A form that this file does not know is an
-error, so that nothing is skipped.
+"""Parses `include/minisign.h` and `include/minisign_install.h` with clang.
 
-Roles of parameters and fields:
+The result has the constants, enums, structs and calls with their comments, and the roles that the headers give to
+parameters and fields with `MINISIGN_ROLE`. A form that this file does not know is an error, so that nothing is skipped.
 
-    output        the call fills the struct and does not read what it held
+Roles:
+
+    output        the call fills the struct and does not read what it held before
     presence      1 if the pointer and the length after it are given, 0 if not
     room SIZE     a buffer of SIZE bytes is large enough. SIZE is a sum of numbers, of constants and sizes without
-                  `MINISIGN_`, and of lengths, as names of parameters or of fields
-    secret        a secret: who holds it clears it
+                  `MINISIGN_`, and of lengths, which are names of parameters or of fields
+    secret        a secret, which its owner has to clear
 """
 
 import functools
@@ -29,33 +30,36 @@ import needs
 FILE = "include/minisign.h"
 INSTALLING = "include/minisign_install.h"
 
-# The names in what follows are without `MINISIGN_`. A size grows with the lengths of what is put in.
+# Names are without `MINISIGN_`. A Size is a macro with parameters: its number for lengths of 0, and the names of these lengths.
 Size = namedtuple("Size", "name number lengths")
 Member = namedtuple("Member", "comment name number")
 Call = namedtuple("Call", "answer name parameters comment")
-# A parameter, or a field of a struct: as it is declared, and in parts. The count of an array is a number, and empty of others.
+# A parameter, or a field of a struct: its declaration, and the parts of it. The count is that of an array, and empty otherwise.
 Value = namedtuple("Value", "text const kind star name count roles")
 
-# A type as clang writes it, and a macro in the output of -dD.
+# A type as clang prints it, and a macro as -dD prints it.
 TYPE = re.compile(r"(const )?((?:enum )?\w+) ?(\*?)(?:\[(\d+)\])?")
 MACRO = re.compile(r"#define MINISIGN_(\w+)(?:\(([^)]*)\))? ?(.*)")
-# Macros that are no constants: MINISIGN_VERSION is computed of three others.
+# Macros that the bindings do not need: MINISIGN_VERSION is computed from three others.
 NO_CONSTANTS = ("VERSION",)
 PROBE = "minisign_probe_"
 
 
 class Header:
-    """What the text of a header declares, or the texts of both. A struct with pointers (`in_parts`) is for the caller alone: the
-    proved calls take its fields one by one. `secrets` are the structs with a secret field."""
+    """The declarations of one or both headers.
+
+    `in_parts` has the structs with pointers, which only the declared calls take: the proved calls take the fields one by
+    one. `secrets` has the structs with a secret field.
+    """
 
     def __init__(self, *texts):
-        with tempfile.TemporaryDirectory(prefix="header-") as room:
-            names = [os.path.join(room, f"part{at}.h") for at in range(len(texts))]
+        with tempfile.TemporaryDirectory(prefix="header-") as directory:
+            names = [os.path.join(directory, f"part{at}.h") for at in range(len(texts))]
             for name, text in zip(names, texts):
                 with open(name, "w", encoding="utf-8") as file:
                     file.write(text)
-            macros = [*macros_of(room, names)]
-            declared = [*declarations(room, names, macros)]
+            macros = [*macros_of(directory, names)]
+            declared = [*declarations(directory, names, macros)]
         values = {name.removeprefix(PROBE): number for _, found in enums_of(declared) for _, name, number in found if name.startswith(PROBE)}
         self.texts = [(name, body) for name, _, body in macros if body.startswith('"')]
         self.numbers = [(name, shown(values[name])) for name, lengths, _ in macros if name in values and lengths is None]
@@ -69,7 +73,7 @@ class Header:
         self.secrets = {name for name, fields in self.structs.items() if any("secret" in field.roles for field in fields)}
 
     def taken(self, call):
-        """The parameters of the proved call: in place of a struct of parts its fields."""
+        """Yields the parameters of the proved call, which has the fields of a struct of `in_parts` in its place."""
         for parameter in call.parameters:
             if parameter.kind in self.in_parts:
                 yield from (field._replace(const="const " if field.star or field.count else "", name=f"{parameter.name}->{field.name}")
@@ -84,18 +88,18 @@ class Header:
 
 @functools.lru_cache(maxsize=None)
 def parsed(*texts):
-    """What these texts declare; each is read once."""
+    """Returns the declarations of these texts, and caches them."""
     return Header(*texts)
 
 
 def both():
-    """What the two headers declare."""
+    """Returns the declarations of both headers."""
     return parsed(read(FILE), read(INSTALLING))
 
 
-def run_clang(room, main, *flags):
-    """What clang writes for a file that has this text."""
-    path = os.path.join(room, "main.c")
+def run_clang(directory, main, *flags):
+    """Returns the output of clang for a file with this text."""
+    path = os.path.join(directory, "main.c")
     with open(path, "w", encoding="utf-8") as file:
         file.write(main)
     command = [needs.program("clang", "clang"), "-std=c11", "-DMINISIGN_READ_ROLES", "-I", os.path.join(ROOT, "include"), *flags, path]
@@ -109,10 +113,10 @@ def including(names):
     return "#include <stddef.h>\n#include <stdint.h>\n" + "".join(f'#include "{name}"\n' for name in names)
 
 
-def macros_of(room, names):
-    """The macros that are constants, texts or sizes, in their order: the name, the parameters or None, and the body."""
+def macros_of(directory, names):
+    """Returns the macros that are constants, texts or sizes, in their order: name, parameters or None, and body."""
     file, found = "", {}
-    for line in run_clang(room, including(names), "-E", "-dD").split("\n"):
+    for line in run_clang(directory, including(names), "-E", "-dD").split("\n"):
         if line.startswith("# "):
             file = line.split('"')[1]
         elif line.startswith("#undef MINISIGN_"):
@@ -122,13 +126,15 @@ def macros_of(room, names):
     return [(name, *how) for name, how in found.items() if name not in NO_CONSTANTS]
 
 
-def declarations(room, names, macros):
-    """The declarations of these files, each with the text of its file, and one enum with the values of the macros. The output of
-    clang names a file only where it is not that of the place before."""
+def declarations(directory, names, macros):
+    """Yields the declarations of these files, each with the text of its file, and an enum with the values of the macros.
+
+    clang prints the file of a location only if it differs from that of the previous location.
+    """
     numbers = [(name, "" if lengths is None else f"({', '.join('0' for _ in lengths.split(','))})") for name, lengths, body in macros if not body.startswith('"')]
     probes = "".join(f"    {PROBE}{name} = MINISIGN_{name}{given},\n" for name, given in numbers)
     main = including(names) + (f"enum {{\n{probes}}};\n" if probes else "")
-    tree, file = json.loads(run_clang(room, main, "-fsyntax-only", "-fparse-all-comments", "-Xclang", "-ast-dump=json")), ""
+    tree, file = json.loads(run_clang(directory, main, "-fsyntax-only", "-fparse-all-comments", "-Xclang", "-ast-dump=json")), ""
     texts = {name: read(name) for name in names}
     for node in tree["inner"]:
         file = at = last_file(node.get("loc", {}), file)
@@ -140,12 +146,12 @@ def declarations(room, names, macros):
 
 
 def last_file(node, before):
-    """The file of the last place in a node, or the one before where the node names none."""
+    """Returns the file of the last location in a node, or `before` if the node names no file."""
     return ([each["file"] for each in within(node) if "offset" in each and "file" in each] or [before])[-1]
 
 
 def within(node):
-    """A node of the tree and all nodes below it, in the order of the output."""
+    """Yields a node of the tree and all nodes below it, in the order of the output."""
     if isinstance(node, dict):
         yield node
     for each in node.values() if isinstance(node, dict) else node if isinstance(node, list) else ():
@@ -157,13 +163,13 @@ def inner(node, kind):
 
 
 def comment_of(node):
-    """The text of a declaration's comment."""
+    """Returns the text of the comment of a declaration."""
     words = [each["text"] for comment in inner(node, "FullComment") for each in within(comment) if "text" in each]
     return " ".join(" ".join(words).split())
 
 
 def enums_of(declared):
-    """The enums: the name, and for each member its comment, its name and its value."""
+    """Yields each enum: its name, and the comment, name and value of each member."""
     for node, _ in declared:
         if node["kind"] == "EnumDecl":
             yield node.get("name", ""), [(comment_of(each), each["name"], int(next(part["value"] for part in within(each) if part.get("kind") == "ConstantExpr")))
@@ -175,12 +181,12 @@ def shown(number):
 
 
 def value(node, text):
-    """A parameter or a field. Of the type of a parameter clang drops the length of an array, which comes after the name."""
+    """Returns a parameter or a field. The length of an array comes from the text, because clang drops it from the type of a parameter."""
     place = node["loc"].get("expansionLoc", node["loc"])
     after = re.match(r"\w+\[(\d+)\]", text[place["offset"]:])
     found = TYPE.fullmatch(node["type"]["qualType"])
     if not found:
-        raise Unfit(f"{node['type']['qualType']} {node.get('name')}: a type that is not known")
+        raise Unfit(f"{node['type']['qualType']} {node.get('name')}: unknown type")
     const, kind, star, count = (group or "" for group in found.groups())
     if after and not count:
         star, count = "", after[1]
@@ -189,19 +195,19 @@ def value(node, text):
 
 
 def roles_of(node):
-    """The roles of a parameter or a field, each with what is said of it."""
+    """Returns the roles of a parameter or a field, each with its argument."""
     roles = {}
     for attribute in inner(node, "AnnotateAttr"):
         words = [json.loads(each["value"]) for each in within(attribute) if each.get("kind") == "StringLiteral"]
         role, _, more = words[-1].partition(" ")
         if role not in ("output", "presence", "room", "secret") or (role == "room") != bool(more):
-            raise Unfit(f"{node['name']}: a role that is not known: {words}")
+            raise Unfit(f"{node['name']}: unknown role: {words}")
         roles[role] = more
     return roles
 
 
 def calls_of(declared):
-    """The calls. A comment above several declarations is that of each."""
+    """Yields the calls. A comment above several declarations belongs to each of them."""
     comment, end = "", 0
     for node, text in declared:
         if node["kind"] != "FunctionDecl":
@@ -210,7 +216,7 @@ def calls_of(declared):
         if comment_of(node):
             comment = comment_of(node)
         elif not re.fullmatch(r"[^;]*;\s*", text[end:begin]):
-            raise Unfit(f"{node['name']} has no comment right above it: put a #define above the comment")
+            raise Unfit(f"{node['name']} has no comment directly above it; put #define lines above the comment")
         end = place_of(node["range"]["end"])
         yield Call(node["type"]["qualType"].partition(" (")[0], node["name"], [value(each, text) for each in inner(node, "ParmVarDecl")], comment)
 

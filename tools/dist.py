@@ -1,21 +1,22 @@
 #!/usr/bin/env python3
-"""Makes `dist/`: the proved calls of the crate minisign_c as archives and, translated, as C (`portable_calls.py`),
-the page that verifies a download, `PROVED`, which names the kit and the sources that they were proved by, and
-`SHA256SUMS`.
+"""Builds `dist/` from the proved sources.
 
-    tools/dist.py [PART ..]            proves, builds and writes them
-    tools/dist.py --check [PART ..]    proves and builds them, and compares them byte for byte with what stands there
+    tools/dist.py [PART ..]            proves the sources, builds the files and writes them
+    tools/dist.py --check [PART ..]    proves the sources, builds the files and compares them with dist/ byte for byte
 
-PART is `calls` or `page`; by default both. It takes libraries that `rt lib` proved as they stand, and proves the
-others first. With `--after SAID` it takes those that a finished `rt ci` left here: SAID is a file of what that said.
-It writes nothing if a verdict rests on proofs that an earlier `rt check` kept (`incremental=trusted`): run `rt ci`
-first, and then this script with `--after`.
-In the gate `--check` runs beside `rt ci`, and builds over what that proves (`tests/shared/proved.py`).
+PART is `calls` or `page`; the default is both. The files are archives of the proved calls of the crate minisign_c, the
+same calls translated to C (`portable_calls.py`), the page that verifies a download, `PROVED`, which names the kit and
+the sources that were proved, and `SHA256SUMS`. The head of PROVED is written by hand.
 
-With another kit of the same logic the bytes may differ, and so may the page's with another wasm-opt. `--check` then
-says so; of the page it compares all but the module. (tests/c tries the archives of dist/.) It says of which files the
-bytes are the same, and prints a line for each failure; the last line is `N passed, M failed`. The head of PROVED is
-by hand.
+Libraries that `rt lib` has already proved are used as they are; the others are proved first. `--after SAID` uses the
+libraries that a finished `rt ci` has left here. SAID is a file with the output of `rt ci`. Nothing is written if a
+verdict rests on proofs that an earlier `rt check` kept (`incremental=trusted`). In this case run `rt ci` first, and then
+this script with `--after`. In CI, `--check` runs in parallel with `rt ci` and builds with the libraries that it proves
+(`tests/shared/proved.py`).
+
+Another kit with the same logic may give other bytes, and so may another wasm-opt for the page. Then `--check` says so,
+and compares all of the page except its module. (tests/c tests the archives of dist/.) It prints which files are
+identical, and one line per failure; the last line is `N passed, M failed`.
 
 Needs Python 3.9 or later, clang, the kit, and what `page/build.py` needs.
 """
@@ -48,44 +49,44 @@ PROVED, SUMS = "PROVED", "SHA256SUMS"
 CALLS, PAGE = "minisign_c", "minisign_page"
 PAGE_FILE, LOWERED = "minisign.html", "its module was lowered to 32 bits by"
 SOURCES_OF_PAGE, MODULE = build.SOURCES_SUM, build.MODULE_SUM
-# The archives, with the flags that they are built by.
+# The archives, with the flags of the compiler.
 ARCHIVES = {"calls-x86-64-v2.a": [], "calls-x86-64-v3.a": ["--cpu=x86-64-v3"],
             "calls-aarch64.a": ["--target", "aarch64-unknown-linux-gnu"]}
-# The calls as C, and the archive of whose bitcode they are translated.
+# The calls as C, and the archive from whose bitcode they are translated.
 C_CALLS, C_CALLS_OF, TRANSLATED = "calls.c", "calls-x86-64-v2.a", "translated from the bitcode of calls-x86-64-v2.a"
 # The files that SHA256SUMS lists.
 LISTED = [*ARCHIVES, C_CALLS, PAGE_FILE, PROVED]
-# What PROVED says, in this order.
-SAID_OF = ["kit", "sources of the calls", *ARCHIVES, TRANSLATED, SOURCES_OF_PAGE, PAGE_FILE, LOWERED, MODULE]
-# What the verdict of a file says if its proof took results of earlier runs, without checking them again.
+# The keys of PROVED, in their order.
+PROVED_KEYS = ["kit", "sources of the calls", *ARCHIVES, TRANSLATED, SOURCES_OF_PAGE, PAGE_FILE, LOWERED, MODULE]
+# The verdict of a file contains this if its proof used results of earlier runs without checking them again.
 FROM_EARLIER_RUNS = "incremental=trusted"
-# The parts, with the crate of each. (The page stands on fewer crates, which `rt ci` proves first.)
+# The parts, with the crate of each. The page is first, because it needs fewer crates, which `rt ci` proves first.
 PARTS = {"page": PAGE, "calls": CALLS}
 
-# A file of dist/ as it was built now, with the lines that PROVED has of it.
+# A file of dist/ that was built now, with its lines of PROVED.
 Built = namedtuple("Built", "name data lines")
 
 
-def said_by(*command):
-    """What a command says."""
+def output_of(*command):
+    """Returns the output of a command."""
     return subprocess.run(command, stdout=subprocess.PIPE, check=True, timeout=60).stdout.decode().strip()
 
 
 def kit_line():
-    """What `rt version` says."""
+    """Returns the output of `rt version`."""
     if shutil.which("rt") is None:
-        raise needs.Missing("there is no rt: proving needs the Rattle kit, which README.md tells of; `make -C c` builds without it")
-    return said_by("rt", "version")
+        raise needs.Missing("there is no command rt: proving needs the Rattle kit (see README.md); `make -C c` builds without it")
+    return output_of("rt", "version")
 
 
 def read(name):
-    """The bytes of a file of dist/, or of one with a whole path."""
+    """Returns the bytes of a file. A relative path is relative to dist/."""
     with open(os.path.join(DIST, name), "rb") as file:
         return file.read()
 
 
-def said_by_proved():
-    """The head of PROVED, and what the rest says, by what it says it of."""
+def read_proved():
+    """Returns the head of PROVED, and its other lines by their keys."""
     head, _, lines = read(PROVED).decode().partition("\n\n")
     return head, dict(line.split(": ", 1) for line in lines.splitlines())
 
@@ -94,23 +95,23 @@ def said_by_proved():
 # Building.
 
 
-def built_calls(room, is_check):
-    """The archives of the proved calls, and the C that is translated from what one of them was compiled from. In a check the
-    second and the third archive take the proofs of the first."""
-    compilers, bitcode = portable_calls.keeping_compilers(room)
-    kept = ["--incremental", os.path.join(room, "kept")] if is_check else []
+def built_calls(directory, is_check):
+    """Yields the archives of the proved calls, and the C that is translated from the bitcode of one of them. In a check, the
+    second and the third archive reuse the proofs of the first."""
+    compilers, bitcode = portable_calls.keeping_compilers(directory)
+    incremental = ["--incremental", os.path.join(directory, "kept")] if is_check else []
     for name, flags in ARCHIVES.items():
-        archive = os.path.join(room, name)
-        print(f"dist: {name}, and proving first what is not proved", flush=True)
-        verdict = proved.build_archive(CALLS, archive, *flags, *kept, compilers=compilers if name == C_CALLS_OF else None)
+        archive = os.path.join(directory, name)
+        print(f"dist: {name}, after proving what is not proved yet", flush=True)
+        verdict = proved.build_archive(CALLS, archive, *flags, *incremental, compilers=compilers if name == C_CALLS_OF else None)
         yield Built(name, read(archive), {name: verdict, "sources of the calls": build.sources_sum("calls")})
     names = [call.name for call in boundary.proved_calls(c_header.both())]
-    said = f"{C_CALLS}, by tools/wasm_to_c.py, which is tested and not proved; sum of the bitcode {hashlib.sha256(read(bitcode)).hexdigest()}"
-    yield Built(C_CALLS, portable_calls.text(bitcode, names, room).encode(), {TRANSLATED: said})
+    line = f"{C_CALLS}, by tools/wasm_to_c.py, which is tested and not proved; sum of the bitcode {hashlib.sha256(read(bitcode)).hexdigest()}"
+    yield Built(C_CALLS, portable_calls.text(bitcode, names, directory).encode(), {TRANSLATED: line})
 
 
 def built_page(*_):
-    """The page, which names the sum of its sources, as PROVED will name that and the module."""
+    """Yields the page. It contains the sum of its sources, which PROVED has too, with the sum of the module."""
     module, by = build.lowered(build.proved_module()), build.lowering()
     sums = build.sum_of(module), build.sources_sum("page")
     page = build.page(module, by, sums=sums).encode()
@@ -118,15 +119,15 @@ def built_page(*_):
 
 
 def lowered_by(page):
-    """What made a page's module one for 32 bits."""
+    """Returns the name of the tool that lowered the module of a page to 32 bits."""
     found = re.search(rb'^const LOWERED_BY = "(.*)";$', page, re.M)
     return found[1].decode() if found else "nothing"
 
 
 def built(parts, is_check=False):
-    """All files of these parts."""
-    with tempfile.TemporaryDirectory(prefix="dist-") as room:
-        return [file for part in parts for file in (built_calls if part == "calls" else built_page)(room, is_check)]
+    """Returns all files of these parts."""
+    with tempfile.TemporaryDirectory(prefix="dist-") as directory:
+        return [file for part in parts for file in (built_calls if part == "calls" else built_page)(directory, is_check)]
 
 
 def write(name, data):
@@ -139,20 +140,20 @@ def write(name, data):
 
 def make(parts):
     """Proves, builds and writes these parts."""
-    kit, (head, lines) = kit_line(), said_by_proved()
+    kit, (head, lines) = kit_line(), read_proved()
     if lines["kit"] != kit and {*parts} != {*PARTS}:
-        raise needs.Missing(f"dist/ was made by {lines['kit']}, and here is {kit}: name no part, so that all is made by one kit")
+        raise needs.Missing(f"dist/ was made by {lines['kit']}, but {kit} is installed: name no part, so that one kit makes all of dist/")
     lines["kit"] = kit
-    made = built(parts)
-    for file in made:
+    files = built(parts)
+    for file in files:
         if FROM_EARLIER_RUNS in file.lines.get(file.name, ""):
             raise proved.NotBuilt(f"the verdict of {file.name} says {FROM_EARLIER_RUNS}, because it rests on proofs that an earlier `rt check` "
                                   "kept. Nothing was written.\nhint: run `rt ci | tee said`, and then `python3 tools/dist.py --after said`")
-    for file in made:
+    for file in files:
         write(file.name, file.data)
         lines.update(file.lines)
         print(f"dist: {file.name}, {len(file.data)} bytes")
-    write(PROVED, (head + "\n\n" + "".join(f"{key}: {lines[key]}\n" for key in SAID_OF)).encode())
+    write(PROVED, (head + "\n\n" + "".join(f"{key}: {lines[key]}\n" for key in PROVED_KEYS)).encode())
     write(SUMS, "".join(f"{hashlib.sha256(read(name)).hexdigest()}  {name}\n" for name in LISTED).encode())
 
 
@@ -161,45 +162,47 @@ def make(parts):
 
 
 def check_files(report):
-    """The files are those of SHA256SUMS, and nothing else stands there."""
+    """dist/ has exactly the files of SHA256SUMS, with these sums."""
     listed = dict(reversed(line.split("  ", 1)) for line in read(SUMS).decode().splitlines())
     found = {name for name in os.listdir(DIST) if name not in (SUMS, "README.md")}
     report.check(found == {*listed} == {*LISTED}, "dist", f"it has {sorted(found)}, and {SUMS} lists {sorted(listed)}")
     for name in sorted(found & {*listed}):
-        report.check(hashlib.sha256(read(name)).hexdigest() == listed[name], f"dist/{name}", f"it is not what {SUMS} says")
+        report.check(hashlib.sha256(read(name)).hexdigest() == listed[name], f"dist/{name}", f"its sum is not the one in {SUMS}")
 
 
 def check_sources(report, parts, lines):
-    """The sums are over the sources as they are, and over those of all crates."""
+    """The sums of the sources are up to date, and cover all crates."""
     script = sources.read("tools/sources.sh")
     below = re.search(r"^below='(.*)'$", script, re.M)[1].split()
     for part in parts:
         more = re.search(rf'^{part}\) crates="\$below (.*?)"', script, re.M)[1].split()
         crate, key = PARTS[part], f"sources of the {part}"
-        wanted = {*proved.crates()[crate].below, crate}
-        report.check({*below, *more} == wanted, "tools/sources.sh", f"it does not name the crates that {crate} stands on")
-        report.check(lines.get(key) == build.sources_sum(part), "dist", f"the {key} have changed since it was made: run tools/dist.py")
+        expected = {*proved.crates()[crate].below, crate}
+        report.check({*below, *more} == expected, "tools/sources.sh", f"it must name exactly {crate} and the crates that it uses")
+        report.check(lines.get(key) == build.sources_sum(part), "dist", f"the {key} have changed since dist/ was built: run tools/dist.py")
 
 
 def check_verdicts(report, lines):
-    """Each verdict of PROVED is of a whole proof."""
+    """Each verdict in PROVED is that of a complete proof."""
     for name in [*ARCHIVES, PAGE_FILE]:
-        said = lines.get(name, "")
-        report.check(said.startswith("logic=proved ") and FROM_EARLIER_RUNS not in said.split(), PROVED, f"the verdict of {name} is {said!r}")
+        verdict = lines.get(name, "")
+        is_complete = verdict.startswith("logic=proved ") and FROM_EARLIER_RUNS not in verdict.split()
+        report.check(is_complete, PROVED, f"the verdict of {name} is {verdict!r}")
 
 
 def check_built(report, file, lines, kit):
-    """A file is what was built now."""
-    kept, own = ([made, *((by[LOWERED],) if file.name == PAGE_FILE else ())] for made, by in ((lines["kit"], lines), (kit, file.lines)))
+    """A file has the bytes that were built now."""
+    old_tools, new_tools = ([used_kit, *((used[LOWERED],) if file.name == PAGE_FILE else ())]
+                            for used_kit, used in ((lines["kit"], lines), (kit, file.lines)))
     is_same = read(file.name) == file.data
     if is_same:
         print(f"dist: {file.name} has the same bytes as what was proved and built now", flush=True)
-    if is_same or kept == own:
+    if is_same or old_tools == new_tools:
         report.check(is_same, f"dist/{file.name}", f"it is not what was proved and built now from these sources, {len(file.data)} bytes")
         return
-    print(f"dist: {file.name} has other bytes by {' and '.join(own)} than by {' and '.join(kept)}, which made dist/", flush=True)
+    print(f"dist: {file.name} has other bytes with {' and '.join(new_tools)} than with {' and '.join(old_tools)}, which made dist/", flush=True)
     if file.name == PAGE_FILE:
-        # (the module, what the policy says of the script with it, and what lowered it)
+        # Left out are the module, the hashes of the script in the policy, and the name of the tool that lowered the module.
         bare = [re.sub(rb'const MODULE = "[^"]*"|\'sha256-[^\']*\'', b"", page).replace(lowered_by(page).encode(), b"")
                 for page in (read(file.name), file.data)]
         report.check(bare[0] == bare[1], f"dist/{file.name}", "it differs in more than its module")
@@ -207,30 +210,30 @@ def check_built(report, file, lines, kit):
 
 def check(parts):
     """Compares these parts with what is proved and built now."""
-    report, (_, lines), kit = Checks(), said_by_proved(), kit_line()
+    report, (_, lines), kit = Checks(), read_proved(), kit_line()
     check_files(report)
     check_verdicts(report, lines)
     check_sources(report, parts, lines)
     module = build.taken_from(os.path.join(DIST, PAGE_FILE))[0]
     report.check(lines.get(MODULE) == build.sum_of(module), f"dist/{PAGE_FILE}", f"its module is not the one that {PROVED} names")
-    logics = [re.search(r"logic \S+", kit_said)[0] for kit_said in (lines["kit"], kit)]
-    report.check(logics[0] == logics[1], "dist", f"it was proved by {lines['kit']}, and here is {kit}: another logic")
+    logics = [re.search(r"logic \S+", version)[0] for version in (lines["kit"], kit)]
+    report.check(logics[0] == logics[1], "dist", f"it was proved by {lines['kit']}, and the installed {kit} has another logic")
     for file in built(parts, is_check=True):
         check_built(report, file, lines, kit)
         verdicts = [lines.get(file.name), file.lines.get(file.name)]
-        is_proved = [said is not None and said.startswith("logic=proved ") for said in verdicts]
+        is_proved = [verdict is not None and verdict.startswith("logic=proved ") for verdict in verdicts]
         report.check(is_proved == [file.name != C_CALLS] * 2, file.name, f"the verdicts are {verdicts}")
         if file.name == C_CALLS and lines["kit"] == kit:
-            report.check(lines.get(TRANSLATED) == file.lines[TRANSLATED], PROVED, f"it does not say what {C_CALLS} is translated from")
+            report.check(lines.get(TRANSLATED) == file.lines[TRANSLATED], PROVED, f"it does not say from which bitcode {C_CALLS} is translated")
     if "calls" in parts:
         check_translated(report, lines)
     return report.end()
 
 
 def check_translated(report, lines):
-    """PROVED says of the C that it is translated, from what, and by no word that it is proved."""
-    said = [line for line in read(PROVED).decode().partition("\n\n")[2].splitlines() if C_CALLS in line]
-    report.check(said == [f"{TRANSLATED}: {lines.get(TRANSLATED)}"] and "logic=proved" not in said[0], PROVED, f"it says of {C_CALLS}: {said}")
+    """PROVED says from what the C is translated, and does not say that it is proved."""
+    found = [line for line in read(PROVED).decode().partition("\n\n")[2].splitlines() if C_CALLS in line]
+    report.check(found == [f"{TRANSLATED}: {lines.get(TRANSLATED)}"] and "logic=proved" not in found[0], PROVED, f"its lines about {C_CALLS} are {found}")
 
 
 def main(words):

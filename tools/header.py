@@ -1,15 +1,16 @@
 #!/usr/bin/env python3
-"""Makes what the headers, `include/minisign.h` and `include/minisign_install.h`, and docs/FORMATS.md say of numbers,
-from the sources of the crates: the numbers, and the names, comments and texts of errors. Of the headers it makes the
-boundary before the proved calls (`boundary.py`), and their manual pages (`manual.py`), with the examples of
-`c/examples`.
+"""Generates the enums of the C headers from the crates, and from the headers what repeats their declarations.
 
-    tools/header.py            writes them
-    tools/header.py --check    fails where one is not up to date; the last line is `N passed, M failed`
+    tools/header.py            writes the files
+    tools/header.py --check    fails if a file is not up to date; the last line is `N passed, M failed`
 
-A name in C is the name in the source, in capitals after `MINISIGN_`, or the one of `NAMES`. The comment is the first
-sentence of the source's. The head of `c/library/boundary.c`, and the head and the end of each manual page, are
-written by hand and kept. Needs Python 3.9 or later and clang.
+From the crates come the numbers, names and comments of errors, steps and numberings in `include/minisign.h` and
+`include/minisign_install.h`, and the tables of errors in docs/FORMATS.md. From the headers come their attributes for gcc
+and clang, the boundary in front of the proved calls (`boundary.py`), and the manual pages (`manual.py`).
+
+The name of a number in C is its name in the crate, in capitals after `MINISIGN_`, unless `NAMES` has another one. Its
+comment is the first sentence of the doc comment in the crate. The head of `c/library/boundary.c`, and the head and the
+end of each manual page, are written by hand. Needs Python 3.9 or later and clang.
 """
 
 import re
@@ -31,12 +32,12 @@ NUMBERS = "crates/minisign_external/src/numbers.rt"
 INSTALL = "crates/minisign_install"
 INSTALL_NUMBERS = f"{INSTALL}/specs/Hosted.antt"
 
-# The named errors that no call of the headers returns. All others have a name in C. (tests/c/error_lists.py compares.)
+# The named errors that no call of the headers returns. All others have a name in C. tests/c/error_lists.py checks this list.
 UNANSWERED = {"GoingBackFailed", "EndOfInput", "PasswordTooLong", "PasswordsDiffer", "EncryptedKeyRefused", "RefusedByGivenKey",
               "TrustedCommentAbsent", "SignatureBoxIncomplete", "ClockIncorrect", "DataChanged", "InvalidOutputLength",
               "InputOrOutputFailed", "FormattingFailed", "InvalidUtf8"}
 
-# Where C has a better name than the source.
+# The names in C that differ from those in the crates.
 NAMES = {
     "MissingEncodedPublicKey": "MISSING_PUBLIC_KEY",
     "PublicKeyLineLength": "PUBLIC_KEY_LENGTH",
@@ -50,19 +51,20 @@ NAMES = {
     "UnsupportedEncryptionAlgorithm": "UNSUPPORTED_KEY_DERIVATION",
 }
 
-# How long a line of the header may be.
+# The maximum length of a generated line.
 COLUMNS = 116
 
 class Number(namedtuple("Number", "number variant comment")):
-    """A number of an error, or of another choice: its name in the source, and its first sentence there."""
+    """A member of an enum: its number, its name in the crate, and the first sentence of its doc comment."""
 
     @property
     def name(self):
+        """The name in C, without `MINISIGN_`."""
         return NAMES.get(self.variant, re.sub(r"(?<=[a-z0-9])(?=[A-Z])", "_", self.variant).upper())
 
 
-# The enums of the header of installing that are ones of Rattle: what one is called where it stands, what its names begin with, where the enum is,
-# and where the definition of its numbers is.
+# The enums of minisign_install.h that are generated: the words in their marks, the prefix of their members, the name and the file of the
+# enum in the crate, and the file of the definition of its numbers.
 Choice = namedtuple("Choice", "place prefix enum file numbers")
 CHOICES = (
     Choice("Calls of installing", "DUE", "Due", f"{INSTALL}/src/order.rt", f"{INSTALL}/specs/Order.antt"),
@@ -71,7 +73,7 @@ CHOICES = (
 
 
 def item_text(file, what, path):
-    """The one item of this kind and path, but for methods of traits."""
+    """Returns the text of the only item with this kind and path, which is not a method of a trait."""
     found = [item.text for item in sources.read_source(f"{ROOT}/{file}").items
              if item.what == what and item.path == path and not item.trait]
     if len(found) != 1:
@@ -80,95 +82,97 @@ def item_text(file, what, path):
 
 
 def comments_of(file, enum):
-    """The variants of an enum with their first sentences."""
+    """Returns the variants of an enum with the first sentences of their doc comments."""
     body = item_text(file, "enum", enum).partition("{")[2]
     found = re.findall(r"((?:^    ///.*\n)+)    (\w+)(?: \{[^}]*\}|\(\w+\))?,$", body, re.M)
     if len(found) != len(re.findall(r"^    [A-Z]\w*", body, re.M)):
-        raise Unfit(f"{enum}: a variant without a comment")
+        raise Unfit(f"{enum}: a variant has no doc comment")
     return {variant: first_sentence(comment) for comment, variant in found}
 
 
 def first_sentence(comment):
-    """The first sentence of a comment of the source."""
+    """Returns the first sentence of a comment of the source, as plain text: code loses its backticks, and is quoted unless it is a name."""
     bare = " ".join(re.sub(r"(?m)^ *///", "", comment).split())
-    return re.match(r"(?:`[^`]*`|[^.`])*\.", bare)[0].replace("`", "")
+    sentence = re.match(r"(?:`[^`]*`|[^.`])*\.", bare)[0]
+    return re.sub(r"`([^`]*)`", lambda code: code[1] if re.fullmatch(r"\w+", code[1]) else f'"{code[1]}"', sentence)
 
 
 def numbers_of(comments, file, definition):
-    """The numbers of the variants of an enum, by the definition that has a line for each."""
+    """Returns the members of an enum, with the numbers from a definition that has one line per variant."""
     lines = re.findall(rf"^{definition} \(?(\w+)[^=]*= (\d+)$", read(file), re.M)
     if {*comments} != {variant for variant, _ in lines}:
-        raise Unfit(f"{file}: {definition} has not one number for each of {', '.join(sorted(comments))}")
+        raise Unfit(f"{file}: {definition} must have one number for each of {', '.join(sorted(comments))}")
     return sorted(Number(int(number), variant, comments[variant]) for variant, number in lines)
 
 
 def misuses():
-    """The usage errors."""
+    """Returns the errors of API misuse."""
     comments = comments_of("crates/minisign_external/src/state.rt", "Misuse")
     return numbers_of(comments, "crates/minisign_external/specs/Numbers.antt", "misuse_number")
 
 
 def fault_rows():
-    """The named errors in their order: their names, numbers, kinds and texts, with A and B for key IDs."""
+    """Returns the names, numbers, kinds and texts of the named errors, in their order. A and B stand for key IDs in a text."""
     longer, specs = {}, read(FAULT_ROWS)
     for name, body in re.findall(r"^named_text \(?fault\.(\w+)[^=]*=\s*(.*(?:\n    .*)*)", specs, re.M):
         letters = iter("AB")
         longer[name] = "".join(piece or next(letters) for piece, _ in re.findall(r'codes "([^"]*)"|(key_id_text)', body))
     rows = re.findall(r'^fault_row \(?fault\.(\w+)[^=]*=\s+row (\d+) kind\.(\w+)\s+\(codes "([^"]*)"\)', specs, re.M)
     if len(rows) != len(re.findall(r"^fault_row \(?fault\.", specs, re.M)):
-        raise Unfit(f"{FAULT_ROWS}: a row of an error is not read")
+        raise Unfit(f"{FAULT_ROWS}: the row of an error has a form that this script cannot read")
     return [(name, number, kind, longer.get(name, text)) for name, number, kind, text in rows]
 
 
 def weak_row():
-    """The error that the calls for other languages add to those of the library, in the same form, and its first sentence."""
-    number, found = read(NUMBERS), read("crates/minisign_external/specs/Numbers.antt")
-    told = re.search(r"((?:^///.*\n)+)pub const WEAK_ED25519: u32 = (\d+);$", number, re.M)
-    text = re.search(r'^weak_text = codes "([^"]*)"$', found, re.M)
-    if not told or not text or f"\nweak_number = {told[2]}\n" not in found:
-        raise Unfit(f"{NUMBERS}: WEAK_ED25519 has not one number and one text")
-    return ("WeakEd25519", told[2], "Verify", text[1]), first_sentence(told[1])
+    """Returns WEAK_ED25519 in the form of `fault_rows`, and its comment. Only the calls for other languages return it."""
+    source, specs = read(NUMBERS), read("crates/minisign_external/specs/Numbers.antt")
+    constant = re.search(r"((?:^///.*\n)+)pub const WEAK_ED25519: u32 = (\d+);$", source, re.M)
+    text = re.search(r'^weak_text = codes "([^"]*)"$', specs, re.M)
+    if not constant or not text or f"\nweak_number = {constant[2]}\n" not in specs:
+        raise Unfit(f"{NUMBERS}: WEAK_ED25519 has no number or no text, or the definitions have another number")
+    return ("WeakEd25519", constant[2], "Verify", text[1]), first_sentence(constant[1])
 
 
 def install_rows(comments):
-    """The errors that installing adds, in the same form."""
+    """Returns the errors that only installing returns, in the form of `fault_rows`."""
     rows = re.findall(r'^install_row (\w+) =\s+row (\d+) (\w+) \(codes "([^"]*)"\)$', read(f"{INSTALL}/specs/Faults.antt"), re.M)
     if {name for name, *_ in rows} != {*comments} - {"Library"}:
-        raise Unfit("install_row has not one row for each error of installing")
+        raise Unfit("install_row must have one row for each error of installing")
     return rows
 
 
 def all_numbers(rows, comments):
-    """The errors that calls of the header answer."""
+    """Returns the errors that calls of the headers return, in the order of their numbers."""
     if UNANSWERED - {name for name, *_ in rows}:
-        raise Unfit(f"UNANSWERED names {', '.join(sorted(UNANSWERED - {name for name, *_ in rows}))}, which is no named error")
+        raise Unfit(f"UNANSWERED names {', '.join(sorted(UNANSWERED - {name for name, *_ in rows}))}, which are not named errors")
     found = [*misuses(), *(Number(int(number), name, comments[name]) for name, number, _, _ in rows if name not in UNANSWERED)]
     if len({error.number for error in found}) != len(found) or len({error.name for error in found}) != len(found):
-        raise Unfit("two errors have one number or one name")
+        raise Unfit("two errors have the same number or the same name")
     if {*NAMES} - {error.variant for error in found}:
-        raise Unfit(f"a name in C for {', '.join(sorted({*NAMES} - {error.variant for error in found}))}, which no call answers")
+        raise Unfit(f"a name in C for {', '.join(sorted({*NAMES} - {error.variant for error in found}))}, which no call returns")
     return sorted(found)
 
 
 def enum_text(enum, numbers, prefix="", first=()):
-    """An enum of the header, of variants with their comments, in lines that fit."""
-    told = []
-    for variant in numbers:
-        lines = textwrap.wrap(f"/* {variant.comment}\u00a0*/", COLUMNS, initial_indent="    ", subsequent_indent="     * ",
+    """Returns an enum of the header, with a comment above each member. `first` are the members that no crate has."""
+    members = []
+    for number in numbers:
+        lines = textwrap.wrap(f"/* {number.comment}\u00a0*/", COLUMNS, initial_indent="    ", subsequent_indent="     * ",
                               break_long_words=False, break_on_hyphens=False)
-        told.append("\n".join([*lines, f"    MINISIGN_{prefix}{variant.name} = {variant.number}"]).replace("\u00a0", " "))
-    return f"enum minisign_{enum} {{\n" + ",\n".join([*first, *told]) + "\n};\n"
+        members.append("\n".join([*lines, f"    MINISIGN_{prefix}{number.name} = {number.number}"]).replace("\u00a0", " "))
+    return f"enum minisign_{enum} {{\n" + ",\n".join([*first, *members]) + "\n};\n"
 
 
 def choice_text(choice):
+    """Returns a generated enum of minisign_install.h."""
     name = choice.prefix.lower()
     numbers = numbers_of(comments_of(choice.file, choice.enum), choice.numbers, f"{name}_number")
-    first = ["    /* Nothing: the installation was never begun. */\n    MINISIGN_DUE_NOTHING = 0"] if choice.prefix == "DUE" else []
+    first = ["    /* Nothing: the installation was not initialized. */\n    MINISIGN_DUE_NOTHING = 0"] if choice.prefix == "DUE" else []
     return enum_text(name, numbers, f"{choice.prefix}_", first)
 
 
-# The attributes of calls: a compiler that knows them warns of a NULL pointer and of a length that is greater than the buffer.
-# (clang has no `access`; a call is declared again, for which some compilers would warn)
+# With these attributes gcc and clang warn about NULL, and gcc about a length that is greater than its buffer. clang has no attribute
+# `access`. The pragma is there because each call is declared a second time.
 ATTRIBUTES = """#if defined(__GNUC__) && !defined(__TINYC__)
 #pragma GCC diagnostic push
 #pragma GCC diagnostic ignored "-Wredundant-decls"
@@ -187,7 +191,7 @@ ATTRIBUTES = """#if defined(__GNUC__) && !defined(__TINYC__)
 
 
 def attributes_text(header):
-    """The attributes of each call: which pointers are never NULL, and which point to as many elements as the next parameter says."""
+    """Returns the attributes of each call: which pointers must not be NULL, and which point to as many elements as the next parameter says."""
     lines = []
     for call in header.calls:
         accesses, not_null = [], []
@@ -203,59 +207,59 @@ def attributes_text(header):
 
 
 def answers_text(numbers):
-    """The answers of the header, which are the number of no error."""
+    """Returns the enum of answers. An answer must not be the number of an error."""
     found = re.findall(r"^pub const (ANSWER_(?:YES|NO)): u32 = (\d+);$", read(NUMBERS), re.M)
-    if len(found) != 2 or any(int(value) < 256 or int(value) in {other.number for other in numbers} for _, value in found):
-        raise Unfit(f"{NUMBERS} has no two answers that are no other number")
+    if len(found) != 2 or any(int(value) < 256 or int(value) in {error.number for error in numbers} for _, value in found):
+        raise Unfit(f"{NUMBERS} must have two answers that differ from all error numbers")
     return "enum minisign_answer {\n" + ",\n".join(f"    MINISIGN_{name} = {int(value):#x}" for name, value in found) + "\n};\n"
 
 
 def table(head, rows):
-    """A table of a document."""
+    """Returns a Markdown table."""
     lines = ["", f"| {' | '.join(head)} |", "|" + "---|" * len(head), *(f"| {' | '.join(row)} |" for row in rows), "", ""]
     return "\n".join(lines).replace("|  |", "| |")
 
 
-def between(text, begin, end, made):
-    """The text with what is made between these two lines."""
+def between(text, begin, end, content):
+    """Returns the text with `content` between the lines `begin` and `end`."""
     before, found, rest = text.partition(begin + "\n")
     _, closed, after = rest.partition(end + "\n")
     if not found or not closed:
         raise Unfit(f"a file lacks the lines {begin!r} and {end!r}")
-    return before + found + made + closed + after
+    return before + found + content + closed + after
 
 
 def header_text(file, parts):
-    """A header with these parts made."""
+    """Returns a header with these generated parts, by the words in their marks."""
     header = read(file)
-    for place, made in parts.items():
+    for place, content in parts.items():
         end = f"/* The end of the {place.split()[0].lower()}. */"
-        header = between(header, f"/* {place}, made by tools/header.py. */", end, made)
+        header = between(header, f"/* {place}, made by tools/header.py. */", end, content)
     return header
 
 
 def formats_text(numbers, rows, comments):
-    """The document with the table of usage errors, and that of all errors with the names of those that C knows."""
+    """Returns docs/FORMATS.md with the tables of API misuse and of all other errors."""
     texts = re.findall(r'Misuse::(\w+) => (?:\{\s*)?"((?:[^"\\]|\\.)*)"', item_text(NUMBERS, "fn", "Misuse::text"))
     in_c = {error.variant: f"`MINISIGN_{error.name}`" for error in numbers}
     uses = [(str(misuse.number), in_c[misuse.variant], f"`{dict(texts)[misuse.variant]}`") for misuse in misuses()]
-    # (the header says when those come that have a name there)
-    told = [(f"`{name}`", number, in_c.get(name, ""), kind, f"`{text}`", "" if name in in_c else comments[name]) for name, number, kind, text in rows]
+    # For an error with a name in C, the header says when it is returned.
+    named = [(f"`{name}`", number, in_c.get(name, ""), kind, f"`{text}`", "" if name in in_c else comments[name]) for name, number, kind, text in rows]
     tables = {"numbers": table(("Number", "Name in C", "Text"), uses),
-              "errors": table(("Name", "Number", "Name in C", "Kind", "Text", "When"), told)}
+              "errors": table(("Name", "Number", "Name in C", "Kind", "Text", "When"), named)}
     text = read(FORMATS)
-    for name, made in tables.items():
-        text = between(text, f"<!-- {name}, made by tools/header.py -->", f"<!-- the end of the {name} -->", made)
+    for name, content in tables.items():
+        text = between(text, f"<!-- {name}, made by tools/header.py -->", f"<!-- the end of the {name} -->", content)
     return text
 
 
-def made():
-    """The files that are made, in whole or in part, with their texts."""
-    comments, installing = comments_of(FAULTS, "NamedFault"), comments_of(f"{INSTALL}/src/faults.rt", "InstallFault")
-    weak, of_weak = weak_row()
-    rows, comments = [*fault_rows(), weak, *install_rows(installing)], comments | installing | {weak[0]: of_weak}
+def generated_files():
+    """Yields the paths and texts of the generated files."""
+    comments, install_comments = comments_of(FAULTS, "NamedFault"), comments_of(f"{INSTALL}/src/faults.rt", "InstallFault")
+    weak, weak_comment = weak_row()
+    rows, comments = [*fault_rows(), weak, *install_rows(install_comments)], comments | install_comments | {weak[0]: weak_comment}
     numbers = all_numbers(rows, comments)
-    # (what a struct of one header is, the calls of the other need not know)
+    # Each header is parsed by itself for its attributes, because these do not depend on structs of the other one.
     header = header_text(HEADER, {"Numbers": enum_text("error", numbers, first=["    MINISIGN_OK = 0"]), "Answers": answers_text(numbers),
                                   "Attributes": attributes_text(parsed(read(HEADER)))})
     installing = header_text(INSTALLING, {**{choice.place: choice_text(choice) for choice in CHOICES},
@@ -273,4 +277,4 @@ def made():
 
 
 if __name__ == "__main__":
-    sys.exit(sources.keep_all(made))
+    sys.exit(sources.write_or_check(generated_files))

@@ -1,11 +1,12 @@
 #!/usr/bin/env python3
-"""Made the files of tests/corpus, with Minisign's own program, once; kept to show how.
+"""Generates a corpus such as tests/corpus with Minisign's own program. The files in tests/corpus were generated once with
+this script.
 
     tools/make_corpus.py DIRECTORY
 
-It makes the same anew, with other keys, in an empty directory: keys with and without a password, data, signatures of
-both kinds with odd comments, some of them damaged, and `cases.json`, which has the answer of `minisign -V` to each
-case. The texts of the published key are those that Minisign's author published with the Rust crate.
+DIRECTORY is an empty directory. It gets keys with and without a password, data, prehashed and legacy signatures with
+unusual comments, damaged signatures, and `cases.json` with the result of `minisign -V` for each case. The keys and the
+signatures differ at each run, except those that Minisign's author published with the Rust crate.
 """
 
 import json
@@ -22,15 +23,15 @@ from process import run_program
 from running import read, write
 from texts import CORPUS, record_of
 
-# These stay as they are.
+# The files that Minisign's author published. They are copied.
 PUBLISHED = ("published.pub", "published.minisig", "published-legacy.minisig", "test")
 
 
 def make_files(minisign):
-    """Makes the files, and answers the rows: a key, data and a signature each."""
+    """Writes the files. Returns the cases, each with the names of a key, data and a signature."""
     for name in PUBLISHED:
         write(minisign.directory, name, read(CORPUS, name))
-    rows = [("published.pub", "test", name) for name in ("published.minisig", "published-legacy.minisig")]
+    cases = [("published.pub", "test", name) for name in ("published.minisig", "published-legacy.minisig")]
     for name, password in (("first", None), ("second", None), ("sealed", PASSWORD)):
         minisign.make_pair(name, password)
     contents = {"empty": b"", "hello": b"hello, world\n", "block": pattern(128), "binary": pattern(300)}
@@ -39,7 +40,7 @@ def make_files(minisign):
 
     def keep(name, text, data="hello", key="first.pub"):
         write(minisign.directory, name, text)
-        rows.append((key, data, name))
+        cases.append((key, data, name))
         return text
 
     for name, data in contents.items():
@@ -54,8 +55,8 @@ def make_files(minisign):
     keep("no-utf8.minisig", minisign.sign("first", hello, b"\xff", "u"))
     keep("sealed.minisig", minisign.sign("sealed", hello, password=PASSWORD), key="sealed.pub")
     keep("second.minisig", minisign.sign("second", hello), key="second.pub")
-    rows += [("first.pub", "hello", "second.minisig"), ("second.pub", "hello", "hello.minisig"),
-             ("first.pub", "binary", "hello.minisig"), ("first.pub", "empty", "hello-legacy.minisig")]
+    cases += [("first.pub", "hello", "second.minisig"), ("second.pub", "hello", "hello.minisig"),
+              ("first.pub", "binary", "hello.minisig"), ("first.pub", "empty", "hello-legacy.minisig")]
     keep("cr-lf.minisig", text.replace(b"\n", b"\r\n"))
     keep("no-line-feed.minisig", text[:-1])
     keep("more-lines.minisig", text + b"more\n" * 3)
@@ -70,27 +71,27 @@ def make_files(minisign):
     key = minisign.read("first.pub")
     write(minisign.directory, "cr-lf.pub", key.replace(b"\n", b"\r\n"))
     write(minisign.directory, "other-algorithm.pub", with_record(key, 1, b"ED" + record_of(key)[2:]))
-    return rows + [("cr-lf.pub", "hello", "hello.minisig"), ("other-algorithm.pub", "hello", "hello.minisig")]
+    return cases + [("cr-lf.pub", "hello", "hello.minisig"), ("other-algorithm.pub", "hello", "hello.minisig")]
 
 
-def answer_of(program, directory, row):
-    """What `minisign -V` answers to a row, whose files get the names of the script that runs the corpus."""
-    made = os.path.join(directory, "run")
-    os.makedirs(made, exist_ok=True)
-    for name, kept in zip(("minisign.pub", "data", "data.minisig"), row):
-        shutil.copyfile(os.path.join(directory, kept), os.path.join(made, name))
-    ran = run_program([program, "-V", "-p", "minisign.pub", "-x", "data.minisig", "-m", "data"], made)
-    return {"key": row[0], "data": row[1], "signature": row[2], "status": ran.status,
+def result_of(program, directory, case):
+    """Returns a case with the result of `minisign -V`. The files get the names that the script which runs the corpus uses."""
+    run_directory = os.path.join(directory, "run")
+    os.makedirs(run_directory, exist_ok=True)
+    for name, source in zip(("minisign.pub", "data", "data.minisig"), case):
+        shutil.copyfile(os.path.join(directory, source), os.path.join(run_directory, name))
+    ran = run_program([program, "-V", "-p", "minisign.pub", "-x", "data.minisig", "-m", "data"], run_directory)
+    return {"key": case[0], "data": case[1], "signature": case[2], "status": ran.status,
             "output": ran.output.decode("latin-1"), "said": ran.said.decode("latin-1")}
 
 
 def main(directory):
     minisign = Minisign(needs.minisign(), directory)
-    rows = [answer_of(minisign.program, directory, row) for row in make_files(minisign)]
+    results = [result_of(minisign.program, directory, case) for case in make_files(minisign)]
     shutil.rmtree(os.path.join(directory, "run"))
     for name in ("signed", "made", "first.key", "second.key", "sealed.key"):
         os.remove(os.path.join(directory, name))
-    write(minisign.directory, "cases.json", json.dumps(rows, indent=1).encode() + b"\n")
+    write(minisign.directory, "cases.json", json.dumps(results, indent=1).encode() + b"\n")
 
 
 if __name__ == "__main__":

@@ -5,7 +5,7 @@
     tools/page_contracts.py --check    fails if that would change the file
 
 An export is copied from its docstring to the brace that opens its body; the bodies are written by hand. Two names differ: the prefix of
-the export, and the meaning of an error number, because the page has no errors of installing. The last line is
+the exports, and the meaning of an error number, because the page has no installation errors. The last line is
 `N passed, M failed`.
 
 Needs Python 3.9 or later.
@@ -19,7 +19,8 @@ TOP = os.path.dirname(os.path.dirname(os.path.realpath(__file__)))
 PAGE, LIBRARY = "crates/minisign_page/src/lib.rt", "crates/minisign_c/src/lib.rt"
 # The name and the head of each export: docstring, attribute, signature and contract.
 EXPORT = r'(?m)^(?:///.*\n)*#\[unsafe\(no_mangle\)\]\npub extern "C" fn {prefix}_(\w+)\((?:.*\n)*?\{{$'
-RENAMED = (("minisign_{name}(", "page_{name}("), ("IsHostMeaning", "IsMeaning"), (" that of the error of installing,", ""))
+CALL = re.compile(r"\bminisign_(\w+)(?=[(`])")
+RENAMED = (("IsHostMeaning", "IsMeaning"), (", of the installation error or of", " or of"))
 
 
 def heads(text, prefix):
@@ -33,9 +34,9 @@ def generated(page, library):
     for name, head in ours.items():
         if name not in theirs:
             raise SystemExit(f"{PAGE}: minisign_c has no minisign_{name}")
-        copy = theirs[name]
+        copy = CALL.sub(lambda found: f"page_{found[1]}" if found[1] in ours else found[0], theirs[name])
         for old, new in RENAMED:
-            copy = copy.replace(old.format(name=name), new.format(name=name))
+            copy = copy.replace(old, new)
         page = page.replace(head, copy)
     return page
 

@@ -1,9 +1,9 @@
-"""Makes `dist/calls.c`: the proved calls as C99, for processors and systems without an archive in dist/.
+"""Generates `dist/calls.c`: the proved calls as C99, for processors and systems without an archive in dist/.
 
-While the kit builds an archive for x86-64, this keeps the LLVM bitcode that it passes to its clang. The archive has
-to be the one of dist/, byte for byte: that ties the bitcode to the proof. The same clang compiles the bitcode for
-64-bit WebAssembly, where an address and a `usize` have the same size and numbers in memory the same order, and
-`wasm_to_c.py` makes C of that object. What comes after the bitcode is tested, and not proved.
+While the kit builds an archive for x86-64, this script saves the LLVM bitcode that the kit passes to its clang. That
+archive must be the one of dist/, byte for byte, which ties the bitcode to the proof. The same clang then compiles the
+bitcode to 64-bit WebAssembly, where addresses and `usize` have the same size and numbers in memory the same byte order
+as on x86-64. `wasm_to_c.py` translates the WebAssembly to C. The steps after the bitcode are tested and not proved.
 """
 
 import os
@@ -20,16 +20,16 @@ HEAD = """/* SPDX-License-Identifier: MIT */
  * proved (dist/PROVED has its sum), and not to be edited. tools/wasm_to_c.py says how; that is tested, and not proved.
  */
 """
-# Stands for clang, and keeps the module that it is given.
+# A wrapper around clang, which saves the module that clang compiles.
 KEEPING = """#!/bin/sh
-for it in "$@"; do
-    case $it in *.bc | *.ll) cp "$it" "{kept}" ;; esac
+for word in "$@"; do
+    case $word in *.bc | *.ll) cp "$word" "{saved}" ;; esac
 done
 exec "{clang}" "$@"
 """
-# What the module says of the processor that it is for, and what only that has.
+# The lines and attributes of a module that name the processor.
 OF_PROCESSOR = re.compile(r'^target (?:datalayout|triple) = .*\n| "(?:target-cpu|tune-cpu|target-features|probe-stack|stack-probe-size)"="[^"]*"', re.M)
-# WebAssembly with the instructions of 2025 that all engines have, and no vectors.
+# WebAssembly with the instructions that all engines have in 2025, without vectors.
 FLAGS = ["-mcpu=lime1", "-O3", "-ffunction-sections", "-fdata-sections"]
 
 
@@ -37,9 +37,10 @@ def clang():
     return os.path.join(proved.toolchain(), "bin", "clang")
 
 
-def keeping_compilers(room):
-    """A directory like that of the kit's compilers, whose clang keeps the module that it compiles, and where that is then."""
-    compilers, kept = os.path.join(room, "compilers"), os.path.join(room, "kept.bc")
+def keeping_compilers(directory):
+    """Creates a directory like that of the kit's compilers, whose clang saves the module that it compiles. Returns this directory and
+    the path of the saved module."""
+    compilers, saved = os.path.join(directory, "compilers"), os.path.join(directory, "saved.bc")
     os.makedirs(os.path.join(compilers, "bin"))
     for name in os.listdir(proved.toolchain()):
         if name != "bin":
@@ -48,9 +49,9 @@ def keeping_compilers(room):
         if name != "clang":
             os.symlink(os.path.join(proved.toolchain(), "bin", name), os.path.join(compilers, "bin", name))
     with open(os.path.join(compilers, "bin", "clang"), "w", encoding="utf-8") as file:
-        file.write(KEEPING.format(kept=kept, clang=clang()))
+        file.write(KEEPING.format(saved=saved, clang=clang()))
     os.chmod(file.name, 0o755)
-    return compilers, kept
+    return compilers, saved
 
 
 def run_clang(*words):
@@ -60,33 +61,33 @@ def run_clang(*words):
         raise proved.NotBuilt(f"clang {' '.join(words)}: {ran.stdout.decode(errors='replace')[-800:]}")
 
 
-def text_of(*words, room):
-    """The text of a module that clang writes."""
-    path = os.path.join(room, "module.ll")
+def text_of(*words, directory):
+    """Returns the text of the LLVM module that clang writes with these arguments."""
+    path = os.path.join(directory, "module.ll")
     run_clang("-S", "-emit-llvm", "-o", path, *words)
     with open(path, encoding="utf-8") as file:
         return file.read()
 
 
-def wasm_object(bitcode, room):
-    """The path of the object for WebAssembly that the module of x86-64 makes."""
-    given, empty = (os.path.join(room, name) for name in ("given.ll", "empty.c"))
+def wasm_object(bitcode, directory):
+    """Compiles the module for x86-64 to a WebAssembly object, and returns its path."""
+    module_path, empty = (os.path.join(directory, name) for name in ("given.ll", "empty.c"))
     with open(empty, "w", encoding="utf-8") as file:
         file.write("int nothing;\n")
-    target = re.findall(r"^target .*\n", text_of(f"--target={proved.WASM}", empty, room=room), re.M)
-    module = text_of("--target=x86_64-unknown-linux-gnu", "-x", "ir", bitcode, "-O0", "-Xclang", "-disable-llvm-passes", room=room)
+    target = re.findall(r"^target .*\n", text_of(f"--target={proved.WASM}", empty, directory=directory), re.M)
+    module = text_of("--target=x86_64-unknown-linux-gnu", "-x", "ir", bitcode, "-O0", "-Xclang", "-disable-llvm-passes", directory=directory)
     if re.search(r"^define [^\n]*\balign \d", module, re.M):
-        raise proved.NotBuilt("the calls rest on how a caller's structs are aligned, which is less where pointers have 32 bits")
-    with open(given, "w", encoding="utf-8") as file:
+        raise proved.NotBuilt("the calls rely on an alignment of structs that 32-bit systems do not guarantee")
+    with open(module_path, "w", encoding="utf-8") as file:
         file.write("".join(target) + OF_PROCESSOR.sub("", module))
-    made = os.path.join(room, "calls.o")
-    run_clang(f"--target={proved.WASM}", "-c", "-x", "ir", given, "-o", made, *FLAGS)
-    return made
+    object_path = os.path.join(directory, "calls.o")
+    run_clang(f"--target={proved.WASM}", "-c", "-x", "ir", module_path, "-o", object_path, *FLAGS)
+    return object_path
 
 
-def text(bitcode, names, room):
-    """The C of the calls of these names."""
-    with open(wasm_object(bitcode, room), "rb") as file:
+def text(bitcode, names, directory):
+    """Returns the calls with these names as C."""
+    with open(wasm_object(bitcode, directory), "rb") as file:
         data = file.read()
     try:
         return HEAD + wasm_to_c.translate(data, names)

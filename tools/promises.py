@@ -1,25 +1,25 @@
 #!/usr/bin/env python3
-"""Makes the tables of docs/PROMISES.md from the sources: what a call promises stands there as a plain sentence above
-its clause.
+"""Generates the tables of docs/PROMISES.md from the comments above the clauses of the crates.
 
     tools/promises.py            writes the tables
-    tools/promises.py --check    fails where one is not up to date; the last line is `N passed, M failed`
+    tools/promises.py --check    fails if a table is not up to date; the last line is `N passed, M failed`
 
-The comment above an `ensures` speaks of the clauses under it, up to the next blank line; an empty line `//` begins another
-paragraph. Clauses before the first such comment take the first paragraph of the function's `///`, and so does an
-implementation that says something to a caller. Each clause stands under a sentence.
+The comment above an `ensures` describes the clauses below it, up to the next comment; an empty line `//` begins another
+paragraph. Clauses before the first such comment are described by the first paragraph of the function's doc comment, and
+so is an implementation that promises something to callers. A clause without a comment must not follow an empty line.
 
-The table of headlines, after a line `<!-- headlines -->`, has of each part of docs/TRUSTED.md the first clause and the
-sentence above it.
+The document marks the place of each table with a line:
 
-A table of promises stands in the document after a line `<!-- promises of CRATE: PLACES -->`, and has a row for each
-paragraph. A table of calls, after a line `<!-- calls of CRATE: PLACES -->`, has one for each call: a sentence, of the
-paragraph in bold type where there is one, and else of the first; where that is short, the next one too. Rows of one
-table with the same text are one.
+    <!-- headlines -->                        one row for each part of docs/TRUSTED.md: its first clause, and the sentence
+                                              above this clause
+    <!-- promises of CRATE: PLACES -->        one row for each paragraph
+    <!-- calls of CRATE: PLACES -->           one row for each call: the first sentence of its paragraph in bold type, or
+                                              else of its first paragraph. If that sentence is short, the next one too
 
-Places are modules, types and functions, also by how their names begin, as `minisign_install_*`, and the table has their
-public calls in this order; without them it has those of the crate that no other table has. Each public call with a
-clause of a crate that is named so has to be in a table, but for those of the modules after `; without: `.
+Rows of a table with the same text are merged. PLACES are modules, types and functions, or prefixes such as
+`minisign_install_*`. A table has the public calls of these places, in their order. Without PLACES it has all calls of the
+crate that no other table has. Each public call with a clause, in a crate that has a table, must be in a table, except
+those of the modules that are listed after `; without: `.
 
 Needs Python 3.9 or later.
 """
@@ -33,47 +33,47 @@ import trusted
 from sources import Unfit
 
 DOCUMENT = "docs/PROMISES.md"
-# The parts of docs/TRUSTED.md that have a headline, by their titles here.
+# The parts of docs/TRUSTED.md that have a headline, by their titles in the table.
 HEADLINES = {"A verdict": trusted.VERDICT, "A sealed key": trusted.OPENING, "Signing": trusted.SIGNING,
              "Devices": trusted.DEVICES, "Installing": trusted.INSTALLING}
 HEADLINES_MARK = "<!-- headlines -->"
 MARK = re.compile(r"^<!-- (?P<kind>promises|calls) of (?P<crate>\w+)(?:: (?P<places>[^;]*?))?"
                   r"(?:; without: (?P<without>.*?))? -->$")
 HEADS = {"promises": "| Promise | Carried by |", "calls": "| Call of [{crate}](../crates/{crate}/src) | Promise |"}
-# The end of a sentence, behind which another one may stand; and a sentence with fewer letters is short.
+# The end of a sentence, and the length below which a sentence is short.
 END, SHORT = re.compile(r"(?<=[^.\s])\.(?:\*\*)?(?= [A-Z`*]|$)"), 60
-# Members of an implementation by which a clause speaks of it.
+# Ghost members with which an implementation promises something to callers.
 SAID = ("output", "debug_output", "eq", "is_default", "from_gives")
-# What stands in the comment of a call and is said for all at once: no allocator is passed to it.
+# A sentence that is left out, because the document says once for all calls which of them allocate.
 NO_MEMORY = re.compile(r"\s*(?:Takes no memory|Does not allocate)\.")
 
 
 def paragraphs(comment):
-    """The paragraphs of a comment, each in one line."""
+    """Returns the paragraphs of a comment, each on one line."""
     lines = [line.strip() for line in comment.strip().split("\n")]
     lines = [re.sub(r"^//+ ?", "", line) for line in lines if line.startswith("//")]
     return [" ".join(part.split()) for part in re.split(r"\n\s*\n", "\n".join(lines)) if part.strip()]
 
 
 def sentence_of(text):
-    """The first sentence; where it is short, with the next one."""
+    """Returns the first sentence, and the next one too if the first one is short."""
     ends = [found.end() for found in END.finditer(text)]
     return text[:ends[1 if ends[0] < SHORT and len(ends) > 1 else 0]]
 
 
 def doc_of(item):
-    """The first paragraph of what stands above an item."""
+    """Returns the first paragraph of the doc comment of an item."""
     return NO_MEMORY.sub("", (paragraphs(item.comment) or [""])[0])
 
 
 class Call:
-    """A function, or an implementation, that promises something: its place, and whether a caller has it."""
+    """A function or an implementation that promises something, with its module."""
 
     def __init__(self, item, module, is_public):
         self.item, self.module, self.is_public = item, module, is_public
 
     def is_at(self, place, modules):
-        """How exactly a place names this call: not at all, by its module, its type, or its own name."""
+        """Returns how exactly a place names this call: 0 not at all, 1 by its module, 2 by its type or a prefix, 3 by its name."""
         item = self.item
         if place in modules:
             return int(place == self.module)
@@ -84,44 +84,44 @@ class Call:
         return 2 if item.owner and place in (item.owner, f"{self.module}::{item.owner}") else 0
 
     def name(self):
-        """Its path; of an implementation the header, without its generics and bounds."""
+        """Returns the path of a function, or the header of an implementation without generics and bounds."""
         if self.item.what == "fn":
             return f"`{self.item.path}`"
         bare = re.sub(r"^impl<.*?> (?=\w)", "impl ", re.sub(r"\bwhere\b.*", "", self.item.header))
         return f"`{bare.replace('impl fmt::', 'impl ').strip()}`"
 
     def carried(self, clauses):
-        """The call with the names of these clauses."""
+        """Returns the name of the call with the names of these clauses."""
         names = [f"`{clause.name}`" for clause in clauses if clause.name and clause.kind.startswith("ensures")]
         return self.name() + (f": {', '.join(names)}" if names else "")
 
     def rows(self):
-        """Its paragraphs, each with what carries it."""
+        """Returns the paragraphs, each with the call and the clauses that it describes."""
         groups = self.groups() if self.item.what == "fn" else [([doc_of(self.item)], [])]
-        if not all(said and said[0] for said, _ in groups):
-            raise Unfit(f"no sentence above {self.item.path}")
-        return [(paragraph, self.carried(clauses)) for said, clauses in groups for paragraph in said]
+        if not all(texts and texts[0] for texts, _ in groups):
+            raise Unfit(f"{self.item.path} has no comment that says what it promises")
+        return [(paragraph, self.carried(clauses)) for texts, clauses in groups for paragraph in texts]
 
     def row(self):
-        """A sentence of it, with all its clauses."""
-        said = [paragraph for paragraph, _ in self.rows()]
-        first = next((paragraph for paragraph in said if paragraph.startswith("**")), said[0])
+        """Returns one sentence for the whole call, with the names of all its clauses."""
+        texts = [paragraph for paragraph, _ in self.rows()]
+        first = next((paragraph for paragraph in texts if paragraph.startswith("**")), texts[0])
         return sentence_of(first).replace("**", ""), self.carried(self.item.clauses)
 
     def groups(self):
-        """What is said of its clauses, and the clauses that stand under it."""
+        """Returns the paragraphs above clauses, with the clauses below them."""
         groups = []
         for clause in (clause for clause in self.item.clauses if clause.kind.startswith("ensures")):
             if clause.comment or not groups:
                 groups.append((paragraphs(clause.comment) if clause.comment else [doc_of(self.item)], []))
             elif clause.is_apart:
-                raise Unfit(f"no sentence above the clause {clause.name} of {self.item.path}, which stands apart")
+                raise Unfit(f"{self.item.path}: the clause {clause.name} follows an empty line and has no comment")
             groups[-1][1].append(clause)
         return groups
 
 
 def calls_of(library, crate):
-    """The calls of a crate that promise something, in the order in which they stand."""
+    """Yields the calls of a crate that promise something, in the order of the sources."""
     read = library.crate_sources(crate)
     types = {item.name for source in read for item in source.items
              if item.public and item.what in ("struct", "enum", "trait", "type")}
@@ -136,14 +136,14 @@ def calls_of(library, crate):
 
 
 def promises(item):
-    """Whether a function has a clause for its callers, or an implementation says something to them."""
+    """Returns true if a function has an `ensures`, or an implementation has a ghost member for callers."""
     if item.what == "impl":
         return any(member.what == "ghost" and member.name in SAID for member in item.members)
     return item.what == "fn" and any(clause.kind.startswith("ensures") for clause in item.clauses)
 
 
 def table(kind, crate, calls):
-    """The lines of a table; a text that several calls share is one row."""
+    """Returns the lines of a table. Calls with the same text share a row."""
     rows = {}
     for call in calls:
         for text, carried in call.rows() if kind == "promises" else [call.row()]:
@@ -154,7 +154,7 @@ def table(kind, crate, calls):
 
 
 def headlines(library):
-    """The lines of the table of headlines: of each part one sentence and one clause."""
+    """Returns the lines of the table of headlines."""
     lines = ["", "| Part | Headline | Clause |", "|---|---|---|"]
     for title, part in HEADLINES.items():
         crate, path, name = part.clauses[0]
@@ -169,9 +169,9 @@ def words(text):
     return [word.strip() for word in (text or "").split(",") if word.strip()]
 
 
-def taken(library, crate, marks, without):
-    """The calls for each of a crate's marks, which are the lines with their places: each call is where a place names it
-    most exactly, and there in the order of the places."""
+def calls_by_table(library, crate, marks, without):
+    """Returns the calls of each table of a crate, by the line of its mark. A call goes to the table whose place names it most
+    exactly. Within a table the calls are in the order of the places."""
     calls = [call for call in calls_of(library, crate) if call.module not in without]
     tables = {line: [] for line in marks}
     modules = {call.module for call in calls} | {*without}
@@ -180,35 +180,35 @@ def taken(library, crate, marks, without):
                               for at, place in enumerate(places or [""]))
         rest = next((line for line, places in marks.items() if not places), None)
         if not exact and call.is_public and rest is None:
-            raise Unfit(f"no table has {call.item.path} of {crate} ({call.module})")
+            raise Unfit(f"{call.item.path} of {crate} ({call.module}) is in no table")
         if exact == 3 or call.is_public:
             tables[line if exact else rest].append((-at, call))
     for line, places in marks.items():
         for place in (place for at, place in enumerate(places) if at not in {at for at, _ in tables[line]}):
-            raise Unfit(f"{place} of {crate} has no call that promises anything, or another table has it")
+            raise Unfit(f"{place} of {crate} has no call that promises anything, or another table has all of its calls")
     return {line: [call for _, call in sorted(of_line, key=lambda value: value[0])] for line, of_line in tables.items()}
 
 
-def made():
-    """The document with its tables made anew."""
+def generated_files():
+    """Yields the document with new tables."""
     lines, library, by_crate, text = sources.read(DOCUMENT).split("\n"), sources.Library(), {}, []
     found = {number: mark for number, mark in enumerate(map(MARK.match, lines)) if mark}
     for number, mark in found.items():
         marks, without = by_crate.setdefault(mark["crate"], ({}, []))
         marks[number] = words(mark["places"])
         without += words(mark["without"])
-    made_of = {number: table(found[number]["kind"], crate, calls) + [""] for crate, (marks, without) in by_crate.items()
-               for number, calls in taken(library, crate, marks, without).items()}
-    made_of.update({number: headlines(library) for number, line in enumerate(lines) if line == HEADLINES_MARK})
-    is_old = False
+    tables = {number: table(found[number]["kind"], crate, calls) + [""] for crate, (marks, without) in by_crate.items()
+               for number, calls in calls_by_table(library, crate, marks, without).items()}
+    tables.update({number: headlines(library) for number, line in enumerate(lines) if line == HEADLINES_MARK})
+    is_old_table = False
     for number, line in enumerate(lines):
-        is_old = is_old and (not line.strip() or line.startswith("|"))
-        text += [] if is_old else [line]
-        if number in made_of:
-            text += made_of[number]
-            is_old = True
+        is_old_table = is_old_table and (not line.strip() or line.startswith("|"))
+        text += [] if is_old_table else [line]
+        if number in tables:
+            text += tables[number]
+            is_old_table = True
     yield DOCUMENT, "\n".join(text)
 
 
 if __name__ == "__main__":
-    sys.exit(sources.keep_all(made))
+    sys.exit(sources.write_or_check(generated_files))

@@ -1,8 +1,8 @@
 #!/usr/bin/env python3
-"""Makes every file that is made from sources, by running the scripts of tools/ in the right order.
+"""Regenerates all generated files, by running the scripts of tools/ in the right order.
 
     tools/regenerate.py              runs all of them; tools/dist.py proves what is not proved yet and builds dist/
-    tools/regenerate.py --quick      leaves out tools/dist.py, and so all proofs: some seconds
+    tools/regenerate.py --quick      leaves out tools/dist.py, and so all proofs; takes some seconds
     tools/regenerate.py --check      changes nothing and fails if a file is not up to date; works with --quick too
 
 A script that fails ends the run, because later scripts read what earlier ones write; with --check all scripts run.

@@ -1,15 +1,14 @@
 #!/usr/bin/env python3
 # SPDX-License-Identifier: MIT
-"""Writes the module by which the package for JavaScript signs: the calls of dist/calls.c that take or make a secret
-key, compiled for WebAssembly by clang, in base64, as a module of JavaScript. It imports nothing, and has no calls for
-installing.
+"""Builds the WebAssembly module with which the JavaScript package signs, and writes it in base64 as a JavaScript module.
 
     tools/signing_module.py OUT
 
-The calls are translated, tested, and not proved as such (`wasm_to_c.py`). CLANG names the compiler, by default
-`clang`; Debian's clang and lld will do, and no kit. The same compiler makes the same bytes.
+The module has the calls of dist/calls.c that take or make a secret key or a signature, compiled by clang. It imports
+nothing, and has no calls for installing. These calls are translated from proved ones, and tested (`wasm_to_c.py`).
 
-Needs Python 3.9 or later.
+The environment variable CLANG names the compiler; the default is `clang`. Debian's clang and lld are enough; the Rattle
+kit is not needed. The same compiler gives the same bytes. Needs Python 3.9 or later.
 """
 
 import base64
@@ -25,30 +24,30 @@ CALLS = ["read_secret_key", "open_unsealed_key", "open_sealed_key", "take_secret
          "public_key_text", "comment_message", "signed_text"]
 SOURCES = ["dist/calls.c", "c/library/portable/allocation.c", "bindings/javascript/module/memory.c"]
 INCLUDED = ["bindings/javascript/module", "c/library", "c/library/portable"]
-# WebAssembly as browsers have it since 2021. (a number may lie anywhere there)
+# The instructions that browsers have had since 2021. IS_COPIED: a number in memory may have any alignment.
 MACHINE = ["--target=wasm32", "-mbulk-memory", "-mmutable-globals", "-msign-ext", "-mnontrapping-fptoint", "-DIS_COPIED=1"]
 COMPILING = ["-std=c11", "-O2", "-nostdlib", "-nostdlibinc", "-DMINISIGN_MALLOC_ALONE", "-ffunction-sections", "-fdata-sections"]
-# A stack of 256 KiB, and behind it room for what is copied in and out; and 2 GiB at the most, of which a key takes half.
+# A stack of 256 KiB, followed by memory for what is copied in and out. At most 2 GiB; a key of minisign -G takes half of it.
 LINKING = ["--no-entry", "--gc-sections", "--strip-all", "--export=__heap_base", "--initial-memory=1048576", "--max-memory=2147483648",
            "-z", "stack-size=262144", *(f"--export=machine_minisign_{call}" for call in CALLS)]
 
 
 def compiled():
-    """The module."""
-    with tempfile.TemporaryDirectory(prefix="signing-module-") as room:
-        made, clang = os.path.join(room, "made.wasm"), os.environ.get("CLANG", "clang")
+    """Returns the bytes of the module."""
+    with tempfile.TemporaryDirectory(prefix="signing-module-") as directory:
+        module_path, clang = os.path.join(directory, "made.wasm"), os.environ.get("CLANG", "clang")
         included = [f"-I{os.path.join(ROOT, name)}" for name in INCLUDED]
         for name in SOURCES:
-            subprocess.run([clang, *MACHINE, *COMPILING, *included, "-c", os.path.join(ROOT, name), "-o", object_of(room, name)], check=True)
-        # (clang itself would have wasm-opt make another module, where that is there)
+            subprocess.run([clang, *MACHINE, *COMPILING, *included, "-c", os.path.join(ROOT, name), "-o", object_of(directory, name)], check=True)
+        # clang as the linker would run wasm-opt if it is installed, which changes the bytes.
         linker = subprocess.run([clang, "-print-prog-name=wasm-ld"], stdout=subprocess.PIPE, check=True).stdout.decode().strip()
-        subprocess.run([linker, *LINKING, *(object_of(room, name) for name in SOURCES), "-o", made], check=True)
-        with open(made, "rb") as file:
+        subprocess.run([linker, *LINKING, *(object_of(directory, name) for name in SOURCES), "-o", module_path], check=True)
+        with open(module_path, "rb") as file:
             return file.read()
 
 
-def object_of(room, name):
-    return os.path.join(room, name.replace("/", "-") + ".o")
+def object_of(directory, name):
+    return os.path.join(directory, name.replace("/", "-") + ".o")
 
 
 def main(words):
@@ -57,7 +56,7 @@ def main(words):
     try:
         letters = base64.b64encode(compiled()).decode()
     except (OSError, subprocess.CalledProcessError) as why:
-        sys.exit(f"tools/signing_module.py: the module is built by clang and lld, which Debian's packages of these names have: {why}")
+        sys.exit(f"tools/signing_module.py: building the module needs clang and lld (Debian packages clang and lld): {why}")
     with open(words[0], "w", encoding="ascii") as file:
         file.write("// SPDX-License-Identifier: MIT\n// Made by tools/signing_module.py: the calls for secret keys, in base64.\n"
                    f'export const SIGNING_MODULE = "{letters}";\n')

@@ -1,8 +1,8 @@
-"""Reads the sources: the items of `.rt` files with their clauses, the definitions of `.antt` files, and where a name
-that one of them imports is defined. It also writes or compares what a script makes.
+"""Parses the Rattle sources for the scripts of tools/: the items and clauses of `.rt` files, the definitions of `.antt`
+files, and the imports between them.
 
-The forms are read by their brackets and not by a grammar: enough for names, clauses and texts. Needs Python 3.9 or
-later.
+The parser only matches brackets and has no grammar, which is enough for names, clauses and texts. `write_or_check` writes
+or compares the files that a script generates. Needs Python 3.9 or later.
 """
 
 import functools
@@ -20,7 +20,7 @@ sys.path.append(os.path.join(ROOT, "tests", "shared"))
 import needs
 from checks import Checks
 
-# What holds no brackets that count: comments, texts and characters.
+# Comments, strings and characters, in which brackets have no meaning.
 OPAQUE = re.compile(r'//[^\n]*|/\*.*?\*/|r"[^"]*"|"(?:[^"\\]|\\.)*"|\'(?:\\[^\n]+?|[^\\\'\n])\'', re.S)
 ITEM = re.compile(
     r"(?m)^ *(?P<public>pub(?:\([^)]*\))?\s+)?(?:(?:unsafe|final|default|extern|const(?=\s+fn))\s+)*"
@@ -28,7 +28,7 @@ ITEM = re.compile(
 )
 HEADER_END = re.compile(r"[(\[]|(?P<end>[{;]|\b(?:requires|ensures)\b)")
 CLAUSE = re.compile(r"\s*(?P<kind>(?:requires|ensures|decreases)\*?)\s*(?P<name>\w*)\s*(?=\{)")
-# What stands right above a clause, and right above an item.
+# The comment directly above a clause, and directly above an item.
 ABOVE = re.compile(r"(?P<blank>\n[ \t]*)?(?P<comment>(?:\n[ \t]*//[^\n]*)*)\n[ \t]*\Z")
 ABOVE_ITEM = re.compile(r"\n(?P<comment>(?:[ \t]*(?!//!)(?://|#)[^\n]*\n)*[ \t]*)\Z")
 USE = re.compile(r"use\s+(?P<module>[^\s;{]+?)(?:\.\{(?P<names>[^}]*)\}|\s+as\s+(?P<alias>\w+))?\s*;?\s*$", re.S)
@@ -36,16 +36,16 @@ NAME = re.compile(r"[^\W\d]\w*")
 
 
 class Unfit(Exception):
-    """Forms of the sources that do not fit each other, or that these scripts do not read."""
+    """The sources are inconsistent, or have a form that these scripts cannot read."""
 
 
-def keep_all(made):
-    """Writes the files that a script makes, or compares them; it yields their paths and texts. Returns the exit status."""
+def write_or_check(generated_files):
+    """Writes the files that `generated_files` yields, as paths and texts, or compares them if `--check` is given. Returns the exit status."""
     if sys.argv[1:] not in ([], ["--check"]):
         sys.exit(sys.modules["__main__"].__doc__)
     checks, is_check = Checks(), sys.argv[1:] == ["--check"]
     try:
-        for path, text in made():
+        for path, text in generated_files():
             if not is_check:
                 with open(os.path.join(ROOT, path), "w", encoding="utf-8") as opened:
                     opened.write(text)
@@ -56,13 +56,13 @@ def keep_all(made):
 
 
 def read(path):
-    """The text of a file of the repository, or of one with a whole path."""
+    """Returns the text of a file. A relative path is relative to the repository."""
     with open(os.path.join(ROOT, path), encoding="utf-8") as opened:
         return opened.read()
 
 
 def files_below(directory, ending=""):
-    """The files below a directory with this ending, in the order of their names, but for those that a build makes."""
+    """Returns the files below a directory with this ending, sorted by name, except those that a build makes."""
     found = []
     for below, directories, names in os.walk(directory):
         directories[:] = sorted(name for name in directories if name not in ("out", ".git", "__pycache__"))
@@ -74,34 +74,34 @@ def files_below(directory, ending=""):
 # Items of Rattle.
 
 
-# A `requires` or an `ensures`; the name is empty where it has none. With what stands in its braces, the whole as it stands, the
-# comment right above it, whether a blank line stands above both, and where it begins and ends in the file.
+# A `requires` or an `ensures`. The name may be empty. `text` is what is in the braces, `whole` is all of the clause, `comment` is
+# directly above it, and `is_apart` is true if an empty line is above both. `begin` and `end` are offsets in the file.
 Clause = namedtuple("Clause", "kind name text whole comment is_apart begin end")
-# A `.rt` file: its items, nested ones too, and what its ghost code imports: by the name in the file the module, and the name there,
-# which is empty for a whole module.
+# A `.rt` file: its items, including nested ones, and what its ghost code imports. `imports` maps the name in the file to the module
+# and the name there, which is empty for a whole module.
 Source = namedtuple("Source", "file text items imports")
 
 
 @dataclass(eq=False)
 class Item:
-    """An item of a `.rt` file: `what` is `fn`, `trait`, `impl`, `struct`, `enum`, `const`, `ghost` and the like."""
+    """An item of a `.rt` file. `what` is its keyword: `fn`, `trait`, `impl`, `struct`, `enum`, `const`, `ghost` and so on."""
 
     what: str
     name: str
     file: str
     line: int
     public: bool
-    # All that stands before the clauses or the body, in one line.
+    # Everything before the clauses or the body, on one line.
     header: str
-    # The comment and the attributes above it, and all from there to its end.
+    # The comment and the attributes above the item, and the text from there to its end.
     comment: str
     text: str = ""
-    # Where the comment begins in the file, its name ends, its body begins, if it is a function with one, and it ends.
+    # Offsets in the file: the begin of the comment, the end of the name, the begin of a function body (or 0), and the end.
     begin: int = 0
     named: int = 0
     body: int = 0
     end: int = 0
-    # The name of the type, or of the trait, whose item it is, the trait that is implemented, and the header of the block.
+    # The type or trait to which the item belongs, the trait that is implemented, and the header of the enclosing block.
     owner: str = ""
     trait: str = ""
     block: str = ""
@@ -113,28 +113,28 @@ class Item:
         return f"{self.owner}::{self.name}" if self.owner else self.name
 
     def clause(self, name):
-        """The clauses of this name."""
+        """Returns the clauses with this name."""
         return [clause for clause in self.clauses if clause.name == name]
 
 
 def in_one_line(text):
-    """The text with each white space as one space, and without comments and spaces inside its brackets."""
+    """Returns the text on one line, with single spaces, without comments, and without spaces next to brackets."""
     bare = OPAQUE.sub(lambda value: " " if value[0].startswith(("//", "/*")) else value[0], text)
     bare = re.sub(r"(?<=\w)< ", "<", re.sub(r"\s+", " ", bare).strip()).replace(", >", ">")
     return re.sub(r",? (?=[)\]])", "", re.sub(r"(?<=[(\[]) ", "", bare))
 
 
 def trait_and_type(header):
-    """What an `impl` implements, and of what: their last names, without what stands in angle brackets."""
-    bare, left = header[len("impl"):].replace("->", "→"), None
-    while bare != left:
-        left, bare = bare, re.sub(r"<[^<>]*>", "", bare)
+    """Returns the names of the trait and the type of an `impl`, without paths and generic arguments."""
+    bare, previous = header[len("impl"):].replace("->", "→"), None
+    while bare != previous:
+        previous, bare = bare, re.sub(r"<[^<>]*>", "", bare)
     trait, _, kind = re.sub(r"\bwhere\b.*", "", bare).rpartition(" for ")
     return [(NAME.findall(re.sub("[&']", " ", each)) or [each.strip()])[-1] for each in (trait, kind)]
 
 
 def take_use(imports, text):
-    """Takes the names of one `use` of antt."""
+    """Adds the names of one `use` of antt to the imports."""
     found = USE.search(text)
     if found and found["names"] is not None:
         for name in re.split(r"[,\s]\s*" if " as " not in found["names"] else r",\s*", found["names"]):
@@ -151,17 +151,17 @@ class Reader:
     def __init__(self, file):
         self.source = Source(file, read(file), [], {})
         self.text = self.source.text
-        # The text with spaces for what is opaque, and the places after the brackets that close others.
+        # The text with spaces in place of comments and strings, and for each opening bracket the offset behind its closing one.
         self.bare = OPAQUE.sub(lambda value: re.sub(r"[^\n]", " ", value[0]), self.text)
-        self.closed, waiting = {}, []
+        self.closed, opened = {}, []
         for found in re.finditer(r"[(\[{]|[)\]}]", self.bare):
             if found[0] in "([{":
-                waiting.append(found.start())
-            elif waiting:
-                self.closed[waiting.pop()] = found.end()
+                opened.append(found.start())
+            elif opened:
+                self.closed[opened.pop()] = found.end()
 
     def after(self, ends, at):
-        """The first place of one of these from there on, outside of brackets but for those that are one themselves."""
+        """Returns the offset of the first match of the group `end` of a pattern from `at` on, outside of brackets."""
         while found := ends.search(self.bare, at):
             if found.groupdict().get("end"):
                 return found.start()
@@ -169,11 +169,11 @@ class Reader:
         return len(self.text)
 
     def above(self, form, at):
-        """What stands in a form right above a place."""
+        """Returns the match of a pattern that ends at an offset."""
         return form.search(self.text, max(0, at - 5000), at)
 
     def lines(self, begin, end):
-        """The text from the line of one place to another, moved to the margin."""
+        """Returns the text from the line of one offset to another offset, without its indentation."""
         return textwrap.dedent(self.text[self.text.rfind("\n", 0, begin) + 1:end])
 
     def end_of_statement(self, at):
@@ -187,7 +187,7 @@ class Reader:
         return self.source
 
     def item(self, found, blocks):
-        """Takes an item, and returns where to read on: after it, or inside it where it has items."""
+        """Reads an item. Returns the offset at which to continue: behind the item, or inside it if it contains items."""
         text, word, begin = self.text, found["word"], found.end() - len(found[0].lstrip())
         if word in ("ghost use", "use"):
             end = self.end_of_statement(begin)
@@ -232,7 +232,7 @@ class Reader:
 
 @functools.lru_cache(maxsize=None)
 def read_source(file):
-    """The items of a `.rt` file."""
+    """Returns the items of a `.rt` file."""
     return Reader(file).read()
 
 
@@ -242,7 +242,7 @@ def read_source(file):
 
 @dataclass(eq=False)
 class Definition:
-    """A definition of an `.antt` file, from the comment above it on: `record`, `data` or `word`."""
+    """A definition of an `.antt` file, with the comment above it. `kind` is `record`, `data` or `word`."""
 
     name: str
     file: str
@@ -256,7 +256,7 @@ class Definition:
         return "\n".join(self.lines)
 
 
-# An `.antt` file, with what it imports and passes on as a source has it.
+# An `.antt` file, with its imports and re-exports (`passed_on`) in the form that a Source has.
 Module = namedtuple("Module", "definitions imports passed_on")
 BEGINS = re.compile(r"(?:(?:abbrev|unfoldable|pub|opaque|inline)\s+)*(?:(?P<kind>record|data)\s+)?(?P<name>[^\s(){}:]+)")
 KEYWORDS = re.compile(r"(?:abbrev|unfoldable|pub|record|data|opaque|inline)\b|[^\s=]+ :(?!:)")
@@ -265,7 +265,7 @@ OTHER = re.compile(r"(?P<before>(?:(?:unfoldable|pub)\s+)*)(?P<word>use|mod|synt
 
 @functools.lru_cache(maxsize=None)
 def read_module(file):
-    """The definitions of an `.antt` file."""
+    """Returns the definitions of an `.antt` file."""
     module, comment, current, indent = Module({}, {}, {}), [], None, ""
     for number, raw in enumerate(read(file).split("\n"), 1):
         line = raw.removeprefix(indent)
@@ -273,7 +273,7 @@ def read_module(file):
             comment.append(line)
             continue
         if line.startswith("module "):
-            # (what stands in a module is set in)
+            # The content of a module is indented.
             indent, current = raw[: len(raw) - len(raw.lstrip())] + "  ", None
         elif line.strip():
             if not raw.startswith(indent):
@@ -294,23 +294,23 @@ def read_module(file):
     return module
 
 
-# What is no name of antt: brackets, points of sentences, and the letters of texts.
+# A token of antt: a string, `[]`, a field, or a name. Brackets and the full stops of sentences are no tokens.
 TOKEN = re.compile(r'"(?:[^"\\]|\\.)*"|\[\]|(?<!\s)\.[^\s(){};,.\[\]]+|[^\s(){};,.\[\]"]+')
 
 
 def tokens_of(text):
-    """The words and signs of a text of antt, without comments, texts and names of fields."""
+    """Returns the names and operators in antt code, without comments, strings and names of fields."""
     bare = re.sub(r"(?m)(?:^|\s)--(?:\s.*)?$", "", re.sub(r"//[^\n]*", "", text))
     return {token for token in TOKEN.findall(bare) if token[0] not in '".'}
 
 
 def is_named(name, tokens):
-    """Whether a name of antt, which may have places for its arguments, is among the tokens."""
+    """Returns true if a name of antt is among the tokens. A name may have places for arguments, as in `◌+◌`."""
     return name in tokens if "◌" not in name else all(part in tokens for part in name.split("◌") if part)
 
 
 class Library:
-    """The definitions of the repository's crates and of the kit."""
+    """The definitions in the crates of the repository and in the Rattle kit."""
 
     STD = ("std", "core", "std_alloc", "std_heap", "std_io", "std_collections", "io", "os")
     MOUNTS = {"lib": "logic/Lib", "mir": "logic/Mir", "denote": "logic/Denote",
@@ -325,7 +325,7 @@ class Library:
         return os.path.commonpath([ROOT, file]) == ROOT
 
     def shown(self, file):
-        """A file's path inside the repository or the kit."""
+        """Returns the path of a file relative to the repository or to the kit."""
         return os.path.relpath(file, ROOT if self.is_own(file) else self.kit)
 
     def directories_of(self, crate):
@@ -334,16 +334,16 @@ class Library:
         return [os.path.join(self.kit, name) for name in (self.STD if crate == "std" else (crate,))] if self.kit else []
 
     def candidates(self, module):
-        """The files that a module may stand in."""
+        """Returns the files that may contain a module."""
         first, *rest = module.split(".")
         if first == "Rattle" and len(rest) >= 2:
-            # (what a crate passes on of others, its definitions name in specs/Lib.antt)
+            # The re-exports of a crate are in its specs/Lib.antt.
             rest += ["Lib"] if rest[1:] == ["specs"] else []
             return [os.path.join(directory, *rest[1:]) + ".antt" for directory in self.directories_of(rest[0])]
         return [os.path.join(self.kit, self.MOUNTS[first], *rest) + ".antt"] if self.kit and first in self.MOUNTS else []
 
     def module(self, name):
-        """The module of a name, also one that another one passes on, or None."""
+        """Returns the module with this name, which another module may re-export, or None."""
         for file in self.candidates(name):
             if os.path.exists(file):
                 return read_module(file)
@@ -353,7 +353,7 @@ class Library:
         return self.module(passed[0]) if passed and not passed[1] else None
 
     def declared(self, module, name):
-        """The item of a `.rt` file that stands in a module of what is declared, or None."""
+        """Returns the item of a `.rt` file to which a name in a module `declared` refers, or None."""
         parts = module.split(".")
         if len(parts) < 4 or parts[0] != "Rattle" or parts[3] != "declared":
             return None
@@ -368,7 +368,7 @@ class Library:
         return None
 
     def chain(self, module, name):
-        """A module and a name in it, and then where that one has it from, to its origin. Each as it is passed on there."""
+        """Yields a module and a name in it, and then the module and the name that it imports, up to the definition."""
         for _ in range(8):
             yield module, name
             found = self.module(module)
@@ -378,7 +378,7 @@ class Library:
 
     @functools.lru_cache(maxsize=None)
     def resolve(self, module, name):
-        """The definition, or the item of a `.rt` file, that a module has under a name, or None."""
+        """Returns the definition, or the item of a `.rt` file, that a name in a module refers to, or None."""
         found = (self.declared(at, each) or self.definitions_of(at).get(each) for at, each in self.chain(module, name))
         return next(filter(None, found), None)
 
@@ -387,7 +387,7 @@ class Library:
         return found.definitions if found else {}
 
     def named_in(self, text, imports, definitions):
-        """What a text names: definitions of its own file, and what the file imports. Yields the name in the
+        """Yields the definitions to which a text refers, in its own file (`definitions`) and in the imports: the name in the
         text, the module and the name there, and the definition or None."""
         tokens = tokens_of(text)
         for name, definition in definitions.items():
@@ -401,12 +401,12 @@ class Library:
                 yield name, module, name, self.resolve(module, name)
 
     def crate_sources(self, crate):
-        """The `.rt` files of a crate."""
+        """Returns the `.rt` files of a crate."""
         return [read_source(file) for file in files_below(os.path.join(self.crates[crate], "src"), ".rt")]
 
 
 def find_kit():
-    """The directory of the kit's libraries: beside the command `rt`, or None."""
+    """Returns the directory of the kit's libraries, which is next to that of the command `rt`, or None."""
     command = shutil.which("rt")
     directory = command and os.path.join(os.path.dirname(os.path.dirname(os.path.realpath(command))), "rattle")
     return directory if directory and os.path.isdir(directory) else None

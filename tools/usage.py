@@ -1,14 +1,14 @@
 #!/usr/bin/env python3
-"""Makes what docs/INSTALLING.md, the manual page minisign-install(1) and `--help` of minisign-install say of how to
-call it, from one text, `c/install/usage.txt`, whose head says how it is written.
+"""Generates the usage of minisign-install in docs/INSTALLING.md, in minisign-install(1) and in its `--help` from one text,
+`c/install/usage.txt`, whose head explains its format.
 
-    tools/usage.py            writes them
-    tools/usage.py --check    fails where one is not up to date; the last line is `N passed, M failed`
+    tools/usage.py            writes the files
+    tools/usage.py --check    fails if a file is not up to date; the last line is `N passed, M failed`
 
-In docs/INSTALLING.md a section stands between two lines with its name, as `<!-- statuses -->` and
-`<!-- end of statuses -->`. In the manual page a section is one of the page, but for `about`: that is the first paragraph
-of DESCRIPTION, and its first sentence is NAME. `c/install/usage.h` is made whole. The text has each option and each exit
-status that the program knows, and no others.
+In docs/INSTALLING.md a section is between two lines with its name, such as `<!-- statuses -->` and
+`<!-- end of statuses -->`. In the manual page each section of the text is a section, except `about`: it is the first
+paragraph of DESCRIPTION, and its first sentence is NAME. All of `c/install/usage.h` is generated. The script fails if the
+text does not have exactly the options and exit statuses of the program.
 
 Needs Python 3.9 or later.
 """
@@ -27,30 +27,30 @@ DOCUMENT, PAGE, HEADER = "docs/INSTALLING.md", "c/man/minisign-install.1", "c/in
 # The tables of the document, with their heads.
 HEADS = {"statuses": "| Status | What happened |", "options": "| Option | What it does |",
          "files": "| File | What it is |"}
-# What a user puts in place of it.
+# The placeholders, which a user replaces.
 PLACE = re.compile(r"\b(?:OPTION|PK|DATA|SIG|TARGET|FIELD|KEY|NAME|MODE|BYTES|SECONDS)\b")
-# How the header begins.
+# The head of the generated C header.
 HEAD = """\
 /* SPDX-License-Identifier: MIT */
 /* How to call minisign-install. tools/usage.py makes this of usage.txt. */
 #ifndef INSTALL_USAGE_H
 #define INSTALL_USAGE_H
 """
-# How long a line of `--help` may be, how far texts are set in there, and the greatest length of a text in C.
+# The maximum length of a line of `--help`, the indentation there, and the maximum length of a string literal in C.
 COLUMNS, INDENT, MAX_TEXT = 79, 21, 4095
 
 Entry = namedtuple("Entry", "name paragraphs")
 
 
 def sections():
-    """The sections of the text: the lines of the usage, two paragraphs, and three sections of entries."""
+    """Returns the sections of the text: the lines of the usage, two paragraphs, and three sections of entries."""
     _, *parts = re.split(r"(?m)^== (\w+)\n", read(TEXT))
     text = dict(zip(parts[::2], parts[1::2]))
     found = {"usage": text["usage"].strip().split("\n")}
     found.update({name: in_one_line(text[name]) for name in ("about", "order")})
     for name in HEADS:
         entries = re.findall(r"(?m)^(\S.*)\n((?:    .*\n|\n)+)", text[name])
-        found[name] = [Entry(word, [*map(in_one_line, said.strip().split("\n\n"))]) for word, said in entries]
+        found[name] = [Entry(word, [*map(in_one_line, body.strip().split("\n\n"))]) for word, body in entries]
     return found
 
 
@@ -59,7 +59,7 @@ def in_one_line(text):
 
 
 def compare(text):
-    """Fails where the text has other options or exit statuses than the program."""
+    """Fails if the text has other options or exit statuses than the program."""
     for name, form, known in (("options", r"--\w[\w-]*", re.findall(r'"(--\w[\w-]*)"', read("c/install/options.c"))),
                               ("statuses", r"\d+", re.findall(r"[A-Z] = (\d+)", read("c/install/messages.h")))):
         written = {word for entry in text[name] for word in re.findall(form, entry.name)}
@@ -75,7 +75,7 @@ def without_links(text):
 
 
 def table_of(name, entries):
-    """A table, of what is quoted but for numbers."""
+    """Yields the lines of a table. Names are quoted, and numbers are not."""
     yield from (HEADS[name], "|---|---|")
     for word, (first, *_) in entries:
         shown = word if word.isdigit() else ", ".join(f"`{part}`" for part in word.split(", "))
@@ -83,23 +83,23 @@ def table_of(name, entries):
 
 
 def document(text):
-    """The document, with what stands between its marks made anew."""
-    said = read(DOCUMENT)
+    """Returns the document with new text between its marks."""
+    page_text = read(DOCUMENT)
     shown = {"about": [text["about"]], **{name: [*table_of(name, text[name])] for name in HEADS}}
     shown["options"] = [*(f"    {line}" for line in text["usage"]), "", *shown["options"], "", text["order"]]
     for name, lines in shown.items():
         begin, end = f"<!-- {name} -->\n\n", f"\n\n<!-- end of {name} -->"
-        if said.count(begin) != 1 or said.count(end) != 1:
-            raise Unfit(f"{DOCUMENT} has no lines {begin.strip()} and {end.strip()}")
-        said = said.partition(begin)[0] + begin + "\n".join(lines) + end + said.partition(end)[2]
-    return said
+        if page_text.count(begin) != 1 or page_text.count(end) != 1:
+            raise Unfit(f"{DOCUMENT} must have the lines {begin.strip()} and {end.strip()} once each")
+        page_text = page_text.partition(begin)[0] + begin + "\n".join(lines) + end + page_text.partition(end)[2]
+    return page_text
 
 
 # ---- The manual page ----
 
 
 def roff(text):
-    """The lines of a text, in which what is quoted is bold, and what you replace in italics."""
+    """Returns the lines of a text in roff. Quoted words are bold, and placeholders are in italics."""
     pieces = [manual.escaped(piece).removeprefix("\\&") for piece in re.split(r"`([^`]*)`", without_links(text))]
     for at, piece in enumerate(pieces):
         pieces[at] = f"\\fB{piece}\\fR" if at % 2 else PLACE.sub(r"\\fI\g<0>\\fR", piece)
@@ -108,7 +108,7 @@ def roff(text):
 
 
 def marked(line):
-    """A line in which options and the program are quoted."""
+    """Quotes the options and the name of the program in a line."""
     return re.sub(r"(?<!\S)(?:--?[\w-]*|minisign-install)(?=[,\s]|$)", r"`\g<0>`", line)
 
 
@@ -125,30 +125,30 @@ def synopsis(usage):
 
 
 def name_of(about):
-    """The line that says in one sentence what the program does."""
+    """Returns the line of NAME."""
     first = about.partition(".")[0]
     return f"minisign-install \\- {first[0].lower()}{first[1:]}"
 
 
 def page(text):
-    """The manual page, with the sections that are made anew, and the first paragraph of its description."""
-    said = read(PAGE)
-    made = {"NAME": [name_of(text["about"])], "SYNOPSIS": synopsis(text["usage"]), "DESCRIPTION": roff(text["about"]),
+    """Returns the manual page with new sections, and a new first paragraph of DESCRIPTION."""
+    page_text = read(PAGE)
+    sections_of_page = {"NAME": [name_of(text["about"])], "SYNOPSIS": synopsis(text["usage"]), "DESCRIPTION": roff(text["about"]),
             "OPTIONS": [*section_of(text["options"]), ".PP", *roff(text["order"])],
             "FILES": section_of(text["files"]), "EXIT STATUS": section_of(text["statuses"])}
-    for name, lines in made.items():
+    for name, lines in sections_of_page.items():
         section, end = f".SH {name}\n" + "\n".join(lines) + "\n", r"\.PP$" if name == "DESCRIPTION" else r"\.SH "
-        said, count = re.subn(rf"(?ms)^\.SH {name}\n.*?(?=^{end})", lambda _: section, said)
+        page_text, count = re.subn(rf"(?ms)^\.SH {name}\n.*?(?=^{end})", lambda _: section, page_text)
         if count != 1:
             raise Unfit(f"{PAGE} has {count} sections {name}")
-    return said
+    return page_text
 
 
-# ---- What the program shows ----
+# ---- The output of --help ----
 
 
 def helped(entries, indent):
-    """The lines of entries, each with its name in front."""
+    """Yields the lines of entries, each with its name in front."""
     for word, (first, *_) in entries:
         lines = textwrap.wrap(without_links(first), COLUMNS - indent, break_on_hyphens=False)
         if len(word) > indent - 4:
@@ -158,16 +158,16 @@ def helped(entries, indent):
 
 
 def in_c(name, lines):
-    """A definition of a text in C."""
+    """Returns the definition of a string macro in C."""
     text = "\n".join(lines) + "\n"
     if len(text) > MAX_TEXT:
-        raise Unfit(f"{name} has {len(text)} letters, more than a text in C may have")
+        raise Unfit(f"{name} has {len(text)} characters, which is more than C allows in a string literal")
     quoted = [line.replace("\\", "\\\\").replace('"', '\\"') for line in lines]
     return f"#define {name} \\\n" + " \\\n".join(f'    "{line}\\n"' for line in quoted) + "\n"
 
 
 def header(text):
-    """The header that the program shows its usage from."""
+    """Returns the C header with the output of --help."""
     usage, *others = text["usage"]
     about, order = (textwrap.wrap(text[name], COLUMNS) for name in ("about", "order"))
     options = [*(f"       {line}" for line in others), "", *about, "", *helped(text["options"], INDENT), "", *order]
@@ -176,7 +176,7 @@ def header(text):
     return "\n".join([HEAD, *defined, "#endif\n"])
 
 
-def made():
+def generated_files():
     text = sections()
     compare(text)
     yield DOCUMENT, document(text)
@@ -185,4 +185,4 @@ def made():
 
 
 if __name__ == "__main__":
-    sys.exit(sources.keep_all(made))
+    sys.exit(sources.write_or_check(generated_files))

@@ -1,13 +1,13 @@
-"""Reads an object of 64-bit WebAssembly as LLVM writes it: its functions with their instructions, its data, and which
-parts of both are addresses. A form that it does not know is an error, so that nothing is skipped.
+"""Parses a 64-bit WebAssembly object file of LLVM: functions with their instructions, data, and the relocations that say
+which numbers are addresses. A form that this file does not know is an error, so that nothing is skipped.
 """
 
 from collections import namedtuple
 
-# How the kinds of numbers are written, and a block that gives nothing.
+# The encodings of the types of values, and of a block without a result.
 KINDS, NOTHING = {0x7F: "i32", 0x7E: "i64"}, 0x40
 
-# What follows the code of an instruction: its operands.
+# The instructions by their opcodes: name, and kind of operand.
 INSTRUCTIONS = {
     0x00: ("unreachable", ""), 0x01: ("nop", ""), 0x02: ("block", "block"), 0x03: ("loop", "block"), 0x04: ("if", "block"),
     0x05: ("else", ""), 0x0B: ("end", ""), 0x0C: ("br", "index"), 0x0D: ("br_if", "index"), 0x0E: ("br_table", "labels"),
@@ -19,7 +19,7 @@ INSTRUCTIONS = {
 
 
 def named(first, operands, names):
-    """Instructions whose codes follow each other."""
+    """Returns instructions with consecutive opcodes."""
     return {first + after: (name, operands) for after, name in enumerate(names.split())}
 
 
@@ -37,7 +37,7 @@ for first, operands, names in (
         (0xC0, "", "i32.extend8_s i32.extend16_s i64.extend8_s i64.extend16_s i64.extend32_s")):
     INSTRUCTIONS.update(named(first, operands, names))
 
-# What is known by its name alone, for the error.
+# Instructions that are not supported, with their names for the error message.
 UNREAD = {
     0x11: "call_indirect", 0x12: "return_call", 0x13: "return_call_indirect", 0x1C: "select of a type", 0x25: "table.get",
     0x26: "table.set", 0x3F: "memory.size", 0x40: "memory.grow", 0x43: "f32.const", 0x44: "f64.const", 0xD0: "ref.null",
@@ -51,30 +51,30 @@ UNREAD = {
                      "f64.reinterpret_i64".split(), 0xAE)),
 }
 
-# Numbers in code and data that are addresses, by the kinds of their relocations: in an offset, in a constant, and in data.
+# The types of relocations for addresses: in an offset of an instruction, in a constant, and in data.
 OFFSET, CONSTANT, DATA = 14, 15, 16
-# Those that say no more than what stands there already: the number of a function, a type or a global variable.
-SAID = (0, 6, 7)
-# Of these a number is added to the symbol's address.
+# Relocations that can be ignored, because the object already contains the index of the function, type or global variable.
+REDUNDANT = (0, 6, 7)
+# Relocations with a number that is added to the address of the symbol.
 WITH_ADDEND = (3, 4, 5, 8, 9, 11, OFFSET, CONSTANT, DATA, 17, 22, 23)
 
-# An instruction with its operand, which of a load, a store or a constant may be the address of a symbol as well.
+# An instruction with its operand. The operand of a load, a store or a constant may also be the address of a symbol.
 Instruction = namedtuple("Instruction", "name operand symbol")
-# A function: its name, the kinds of its parameters, of its results and of all its locals, and its instructions, none where it is
-# only called here.
+# A function: its name, the types of its parameters, results and locals (parameters included), and its instructions, or None for an
+# imported function.
 Function = namedtuple("Function", "name parameters results locals instructions")
-# Data: its bytes, the multiple at which it has to stand, and what of it are addresses: of each where, and of which place.
+# Data: its bytes, its alignment, and its addresses: for each the offset in the data, and the Place to which it points.
 Segment = namedtuple("Segment", "data alignment addresses")
-# A place in data: in which segment, and how far from its beginning.
+# A place in data: the index of the segment, and the offset in it.
 Place = namedtuple("Place", "segment offset")
 
 
 class Unread(Exception):
-    """What is not read, or not translated."""
+    """The object has something that cannot be read or translated."""
 
 
 class Reader:
-    """Reads numbers, names and bytes one after the other."""
+    """Reads numbers, names and bytes in sequence."""
 
     def __init__(self, data, at=0, end=None):
         self.data, self.at, self.end = data, at, len(data) if end is None else end
@@ -87,7 +87,7 @@ class Reader:
         return self.data[self.at - 1]
 
     def number(self):
-        """A number without a sign (LEB128)."""
+        """Reads an unsigned number (LEB128)."""
         value = shift = 0
         while True:
             byte = self.byte()
@@ -97,9 +97,9 @@ class Reader:
                 return value
 
     def signed(self):
-        """A number with a sign."""
-        begun = self.at
-        value, bits = self.number(), 7 * (self.at - begun)
+        """Reads a signed number (LEB128)."""
+        begin = self.at
+        value, bits = self.number(), 7 * (self.at - begin)
         return value - (1 << bits) if value >> (bits - 1) else value
 
     def bytes(self, count):
@@ -110,20 +110,21 @@ class Reader:
         return self.bytes(self.number()).decode()
 
     def part(self):
-        """A part that begins with its size."""
+        """Reads a part that begins with its size, and returns a reader for it."""
         size = self.number()
         self.at += size
         return Reader(self.data, self.at - size, self.at)
 
     def kind(self):
+        """Reads the type of a value."""
         kind = self.byte()
         if kind not in KINDS:
-            raise Unread(f"a number of the kind {kind:#x}")
+            raise Unread(f"unknown type of value {kind:#x}")
         return KINDS[kind]
 
 
 def read_operand(read, what):
-    """What follows the code of an instruction."""
+    """Reads the operand of an instruction."""
     if what == "block":
         kind = read.byte()
         if kind != NOTHING and kind not in KINDS:
@@ -132,7 +133,7 @@ def read_operand(read, what):
     if what == "labels":
         return [read.number() for _ in range(read.number() + 1)]
     if what == "place":
-        read.number()  # (how it is aligned, by which nothing changes)
+        read.number()  # The alignment is only a hint.
         return read.number()
     if what == "number":
         return read.signed()
@@ -140,12 +141,12 @@ def read_operand(read, what):
         return read.number()
     for _ in {"memories": "12", "memory": "1", "": ""}[what]:
         if read.byte() != 0:
-            raise Unread("another memory")
+            raise Unread("a second memory")
     return None
 
 
 def read_code(read):
-    """The code of an instruction: what it is called, and what follows."""
+    """Reads an opcode. Returns the name of the instruction, and the kind of its operand."""
     code = read.byte()
     code = code << 8 | read.number() if code == 0xFC else code
     if code not in INSTRUCTIONS:
@@ -154,13 +155,13 @@ def read_code(read):
 
 
 class Object:
-    """The functions and the data of an object."""
+    """The functions and the data of an object file."""
 
     def __init__(self, data):
         if data[:8] != b"\0asm\1\0\0\0":
-            raise Unread("it is no WebAssembly")
+            raise Unread("it is not WebAssembly")
         self.types, self.declared, self.imported, self.variables = [], [], [], []
-        self.bodies, self.kept, self.aligned, self.symbols, self.addresses = [], [], [], [], {}
+        self.bodies, self.data_parts, self.aligned, self.symbols, self.addresses = [], [], [], [], {}
         self.begins = []
         read = Reader(data, 8)
         while not read.is_at_end():
@@ -169,22 +170,22 @@ class Object:
             self.read_section(number, part)
         names = {index: name for kind, index, name in self.symbols if kind == 0}
         self.functions = [self.function(index, names) for index in range(len(self.declared))]
-        self.segments = [self.segment(index) for index in range(len(self.kept))]
+        self.segments = [self.segment(index) for index in range(len(self.data_parts))]
 
     # ---- Sections ----
 
     def read_section(self, number, read):
-        """A section; those of tables, memory, exports, elements and how many segments there are say nothing of what is read."""
+        """Reads a section. Those of tables, memory, exports and elements, and the number of segments, are not needed."""
         readers = {0: self.read_named, 1: self.read_types, 2: self.read_imports, 3: self.read_functions, 10: self.read_bodies, 11: self.read_data}
         if number in readers:
             readers[number](read)
         elif number not in (4, 5, 7, 9, 12):
-            raise Unread(f"the section {number}")
+            raise Unread(f"unknown section {number}")
 
     def read_types(self, read):
         for _ in range(read.number()):
             if read.byte() != 0x60:
-                raise Unread("a type that is none of functions")
+                raise Unread("a type that is not a function type")
             self.types.append(tuple([read.kind() for _ in range(read.number())] for _ in "12"))
 
     def read_imports(self, read):
@@ -203,7 +204,7 @@ class Object:
                 read.bytes(2)
                 self.variables.append(name)
             else:
-                raise Unread(f"an import of the kind {kind}")
+                raise Unread(f"an import of kind {kind}")
 
     def read_functions(self, read):
         self.declared += [read.number() for _ in range(read.number())]
@@ -214,19 +215,19 @@ class Object:
     def read_data(self, read):
         for _ in range(read.number()):
             if read.number() != 0:
-                raise Unread("data without a place")
+                raise Unread("passive data, or data of a second memory")
             if read.byte() not in (0x41, 0x42):
-                raise Unread("data whose place is no number")
+                raise Unread("data whose offset is not a constant")
             read.signed()
             if read.byte() != 0x0B:
-                raise Unread("data whose place is more than a number")
-            self.kept.append(read.part())
+                raise Unread("data whose offset is not a single constant")
+            self.data_parts.append(read.part())
 
     def read_named(self, read):
         name = read.name()
         if name == "linking":
             if read.number() != 2:
-                raise Unread("another version of what is linked")
+                raise Unread("an unknown version of the linking section")
             while not read.is_at_end():
                 self.read_linking(read.byte(), read.part())
         elif name.startswith("reloc."):
@@ -234,7 +235,7 @@ class Object:
             for _ in range(read.number()):
                 kind, at, symbol = read.byte(), read.number(), read.number()
                 addend = read.signed() if kind in WITH_ADDEND else 0
-                if number in (10, 11) and kind not in SAID:
+                if number in (10, 11) and kind not in REDUNDANT:
                     self.addresses[begin + at] = (kind, symbol, addend)
 
     def read_linking(self, kind, read):
@@ -246,10 +247,10 @@ class Object:
         elif kind == 8:
             self.symbols = [self.read_symbol(read) for _ in range(read.number())]
         elif kind != 7:
-            raise Unread(f"a part {kind} of what is linked")
+            raise Unread(f"an unknown part {kind} of the linking section")
 
     def read_symbol(self, read):
-        """A symbol: its kind, what it stands for, and its name."""
+        """Reads a symbol. Returns its kind, its index or Place, and its name."""
         kind, flags = read.byte(), read.number()
         if kind in (0, 2, 5):
             index, is_named = read.number(), not flags & 0x10 or flags & 0x40
@@ -259,26 +260,26 @@ class Object:
             return kind, None if flags & 0x10 else read_place(read), name
         if kind == 3:
             return kind, read.number(), None
-        raise Unread(f"a symbol of the kind {kind}")
+        raise Unread(f"a symbol of kind {kind}")
 
-    # ---- What they say together ----
+    # ---- Combining the sections ----
 
     def place(self, at, kinds):
-        """The place in data that the number here is the address of, or None where it is a number."""
+        """Returns the Place to which the address at an offset in the file points, or None if there is no address."""
         kind, symbol, addend = self.addresses.get(at, (None, None, None))
         if kind is None:
             return None
         of, place, name = self.symbols[symbol]
         if kind not in kinds or of != 1 or place is None:
-            raise Unread(f"an address of the kind {kind}, of {name}")
+            raise Unread(f"an address of kind {kind}, of {name}")
         return Place(place.segment, place.offset + addend)
 
     def function(self, index, names):
-        """A function, with its instructions where it has some."""
+        """Returns a function with its instructions."""
         parameters, results = self.types[self.declared[index]]
         name = names.get(index, f"function_{index}")
         if len(results) > 1:
-            raise Unread(f"{name} gives more than one number")
+            raise Unread(f"{name} has more than one result")
         if index < len(self.imported):
             return Function(name, parameters, results, parameters, None)
         read, kinds = self.bodies[index - len(self.imported)], [*parameters]
@@ -294,29 +295,29 @@ class Object:
     def instruction(self, read, function):
         try:
             name, what = read_code(read)
-            begun = read.at
+            begin = read.at
             operand = read_operand(read, what)
         except Unread as why:
             raise Unread(f"{function}: {why}") from None
-        # (what is an address is the last number of an instruction, of which five or ten bytes are left to the linker)
-        places = {self.place(at, (OFFSET, CONSTANT)) for at in range(begun, read.at)} - {None}
+        # An address is the last number of an instruction. It takes five or ten bytes, which the linker fills in.
+        places = {self.place(at, (OFFSET, CONSTANT)) for at in range(begin, read.at)} - {None}
         return Instruction(name, operand, next(iter(places), None))
 
     def segment(self, index):
-        part = self.kept[index]
+        part = self.data_parts[index]
         found = [(at - part.at, self.place(at, (DATA,))) for at in sorted(self.addresses) if part.at <= at < part.end]
         return Segment(part.data[part.at:part.end], self.aligned[index] if self.aligned else 1, found)
 
 
 def read_place(read):
-    """Where the data of a symbol stands; after that comes its size."""
+    """Reads the place of a symbol, and skips its size."""
     place = Place(read.number(), read.number())
     read.number()
     return place
 
 
 def read_limits(read):
-    """How large a memory or a table is, which is the linker's."""
+    """Skips the limits of a memory or a table, which the linker sets."""
     flags = read.number()
     for _ in range(1 + (flags & 1)):
         read.number()

@@ -1,20 +1,18 @@
-"""Writes C99 for an object of 64-bit WebAssembly (`wasm_object.py`), over `c/library/portable/machine.h`.
+"""Translates an object of 64-bit WebAssembly (`wasm_object.py`) to C99, which includes `c/library/portable/machine.h`.
 
-    tools/wasm_to_c.py OBJECT NAME ..          the C of these functions, and of all that they call
+    tools/wasm_to_c.py OBJECT NAME ..          prints these functions as C, and all functions that they call
 
-The memory of the object is that of the program: an address is a pointer as a number of 64 bits, also where pointers
-have 32, so nothing is copied. A number in memory is little-endian on every processor. Each call from C makes two
-things anew, in the frame of the function that is called, so that no variable lasts and threads share nothing: the
-stack of the machine, as long as the deepest call below needs it (`sp` is its end), and a table of the data that holds
-addresses (`table`).
+The memory of the object is the memory of the program. An address is a pointer as a 64-bit number, even if pointers have
+32 bits, so nothing is copied. A number in memory is little-endian on every processor. There are no global variables, so
+threads share nothing. Instead, each function that C calls has two local arrays: the stack of the WebAssembly machine, as
+large as its deepest call needs (`sp` is its end), and a copy of the data that contains addresses (`table`).
 
-A table translates each instruction on numbers and each load and store; blocks and branches become `goto`. An
-instruction that the translator does not know is an error with its name: floats, vectors, calls by table, memory that
-grows, recursion.
+TABLE translates each arithmetic instruction, load and store. Blocks and branches become `goto`. Instructions that the
+translator does not know are errors: floats, vectors, indirect calls, growing memory, and recursion.
 
-tests/c/table_proofs.py proves each row of the table by z3, as clang compiles it. Control flow, local variables, the
-stack and the data are tested and not proved: tests/c/translated.py compares each row, and random functions, with
-another WebAssembly.
+tests/c/table_proofs.py proves each row of TABLE with z3, as clang compiles it. Control flow, local variables, the stack
+and the data are tested and not proved: tests/c/translated.py compares each row, and random functions, with another
+implementation of WebAssembly.
 """
 
 import re
@@ -23,8 +21,8 @@ from collections import namedtuple
 
 from wasm_object import Object, Unread
 
-# The instructions on numbers, and how they are in C: `a` and `b` are what an instruction takes from the stack. Where the C is a
-# comparison it gives 0 or 1. What reads memory is done before that is written; what may end the program, in its turn.
+# The instructions and their C expressions. `a` and `b` are the operands. A comparison gives 0 or 1. A load is evaluated before the
+# next store, and an instruction that may end the program is evaluated at its place in the order.
 TABLE = """
     i32.eqz           a == 0                            i64.eqz           a == 0
     i32.eq            a == b                            i64.eq            a == b
@@ -79,15 +77,15 @@ ENDING_THE_PROGRAM = ("div_", "rem_")
 
 TYPES = {"i32": "u32", "i64": "u64"}
 BITS = {"i32": 32, "i64": 64}
-# The variable of the object that is the end of the stack of the machine.
+# The global variable of the object that is the stack pointer.
 STACK_POINTER = "__stack_pointer"
 # What an expression may read besides local variables.
 MEMORY = "memory"
-# The prefix of the names that C calls, and of those that the translation calls; and of what is within it.
+# The prefix of functions that C calls or provides, and the prefix of the other functions.
 PREFIX, WITHIN = "machine_", "do_"
 
-# What stands on the stack of the machine, as an expression of C: its kind, what it reads, whether it needs no parentheses, and
-# what it says where it is a comparison; the number where it is one that is known.
+# A value on the stack of the machine, as a C expression: its type, the variables that it reads, true if it needs no parentheses,
+# its condition if it is a comparison, and its number if it is a constant.
 Value = namedtuple("Value", "text kind reads is_word truth number", defaults=(frozenset(), False, None, None))
 EMPTY = frozenset()
 
@@ -97,19 +95,19 @@ def in_parentheses(value):
 
 
 def condition(value):
-    """A value as what `if` asks."""
+    """Returns the condition of an `if` that is true if the value is not 0."""
     return value.truth or f"{in_parentheses(value)} != 0"
 
 
 def constant(kind, number):
-    """A number, which WebAssembly writes with a sign."""
+    """Returns a constant. In WebAssembly it is signed."""
     number %= 1 << BITS[kind]
     digits = str(number) if number < 100000 else hex(number)
     return Value(f"{digits}u" if kind == "i32" else f"UINT64_C({digits})", kind, EMPTY, True, None, number)
 
 
 class Block:
-    """A block that is open: what kind it is of, what it gives, and the height of the stack below it."""
+    """An open block: its instruction, the type of its result, and the height of the stack below it."""
 
     def __init__(self, kind, gives, number, height):
         self.kind, self.gives, self.height = kind, gives, height
@@ -118,13 +116,13 @@ class Block:
 
 
 class Body:
-    """The C of a function's instructions."""
+    """Translates the instructions of a function."""
 
     def __init__(self, translation, function):
         self.all, self.function = translation, function
         self.lines, self.stack, self.blocks = [], [], []
         self.temporaries = self.opened = 0
-        # Whether what comes next is never reached, and how many blocks were opened since.
+        # True if the next instruction is never reached, and the number of blocks opened since then.
         self.is_unreachable, self.passed_over = False, 0
         self.calls, self.reads_table, self.frame = [], False, 0
         self.uses_stack = any(instruction.name.startswith("global") for instruction in function.instructions)
@@ -153,20 +151,20 @@ class Body:
         self.stack.append(Value(*parts))
 
     def keep(self, value):
-        """A value in a variable of its own, which nothing changes."""
+        """Stores a value in a new constant."""
         self.temporaries += 1
         name = f"t{self.temporaries}"
         self.line(f"const {TYPES[value.kind]} {name} = {value.text};")
         return Value(name, value.kind, EMPTY, True)
 
     def keep_what_reads(self, what):
-        """What stands on the stack and reads something that now changes is kept as it is."""
+        """Stores the values on the stack that read `what`, which is about to change."""
         self.stack = [self.keep(each) if what in each.reads else each for each in self.stack]
 
     # ---- Instructions ----
 
     def pass_over(self, instruction):
-        """An instruction that is never reached, but that may end the block in which it is not."""
+        """Skips an instruction that is never reached, unless it ends the block."""
         if instruction.name in ("block", "loop", "if"):
             self.passed_over += 1
         elif self.passed_over > 0:
@@ -185,14 +183,14 @@ class Body:
             how(instruction)
 
     def number(self, instruction, kind):
-        """An instruction of the table."""
+        """Translates an instruction of TABLE."""
         text = IN_C[instruction.name]
         is_store, has_two = ".store" in instruction.name, re.search(r"\bb\b", text)
         b = self.pop() if has_two else None
         a = self.pop() if not re.search(r"\.(load|store)", instruction.name) else self.address(instruction)
         reads = a.reads | (b.reads if b else EMPTY) | (frozenset([MEMORY]) if ".load" in instruction.name else EMPTY)
         if b and b.number is not None:
-            # (how far is shifted, where that is known)
+            # A constant shift count is reduced now.
             text = re.sub(r"\(b & (\d+)\)", lambda found: str(b.number & int(found[1])), text)
         text = f"!({a.truth})" if instruction.name.endswith("eqz") and a.truth else in_c(text, a, b)
         if is_store:
@@ -205,7 +203,7 @@ class Body:
             self.stack.append(self.keep(value) if any(word in instruction.name for word in ENDING_THE_PROGRAM) else value)
 
     def address(self, instruction):
-        """Where an instruction loads from, or stores to: a number from the stack, and what the instruction adds."""
+        """Returns the address of a load or a store: a value from the stack plus the offset of the instruction."""
         base = self.pop()
         if instruction.symbol is not None:
             data = self.data(instruction.symbol)
@@ -213,7 +211,7 @@ class Body:
         return Value(f"{in_parentheses(base)} + {instruction.operand}", "i64", base.reads) if instruction.operand else base
 
     def data(self, place):
-        """The address of data."""
+        """Returns the address of data."""
         text, is_in_table = self.all.address_of(place)
         self.reads_table |= is_in_table
         return Value(text, "i64", EMPTY, "+" not in text)
@@ -251,8 +249,8 @@ class Body:
         self.pop()
 
     def do_select(self, _):
-        asked, b, a = self.pop(), self.pop(), self.pop()
-        self.push(f"{condition(asked)} ? {in_parentheses(a)} : {in_parentheses(b)}", a.kind, asked.reads | a.reads | b.reads)
+        which, b, a = self.pop(), self.pop(), self.pop()
+        self.push(f"{condition(which)} ? {in_parentheses(a)} : {in_parentheses(b)}", a.kind, which.reads | a.reads | b.reads)
 
     def do_nop(self, _):
         pass
@@ -268,7 +266,7 @@ class Body:
         self.change("fill")
 
     def change(self, how):
-        """What writes many bytes takes three numbers."""
+        """Translates an instruction that writes many bytes, with three operands."""
         arguments = [self.pop() for _ in range(3)][::-1]
         self.keep_what_reads(MEMORY)
         self.line(f"{how}({', '.join(argument.text for argument in arguments)});")
@@ -278,7 +276,7 @@ class Body:
         arguments = [self.pop() for _ in called.parameters][::-1]
         self.keep_what_reads(MEMORY)
         self.calls.append(instruction.operand)
-        text = self.all.call(instruction.operand, [one.text for one in arguments])
+        text = self.all.call(instruction.operand, [argument.text for argument in arguments])
         if called.results:
             self.stack.append(self.keep(Value(text, called.results[0])))
         else:
@@ -296,8 +294,8 @@ class Body:
         self.begin(instruction, f"if ({condition(self.pop())}) {{")
 
     def begin(self, instruction, text):
-        """Begins a block. What stands on the stack has to last, whatever that does."""
-        self.stack = [self.keep(one) if one.reads else one for one in self.stack]
+        """Begins a block. Values on the stack are stored, because the block may change what they read."""
+        self.stack = [self.keep(value) if value.reads else value for value in self.stack]
         self.opened += 1
         block = Block(instruction.name, instruction.operand, self.opened, len(self.stack))
         if block.gives:
@@ -308,7 +306,7 @@ class Body:
         self.blocks.append(block)
 
     def give(self, block):
-        """Gives what a block gives, where its end is reached."""
+        """Stores the result of a block, if its end is reached."""
         if block.gives and not self.is_unreachable:
             self.line(f"{'return' if block.kind == 'function' else f'{block.result} ='} {self.pop().text};")
         del self.stack[block.height:]
@@ -335,33 +333,33 @@ class Body:
             self.push(block.result, block.gives, frozenset([block.result]), True)
 
     def branch(self, depth):
-        """How it is gone on elsewhere, after what the block gives was kept."""
+        """Returns the C statements of a branch, which store the result of the block first."""
         block = self.blocks[-1 - depth]
         gives = block.gives if block.kind != "loop" else None
-        given = f" {self.stack[-1].text}" if gives else ""
+        result = f" {self.stack[-1].text}" if gives else ""
         if block.kind == "function":
-            return f"return{given};"
+            return f"return{result};"
         block.is_branched_to = True
-        return f"{block.result} ={given}; goto {block.label};" if gives else f"goto {block.label};"
+        return f"{block.result} ={result}; goto {block.label};" if gives else f"goto {block.label};"
 
     def do_br(self, instruction):
         self.line(self.branch(instruction.operand))
         self.is_unreachable = True
 
     def do_br_if(self, instruction):
-        asked = self.pop()
+        value = self.pop()
         if self.blocks[-1 - instruction.operand].gives and self.stack:
-            # (it is read twice)
+            # The result is read twice.
             self.stack[-1] = self.keep(self.stack[-1])
-        self.line(f"if ({condition(asked)}) {{ {self.branch(instruction.operand)} }}")
+        self.line(f"if ({condition(value)}) {{ {self.branch(instruction.operand)} }}")
 
     def do_br_table(self, instruction):
-        asked = self.pop()
-        *others, last = map(self.branch, instruction.operand)
-        self.line(f"switch ({asked.text}) {{")
-        for number, one in enumerate(others):
-            if one != last:
-                self.line(f"case {number}: {one}")
+        value = self.pop()
+        *branches, last = map(self.branch, instruction.operand)
+        self.line(f"switch ({value.text}) {{")
+        for number, branch in enumerate(branches):
+            if branch != last:
+                self.line(f"case {number}: {branch}")
         self.line(f"default: {last}")
         self.line("}")
         self.is_unreachable = True
@@ -372,7 +370,7 @@ class Body:
 
 
 def in_c(text, a, b):
-    """A row of the table, with what it takes put in: without parentheses where it stands alone in those of a call."""
+    """Returns the C expression of a row of TABLE with its operands. An operand that is a whole argument of a call gets no parentheses."""
     values = {"a": a, "b": b}
     return re.sub(r"(?<=\w\()([ab])(?=[,)])|(?<=, )([ab])(?=\))|\b([ab])\b",
                   lambda value: in_parentheses(values[value[3]]) if value[3] else values[value[1] or value[2]].text, text)
@@ -390,13 +388,13 @@ def frame_of(function):
         reads = [at for at, name in uses if name == "local.get"] if [name for _, name in uses] == ["local.set", "local.get"] else []
     found = [(code[at + 1], code[at + 2].name) for at in reads]
     if len(found) != 1 or found[0][0].name != "i64.const" or found[0][1] not in ("i64.sub", "i64.add"):
-        raise Unread(f"{function.name}: how much of the stack it takes")
+        raise Unread(f"{function.name}: it is unclear how much of the stack it takes")
     (size, how), = found
     return size.operand if how == "i64.sub" else -size.operand
 
 
 class Translation:
-    """The C of functions of an object, and of all that they call."""
+    """Translates functions of an object, and all functions that they call."""
 
     def __init__(self, read, exported):
         self.object, self.exported = read, exported
@@ -405,13 +403,13 @@ class Translation:
         self.table_bytes = 0
         missing = [name for name in exported if name not in self.numbers]
         if missing:
-            raise Unread(f"it has no {', '.join(missing)}")
+            raise Unread(f"the object has no {', '.join(missing)}")
         for name in exported:
             self.visit(self.numbers[name], [])
         self.pointers = self.table_pointers()
 
     def visit(self, number, above):
-        """Translates a function after all that it calls."""
+        """Translates a function after all functions that it calls."""
         if number in above:
             raise Unread(f"{self.object.functions[number].name} calls itself")
         if number in self.bodies or self.object.functions[number].instructions is None:
@@ -419,22 +417,22 @@ class Translation:
         body = Body(self, self.object.functions[number])
         for call in sorted({*body.calls}):
             self.visit(call, [*above, number])
-        # What is handed on: the end of the stack and the table, where something below needs them.
+        # The function gets the stack and the table as parameters if it or a function below it needs them.
         below = [self.bodies[call] for call in body.calls if call in self.bodies]
         body.stack_bytes = body.frame + max((name.stack_bytes for name in below), default=0)
-        body.handed = [name for name, is_needed in (
-            ("sp", body.uses_stack or any("sp" in name.handed for name in below)),
-            ("table", body.reads_table or any("table" in name.handed for name in below))) if is_needed]
+        body.extra_parameters = [name for name, is_needed in (
+            ("sp", body.uses_stack or any("sp" in name.extra_parameters for name in below)),
+            ("table", body.reads_table or any("table" in name.extra_parameters for name in below))) if is_needed]
         self.bodies[number] = body
 
-    # ---- Names and places ----
+    # ---- Names and addresses ----
 
     def check_variable(self, instruction):
         if self.object.variables[instruction.operand] != STACK_POINTER:
-            raise Unread(f"the variable {self.object.variables[instruction.operand]}")
+            raise Unread(f"the global variable {self.object.variables[instruction.operand]}")
 
     def name(self, number):
-        """The name of a function in C."""
+        """Returns the name of a function in C."""
         function = self.object.functions[number]
         if function.instructions is None:
             return PREFIX + function.name
@@ -444,11 +442,11 @@ class Translation:
         return self.names[number]
 
     def call(self, number, arguments):
-        """A call, in which what is handed on is filled in once that is known."""
+        """Returns a call. Its mark is replaced by the stack and the table once it is known if the function needs them."""
         return f"{self.name(number)}(@{number}@{', '.join(arguments)})"
 
     def address_of(self, place):
-        """The address of data, and whether that is in the table."""
+        """Returns the address of data, and true if the data is in the table."""
         after = f" + {place.offset}" if place.offset else ""
         if not self.object.segments[place.segment].addresses:
             self.segments.add(place.segment)
@@ -461,7 +459,7 @@ class Translation:
         return f"table + {at}" if at else "table", True
 
     def table_pointers(self):
-        """The lines that write the addresses of the table, which may bring more into it."""
+        """Returns the lines that write the addresses into the table. This may add more data to the table."""
         lines, done = [], set()
         while {*self.table} - done:
             for segment in sorted({*self.table} - done):
@@ -473,7 +471,7 @@ class Translation:
     # ---- Writing ----
 
     def text(self):
-        """All of the C."""
+        """Returns the whole C file."""
         called = sorted({call for body in self.bodies.values() for call in body.calls if call not in self.bodies})
         return "\n".join([
             '#include "machine.h"', "",
@@ -484,15 +482,15 @@ class Translation:
             *(line for name in self.exported for line in self.exported_lines(self.numbers[name])), ""])
 
     def data_lines(self, segment):
-        """Data, after a comment with the letters that it has."""
-        kept = self.object.segments[segment]
-        words = kept.data.decode("latin-1")
+        """Returns an array with data, after a comment with its text if it has one."""
+        data, alignment, _ = self.object.segments[segment]
+        words = data.decode("latin-1")
         comment = [f"/* {words} */"] if re.fullmatch(r"[ -~]{6,}", words) and "*/" not in words else []
-        alignment = f"ALIGNED({kept.alignment}) " if kept.alignment > 1 else ""
-        return [*comment, f"static {alignment}const u8 data{segment}[{max(1, len(kept.data))}] = {{", *byte_lines(kept.data or b"\0"), "};"]
+        aligned = f"ALIGNED({alignment}) " if alignment > 1 else ""
+        return [*comment, f"static {aligned}const u8 data{segment}[{max(1, len(data))}] = {{", *byte_lines(data or b"\0"), "};"]
 
     def table_lines(self):
-        """The data that holds addresses, and how it is made."""
+        """Returns the data that contains addresses, and the function that writes the table."""
         if not self.table:
             return []
         data = bytearray(self.table_bytes)
@@ -502,38 +500,38 @@ class Translation:
                 "static void write_table(u64 table)", "{", "    copy(table, address(table_bytes), sizeof table_bytes);",
                 *(f"    {pointer}" for pointer in self.pointers), "}", ""]
 
-    def declaration(self, function, name, handed=(), words="", first=0):
-        parameters = [*(f"u64 {name}" for name in handed), *(f"{TYPES[kind]} l{at}" for at, kind in enumerate(function.parameters, first))]
+    def declaration(self, function, name, extra_parameters=(), words="", first=0):
+        parameters = [*(f"u64 {name}" for name in extra_parameters), *(f"{TYPES[kind]} l{at}" for at, kind in enumerate(function.parameters, first))]
         return f"{words}{TYPES[function.results[0]] if function.results else 'void'} {name}({', '.join(parameters) or 'void'})"
 
     def function_lines(self, number, body):
         function = body.function
-        text = re.sub(r"@(\d+)@(?=(\)?))", self.handed_on, "\n".join(body.lines))
-        # (labels of loops to which nothing goes back)
+        text = re.sub(r"@(\d+)@(?=(\)?))", self.extra_arguments, "\n".join(body.lines))
+        # Labels of loops to which no branch goes back are removed.
         text = re.sub(r"(?m)^ *(again\d+):;\n", lambda value: value[0] if f"goto {value[1]};" in text else "", text)
         used = {*re.findall(r"\b(?:l\d+|sp|table)\b", text)}
         names = [(f"l{at}", kind) for at, kind in enumerate(function.locals)]
-        variables = [(kind, [name for name, one in names[len(function.parameters):] if one == kind and name in used]) for kind in TYPES]
-        unused = [each for each in [*body.handed, *(name for name, _ in names[:len(function.parameters)])] if each not in used]
-        return ["", self.declaration(function, self.name(number), body.handed, "static "), "{",
-                *(f"    {TYPES[kind]} {', '.join(f'{failure} = 0' for failure in some[at:at + 16])};" for kind, some in variables
-                  for at in range(0, len(some), 16)),
+        variables = [(kind, [name for name, its_kind in names[len(function.parameters):] if its_kind == kind and name in used]) for kind in TYPES]
+        unused = [each for each in [*body.extra_parameters, *(name for name, _ in names[:len(function.parameters)])] if each not in used]
+        return ["", self.declaration(function, self.name(number), body.extra_parameters, "static "), "{",
+                *(f"    {TYPES[kind]} {', '.join(f'{name} = 0' for name in of_kind[at:at + 16])};" for kind, of_kind in variables
+                  for at in range(0, len(of_kind), 16)),
                 *(f"    (void) {name};" for name in unused), text, "}"]
 
-    def handed_on(self, found):
-        """What a call hands on, before its own arguments."""
+    def extra_arguments(self, found):
+        """Returns the stack and the table, as arguments of a call before its own ones."""
         body = self.bodies.get(int(found[1]))
-        return ", ".join(body.handed if body else []) + (", " if body and body.handed and not found[2] else "")
+        return ", ".join(body.extra_parameters if body else []) + (", " if body and body.extra_parameters and not found[2] else "")
 
     def exported_lines(self, number):
-        """A function that is called from C."""
+        """Returns a function that C calls."""
         body, function = self.bodies[number], self.object.functions[number]
         declaration = self.declaration(function, PREFIX + function.name)
-        handed = [*body.handed, *(f"l{at}" for at in range(len(function.parameters)))]
+        arguments = [*body.extra_parameters, *(f"l{at}" for at in range(len(function.parameters)))]
         return ["", f"{declaration};", "", declaration, "{",
-                *([f"    STACK({body.stack_bytes + -body.stack_bytes % 16});"] if "sp" in body.handed else []),
-                *(["    TABLE(sizeof table_bytes);", "    write_table(table);"] if "table" in body.handed else []),
-                f"    {'return ' if function.results else ''}{self.name(number)}({', '.join(handed)});", "}"]
+                *([f"    STACK({body.stack_bytes + -body.stack_bytes % 16});"] if "sp" in body.extra_parameters else []),
+                *(["    TABLE(sizeof table_bytes);", "    write_table(table);"] if "table" in body.extra_parameters else []),
+                f"    {'return ' if function.results else ''}{self.name(number)}({', '.join(arguments)});", "}"]
 
 
 def byte_lines(data):
@@ -541,7 +539,7 @@ def byte_lines(data):
 
 
 def translate(data, exported):
-    """The C of an object, for these of its functions."""
+    """Returns the C for these functions of an object."""
     return Translation(Object(data), exported).text()
 
 
