@@ -1,7 +1,7 @@
 /*
- * Hashing of so many MiB in pieces of 64 KiB, for bench/as_c.py: by the library (`library`), by libsodium as it chooses
- * for the processor (`sodium`), or by libsodium without vectors (`plain`), which it takes before it is told to choose.
- * Prints the seconds of the processor that it took, and the first byte of the digest.
+ * Hashes this many MiB in pieces of 64 KiB, for bench/as_c.py: with the library (`library`), with libsodium's code for
+ * the processor (`sodium`), or with libsodium's portable code (`plain`), which it uses before sodium_init. Prints the
+ * processor seconds and the first byte of the digest.
  */
 #include <stdio.h>
 #include <stdlib.h>

@@ -1,14 +1,13 @@
 #!/usr/bin/env python3
-"""Times the same jobs over the Rust crate minisign 0.10.0 and over this library, in turns.
+"""Times the same jobs with the Rust crate minisign 0.10.0 and with this library, taking turns.
 
-    beside_rust.py UPSTREAM [ROUNDS]
+    bench/beside_rust.py UPSTREAM [ROUNDS]
 
 UPSTREAM is the directory of the crate's own files. compare/oracle/build.sh builds it with plain stand-ins for
-scrypt and base64 (so `open` compares with plain Rust and not with the crate `scrypt`). The jobs are those of
-bench/library_bench (build_library_bench.py builds the program) and of beside_rust.rs, which is built here with full
-optimization for the processor that `rt run` builds for. The time is processor time, of the program and of the
-system for it, the least of ROUNDS runs (5 where it is left out) that take turns. It stops where the two
-programs print other results.
+scrypt and base64, so `open` compares with plain Rust and not with the crate `scrypt`. The jobs are those of
+bench/library_bench (build_library_bench.py builds the program) and of beside_rust.rs, which this script builds with full
+optimization for the processor that `rt run` builds for. The time is the least processor time (user and system) of ROUNDS
+runs, by default 5. The script stops if the two programs print different results.
 
 Needs Python 3.9 or later and rustc, which it installs if it may.
 """
@@ -27,7 +26,7 @@ MEGABYTE = 1 << 20
 
 
 def built(upstream, directory):
-    """The Rust program over the crate."""
+    """Builds the Rust program with the crate, and returns its path."""
     rustc = installed(needs.first_rust_compiler)
     environment = dict(os.environ, OPT=TARGET, RUSTC=rustc)
     build = os.path.join(HERE, "..", "compare", "oracle", "build.sh")
@@ -46,7 +45,7 @@ def write(directory, name, data):
 
 
 def prepare(directory):
-    """The files of the jobs."""
+    """Writes the files of the jobs."""
     block = toy.some_data(16 * MEGABYTE)
     large = os.path.join(directory, "large")
     hasher = hashlib.blake2b()
@@ -66,7 +65,7 @@ def prepare(directory):
         write(directory, str(number), small)
 
 
-# Each job's name in the table, its arguments, and how often it is run at most.
+# Each job's name in the table, its arguments, and the most rounds.
 JOBS = [
     ("hashing 1 GiB in memory", ["hash", "part", "16"], 9),
     ("verifying a file of 1 GiB", ["verify", "key.pub", "large.sig", "large"], 9),
@@ -80,10 +79,10 @@ JOBS = [
 
 
 def job(program, arguments, directory):
-    """The processor time of a job in seconds, and what it printed."""
+    """Runs a job, and returns its processor time in seconds and its output."""
     ended = run([os.path.abspath(program), *arguments], directory=directory)
     if ended.status != 0:
-        raise SystemExit(f"{program} {arguments} ended with {ended.status}: {ended.output}")
+        raise SystemExit(f"{program} {arguments}: exit status {ended.status}: {ended.output}")
     return ended.processor_seconds, ended.output
 
 
@@ -96,9 +95,9 @@ def main():
         for name, arguments, most in JOBS:
             best = [float("inf"), float("inf")]
             for _ in range(min(rounds, most)):
-                (first, said), (second, answered) = job(theirs, arguments, directory), job(OURS, arguments, directory)
-                if said != answered:
-                    raise SystemExit(f"{name}: {said!r} is not {answered!r}")
+                (first, expected), (second, output) = job(theirs, arguments, directory), job(OURS, arguments, directory)
+                if output != expected:
+                    raise SystemExit(f"{name}: this library printed {output!r}, the crate {expected!r}")
                 best = [min(best[0], first), min(best[1], second)]
             print(f"| {name} | {best[0]:.2f} s | {best[1]:.2f} s | {best[1] / best[0]:.2f} |", flush=True)
 

@@ -1,4 +1,4 @@
-//! The jobs of bench/library_bench over the Rust crate: see bench/beside_rust.py.
+//! The jobs of bench/library_bench with the Rust crate minisign, for bench/beside_rust.py.
 use minisign::crypto::blake2b::Blake2b;
 use minisign::{sign, verify, PublicKey, PublicKeyBox, SecretKey, SecretKeyBox, SignatureBox};
 use std::fs::{read, read_to_string, File};

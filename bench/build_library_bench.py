@@ -3,8 +3,8 @@
 
     bench/build_library_bench.py
 
-Its sources are in bench/library_bench, with the ending .txt: as a crate of crates.txt, CI would prove it too. It is
-proved over the libraries of this repository, which `rt lib` proves first if they have changed.
+Its sources are in bench/library_bench and have the extension .txt, because CI would prove a crate of crates.txt too.
+The libraries that it uses are those of this repository; `rt lib` proves them first if they have changed.
 
 Needs Python 3.9 or later and the Rattle kit.
 """
@@ -25,7 +25,7 @@ OUT = os.path.join(HERE, "out")
 
 
 def build(directory):
-    """Builds the program in a directory, as `rt run` builds a program."""
+    """Builds the program in a directory, in the way `rt run` does."""
     os.mkdir(os.path.join(directory, "src"))
     for name in os.listdir(os.path.join(HERE, NAME)):
         shutil.copy(os.path.join(HERE, NAME, name), os.path.join(directory, "src", name.removesuffix(".txt")))

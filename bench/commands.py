@@ -1,15 +1,17 @@
 #!/usr/bin/env python3
-"""Times the commands of `minisign_tool` that read data, over a file of 1 GB, in processor time, beside
-`openssl dgst -blake2b512`, `minisign -V` and `b2sum` of the same file.
+"""Times the commands of `minisign_tool` that read data, on a file of 1 GB, in processor time, compared with
+`openssl dgst -blake2b512`, `minisign -V` and `b2sum`.
 
-`verify-raw` gets the file on standard input, `verify`, `cat` and `sign` by name; `cat` writes to nowhere,
-and `sign` has a sealed key whose password comes through standard input. A legacy signature over the same
-file, which `verify` has to reject, shows that its data is not kept.
+    bench/commands.py [PROGRAM ..]
 
-Needs: Python 3.9 or later, coreutils' b2sum, openssl and minisign, which it installs as root on Debian, and
-the program, built by `rt run -- x` in crates/minisign_tool (which proves it, and leaves it in that crate's directory out). Other builds of the
-program, as one by `rt run --cpu=x86-64-v3 -- x`, are given as arguments, under names of their own. It
-makes its own input in a temporary directory that it removes; the disk needs 1 GB of room.
+`verify-raw` reads the file from standard input, `verify`, `cat` and `sign` by name; `cat` writes to /dev/null,
+and `sign` has an encrypted key whose password comes through standard input. `verify` also has to reject a legacy
+signature of the same file, which shows that it does not hold the data in memory. PROGRAM is another build of the program, such
+as one by `rt run --cpu=x86-64-v3 -- x`, under another name.
+
+Needs: Python 3.9 or later, coreutils' b2sum, openssl and minisign, which it installs as root on Debian, and the program,
+which `rt run -- x` in crates/minisign_tool proves and builds in that crate's directory `out`. It makes its input in a
+temporary directory, which needs 1 GB of disk space.
 """
 
 import os
@@ -25,7 +27,7 @@ LEGACY = "error: Legacy signatures are not accepted\n"
 
 
 def write_input(path):
-    """Writes pseudorandom bytes, the same ones each time."""
+    """Writes pseudorandom bytes, which are the same in each run."""
     block = random.Random(1).randbytes(1_000_000)
     with open(path, "wb") as data:
         for _ in range(SIZE // len(block)):
@@ -33,7 +35,7 @@ def write_input(path):
 
 
 def write_files(directory, digest):
-    """Writes the keys and signatures of data with this digest, and answers their paths by name."""
+    """Writes keys, and signatures of data with this digest, and returns their paths by name."""
     signature = b"ED" + toy.KEYNUM + toy.signature_of(digest)
     legacy = b"Ed" + toy.KEYNUM + bytes(64)
     contents = {
@@ -54,7 +56,7 @@ def write_files(directory, digest):
 
 
 def tool_runs(tool, files, data):
-    """The runs of a build of the program: what each is called, its arguments and its standard input."""
+    """Yields the name and the function of each run of a build of the program."""
     pk, sig = files["key.pk"], files["key.sig"]
     commands = [
         (["verify-raw", files["raw.pk"], files["raw.sig"]], data),
@@ -70,15 +72,15 @@ def tool_runs(tool, files, data):
 
 
 def rejected_timed(command, error):
-    """Runs a command that has to end with this error, and answers its processor time, memory and output."""
+    """Runs a command that has to fail with this error, and returns its processor time, memory and output."""
     ended = run(command)
     if ended.status != 1 or not ended.output.endswith(error):
-        raise SystemExit(f"{command[0]} ended with {ended.status}: {ended.output}")
+        raise SystemExit(f"{command[0]}: exit status {ended.status}, expected 1 and {error!r}: {ended.output}")
     return ended.processor_seconds, ended.memory, ended.output
 
 
 def minisign_runs(directory, data):
-    """Signs the file with a new key, and answers the run of `minisign -V`."""
+    """Signs the file with a new key, and returns the run of `minisign -V`."""
     minisign = installed(needs.minisign)
     pk, sk, sig = (os.path.join(directory, name) for name in ("minisign.pub", "minisign.key", "minisig"))
     processor_timed([minisign, "-G", "-W", "-p", pk, "-s", sk])
@@ -103,7 +105,7 @@ def main():
             + [("b2sum", lambda: processor_timed(["b2sum"], data))],
             rounds=5,
         )
-        # What was made is the signature of the same data.
+        # The signature that `sign` made has to be valid.
         processor_timed([TOOL, "verify", files["key.pk"], data, files["made.sig"]])
 
 

@@ -1,12 +1,12 @@
 #!/usr/bin/env python3
-"""Lists what the must-fail edits of a crate take of processor time, the dearest first.
+"""Lists the processor time of the must-fail edits of a crate, the longest first.
 
     bench/edits.py CRATE[/NAME]..
 
-It tries them as `tests/proofs/wrong_bodies.py` does, by one check of the prover at a time. The prover saves a module as
-it ends with it; a module's time is what the prover's process took of the processor since the one before. The first edit
-also has what loading the libraries takes. Mostly a search that does not find a proof takes long: aim such an edit at a
-smaller function, or choose a change that is false sooner.
+It tries them as `tests/proofs/wrong_bodies.py` does, with one check of the prover at a time. The prover saves each module when
+it is done with it. A module's time is the processor time of the prover since the module before, so the first edit also has the
+time for loading the libraries. Mostly it is a search without success that takes long: then change a smaller function, or
+choose a change that contradicts the contract sooner.
 
 Needs Python 3.9 or later, the kit, and Linux.
 """
@@ -24,25 +24,25 @@ from proofs import Taken, costs, modules
 
 
 class Trial(wrong_bodies.Trial):
-    """A trial that notes what a check takes, by functions and their parts, and in all."""
+    """A trial that records the processor time of a check, by function and part (`parts`) and in all (`whole`)."""
 
     def check(self, directory, functions):
         words = [word for function in sorted(functions) for word in ("--only", function)]
-        with tempfile.TemporaryDirectory(prefix="edits-") as kept:
+        with tempfile.TemporaryDirectory(prefix="edits-") as results:
             with Taken() as taken:
-                ran = proved.rattle("check", self.crate, directory, *words, "--allow-holes", "--incremental", kept)
-            self.found, self.whole = costs(modules(kept, taken)), taken.seconds[-1]
+                ran = proved.rattle("check", self.crate, directory, *words, "--allow-holes", "--incremental", results)
+            self.parts, self.whole = costs(modules(results, taken)), taken.seconds[-1]
         return ran.stdout
 
 
 def show(trial, group):
-    """Tries a group, and prints a line for each edit of it, and one for all else."""
+    """Tries a group, and prints a line for each edit and one for everything else."""
     verdicts = {verdict.body.checked: verdict for verdict in trial.tried(group)}
-    rows = sorted(((sum(parts.values()), name, parts) for name, parts in trial.found.items() if name in verdicts), reverse=True)
+    rows = sorted(((sum(parts.values()), name, parts) for name, parts in trial.parts.items() if name in verdicts), reverse=True)
     for seconds, name, parts in rows:
         shown = ", ".join(f"{part} {seconds:.1f}" for part, seconds in parts.most_common(3) if seconds >= 0.1)
         print(f"{seconds:7.1f}  {verdicts[name].body.label}, {verdicts[name].outcome}: {shown}")
-    print(f"{trial.whole - sum(seconds for seconds, *_ in rows):7.1f}  all else of {trial.crate}", flush=True)
+    print(f"{trial.whole - sum(seconds for seconds, *_ in rows):7.1f}  everything else of {trial.crate}", flush=True)
 
 
 def main(names):

@@ -1,8 +1,12 @@
 #!/usr/bin/env python3
-"""Times `minisign_tool verify` and `sign` on texts that a stranger made large: public key, signature and
-secret key texts of 8, 16 and 32 MiB. Prints the processor time and the greatest memory of each run, and
-stops where an answer is not the one that the grammar gives, where the memory is more than a few times
-the length of the text, or where a text of twice the length takes much more than twice the time.
+"""Times `minisign_tool verify` and `sign` on public key, signature and secret key files of 8, 16 and 32 MiB that an
+attacker could make.
+
+    bench/hostile_texts.py
+
+It prints the processor time and the peak memory of each run. It fails if a result is not the one that the file format
+demands, if the memory is more than a few times the size of the file, or if a file of twice the size takes much more than
+twice the time.
 
 Needs: Python 3.9 or later, and the program, built by `rt run -- x` in crates/minisign_tool.
 """
@@ -14,12 +18,13 @@ from timing import TOOL, run, toy
 
 LENGTHS = [length * 2**20 for length in (8, 16, 32)]
 ROUNDS = 3
-# Beside the program itself, which takes less than 2 MiB.
+# The most memory: a multiple of the file's size, and a constant in MiB, because the program itself takes less than 2 MiB.
 MAX_MEMORY, MIN_ROOM = 4.0, 4.0
+# The largest ratio of the times for twice the size, and the seconds below which times are not compared.
 MAX_GROWTH, MIN_SECONDS = 3.0, 0.02
 DATA = b"abc"
 
-# One line, and no other.
+# Letters of which a file can consist that has one line.
 ONE_LINE = {
     "one line of letters": b"A",
     "only spaces": b" ",
@@ -36,7 +41,7 @@ SIGNED = ""
 
 
 def longer(text, at, letter=b"A"):
-    """Makes texts of a length by putting letters into a good one before the end of a line, counted from 1."""
+    """Returns a function that makes files of a given length, by adding letters to a good file at the end of a line, counted from 1."""
 
     def of_length(length):
         lines = text.splitlines(keepends=True)
@@ -48,12 +53,12 @@ def longer(text, at, letter=b"A"):
 
 
 def repeated(letter):
-    """Makes texts of a length of one letter."""
+    """Returns a function that makes files of a given length from one letter."""
     return lambda length: letter * length
 
 
 def public_texts():
-    """Names of public key texts, how they are made, and what `verify` says."""
+    """Yields public key files: a name, a function that makes the file, and the message of `verify`."""
     yield from ((name, repeated(letter), NO_PUBLIC_KEY) for name, letter in ONE_LINE.items())
     yield "only line feeds", repeated(b"\n"), NOT_56_LETTERS
     yield "a long second line", longer(toy.public_text(), 2), NOT_56_LETTERS
@@ -61,7 +66,7 @@ def public_texts():
 
 
 def signature_texts():
-    """Names of signature texts, how they are made, and what `verify` says."""
+    """Yields signature files: a name, a function that makes the file, and the message of `verify`."""
     good = toy.signature_text(DATA)
     yield from ((name, repeated(letter), NO_SIGNATURE) for name, letter in ONE_LINE.items())
     yield "only line feeds", repeated(b"\n"), NO_COMMENT_LINE
@@ -73,14 +78,14 @@ def signature_texts():
 
 
 def long_comment_signature(length):
-    """A good text with a comment signature of so many letters more, of which the first 64 bytes count."""
+    """Returns a good signature file whose comment signature has this many additional letters. Only its first 64 bytes are read."""
     signature = toy.signature_record(DATA)
     comment_signature = toy.signature_of(signature[10:] + b"t") + bytes(length * 3 // 4)
     return toy.signature_text(DATA, comment_signature=comment_signature)
 
 
 def secret_texts():
-    """Names of secret key texts, how they are made, and what `sign` says."""
+    """Yields secret key files: a name, a function that makes the file, and the message of `sign`."""
     good = toy.secret_text()
     yield from ((name, repeated(letter), NO_SECRET_KEY) for name, letter in ONE_LINE.items())
     yield "only line feeds", repeated(b"\n"), toy.TOO_SHORT
@@ -89,13 +94,13 @@ def secret_texts():
 
 
 def long_secret_key(length):
-    """A good text with a record of so many bytes more, of which the first 158 count."""
+    """Returns a good secret key file whose record is longer. Only its first 158 bytes are read."""
     comment, key = toy.secret_text().splitlines(keepends=True)
     return comment + key.rstrip(b"=\n") + b"A" * (length - length % 4 + 1) + b"\n"
 
 
 def runs():
-    """Each run: its name, the file that is made large, how, what is said, and the arguments."""
+    """Yields each run: its name, the file that is large, the function that makes it, the expected message, and the arguments."""
     for name, make, said in public_texts():
         yield f"verify, public key: {name}", "key", make, said, ["verify", "key", "data", "signature"]
     for name, make, said in signature_texts():
@@ -105,12 +110,13 @@ def runs():
 
 
 def least(directory, arguments, said):
-    """The least processor time of some runs and their greatest memory, where the answer is the right one."""
+    """Returns the least processor time and the peak memory of some runs. Ends the script if the result is not the expected one."""
     ended = [run([TOOL, *arguments], directory=directory) for _ in range(ROUNDS)]
-    for answer in ended:
-        if (answer.status, answer.output) != (int(said.startswith("error")), toy.WARNING + said):
-            raise SystemExit(f"{arguments[0]} ended with {answer.status} and said {answer.output[:200]!r}")
-    return min(answer.processor_seconds for answer in ended), max(answer.memory for answer in ended)
+    for result in ended:
+        expected = int(said.startswith("error")), toy.WARNING + said
+        if (result.status, result.output) != expected:
+            raise SystemExit(f"{arguments[0]}: got {result.status, result.output[:200]}, expected {expected}")
+    return min(result.processor_seconds for result in ended), max(result.memory for result in ended)
 
 
 def main():
@@ -137,10 +143,10 @@ def main():
         print(f"{name:48} {shown}", flush=True)
         for length, _, memory in row:
             if memory > MAX_MEMORY * length / 2**20 + MIN_ROOM:
-                worst.append(f"{name}: {memory:.1f} MiB for a text of {length} bytes")
+                worst.append(f"{name}: {memory:.1f} MiB for a file of {length} bytes")
         for (_, before, _), (_, after, _) in zip(row, row[1:]):
             if after > MAX_GROWTH * max(before, MIN_SECONDS):
-                worst.append(f"{name}: {before:.2f} s, and {after:.2f} s for twice the length")
+                worst.append(f"{name}: {before:.2f} s, and {after:.2f} s for twice the size")
     if worst:
         raise SystemExit("\n".join(worst))
 

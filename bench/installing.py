@@ -1,13 +1,14 @@
 #!/usr/bin/env python3
-"""Times `minisign-install` over a file of 1 GiB by the clock, beside what a person would do by hand: `cat` into a stage,
-`sync` of it and `mv`, and `b2sum` of the data. They take turns, and each ratio is that of one turn to its two others together.
+"""Times `minisign-install` on a file of 1 GiB, in elapsed time, compared with doing the same by hand: `cat` into a temporary
+file, `sync` and `mv`, and `b2sum` of the data.
 
     bench/installing.py [DIRECTORY] [PROGRAM]
 
-The files are made in DIRECTORY, or else in a temporary one, which has to be on a disk. PROGRAM is a `minisign-install`; where
-none is named it is built.
+The commands take turns; the ratio is that of `minisign-install` to the sum of the two others in the same turn. The files are
+created in DIRECTORY, by default a temporary directory, which has to be on a disk. PROGRAM is a build of `minisign-install`;
+by default it is built.
 
-Needs: Python 3.9 or later, make, a C compiler, libsodium with its header, minisign and coreutils; 4 GiB of room.
+Needs: Python 3.9 or later, make, a C compiler, libsodium with its header, minisign and coreutils, and 4 GiB of disk space.
 """
 
 import os
@@ -17,13 +18,13 @@ import tempfile
 
 from timing import installed, measured
 
-# Of the tests, whose directory `timing` adds.
+# From the tests; `timing` adds their directory to the path.
 import needs
 import static_library
 
 SIZE = 1 << 30
 TURNS = 5
-BY_HAND = ["sh", "-c", "cat data > stage && sync stage && mv stage place"]
+BY_HAND = ["sh", "-c", "cat data > temporary && sync temporary && mv temporary target"]
 
 
 def build(directory):
@@ -51,7 +52,7 @@ def main():
               f"{statistics.median(turn[name].processor_seconds for turn in turns):8.2f} s of the processor "
               f"{max(turn[name].memory for turn in turns):8.1f} MiB")
     ratio = statistics.median(turn["minisign-install"].seconds / (turn["cat, sync, mv"].seconds + turn["b2sum"].seconds) for turn in turns)
-    print(f"minisign-install takes {ratio:.2f} of the time of the two together")
+    print(f"minisign-install takes {ratio:.2f} of the time of the two others together")
 
 
 if __name__ == "__main__":

@@ -1,12 +1,15 @@
 #!/usr/bin/env python3
-"""Measures scrypt with every k-th row kept, and draws its time and memory as docs/kept_rows.png.
+"""Measures scrypt that keeps only every k-th row in memory, and draws its time and memory as docs/kept_rows.png.
 
-Needs: Python 3.9 or later with matplotlib (else it goes on with the system's python3 and Debian's package
-python3-matplotlib, which it installs as root), 1.1 GB of memory, and the program `library_bench`, which
-build_library_bench.py builds. All derive 64 bytes with r 8 and p 1, each in a process of its own and in turn; the keys are
-compared with those of hashlib. `kept_rows.py 15 3` takes 15 rounds at N 2^15 and 3 at N 2^20, as it does
-without arguments. The time is the least processor time of the whole process, its own and the system's for
-it, beside the least time of the call by the clock; the memory is the greatest resident memory.
+    bench/kept_rows.py [ROUNDS ROUNDS]
+
+The arguments are the numbers of rounds with N 2^15 and with N 2^20, by default 15 and 3. All runs derive 64 bytes with r 8
+and p 1, each in a separate process, taking turns; the keys are compared with those of hashlib. The times are the least
+processor time of the process (user and system) and the least elapsed time of the call; the memory is the peak resident memory.
+
+Needs: Python 3.9 or later with matplotlib, 1.1 GB of memory, and the program `library_bench`, which build_library_bench.py
+builds. Without matplotlib it continues with the system's python3 and Debian's package python3-matplotlib, which it installs
+as root.
 """
 
 import hashlib
@@ -22,7 +25,7 @@ SYSTEM = "/usr/bin/python3"
 
 
 def with_matplotlib():
-    """The system's Python, where it has matplotlib."""
+    """Returns the path of the system's Python if it has matplotlib, or None."""
     ran = subprocess.run([SYSTEM, "-c", "import matplotlib"], stderr=subprocess.DEVNULL) if os.path.exists(SYSTEM) else None
     return SYSTEM if ran is not None and ran.returncode == 0 else None
 
@@ -44,7 +47,7 @@ MIB = 2**20
 
 
 class Least:
-    """The best of several runs with one N and one k."""
+    """The least times and the peak memory of several runs with one N and one k."""
 
     def __init__(self):
         self.processor = self.clock = math.inf
@@ -57,14 +60,14 @@ class Least:
 
 
 def derive(n_log2, k):
-    """Derives by library_bench, and returns both times in seconds, the memory in MiB and the key."""
+    """Derives a key with library_bench. Returns the processor and elapsed seconds, the memory in MiB, and the key."""
     processor, memory, output = processor_timed([*SCRYPT, PASSWORD, SALT, str(n_log2), "8", "1", str(k)])
     microseconds, key = output.split()
     return processor, int(microseconds) / 1e6, memory, key
 
 
 def expected_key(n_log2):
-    """The key of Python's hashlib."""
+    """Returns the key of Python's hashlib."""
     key = hashlib.scrypt(
         PASSWORD.encode(), salt=SALT.encode(), n=1 << n_log2, r=8, p=1, dklen=64, maxmem=2**31 - 1
     )
@@ -72,47 +75,47 @@ def expected_key(n_log2):
 
 
 def measure(n_log2, rounds):
-    """The best runs for each k."""
+    """Returns the best times and the memory for each k."""
     best = {k: Least() for k in KEPT}
     expected = expected_key(n_log2)
     for _ in range(rounds):
         for k in KEPT:
             processor, clock, memory, key = derive(n_log2, k)
             if key != expected:
-                raise SystemExit(f"the key at N 2^{n_log2} and k {k} is another one")
+                raise SystemExit(f"N 2^{n_log2}, k {k}: the key is {key}, expected {expected}")
             best[k].take(processor, clock, memory)
     return best
 
 
 def rows_memory(n_log2, k):
-    """The memory of the kept rows in MiB."""
+    """Returns the memory of the rows that are kept, in MiB."""
     return -(-(1 << n_log2) // k) * ROW / MIB
 
 
 def mixing_time(n_log2, best):
-    """The seconds of one more mixing of a row, from the two greatest k."""
+    """Returns the seconds for mixing a row once, computed from the two greatest k."""
     low, high = KEPT[-2:]
     return (best[high].processor - best[low].processor) / ((high - low) / 2 * (1 << n_log2))
 
 
 def most_time(n_log2, best, k):
-    """The time with every row kept, and (k - 1) / 2 mixings more for each of N rows that are named."""
+    """Returns an upper bound of the time: that of k = 1, and (k - 1) / 2 additional mixings for each of the N rows that scrypt reads."""
     return best[1].processor + mixing_time(n_log2, best) * (k - 1) / 2 * (1 << n_log2)
 
 
 def show(n_log2, best, rest):
-    """Prints the table of one N, and stops where the memory is more than the rows and 1 MiB beside `rest`,
-    what a run has that keeps one row."""
-    print(f"N 2^{n_log2}, r 8, p 1; one more mixing of a row takes {mixing_time(n_log2, best) * 1e6:.2f} us")
+    """Prints the table of one N. Ends the script if the memory exceeds the rows by more than 1 MiB and `rest`, the memory of a run that
+    keeps one row."""
+    print(f"N 2^{n_log2}, r 8, p 1; mixing a row takes {mixing_time(n_log2, best) * 1e6:.2f} us")
     for k in KEPT:
         run, rows = best[k], rows_memory(n_log2, k)
         print(
             f"k {k:3}  {run.processor:7.3f} s, {run.processor / best[1].processor:5.2f} times k 1, at most "
-            f"{most_time(n_log2, best, k) / best[1].processor:5.2f}  by the clock {run.clock:7.3f} s, "
-            f"{run.clock / best[1].clock:5.2f}  {run.memory:7.1f} MiB, the rows {rows:7.1f} MiB"
+            f"{most_time(n_log2, best, k) / best[1].processor:5.2f}  elapsed {run.clock:7.3f} s, "
+            f"{run.clock / best[1].clock:5.2f}  {run.memory:7.1f} MiB, rows {rows:7.1f} MiB"
         )
         if run.memory > rows + rest + 1:
-            raise SystemExit(f"at k {k} there is more memory than the rows and 1 MiB")
+            raise SystemExit(f"k {k}: {run.memory:.1f} MiB of memory, expected at most {rows + rest + 1:.1f} MiB")
 
 
 def draw(results):
@@ -144,7 +147,7 @@ def draw(results):
 def main():
     rounds = [int(argument) for argument in sys.argv[1:]] or [15, 3]
     rest = derive(10, 1 << 10)[2]
-    print(f"a run that keeps one row has {rest:.1f} MiB")
+    print(f"a run that keeps one row takes {rest:.1f} MiB")
     results = {n_log2: measure(n_log2, count) for n_log2, count in zip((15, 20), rounds)}
     for n_log2, best in results.items():
         show(n_log2, best, rest)

@@ -1,9 +1,13 @@
 #!/usr/bin/env python3
-"""Times `minisign_tool keygen` beside the one derivation that it does, by Python's hashlib and by `library_bench`.
+"""Times `minisign_tool keygen`, compared with the key derivation that it makes, by Python's hashlib and by `library_bench`.
+
+    bench/keygen.py
+
+All derive with N 2^15, r 8 and p 1, each in a separate process, taking turns. The time is the least processor time, for
+`hashlib.scrypt` that of the call only.
 
 Needs Python 3.9 or later whose hashlib has scrypt (OpenSSL's), and the programs `minisign_tool`, which `rt run` builds
-in its crate, and `library_bench`, which build_library_bench.py builds. All derive with N 2^15, r 8 and p 1, each in a process of its own and in turn. The least
-processor time counts, of `hashlib.scrypt` that of the call alone.
+in its crate, and `library_bench`, which build_library_bench.py builds.
 """
 
 import os
@@ -21,7 +25,7 @@ print(time.process_time() - begun)
 
 
 def of_hashlib():
-    """Derives by Python, and answers the seconds of the call, the process's memory and nothing."""
+    """Derives a key with Python. Returns the processor seconds of the call, the memory of the process, and an empty output."""
     _, memory, output = processor_timed([sys.executable, "-S", "-c", HASHLIB])
     return float(output), memory, ""
 

@@ -1,14 +1,16 @@
 #!/usr/bin/env python3
-"""Times the page in Chromium and in Firefox over a file of 1 GB, by the clock, beside `c/minisign -V` and
-Minisign's own `minisign -V` of the same file and the same signature, in turns of a minute at the most. Of each it prints
-the least time, the least, the median and the greatest of the ratios to `c/minisign -V` within a turn, the least processor
-time, of all processes and of the busiest thread (which other programs on the machine disturb less), and the greatest memory
-of a process that shows the page, beside that of an empty page in the same process. The memory is that of a first turn, which
-is not timed: in later ones a browser may still hold what earlier pages left behind.
+"""Times the page in Chromium and in Firefox on a file of 1 GB, in elapsed time, compared with `c/minisign -V` and
+`minisign -V` of the same file and signature.
 
     bench/page.py [ROUNDS [PAGE]]
 
-The page is the one of dist/ where none is named. Needs what tests/page/page.py needs, and 1 GB of room on the disk.
+The programs take turns, each of a minute at most. For each program it prints the least time; the least, median and greatest
+ratio to `c/minisign -V` within a turn; the least processor time, of all processes and of the busiest thread, which depends
+less on the load of the machine; and the peak memory of a process that shows the page, compared with that of an empty page in
+the same process. The memory is that of a first turn, which is not timed, because later a browser may still hold memory of
+earlier pages. PAGE is by default the one of dist/.
+
+Needs what tests/page/page.py needs, and 1 GB of disk space.
 """
 
 import contextlib
@@ -33,7 +35,7 @@ from timing import measured, processor_timed
 
 PAGE = os.path.realpath(sys.argv[2]) if len(sys.argv) > 2 else os.path.join(static_library.DIST, "minisign.html")
 ROUNDS = 5
-# The verdict, once it is there.
+# Waits for the verdict and returns it.
 VERDICT = """return new Promise(done => {
   const timer = setInterval(() => {
     const verdict = document.querySelector("#verdicts > li")?.dataset.verdict;
@@ -44,7 +46,7 @@ VERDICT = """return new Promise(done => {
 
 @dataclass(frozen=True)
 class Turn:
-    """A run that has ended: its seconds by the clock, of the processor and of the busiest thread, and its memory in MiB."""
+    """A finished run: its elapsed seconds, the processor seconds of all threads and of the busiest thread, and its memory in MiB."""
 
     seconds: float
     processor: float
@@ -53,7 +55,7 @@ class Turn:
 
 
 class Watch:
-    """The greatest memory of processes while something is done."""
+    """Records the peak memory of the processes that show the page, until the end of a `with` statement."""
 
     def __init__(self, browser):
         self.browser, self.processes, self.most, self.is_over = browser, browser.page_processes(), 0, threading.Event()
@@ -73,25 +75,25 @@ class Watch:
 
 
 def processor_times(browser):
-    """The processor time that each thread of the browser has taken, in seconds."""
-    found = {}
+    """Returns the processor time that each thread of the browser has taken, in seconds."""
+    times = {}
     for process in browser.processes():
         with contextlib.suppress(OSError):
             for thread in os.listdir(f"/proc/{process}/task"):
                 with open(f"/proc/{process}/task/{thread}/stat", encoding="ascii", errors="replace") as file:
                     parts = file.read().rpartition(")")[2].split()
-                found[process, thread] = (int(parts[11]) + int(parts[12])) / os.sysconf("SC_CLK_TCK")
-    return found
+                times[process, thread] = (int(parts[11]) + int(parts[12])) / os.sysconf("SC_CLK_TCK")
+    return times
 
 
 def command_run(command):
-    """How a command runs, which has one thread."""
+    """Runs a command, which has only one thread."""
     ended = measured(command)
     return Turn(ended.seconds, ended.processor_seconds, ended.processor_seconds, ended.memory)
 
 
 def page_run(browser, pk, data, sig):
-    """How the page gets to its verdict."""
+    """Runs the page until it shows its verdict."""
     browser.open(f"file://{PAGE}")
     browser.choose_key(pk)
     before = processor_times(browser)
@@ -101,43 +103,43 @@ def page_run(browser, pk, data, sig):
         verdict = browser.run(VERDICT)
         seconds = time.perf_counter() - begun
     if verdict != "good":
-        raise SystemExit(f"the page says {browser.rows()[0].text!r}")
+        raise SystemExit(f"the verdict is {verdict}, expected good: {browser.rows()[0].text!r}")
     took = [seconds - before.get(thread, 0) for thread, seconds in processor_times(browser).items()]
     return Turn(seconds, sum(took), max(took), watch.most)
 
 
 def empty_memory(browser, directory):
-    """The memory of an empty page, once it does not change for a second."""
+    """Returns the memory of an empty page, once it has not changed for a second."""
     path = os.path.join(directory, "empty.html")
     with open(path, "w", encoding="ascii") as file:
         file.write("<!doctype html>\n")
     browser.go(f"file://{path}")
-    found = [browser.memory()]
-    while len(found) < 3 or max(found[-3:]) - min(found[-3:]) > 0.5:
+    memory = [browser.memory()]
+    while len(memory) < 3 or max(memory[-3:]) - min(memory[-3:]) > 0.5:
         time.sleep(0.5)
-        found.append(browser.memory())
-    return found[-1]
+        memory.append(browser.memory())
+    return memory[-1]
 
 
 def in_turns(runs):
-    """The turns of each run, by its name, after a first one."""
-    found = {name: [] for name in runs}
+    """Makes all runs in turns, and returns the results of each by name. The first turn is additional."""
+    results = {name: [] for name in runs}
     for _ in range(1 + (int(sys.argv[1]) if len(sys.argv) > 1 else ROUNDS)):
         for name, run in runs.items():
-            found[name].append(run())
-    return found
+            results[name].append(run())
+    return results
 
 
-def show(found, empty, size):
-    """Prints what there is to say of each program."""
-    beside = [turn.seconds for turn in found["c/minisign -V"][1:]]
-    for name, (first, *turns) in found.items():
-        ratios = [turn.seconds / other for turn, other in zip(turns, beside)]
+def show(results, empty, size):
+    """Prints the times and the memory of each program."""
+    reference = [turn.seconds for turn in results["c/minisign -V"][1:]]
+    for name, (first, *turns) in results.items():
+        ratios = [turn.seconds / seconds for turn, seconds in zip(turns, reference)]
         least = min(turn.seconds for turn in turns)
         more = f", of which an empty page has {empty[name]:.1f}" if name in empty else ""
         processor, busiest = min(turn.processor for turn in turns), min(turn.busiest for turn in turns)
         print(f"{name:22} {least:6.2f} s  {size / 1e6 / least:5.0f} MB/s  "
-              f"{min(ratios):5.2f} to {max(ratios):.2f} times c/minisign -V, {statistics.median(ratios):.2f} in the median")
+              f"{min(ratios):5.2f} to {max(ratios):.2f} times c/minisign -V, median {statistics.median(ratios):.2f}")
         print(f"{'':22} {processor:6.2f} s of the processor, {busiest:.2f} s of them in one thread, {first.memory:.1f} MiB{more}")
     print(f"load {os.getloadavg()[0]:.1f}, {os.cpu_count()} processors")
 

@@ -3,10 +3,10 @@
 
     bench/proofs.py CRATE [--test] [ROWS]
 
-The crate is proved from nothing, by one job, over the libraries below it, which are proved first if they were not.
-The prover saves a module as it ends with it; a module's time is what the prover's process took of the processor since
-the one before: mostly not for the search for proofs, but for what is made of a function's loans (`Lts`), its proof and
-its calls (`Tie`). These grow faster than the function: with its blocks and locals, with each `?`, and with each owned
+The crate is proved from scratch, by one job; the libraries that it depends on are proved first if necessary. The prover
+saves each module when it is done with it. A module's time is the processor time of the prover since the module before.
+Most of it is not spent on the proof search, but on what the prover computes from a function's borrows (`Lts`), its proof
+and its calls (`Tie`). These grow faster than the function: with its blocks and locals, with each `?`, and with each owned
 value that is dropped on several paths.
 
 Needs Python 3.9 or later, the kit, and Linux.
@@ -28,13 +28,13 @@ import proved
 
 SECONDS = 0.05
 TICKS = os.sysconf("SC_CLK_TCK")
-# What the prover makes of a function, a module for each.
+# The modules that the prover makes for each function.
 PARTS = {"Answers", "Code", "Given", "Goals", "Invariants", "Kinds", "Layout", "Lts", "Met", "Named", "Proof", "Reads", "Statement",
          "Symbol", "TheLink", "Tie"}
 
 
 class Taken:
-    """What the process that this one begins has taken of the processor, at each time of the clock."""
+    """Records the processor time of this process's child over time."""
 
     def __init__(self):
         self.times, self.seconds, self.is_over = [], [], threading.Event()
@@ -49,16 +49,16 @@ class Taken:
         self.thread.join()
 
     def watch(self):
-        """Looks at it again and again."""
+        """Records the child's processor time at regular intervals."""
         while not self.is_over.wait(SECONDS):
             try:
                 self.look()
             except (OSError, IndexError):
-                # (it has not begun, or has ended meanwhile)
+                # The child has not started yet, or has ended.
                 pass
 
     def look(self):
-        """Looks at it once, and at the processes that it has waited for."""
+        """Records the child's processor time, including that of the processes for which it has waited."""
         children = [f"/proc/self/task/{task}/children" for task in os.listdir("/proc/self/task")]
         pid = "".join(open(path, encoding="utf-8").read() for path in children).split()[0]
         with open(f"/proc/{pid}/stat", encoding="utf-8", errors="replace") as file:
@@ -66,26 +66,26 @@ class Taken:
         self.seconds.append(sum(map(int, fields[11:15])) / TICKS)
         self.times.append(time.time())
 
-    def until(self, moment):
-        """What it had taken at this time of the clock."""
-        return ([0.0] + self.seconds)[bisect.bisect(self.times, moment)]
+    def until(self, time_of_day):
+        """Returns the processor seconds up to this time."""
+        return ([0.0] + self.seconds)[bisect.bisect(self.times, time_of_day)]
 
 
 def modules(directory, taken):
-    """The modules that the prover saved below a directory, each with what it took of the processor."""
+    """Returns the modules that the prover saved below a directory, each with its processor seconds."""
     files = sorted((os.stat(f"{at}/{name}").st_mtime, name[: -len(".oantt")]) for at, _, names in os.walk(directory)
                    for name in names if name.endswith(".oantt") and not at.endswith("/records"))
     return [(name, taken.until(end) - taken.until(begin)) for (begin, _), (end, name) in zip(files, files[1:])]
 
 
 def costs(modules):
-    """What each function and each other module took, by its parts."""
-    found = defaultdict(Counter)
+    """Returns the processor seconds of each function and each other module, by its parts."""
+    by_name = defaultdict(Counter)
     for module, seconds in modules:
         path = re.sub(r"^Rattle-\w+-(proofs\.)?", "", module).split(".")
         at = next((at for at, each in enumerate(path) if each in PARTS), None)
-        found["::".join(path[:at])]["itself" if at is None else path[at]] += seconds
-    return found
+        by_name["::".join(path[:at])]["itself" if at is None else path[at]] += seconds
+    return by_name
 
 
 def main(words):
@@ -98,12 +98,12 @@ def main(words):
     with tempfile.TemporaryDirectory(prefix="proofs-") as room:
         with Taken() as taken:
             ran = proved.rattle("check", crate, f"{proved.ROOT}/crates/{crate}", "--incremental", room, *flags)
-        found = costs(modules(room, taken))
-    for name, parts in sorted(found.items(), key=lambda value: -sum(value[1].values()))[:rows]:
+        by_name = costs(modules(room, taken))
+    for name, parts in sorted(by_name.items(), key=lambda value: -sum(value[1].values()))[:rows]:
         shown = ", ".join(f"{part} {seconds:.1f}" for part, seconds in parts.most_common(4) if seconds >= 0.1)
         print(f"{sum(parts.values()):7.1f}  {name}: {shown}")
-    total = sum((parts for parts in found.values()), Counter())
-    print(f"{sum(total.values()):7.1f}  in all: {', '.join(f'{part} {seconds:.0f}' for part, seconds in total.most_common(8))}")
+    total = sum((parts for parts in by_name.values()), Counter())
+    print(f"{sum(total.values()):7.1f}  total: {', '.join(f'{part} {seconds:.0f}' for part, seconds in total.most_common(8))}")
     print(proved.first_of(ran.stdout))
     return ran.returncode
 

@@ -1,12 +1,14 @@
 #!/usr/bin/env python3
-"""Times `minisign_kdf`'s scrypt beside OpenSSL's, libsodium's and libscrypt-kdf's.
+"""Times `minisign_kdf`'s scrypt, compared with OpenSSL's, libsodium's and libscrypt-kdf's.
 
-Needs: Python 3.9 or later whose hashlib has scrypt (OpenSSL's), 1.1 GB of memory, and the program
-`library_bench`, which build_library_bench.py builds;
-for the other two the packages libsodium23 and libscrypt-kdf1, which it
-installs as root on Debian. All derive 64 bytes with r 8 and p 1, each in a process of its own and in turn; the
-keys are compared. Of each the call alone is timed, and the least time counts. On a machine that does other work at the same time take
-`scrypt.py cpu`: it takes the processor time, of ours that of the whole process.
+    bench/scrypt.py [cpu]
+
+All derive 64 bytes with r 8 and p 1, each in a separate process, taking turns; the keys are compared. The time is the least
+elapsed time of the call. On a busy machine use `cpu`: then it is the least processor time, for this library that of the whole
+process.
+
+Needs: Python 3.9 or later whose hashlib has scrypt (OpenSSL's), 1.1 GB of memory, the program `library_bench`, which
+build_library_bench.py builds, and the packages libsodium23 and libscrypt-kdf1, which it installs as root on Debian.
 """
 
 import ctypes.util
@@ -49,14 +51,14 @@ call = of_library(ctypes.CDLL(sys.argv[4]).crypto_scrypt)
 
 
 def ours(n_log2):
-    """Derives by library_bench, and answers the seconds of the call, the process's memory and the key."""
+    """Derives a key with library_bench. Returns the seconds of the call, the memory of the process, and the key."""
     seconds, memory, output = processor_timed([*SCRYPT, PASSWORD, SALT, n_log2, "8", "1"])
     microseconds, key = output.split()
     return seconds if CPU else int(microseconds) / 1e6, memory, key
 
 
 def theirs(script, library, n_log2):
-    """Derives by a Python script, and answers the same."""
+    """Derives a key with a Python script. Returns the seconds of the call, the memory of the process, and the key."""
     command = [sys.executable, "-S", "-c", COMMON + script + CALL, PASSWORD, SALT, n_log2, library]
     _, memory, output = timed(command)
     seconds, key = output.split()

@@ -1,5 +1,4 @@
-"""What the benchmarks share: the programs, what has to be installed, a timed run of a command, and the table that
-they print."""
+"""Helpers for the benchmarks: the paths of programs, timed runs of commands, and tables of results."""
 
 import os
 import subprocess
@@ -8,24 +7,24 @@ import time
 from dataclasses import dataclass
 
 HERE = os.path.dirname(os.path.realpath(__file__))
-# The texts of the toy scheme, and what finds or installs what a script needs, are those of the tests.
+# The benchmarks use modules of the tests: for keys of the toy scheme, and for finding and installing programs.
 sys.path[:0] = [os.path.join(HERE, "..", "tests", name) for name in ("shared", "command_line")]
 import needs
 import toy
 
 
 def program(name):
-    """The path of a program of a crate, as `rt run` or the gate leaves it."""
+    """Returns the path of a crate's program, which `rt run` or CI has built."""
     return os.path.join(HERE, "..", "crates", name, "out", name)
 
 
 TOOL = program("minisign_tool")
-# The job of a derivation, before its arguments.
+# The command for a key derivation, without its arguments.
 SCRYPT = (os.path.join(HERE, "out", "library_bench"), "scrypt")
 
 
 def installed(find, *arguments):
-    """What a function of `needs` finds or installs; the script ends where it can do neither."""
+    """Returns the result of a function of `needs`. Ends the script if the program is missing and cannot be installed."""
     try:
         return find(*arguments)
     except needs.Missing as why:
@@ -33,7 +32,7 @@ def installed(find, *arguments):
 
 
 def greatest_memory(process):
-    """The greatest resident memory so far of a running process in MiB, or 0 where it has ended."""
+    """Returns the peak resident memory of a running process in MiB, or 0 if it has ended."""
     try:
         with open(f"/proc/{process.pid}/status") as status:
             lines = [line for line in status if line.startswith("VmHWM")]
@@ -44,21 +43,18 @@ def greatest_memory(process):
 
 @dataclass(frozen=True)
 class Run:
-    """A run that has ended."""
+    """The result of a run: elapsed seconds, processor seconds (user and system), peak resident memory in MiB, exit status and
+    output."""
 
-    # By the clock.
     seconds: float
-    # Of the processor, the run's own and the system's for it.
     processor_seconds: float
-    # The greatest resident memory in MiB.
     memory: float
     status: int
     output: str
 
 
 def run(command, stdin_path=None, stdout_path=None, directory=None):
-    """Runs a command in a directory. Its output is what it wrote on the error stream and, where that has no
-    path of its own, on the standard output."""
+    """Runs a command in a directory. The output is standard error, and standard output too unless that goes to a file."""
     memory, ended = 0.0, 0
     with open(stdin_path or os.devnull, "rb") as stdin, open(stdout_path or os.devnull, "wb") as stdout:
         taken = {"stdout": stdout, "stderr": subprocess.PIPE} if stdout_path else {"stdout": subprocess.PIPE, "stderr": subprocess.STDOUT}
@@ -75,27 +71,27 @@ def run(command, stdin_path=None, stdout_path=None, directory=None):
 
 
 def measured(command, stdin_path=None, stdout_path=None):
-    """The same of a command that has to succeed."""
+    """Runs a command that has to succeed."""
     ended = run(command, stdin_path, stdout_path)
     if ended.status != 0:
-        raise SystemExit(f"{command[0]} ended with {ended.status}: {ended.output}")
+        raise SystemExit(f"{command[0]}: exit status {ended.status}: {ended.output}")
     return ended
 
 
 def timed(command, stdin_path=None):
-    """Runs a command, and returns its seconds, its greatest resident memory in MiB and its output."""
+    """Runs a command that has to succeed. Returns its elapsed seconds, its peak resident memory in MiB, and its output."""
     ended = measured(command, stdin_path)
     return ended.seconds, ended.memory, ended.output
 
 
 def processor_timed(command, stdin_path=None, stdout_path=None):
-    """The same with its seconds of processor time, which other programs on the machine disturb less."""
+    """Like `timed`, with processor seconds, which depend less on the load of the machine."""
     ended = measured(command, stdin_path, stdout_path)
     return ended.processor_seconds, ended.memory, ended.output
 
 
 def compare(runs, rounds=3):
-    """Times the runs in turn, and prints the best time of each and its ratio to the last one."""
+    """Times the runs, taking turns, and prints the least time of each and its ratio to that of the last run in the list."""
     best = {name: (float("inf"), 0.0) for name, _ in runs}
     for _ in range(rounds):
         for name, run in runs:

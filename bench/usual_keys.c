@@ -1,6 +1,7 @@
 /*
- * One derivation with the limits of `minisign -G`, for bench/usual_keys.py: by the library, which makes a key (`make`) or opens
- * one (`open`), or by libsodium alone (`sodium`). Prints the seconds of the call by the clock and of the processor.
+ * Makes one key derivation with the limits of `minisign -G`, for bench/usual_keys.py: with the library, which encrypts a
+ * key (`make`) or decrypts one (`open`), or with libsodium (`sodium`). Prints the elapsed and processor seconds of the
+ * call.
  */
 #define _DEFAULT_SOURCE
 
@@ -25,7 +26,7 @@ static double now(clockid_t clock)
     return (double) time.tv_sec + (double) time.tv_nsec / 1e9;
 }
 
-/* Makes a key of so much work and memory. */
+/* Encrypts a key with these limits. */
 static int make(uint64_t operations_limit, uint64_t memory_limit)
 {
     minisign_sealing sealing;

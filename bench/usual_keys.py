@@ -1,12 +1,12 @@
 #!/usr/bin/env python3
-"""Times a key of the limits of `minisign -G`, 1 GiB of memory, that is made and opened: by a call of the library, beside
-libsodium's derivation alone; and by `c/minisign`, beside Minisign's own program. The medians of several turns, and of the ratios
-within a turn, by the clock and of the processor.
+"""Times making and decrypting a key with the limits of `minisign -G`, 1 GiB of memory: by calls of the library, compared
+with libsodium's key derivation, and by `c/minisign`, compared with Minisign's own program.
 
     bench/usual_keys.py [TURNS]
 
-In a turn each runs twice, and the second run counts by itself: a virtual machine may give unused memory back to its host,
-huge pages first, and the next program that needs it waits for it. So the first runs show also what the other one left behind.
+The table has the medians of several turns, and of the ratios within a turn, for elapsed and processor time. In a turn each
+program runs twice, and first and second runs are counted separately: a virtual machine may return unused memory to its host,
+huge pages first, and the next program that needs memory waits for it. So first runs also depend on what ran before.
 
 Needs: Python 3.9 or later, make, binutils, a C compiler, libsodium with its header, minisign, and 1.1 GB of memory.
 """
@@ -19,7 +19,7 @@ import tempfile
 
 from timing import installed, measured
 
-# Of the tests, whose directory `timing` adds.
+# From the tests; `timing` adds their directory to the path.
 import needs
 import static_library
 
@@ -29,19 +29,19 @@ PASSWORD = "a password\n"
 
 
 def called(program, *words):
-    """The seconds of one call, by the clock and of the processor."""
+    """Returns the elapsed and processor seconds of one call."""
     ran = subprocess.run([program, *words], stdout=subprocess.PIPE, check=True)
     return tuple(map(float, ran.stdout.split()))
 
 
 def ran(typed, *command):
-    """The same of a whole run of a program."""
+    """Returns the elapsed and processor seconds of a run of a program."""
     ended = measured(command, typed)
     return ended.seconds, ended.processor_seconds
 
 
 def build(directory):
-    """Builds the programs over `dist/`: the one that calls, and `c/minisign`."""
+    """Builds the program usual_keys.c and `c/minisign` from `dist/`, and returns their paths."""
     compiler = installed(needs.libsodium)
     static_library.run_make(f"OUT={directory}/c", f"CC={compiler}")
     calls = os.path.join(directory, "calls")
@@ -51,7 +51,7 @@ def build(directory):
 
 
 def jobs(directory):
-    """Pairs of runs by what they are."""
+    """Returns pairs of runs, ours and the other, by name."""
     minisign = installed(needs.minisign)
     calls, ours = build(directory)
     names = ("sealed.key", "sealed.pub", "made.key", "made.pub", "data", "typed")
@@ -63,9 +63,9 @@ def jobs(directory):
     measured([minisign, "-G", "-p", public, "-s", key], typed)
     opening, making = ("-S", "-s", key, "-m", data), ("-G", "-f", "-p", made_public, "-s", made)
     return {
-        "a call that makes a key, beside libsodium's derivation": (lambda: called(calls, "make"), lambda: called(calls, "sodium")),
-        "a call that opens a key, beside the same": (lambda: called(calls, "open", key), lambda: called(calls, "sodium")),
-        "`-S`, which opens a key": (lambda: ran(typed, ours, *opening), lambda: ran(typed, minisign, *opening)),
+        "a call that makes a key, and libsodium's derivation": (lambda: called(calls, "make"), lambda: called(calls, "sodium")),
+        "a call that decrypts a key, and libsodium's derivation": (lambda: called(calls, "open", key), lambda: called(calls, "sodium")),
+        "`-S`, which decrypts a key": (lambda: ran(typed, ours, *opening), lambda: ran(typed, minisign, *opening)),
         "`-G`, which makes a key": (lambda: ran(typed, ours, *making), lambda: ran(typed, minisign, *making)),
     }
 
@@ -74,16 +74,16 @@ def main():
     turns = int(sys.argv[1]) if len(sys.argv) > 1 else TURNS
     with tempfile.TemporaryDirectory() as directory:
         pairs = jobs(directory)
-        found = {name: [] for name in pairs}
+        times = {name: [] for name in pairs}
         for _ in range(turns):
-            for name, (one, other) in pairs.items():
-                # Ours, ours, theirs, theirs.
-                found[name].append((one(), one(), other(), other()))
-    print("| Job | Ours | Theirs | Ratio by the clock, and of processor time | The same of first runs |")
+            for name, (ours, theirs) in pairs.items():
+                times[name].append((ours(), ours(), theirs(), theirs()))
+    print("| Job | Ours | Theirs | Ratio of elapsed and of processor time | Ratios of first runs |")
     print("|---|---|---|---|---|")
-    for name, taken in found.items():
+    for name, taken in times.items():
         took = [statistics.median(turn[at][1] for turn in taken) for at in (1, 3)]
-        ratios = [statistics.median(turn[mine][at] / turn[its][at] for turn in taken) for mine, its in ((1, 3), (0, 2)) for at in (0, 1)]
+        ratios = [statistics.median(turn[ours][at] / turn[theirs][at] for turn in taken)
+                  for ours, theirs in ((1, 3), (0, 2)) for at in (0, 1)]
         print(f"| {name} | {took[0]:.2f} s | {took[1]:.2f} s | {ratios[0]:.2f}, {ratios[1]:.2f} | {ratios[2]:.2f}, {ratios[3]:.2f} |")
 
 

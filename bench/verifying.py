@@ -1,14 +1,14 @@
 #!/usr/bin/env python3
-"""Times `c/minisign -V` over a file of 1 GB, in processor time, beside `minisign -V` of the same file and
-the same signature, and prints the size of the archive and of the program.
+"""Times `c/minisign -V` on a file of 1 GB, in processor time, compared with `minisign -V` and `b2sum`, and prints the sizes
+of the archive and of the program.
 
     bench/verifying.py
 
-The program is built twice: over the library as it is installed, which takes the copy of the proved calls that is built for
-x86-64-v3 where the processor has that, and over one whose two copies are both for x86-64-v2.
+The program is built twice: with the normal library, which uses the calls for x86-64-v3 if the processor supports that, and
+with a library that has the calls for x86-64-v2 twice.
 
 Needs: Python 3.9 or later, make, a C compiler, libsodium with its header, minisign and coreutils' b2sum. It makes its
-own input in a temporary directory that it removes; the disk needs 1 GB of room.
+input in a temporary directory, which needs 1 GB of disk space.
 """
 
 import os
@@ -17,19 +17,18 @@ import tempfile
 from commands import write_input
 from timing import compare, processor_timed
 
-# Of the tests, whose directory `timing` adds.
+# From the tests; `timing` adds their directory to the path.
 import needs
 import static_library
 
 
-
 def build(name, v2, v3, directory):
-    """Builds the program over these two archives, and answers its path."""
+    """Builds the program with these two archives, prints the sizes, and returns the program's path."""
     made = os.path.join(directory, name)
     static_library.run_make(f"OUT={made}", f"V2={v2}", f"V3={v3}", f"CC={needs.libsodium()}")
     program = os.path.join(made, "minisign")
     library = os.path.join(made, "libminisign.a")
-    print(f"{name}: the library {os.path.getsize(library)} bytes, and the program {os.path.getsize(program)} bytes")
+    print(f"{name}: library {os.path.getsize(library)} bytes, program {os.path.getsize(program)} bytes")
     return program
 
 

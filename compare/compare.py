@@ -1,14 +1,13 @@
 #!/usr/bin/env python3
 """Compares this library with the Rust crate minisign 0.10.0.
 
-    compare.py run UPSTREAM [--seed N] [--count N] [--program FILE]
-    compare.py list UPSTREAM [--program FILE]
+    compare/compare.py run UPSTREAM [--seed N] [--count N] [--program FILE]
+    compare/compare.py list UPSTREAM [--program FILE]
 
-UPSTREAM is the directory of the crate's own files. oracle/build.sh builds the crate and a program over it that
-answers requests; the build goes into a directory of its own, which is deleted again. `run`
-makes requests by seed, has both programs answer them, and prints each difference that known.py does not name,
-the shortest request of its kind first. `list` makes the stored run of crates/minisign_compare anew from the
-crate's answers: stdin, stdout and data/. README.md says more.
+UPSTREAM is the directory of the crate's own files. oracle/build.sh builds the crate, and a program that calls it and answers
+requests, in a temporary directory. `run` makes requests from a seed, sends them to both programs, and prints each kind of
+difference that known.py does not name, with its shortest request. `list` makes the stored run of crates/minisign_compare
+(stdin, stdout and data/) again from the crate's answers. README.md says more.
 
 Needs Python 3.9 or later and rustc, which it installs if it may.
 """
@@ -25,16 +24,15 @@ import tempfile
 HERE = os.path.dirname(os.path.abspath(__file__))
 CRATE = os.path.join(HERE, '..', 'crates', 'minisign_compare')
 DIFFERENCES = os.path.join(HERE, '..', 'docs', 'DIFFERENCES.md')
-# The tests have what finds or installs what a script needs.
+# `needs`, which finds or installs programs, is a module of the tests.
 sys.path[:0] = [HERE, os.path.join(HERE, '..', 'tests', 'shared')]
 import known  # noqa: E402
 import needs  # noqa: E402
 import requests  # noqa: E402
 
 
-
 def built_oracle(arguments, directory):
-    """Builds the crate and the program over it."""
+    """Builds the crate and the program that calls it, and returns the program's path."""
     build = os.path.join(HERE, 'oracle', 'build.sh')
     try:
         environment = dict(os.environ, RUSTC=needs.first_rust_compiler())
@@ -42,27 +40,27 @@ def built_oracle(arguments, directory):
         sys.exit(f'FAILED: {why}')
     made = subprocess.run(['sh', build, arguments.upstream, directory], env=environment, capture_output=True, text=True)
     if made.returncode:
-        sys.exit(f'{build} ended with status {made.returncode}:\n{made.stderr[-2000:]}')
+        sys.exit(f'{build}: exit status {made.returncode}:\n{made.stderr[-2000:]}')
     return os.path.join(directory, 'oracle')
 
 
 def answers(program, lines, directory):
-    """What a program answers to the requests, in a directory with the files that they name."""
+    """Returns a program's answers to the requests, in a directory with the files that they name."""
     for name, body in requests.files().items():
         with open(os.path.join(directory, name), 'wb') as file:
             file.write(body)
-    said = subprocess.run([os.path.abspath(program)], cwd=directory, input='\n'.join(lines) + '\n',
-                          capture_output=True, text=True)
-    if said.returncode:
-        sys.exit(f'{program} ended with status {said.returncode}: {said.stderr[-500:]}')
-    told = said.stdout.splitlines()
-    if len(told) != len(lines):
-        sys.exit(f'{program} answered {len(told)} of {len(lines)} requests')
-    return told
+    ran = subprocess.run([os.path.abspath(program)], cwd=directory, input='\n'.join(lines) + '\n',
+                         capture_output=True, text=True)
+    if ran.returncode:
+        sys.exit(f'{program}: exit status {ran.returncode}: {ran.stderr[-500:]}')
+    answered = ran.stdout.splitlines()
+    if len(answered) != len(lines):
+        sys.exit(f'{program} answered {len(answered)} of {len(lines)} requests')
+    return answered
 
 
 def summary(request, answer):
-    """What a request is about and how it was answered, without the values."""
+    """Returns the kind of a request and of its answer, without the values."""
     error = answer.error()
     outcome = (error[0], re.sub(rb'[0-9A-F]{16}', b'ID', error[1])) if error else answer.kind()
     words = request.split(' ')
@@ -75,20 +73,20 @@ def summary(request, answer):
 
 
 def run(arguments):
-    """Compares the answers; whether none differs without being named."""
+    """Compares the answers of both programs. Returns true if known.py names every difference."""
     lines = list(dict.fromkeys(requests.all_requests(arguments.seed, arguments.count)))
-    # A triple stays until the table is cleared, so these come in their order, and again.
+    # These requests change the table of accepted signatures, so their order matters, and repeated ones must not be removed.
     lines += requests.tables(random.Random(arguments.seed))
     with tempfile.TemporaryDirectory() as directory, tempfile.TemporaryDirectory() as files:
         theirs = answers(built_oracle(arguments, directory), lines, files)
         ours = answers(arguments.program, lines, files)
     entries, names, differences = collections.Counter(), collections.Counter(), collections.defaultdict(list)
-    for request, line, told in zip(lines, theirs, ours):
+    for request, line, answered in zip(lines, theirs, ours):
         names[request.split(' ')[0]] += 1
         expected, explained = known.expected(request, line)
         entries.update(explained)
-        if not expected.matches(known.Answer(told)):
-            differences[summary(request, known.Answer(told))].append((request, expected.line(), told))
+        if not expected.matches(known.Answer(answered)):
+            differences[summary(request, known.Answer(answered))].append((request, expected.line(), answered))
     with open(DIFFERENCES, encoding='utf-8') as file:
         listed = file.read()
     unlisted = [entry for entry in entries if entry not in listed]
@@ -97,18 +95,18 @@ def run(arguments):
     for name, count in sorted(names.items()):
         print(f'{count:7} {name}')
     for entry, count in entries.most_common():
-        print(f'{count:7} differ as the list says: {entry}')
-    for found in differences.values():
-        request, expected, told = min(found, key=lambda one: len(one[0]))
-        print(f'DIFFERENCE, {len(found)} times:\n  {request}\n  expected {expected}\n  answered {told}')
+        print(f'{count:7} intended differences: {entry}')
+    for of_one_kind in differences.values():
+        request, expected, answered = min(of_one_kind, key=lambda difference: len(difference[0]))
+        print(f'DIFFERENCE, {len(of_one_kind)} times:\n  {request}\n  expected {expected}\n  answered {answered}')
     different = sum(map(len, differences.values())) + len(unlisted)
     print(f'seed {arguments.seed}: {len(lines) - different} passed, {different} failed')
     return different == 0
 
 
 def chosen(lines, expected):
-    """Returns the places of the requests of the stored run: short ones with all kinds of answers, and with each outcome
-    for all forms of data (read in pieces, from a place, with an error, or changed when they are read again)."""
+    """Returns the indices of the requests for the stored run: short ones with all kinds of answers, and with each outcome for all
+    forms of data (read in pieces, from a position, with an error, or changed before it is read again)."""
     kinds = []
     for request, answer in zip(lines, expected):
         name, outcome, flags, parts, marks, done = summary(request, answer)
@@ -123,7 +121,7 @@ def chosen(lines, expected):
 
 
 def store(arguments):
-    """Writes the stored run: requests, the crate's answers with the known differences, and the files."""
+    """Writes the stored run: the requests, the crate's answers after the rules of known.py, and the files."""
     plain = list(dict.fromkeys(requests.all_requests(arguments.seed, arguments.count)))
     last = list(requests.tables(random.Random(arguments.seed)))
     with tempfile.TemporaryDirectory() as directory, tempfile.TemporaryDirectory() as files:
@@ -149,7 +147,7 @@ def main():
     parser.add_argument('what', choices=('run', 'list'))
     parser.add_argument('upstream', help="the directory of the crate's own files")
     parser.add_argument('--seed', type=int, default=1)
-    parser.add_argument('--count', type=int, default=5000, help='of each kind of random request, about')
+    parser.add_argument('--count', type=int, default=5000, help='about how many random requests to make of each kind')
     parser.add_argument('--program', default=os.path.join(CRATE, 'out', 'minisign_compare'))
     arguments = parser.parse_args()
     done = run(arguments) if arguments.what == 'run' else store(arguments)

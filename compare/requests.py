@@ -1,6 +1,6 @@
-"""Requests for the comparison: short inputs exhaustively, and others around each boundary, by seed.
+"""Makes requests for the comparison: all short inputs, inputs around each limit, and random changes of valid ones.
 
-Texts and records are those of the toy scheme (tests/shared/toy.py). A request is one line; oracle/README.md lists them.
+Keys and signatures are those of the toy scheme (tests/shared/toy.py). A request is one line; oracle/README.md describes them.
 """
 
 import hashlib
@@ -18,7 +18,7 @@ PUBLIC = b'Ed' + KEYNUM + toy.KEY
 SECRET = toy.SECRET_RECORD
 COMMENT = b'untrusted comment: '
 TRUSTED = b'trusted comment: '
-# All that `trim` drops, and characters near them that it keeps.
+# Characters that `trim` removes, and similar ones that it does not.
 SPACES = [' ', '\t', '\x0b', '\x0c', '\r', '\x1c', '\x85', '\xa0', '\u1680', '\u180e', '\u2000', '\u200a',
           '\u200b', '\u2028', '\u2029', '\u202f', '\u205f', '\u3000', '\ufeff', '\0']
 
@@ -28,7 +28,7 @@ def hexed(data):
 
 
 def text(data):
-    """A text word: the bytes have to be UTF-8."""
+    """Encodes a text for a request. The bytes have to be UTF-8."""
     data.decode()
     return hexed(data)
 
@@ -42,7 +42,7 @@ def is_utf8(data):
 
 
 def sealed_record(password, opslimit, memlimit, salt=bytes(range(32)), keynum=KEYNUM, kdf=b'Sc'):
-    """A secret key sealed under the password, with its own limits (small ones, with N 2^1 to 2^8)."""
+    """Returns the record of a secret key that is encrypted with the password, with these limits. They have to be small: N 2^1 to 2^8."""
     operations = max(32768, opslimit)
     n_log2 = 1
     if operations < memlimit // 32:
@@ -64,7 +64,7 @@ def secret_text(record, comment=b'c'):
 
 
 def files():
-    """The files that requests name, by name."""
+    """Returns the files that requests name, by name."""
     sealed = secret_text(sealed_record(b'p', 32768, 16384))
     return {
         'good.pub': toy.public_text(),
@@ -81,7 +81,7 @@ def files():
 
 
 def texts_of(pieces, most, ends=(b'\n',)):
-    """Every text of up to so many lines over the pieces, with and without a last line feed."""
+    """Yields every text of up to `most` lines from these pieces, with and without a last line ending."""
     for count in range(most + 1):
         for lines in itertools.product(pieces, repeat=count):
             for end in ends:
@@ -125,7 +125,7 @@ def public_key_texts(rng):
 
 
 def signature_lines():
-    """For each line of a signature's text the pieces that may stand there."""
+    """Returns valid and invalid variants of each of the four lines of a signature file."""
     record = toy.signature_record(b'abc')
     encoded = base64.b64encode(record)
     legacy = base64.b64encode(toy.signature_record(b'abc', algorithm=b'Ed'))
@@ -145,8 +145,8 @@ def signature_texts(rng):
     for four in itertools.product(*lines):
         yield f'sig_from_string {text(toy.joined(four))}'
     for count in range(4):
-        for some in itertools.product(*lines[:count]):
-            body = b'\n'.join(some)
+        for chosen in itertools.product(*lines[:count]):
+            body = b'\n'.join(chosen)
             yield f'sig_from_string {text(body)}'
             yield f'sig_from_string {text(body + bytes([10]))}'
     pieces = [b'', lines[0][0], lines[1][0], lines[2][0], lines[3][0], b'\r', b'x']
@@ -203,7 +203,7 @@ def secret_key_texts(rng):
 
 
 def damaged(rng, body):
-    """A copy of a text with one to three places changed; UTF-8 stays."""
+    """Returns a text with one to three random changes, or unchanged if it would no longer be UTF-8."""
     changed = bytearray(body)
     for _ in range(rng.choice((1, 1, 1, 2, 3))):
         at = rng.randrange(len(changed) + 1) if changed else 0
@@ -224,7 +224,7 @@ def damaged(rng, body):
 
 
 def damaged_texts(rng, count):
-    """Copies of good texts with a few places changed, for each call that reads a text."""
+    """Yields requests with randomly changed valid files, for each call that parses a file."""
     good_key = toy.public_text()
     good = toy.signature_text(b'abc')
     legacy = toy.signature_text(b'abc', record=toy.signature_record(b'abc', algorithm=b'Ed'))
@@ -305,8 +305,8 @@ def numbers(rng, count):
         yield f'load_u64_le {hexed(value.to_bytes(8, "little") + bytes(rng.randrange(3)))}'
     for length in range(10):
         yield f'load_u64_le {hexed(bytes(range(length)))}'
-    for moment in (0, 1, -1, -10 ** 9, 1700000000, 2 ** 40):
-        yield f'unix_timestamp {moment}'
+    for time in (0, 1, -1, -10 ** 9, 1700000000, 2 ** 40):
+        yield f'unix_timestamp {time}'
     for left in range(6):
         for right in range(6):
             yield f'fixed_time_eq {hexed(bytes(range(left)))} {hexed(bytes(range(right)))}'
@@ -352,12 +352,12 @@ def passwords(rng):
     lines = [b'', b'p', b'a password', '\xe9\u3042'.encode(), b' p ', b'x' * 1023, b'x' * 1024, b'x' * 1025,
              b'x' * 1026, b'x' * 1027, b'x' * 3000, '\xe9'.encode() * 512, b'x' + '\xe9'.encode() * 512]
     for count in range(3):
-        for some in itertools.product(lines, repeat=count):
-            yield f'get_password {",".join(map(text, some)) or "-"}'
+        for chosen in itertools.product(lines, repeat=count):
+            yield f'get_password {",".join(map(text, chosen)) or "-"}'
 
 
 def sealed_keys(rng, count):
-    """Keys with small limits, opened with the right password and others; and the greatest limits."""
+    """Yields requests that decrypt keys with small limits, with right and wrong passwords, and keys with very high limits."""
     for opslimit, memlimit in [(0, 0), (32768, 16384), (32768, 1 << 17), (40000, 1 << 21), (65536, 65536),
                                (1 << 17, 2048)]:
         for password in (b'', b'p', b'x' * 100, '\xe9'.encode()):
@@ -437,7 +437,7 @@ def pairs(rng, count):
 
 
 def data_word(rng, body, legacy=False, output=True):
-    """The data with parts after it: place, piece, failing read, second reading."""
+    """Encodes data for a request, randomly with a position, a size of reads, a failing read, and a changed second reading."""
     parts = []
     if rng.randrange(4) == 0:
         parts.append(f'pos={rng.choice((0, 1, len(body), len(body) + 1, rng.randrange(len(body) + 2)))}')
@@ -451,7 +451,7 @@ def data_word(rng, body, legacy=False, output=True):
 
 
 def signings(rng, count):
-    # The public key of the secret one, another one, one with another identifier, none.
+    # No public key, that of the secret key, another key with the same key ID, and the same key with another key ID.
     keys = ['-', hexed(PUBLIC), hexed(PUBLIC[:10] + bytes(32)), hexed(PUBLIC[:2] + bytes(8) + PUBLIC[10:])]
     comments = ['-', 'x', 'x74', text('\xe9\u3042'.encode()), text(b' t '), text(b't\nu'), text(b'x' * 500)]
     for key, trusted, untrusted in itertools.product(keys, comments, comments):
@@ -462,8 +462,8 @@ def signings(rng, count):
         yield f'sign {hexed(PUBLIC[:length])} {hexed(SECRET)} x - - c0 0'
     for length in range(150, 160):
         yield f'sign - {hexed((SECRET + b"xy")[:length])} x - - c0 0'
-    for moment in (0, 1, 9999999999, 2 ** 62):
-        yield f'sign - {hexed(SECRET)} x - - c0 {moment}'
+    for time in (0, 1, 9999999999, 2 ** 62):
+        yield f'sign - {hexed(SECRET)} x - - c0 {time}'
     sealed = SECRET[:2] + b'Sc' + SECRET[4:]
     for secret in (sealed, sealed[:-1] + b'\0', SECRET[:2] + b'xx' + SECRET[4:], SECRET[:-1] + b'\0'):
         yield f'sign - {hexed(secret)} x616263 - - c0 0'
@@ -542,7 +542,7 @@ def large_data():
 
 
 def tables(rng):
-    """Triples that are accepted besides: a comment signature is then that of the toy."""
+    """Yields requests that fill the table of additionally accepted signatures, use it, and clear it."""
     public = bytes(rng.randrange(256) for _ in range(32))
     record = b'ED' + KEYNUM + bytes(rng.randrange(256) for _ in range(64))
     comment_signature = bytes(rng.randrange(256) for _ in range(64))
@@ -559,7 +559,7 @@ def tables(rng):
 
 
 def all_requests(seed, count):
-    """All requests but those with a table: those of short inputs, and so many of each kind of random one."""
+    """Yields all requests except those of `tables`. `count` scales the number of random requests of each kind."""
     rng = random.Random(seed)
     yield from public_key_texts(rng)
     yield from signature_texts(rng)

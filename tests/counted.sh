@@ -1,12 +1,12 @@
 #!/usr/bin/env bash
-# Runs a test script and keeps its result, for tests/Makefile.
+# Runs a test script and stores its result, for tests/Makefile.
 #
 #     tests/counted.sh FILE COMMAND ..     runs the command, and writes `N passed, M failed`, its last line, to FILE.count
 #     tests/counted.sh --total DIRECTORY   adds up the results in the directory
 #
 # A command that crashes, or that does not end with such a line, counts as at least one failure.
 set -u
-# The scripts run make as a user does at a terminal, so the flags of the make that runs us must not reach them.
+# The scripts run make as a user does, so they must not inherit the flags of the make that runs this script.
 unset MAKEFLAGS MAKEOVERRIDES MAKELEVEL MFLAGS
 export PYTHONUNBUFFERED=1
 if [[ $1 == --total ]]; then
@@ -26,7 +26,7 @@ if [[ $last =~ ^([0-9]+)\ passed,\ ([0-9]+)\ failed$ ]]; then
     passed=${BASH_REMATCH[1]} failed=${BASH_REMATCH[2]}
 fi
 if [[ $last != "$passed passed, $failed failed" ]] || (( (status == 0) != (failed == 0) )); then
-    echo "FAILED: $* ended with status $status, and its last line is '$last'"
+    echo "FAILED: $*: exit status $status, last line '$last'"
     failed=$((failed > 0 ? failed : 1))
 fi
 echo "$passed passed, $failed failed" >"$file.count"

@@ -5,11 +5,12 @@
     tests/fresh_debian.py SCRIPT ..  runs these scripts
     tests/fresh_debian.py --all      runs all scripts that need no kit
 
-It makes the system by debootstrap. A new user, who has the repository at home, runs `make -C c check` over the
-scripts, which install nothing and find no newer compiler. The scripts of IN_DEBIAN build and install as the documents
-say, with the compilers and tools that those name. The others need root, other compilers, or many more packages.
+debootstrap creates the system. In it, a new user with the repository in the home directory runs `make -C c check` with
+these scripts, which cannot install packages and find no newer compiler. The scripts of IN_DEBIAN build and install as the
+documents say, with the compilers and tools that the documents name. The others need root, other compilers, or many more
+packages.
 
-A fresh Debian needs root and a mirror that answers. Without them the script says why, and runs the scripts here.
+A fresh Debian needs root and a reachable mirror. Without them, the script says why and runs the scripts on this system.
 The last line is `N passed, M failed`.
 
 Needs Python 3.9 or later, debootstrap, unshare, and root; it installs debootstrap if it may.
@@ -33,7 +34,7 @@ from copies import copy_tree
 from proved import NotBuilt
 from running import read
 
-# (a mirror may be slow)
+# The time limit, in seconds, allows for slow mirrors.
 hold = functools.partial(static_library.hold, seconds=3000)
 SUITE, MIRROR = "bookworm", "http://deb.debian.org/debian"
 USER = "ann"
@@ -44,16 +45,17 @@ LEFT_OUT = re.compile(r"acl|build-essential|chromium|firefox|fonts|lintian|debhe
 
 
 def in_debian(root, user, line):
-    """The command that runs a line of a shell there: its processes end with what was begun, and its mounts only these see."""
+    """Returns a command that runs a shell line as a user in the new system, in a PID and mount namespace: all its processes end with the
+    command, and its mounts are not visible outside."""
     inside = 'mount -t proc proc "$0/proc" && mount --rbind /dev "$0/dev" && exec chroot "$0" su - "$1" -c "$2"'
     return ["unshare", "--mount", "--pid", "--fork", "--kill-child", "sh", "-c", inside, root, user, line]
 
 
 def make_debian(root, is_all):
-    """Makes a fresh Debian in a directory, with the packages that README has a reader install, of which some may be left out, and with
-    a user who has the repository at home."""
+    """Creates a fresh Debian in a directory, with the packages that README tells the reader to install, except those of LEFT_OUT unless
+    `is_all`, and a user with the repository in the home directory."""
     if os.geteuid() != 0:
-        raise NotBuilt("only root makes a Debian")
+        raise NotBuilt("debootstrap needs root")
     hold(["unshare", "--mount", "--pid", "--fork", "true"])
     sites = re.findall(r"https?://\S+/debian/?(?=\s|$)", hold(["apt-get", "indextargets", "--format", "$(SITE)"]))
     hold([needs.program("debootstrap", "debootstrap"), "--variant=minbase", SUITE, root, [*sites, MIRROR][0]])
@@ -75,7 +77,7 @@ def main(words):
             make_debian(f"{room}/debian", bool(words))
             command = in_debian(f"{room}/debian", USER, f"cd minisign && make -s -C c check CHECK={shlex.quote(shlex.join(targets))}")
         except (NotBuilt, needs.Missing, OSError, subprocess.SubprocessError) as why:
-            print(f"no fresh Debian: {why}; the scripts run here")
+            print(f"no fresh Debian: {why}; the scripts run on this system")
             command = ["make", "--no-print-directory", "-k", "-f", "tests/Makefile", "LOGS=out/debian", *targets]
         return subprocess.run(command, cwd=os.path.dirname(HERE), stdin=subprocess.DEVNULL).returncode
 

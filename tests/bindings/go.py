@@ -1,17 +1,17 @@
 #!/usr/bin/env python3
-"""Tries the module of `bindings/go` as its user has it: packed, unpacked into an empty directory, and built by
-Debian's Go without network and kit, by a program of another module, also from its directory `vendor` alone, and as a
-dependency by a git path, in a path with blanks, with no make in PATH.
+"""Checks that the Go module in bindings/go works for a user: it is packed, unpacked into an empty directory, and built
+by Debian's Go, without network and kit, as a dependency of a program in another module.
 
     tests/bindings/go.py
 
-Its own tests and examples run under `go vet`, under the race detector over the newer copy of the calls for x86-64, and
-for AArch64 in an emulator; over the calls as C it answers the same here, for ARM with pointers of 32 bits, and for
-Windows under wine; without cgo a sentence says so. What it answers is compared with `c/minisign`, with libsodium and
-with the header (`ask_all`). 20,000 damaged texts, and keys and signatures that the caller has changed since they were
-read, or put together, get the verdict of go-minisign, which is run beside, but for differences that tables name. The
-examples of README.md are pasted into a module and run. Each mutant of go/mutants is noticed. It prints a line for each
-failure; the last line is `N passed, M failed`.
+It is also built from the directory `vendor` of a program, and from a git repository, in a path with spaces and with no
+make in PATH. The module's own tests and examples run under `go vet`; under the race detector, with the archive for
+newer x86-64 processors; and for AArch64 in an emulator. Compiled as C, the module gives the same results here, for
+32-bit ARM, and for Windows under wine. Without cgo, the compiler prints a sentence that says so. The results are
+compared with `c/minisign`, libsodium and the header (`ask_all`). For 20,000 damaged keys and signatures, and for keys
+and signatures that the caller changed or composed, the verdicts are those of go-minisign, except for the differences in
+the tables below. The examples of README.md are pasted into a module and run. Each mutant of go/mutants is detected. It
+prints a line for each failure; the last line is `N passed, M failed`.
 
 Needs Python 3.9 or later, golang-go, make, clang, a C compiler, binutils, libsodium with its header, minisign, strace, and of
 Debian golang-github-jedisct1-go-minisign-dev, gcc-aarch64-linux-gnu, libc6-dev-arm64-cross, gcc-arm-linux-gnueabihf,
@@ -37,47 +37,47 @@ import process
 import shared_cases
 import static_library
 from mutants import mutants_of
-from shared_cases import TOP, Program, names_in, read, run, write
+from shared_cases import TOP, Program, symbols_of, read, run, write
 
 PACKAGE = os.path.join(TOP, "bindings", "go")
-# What tools/bindings.py makes.
-MADE = ("errors.go", "header.go")
-# How many pages of 4 KiB may be in memory after so many calls, or keys, that were not after a tenth of them.
+# The files that tools/bindings.py makes.
+GENERATED = ("errors.go", "header.go")
+# The number of calls, or of keys, and by how many pages of 4 KiB the memory may grow after a tenth of them.
 CALLS, PAGES = 50_000, 256
 KEYS, PAGES_OF_KEYS = 20_000, 512
-# go-minisign, as Debian has it, below a directory of sources.
+# The directory of Debian's Go sources, and the path of go-minisign below it.
 SOURCES, GO_MINISIGN = "/usr/share/gocode", "github.com/jedisct1/go-minisign"
-# Of the changes of go/changed.go go-minisign, which does not look at the first line, says that these are good.
-OTHERWISE = ["no untrusted comment", "another first line", "an untrusted comment of two lines"]
-# How many damaged texts are asked of both.
+# The changes of go/changed.go that go-minisign accepts, because it does not check the first line.
+ACCEPTED_BY_GO_MINISIGN = ["no untrusted comment", "another first line", "an untrusted comment of two lines"]
+# The number of damaged cases that both verify.
 DAMAGED = 20_000
 
 
 def line_of(text, number):
-    """A line of a text, or none."""
+    """Returns a line of a text by its number, or an empty line."""
     return (text.split(b"\n") + [b""] * 4)[number - 1]
 
 
 def has_blank_comment(case):
-    """Whether a trusted comment has white space at an end."""
+    """Returns True if the trusted comment begins or ends with white space."""
     comment = line_of(case.signature, 3).decode().removeprefix("trusted comment: ").rstrip("\r")
     return comment != comment.strip()
 
 
 def is_broken(case):
-    """Whether the last base64 goes on behind a line break."""
+    """Returns True if the base64 of the comment signature continues after a line break."""
     return line_of(case.signature, 5) != b""
 
 
 def is_canonical(letters):
-    """Whether base64 is written as an encoder writes it."""
+    """Returns True if base64 is canonical: encoding the decoded bytes gives the same text."""
     try:
         return base64.b64encode(base64.b64decode(letters)) == letters.rstrip(b"\r")
     except binascii.Error:
         return False
 
 
-# Which cases this package rejects, by the header's name of why, and go-minisign accepts.
+# The cases that this module rejects, by the name of the error, and go-minisign accepts.
 REJECTED_HERE = {
     "COMMENT_SIGNATURE_REFUSED": lambda case: has_blank_comment(case) or is_broken(case),
     "NOT_UTF8": lambda case: any(text.decode(errors="ignore").encode() != text for text in (case.key, case.signature)),
@@ -87,7 +87,7 @@ REJECTED_HERE = {
     # A comment signature that is cut short is 64 zero bytes in a Signature.
     "WEAK_ED25519": lambda case: is_broken(case) or case in [vector for vector, _ in shared_cases.vector_texts()],
 }
-# Which cases go-minisign rejects, by its words, and this package accepts.
+# The cases that go-minisign rejects, by its error text, and this module accepts.
 REJECTED_THERE = {
     "Invalid encoded signature": lambda case: [len(line_of(case.signature, number).rstrip(b"\r=")) for number in (2, 4)] != [99, 86]
                                  or len(case.signature.rstrip(b"\r\n").split(b"\n")) > 4,
@@ -98,11 +98,12 @@ REJECTED_THERE = {
 
 
 class Go:
-    """Runs go with what it keeps in a directory of its own, and no network. Where it is tried how C is built, and not what it answers,
-    that is compiled without optimizing; `AS_USUAL` compiles it as go does. (The calls as C are compiled in many ways by
-    tests/c/portable.py.) Its compiler has memory enough to collect nothing, which takes less time."""
+    """Runs go without a network, and with its cache in a separate directory.
 
-    AS_USUAL = {"CGO_CFLAGS": "-g -O2"}
+    C is compiled without optimization, which takes less time, unless `OPTIMIZED` is passed. (tests/c/portable.py compiles the C with
+    many compilers and flags.) The garbage collector of the Go compiler is turned off, which also takes less time."""
+
+    OPTIMIZED = {"CGO_CFLAGS": "-g -O2"}
 
     def __init__(self, room, **environment):
         self.go = needs.program("go", "golang-go")
@@ -114,20 +115,20 @@ class Go:
         return static_library.hold([self.go, *words], directory, **{**self.environment, **environment})
 
     def begin(self, directory, package):
-        """Begins a module that uses the package, as README.md tells a user."""
+        """Creates a module that depends on the package, as README.md says."""
         self.run(directory, "mod", "init", "user")
         self.run(directory, "mod", "edit", "-require=proved/minisign@v0.0.0", f"-replace=proved/minisign={package}")
 
     def build(self, source, directory, package, *words, **environment):
-        """A program over the package, of one source of this directory, built in a module of its own."""
+        """Builds a program that uses the package from a source file of tests/bindings/go, in a new module. Returns its path."""
         os.makedirs(directory)
         self.begin(directory, package)
         shutil.copy(os.path.join(HERE, "go", source), directory)
         self.run(directory, "build", "-o", "program", *words, **environment)
         return os.path.join(directory, "program")
 
-    def build_their(self, source, directory):
-        """The program of a source over go-minisign."""
+    def build_with_go_minisign(self, source, directory):
+        """Builds a program from a source file of tests/bindings/go with go-minisign instead. Returns its path."""
         needs.need(lambda: os.path.isdir(f"{SOURCES}/src/{GO_MINISIGN}") or None, "go-minisign", "golang-github-jedisct1-go-minisign-dev")
         os.makedirs(directory)
         write(directory, source, read(HERE, "go", source).replace(b'"proved/minisign"', f'"{GO_MINISIGN}"'.encode()))
@@ -136,201 +137,218 @@ class Go:
 
 
 def check_sources(checks):
-    """Checks that only raw.go calls C, and the README."""
+    """Checks that only raw.go calls C, and checks the README."""
     names = [name for name in os.listdir(PACKAGE) if name.endswith(".go") and not name.endswith("_test.go")]
-    texts = {name: read(PACKAGE, name).decode() for name in names if name not in MADE}
+    texts = {name: read(PACKAGE, name).decode() for name in names if name not in GENERATED}
     for name, text in texts.items():
         checks.check(name == "raw.go" or 'import "C"' not in text and '"unsafe"' not in text, f"{name}: it calls C")
     shared_cases.check_readme(checks, "go")
 
 
-# ---- What its programs answer ----
+# ---- Output of the test programs ----
 
 
-def shown(reading):
-    """The key IDs of a key and of a signature, as bytes and as text, and the signature's algorithm."""
-    ids = reading.key_id, reading.signature_key_id
-    return " ".join([*(key_id.hex() for key_id in ids), *map(shared_cases.shown_id, ids), "Ed" if reading.is_legacy else "ED"])
+def fields_line(fields):
+    """Returns the line that `read` prints: the key IDs of a key and a signature, as bytes and as text, and the signature's algorithm."""
+    ids = fields.key_id, fields.signature_key_id
+    return " ".join([*(key_id.hex() for key_id in ids), *map(shared_cases.key_id_text, ids), "Ed" if fields.is_legacy else "ED"])
 
 
 def ask_all(program, room, minisign, cases):
-    """All that is asked of a program that verifies; data in pieces has no legacy signatures."""
-    told = lambda name: rf'rejected {name} "minisign: .*"'
+    """Checks all results of a program that verifies. For data in pieces, legacy signatures are rejected."""
+    rejection = lambda name: rf'rejected {name} "minisign: .*"'
     program.ask_answers(minisign, cases, (["verify"], True), (["files", room], True),
                         *((["pieces", str(length)], False) for length in (1, 128, 1000, 0)))
-    program.ask_vectors(["verify"], told)
-    program.ask_reasons(["pieces", "7"], shared_cases.rejections(), told)
-    program.ask_readings(["read"], shown)
+    program.ask_vectors(["verify"], rejection)
+    program.ask_reasons(["pieces", "7"], shared_cases.rejections(), rejection)
+    program.ask_fields(["read"], fields_line)
     record = base64.b64decode(shared_cases.LETTERS)
-    program.ask_bare(f"{record[2:10].hex()} {record[10:].hex()} <nil>", *[".*minisign: base64 conversion failed.*"] * 3)
+    program.ask_bare_keys(f"{record[2:10].hex()} {record[10:].hex()} <nil>", *[".*minisign: base64 conversion failed.*"] * 3)
 
 
 def verdicts(program):
-    """What a program of go/changed.go says of each change: for what it has to be rejected, if it has, the verdict, and the error."""
-    said = run([program, *shared_cases.PATHS])[1].decode()
-    return re.findall(r"^(.*): (\w*): (true|false), (.*)$", said, re.M)
+    """Runs a program of go/changed.go. Returns for each change its name, the error that it has to be rejected with, or an empty string, the
+    verdict, and the error text."""
+    output = run([program, *shared_cases.PATHS])[1].decode()
+    return re.findall(r"^(.*): (\w*): (true|false), (.*)$", output, re.M)
 
 
 def check_changed(checks, program):
-    """What the caller changes in a key or a signature is what is verified."""
-    found, texts = verdicts(program), shared_cases.error_texts()
-    checks.check(len(found) >= 28, f"{len(found)} changes")
-    for name, why, verdict, error in found:
-        wanted = ("false", f"minisign: {texts[why]}") if why else ("true", "<nil>")
-        checks.check((verdict, error) == wanted, f"changed, {name}: {verdict}, {error} in place of {wanted}")
+    """Checks that verifying uses the fields of a key and a signature as the caller changed them."""
+    rows, texts = verdicts(program), shared_cases.error_texts()
+    checks.check(len(rows) >= 28, f"only {len(rows)} changes")
+    for name, why, verdict, error in rows:
+        expected = ("false", f"minisign: {texts[why]}") if why else ("true", "<nil>")
+        checks.check((verdict, error) == expected, f"changed, {name}: {verdict}, {error}, expected {expected}")
 
 
 def check_go_minisign(checks, go, room, program):
-    """go-minisign has the same verdicts on texts, and on what the caller changes, but for those of the tables."""
+    """Checks that go-minisign has the same verdicts on cases, and on fields that the caller changed, except for those in the tables, and
+    that each row of the tables is needed."""
     cases = shared_cases.corpus() + shared_cases.damaged(DAMAGED) + [case for case, _ in shared_cases.vector_texts()]
-    their = Program(checks, go.build_their("verdicts.go", f"{room}/verdicts"))
-    ours, theirs = (asked.run("verify", cases=cases)[1].decode().splitlines() for asked in (program, their))
-    checks.check(len(ours) == len(theirs) == len(cases) > DAMAGED, f"{len(ours)} and {len(theirs)} answers to {len(cases)} cases")
-    found = set()
-    for case, here, there in zip(cases, ours, theirs):
-        if here.startswith("accepted") != there.startswith("true"):
-            why, table = (here.split()[1], REJECTED_HERE) if here.startswith("rejected") else (there.partition(", ")[2], REJECTED_THERE)
-            found.add(why)
-            checks.check(why in table and table[why](case), f"go-minisign, {case.name}: {here}, and {there}")
-    checks.check(found == {*REJECTED_HERE, *REJECTED_THERE}, f"go-minisign differs in {found}")
-    changed = verdicts(go.build_their("changed.go", f"{room}/their"))
-    checks.check(len(changed) >= 28, f"{len(changed)} changes of go-minisign")
-    for name, why, verdict, _ in changed:
-        checks.check(verdict == ("false" if why and name not in OTHERWISE else "true"), f"changed, {name}: go-minisign says {verdict}")
+    go_minisign = Program(checks, go.build_with_go_minisign("verdicts.go", f"{room}/verdicts"))
+    ours, theirs = (each.run("verify", cases=cases)[1].decode().splitlines() for each in (program, go_minisign))
+    checks.check(len(ours) == len(theirs) == len(cases) > DAMAGED, f"{len(ours)} and {len(theirs)} verdicts on {len(cases)} cases")
+    differences = set()
+    for case, our_line, their_line in zip(cases, ours, theirs):
+        if our_line.startswith("accepted") != their_line.startswith("true"):
+            is_ours = our_line.startswith("rejected")
+            why, table = (our_line.split()[1], REJECTED_HERE) if is_ours else (their_line.partition(", ")[2], REJECTED_THERE)
+            differences.add(why)
+            checks.check(why in table and table[why](case), f"{case.name}: this module: {our_line}; go-minisign: {their_line}")
+    checks.check(differences == {*REJECTED_HERE, *REJECTED_THERE}, f"go-minisign differs in {differences}")
+    rows = verdicts(go.build_with_go_minisign("changed.go", f"{room}/their"))
+    checks.check(len(rows) >= 28, f"only {len(rows)} changes with go-minisign")
+    for name, why, verdict, _ in rows:
+        expected = "false" if why and name not in ACCEPTED_BY_GO_MINISIGN else "true"
+        checks.check(verdict == expected, f"changed, {name}: go-minisign says {verdict}, expected {expected}")
 
 
 def check_errors(program):
-    """Each error has the number, the name and the text of the header, and is found where another error wraps it."""
-    names, said = {number: name for name, number in shared_cases.ERRORS.items()}, program.run("errors")[1].decode().splitlines()
-    program.checks.check(len(said) == 1000 and len(names) > 50, f"{len(said)} numbers of errors")
-    for number, line in enumerate(said):
+    """Checks that each error has the number, the name and the text of the header, and that errors.Is finds it in an error that wraps it."""
+    names, output = {number: name for name, number in shared_cases.ERRORS.items()}, program.run("errors")[1].decode().splitlines()
+    program.checks.check(len(output) == 1000 and len(names) > 50, f"{len(output)} numbers of errors")
+    for number, line in enumerate(output):
         name = names.get(number)
         wanted = f'{number} "{name}" true minisign: {shared_cases.error_texts()[name]}' if name else f'{number} "" true '
         program.checks.check(line == wanted if name else line.startswith(wanted), f"the error {number}: {line}")
 
 
-def check_signing(program, room, minisign, opens=True):
-    """The program and `c/minisign` read each other's keys and signatures; no key shows its secret, and nothing is left of one that was
-    cleared; arguments that are none are rejected."""
-    program.ask_itself(20, "shown")
-    program.ask_itself(9, "wrong")
-    shared_cases.check_signing(program, room, minisign, opens=opens)
+def check_signing(program, room, minisign, decrypts=True):
+    """Checks that the program and `c/minisign` can read each other's keys and signatures, that a key does not print its secret and is
+    cleared, and that nil arguments are rejected."""
+    program.ask_pairs(20, "shown")
+    program.ask_pairs(9, "wrong")
+    shared_cases.check_signing(program, room, minisign, decrypts=decrypts)
     shared_cases.check_key_ids(program, os.path.join(room, "ids"), minisign)
-    shared_cases.check_written(program, os.path.join(room, "written"))
+    shared_cases.check_new_key_files(program, os.path.join(room, "written"))
 
 
-# What the example of README.md that verifies says of `app`, which is a kept file, with or without the published signature beside it.
+# The file of tests/corpus that is `app`, whether it has the published signature, and the status, output and error of the example of
+# README.md that verifies it.
 VERIFIED = [("test", True, 0, "trusted comment: timestamp:1556193335\tfile:test\n", ""),
             ("hello", True, 1, "", "Signature verification failed"), ("test", False, 1, "", "no such file or directory")]
 
 
 def check_readme(checks, go, room, package, minisign):
-    """The examples of README.md, each pasted into a file of a user's module: they are built, verify a file that its key has signed, and no
-    other one; make a key, sign by it, and verify a stream."""
+    """Checks the examples of README.md, each pasted into a file of a user's module: they compile; accept a file that the key has signed,
+    and reject another one; generate a key, sign with it, and verify a stream."""
     directory = os.path.join(room, "readme")
     os.makedirs(directory)
     for number, example in enumerate(shared_cases.readme_blocks("go")):
         write(directory, f"example{number}.go", example.encode())
     go.begin(directory, package)
-    # (it is built of what Go has put into its directory `vendor`, as if nothing else were there)
+    # Build from the directory `vendor` while the package is moved away.
     go.run(directory, "mod", "vendor")
-    away = package + "-away"
-    os.rename(package, away)
+    moved = package + "-moved"
+    os.rename(package, moved)
     go.run(directory, "build", "-mod=vendor", "-o", "readme")
-    os.rename(away, package)
-    for app, is_signed, *wanted, why in VERIFIED:
+    os.rename(moved, package)
+    for app, is_signed, *expected, error in VERIFIED:
         write(directory, "app.minisig", b"")
         os.remove(os.path.join(directory, "app.minisig"))
-        for name, kept in (("app", app), ("app.minisig", "published.minisig"))[:1 + is_signed]:
-            shutil.copy(os.path.join(shared_cases.CORPUS, kept), os.path.join(directory, name))
-        status, said, told = run(["./readme"], directory)
-        checks.check([status, said.decode()] == wanted and why in told, f"the example that verifies, {app}: {status} {said!r} {told}")
+        for name, source in (("app", app), ("app.minisig", "published.minisig"))[:1 + is_signed]:
+            shutil.copy(os.path.join(shared_cases.CORPUS, source), os.path.join(directory, name))
+        status, output, errors = run(["./readme"], directory)
+        is_right = [status, output.decode()] == expected and error in errors
+        checks.check(is_right, f"the example that verifies, {app}: {status} {output!r} {errors}")
     shutil.copy(os.path.join(HERE, "go", "readme.go"), os.path.join(directory, "readme_test.go"))
     write(directory, "app-3", b"version 3")
-    said = go.run(directory, "test", "-mod=mod", "-count=1", "-v", ".")
-    checks.check("--- PASS: TestExamples" in said, f"the examples that sign: {said[-800:]}")
-    checks.check(os.stat(os.path.join(directory, "new.key")).st_mode & 0o777 == 0o600, "the mode of the key that the example makes")
+    output = go.run(directory, "test", "-mod=mod", "-count=1", "-v", ".")
+    checks.check("--- PASS: TestExamples" in output, f"the examples that sign: {output[-800:]}")
+    checks.check(os.stat(os.path.join(directory, "new.key")).st_mode & 0o777 == 0o600, "the mode of the key that the example generates")
     verified = run([minisign, "-V", "-Q", "-p", "new.pub", "-m", "app-3"], directory)
-    checks.check(verified[:2] == (0, b"version:3\tfile:app\n"), f"what the example has signed: {verified}")
+    checks.check(verified[:2] == (0, b"version:3\tfile:app\n"), f"c/minisign verifies what the example has signed: {verified}")
 
 
-# ---- Where it is built ----
+# ---- Builds ----
 
-# All that Debian's Go runs to build the module and a program over it: no make.
+# All programs that Debian's Go runs to build the module and a program that uses it. make is not one of them.
 NEEDED = ("go", "gcc", "ld", "as", "git")
-# For another system or the race detector all of Go's own library is compiled, in less time unoptimized, but for what an emulator computes.
-QUICKLY = ["-gcflags=all=-N -l -dwarf=false", "-gcflags=crypto/...=-dwarf=false", "-ldflags=-w"]
+# Flags that turn off optimization. For another system or the race detector, all of Go's standard library is compiled, which takes less time
+# without optimization. crypto is optimized, because an emulator runs it.
+UNOPTIMIZED = ["-gcflags=all=-N -l -dwarf=false", "-gcflags=crypto/...=-dwarf=false", "-ldflags=-w"]
 NO_CGO = "minisign needs cgo: set CGO_ENABLED=1, and CC to a C compiler for this system"
 
 
 def check_own_tests(checks, go, package):
-    """The package's own tests and examples: under the race detector, over the archive for x86-64 that the programs are not built over, and
-    for AArch64 in an emulator."""
-    checks.check(go.run(package, "vet", "./...") == "", "go vet has words")
+    """Runs the module's own tests and examples: under the race detector with the archive for x86-64 that the other programs are not linked
+    with, and for AArch64 in an emulator."""
+    checks.check(go.run(package, "vet", "./...") == "", "go vet reports problems in the module")
     arm = emulated.AARCH64
-    in_emulator = [*QUICKLY, "-exec", " ".join(["env -u GOGC", *emulated.emulator(arm)])], {"GOARCH": "arm64", "CC": emulated.compiler(arm)}
-    for words, environment in (([*QUICKLY, "-exec", "env -u GOGC", "-race", "-tags", "amd64.v3"], {}), in_emulator):
-        said = go.run(package, "test", "-count=1", "-vet=off", "-v", *words, "./...", **environment)
-        checks.check(said.count("--- PASS: ") >= 6 and "--- SKIP" not in said, f"go test {words}: {said[-500:]}")
+    with_races = [*UNOPTIMIZED, "-exec", "env -u GOGC", "-race", "-tags", "amd64.v3"], {}
+    in_emulator = ([*UNOPTIMIZED, "-exec", " ".join(["env -u GOGC", *emulated.emulator(arm)])],
+                   {"GOARCH": "arm64", "CC": emulated.compiler(arm)})
+    for words, environment in (with_races, in_emulator):
+        output = go.run(package, "test", "-count=1", "-vet=off", "-v", *words, "./...", **environment)
+        checks.check(output.count("--- PASS: ") >= 6 and "--- SKIP" not in output, f"go test {words}: {output[-500:]}")
 
 
 def check_as_c(checks, go, room, package, minisign):
-    """Over the calls as C: here, for ARM with pointers of 32 bits, and for Windows, under wine."""
+    """Checks the module with the proved functions as C: here, for 32-bit ARM, and for Windows under wine."""
     windows, mingw = portable.Windows(room), needs.program("x86_64-w64-mingw32-gcc", "gcc-mingw-w64-x86-64")
     arm = next(kind for kind in portable.KINDS if kind.debian == "armhf")
     for what, before, words, environment in (
             ("as C", [], ["-tags", "portable"], {}),
-            ("for ARM", emulated.emulator(arm), QUICKLY, {"GOOS": "linux", "GOARCH": "arm", "CC": emulated.compiler(arm)}),
-            ("for Windows", [windows.program], QUICKLY, {"GOOS": "windows", "CC": mingw})):
+            ("for ARM", emulated.emulator(arm), UNOPTIMIZED, {"GOOS": "linux", "GOARCH": "arm", "CC": emulated.compiler(arm)}),
+            ("for Windows", [windows.program], UNOPTIMIZED, {"GOOS": "windows", "CC": mingw})):
         program = go.build("answers.go", os.path.join(room, what.replace(" ", "-")), package, *words, **environment)
         asked = Program(checks, *before, program, name=what, **windows.variables)
         asked.ask_answers(minisign, shared_cases.corpus(), (["verify"], True))
-        checks.check(what == "for Windows" or "machine_minisign_update" in names_in(program), f"{what}: it is not built of dist/calls.c")
+        is_as_c = what == "for Windows" or "machine_minisign_update" in symbols_of(program)
+        checks.check(is_as_c, f"{what}: it is not built from dist/calls.c")
     windows.end()
     signing = go.build("signing.go", os.path.join(room, "signing-as-c"), package, "-tags", "portable")
-    check_signing(Program(checks, signing, name="as C"), os.path.join(room, "signed-as-c"), minisign, opens=False)
+    check_signing(Program(checks, signing, name="as C"), os.path.join(room, "signed-as-c"), minisign, decrypts=False)
 
 
 def check_by_git(checks, room):
-    """The commit that packaging/tag.sh makes is a dependency by a git path of `example.com`, by its tag and by its commit, in a path with
-    blanks, with few programs in PATH and no make, over the archives. A commit without a tag does not have the C files."""
-    clone, own = commands.Clone(room), os.path.join(room, "repository.git")
-    os.rename(clone.top, own)
+    """Checks that a program can depend on the commit that packaging/tag.sh makes, by a git path of `example.com` and its tag or its commit,
+    in a path with spaces, with few programs in PATH and no make. It is linked with the archives. A commit without a tag does not have the C
+    files, and cannot be built."""
+    clone, repository = commands.Clone(room), os.path.join(room, "repository.git")
+    os.rename(clone.top, repository)
     config = write(room, "gitconfig", f'[url "file://{room}/"]\n\tinsteadOf = https://example.com/\n'.encode())
-    go = Go(room, PATH=shared_cases.few_programs(room, *NEEDED), GIT_CONFIG_GLOBAL=config, GOSUMDB="off", GOFLAGS="-mod=mod -modcacherw", GOPROXY="direct")
-    untagged, files = (clone.git("rev-parse", "HEAD", at=own).strip(), clone.git("ls-files", at=own))
-    write(own, ".git/config", read(own, ".git/config") + b"[user]\n\tname = Ann\n\temail = ann@example.com\n")
-    checks.ended("packaging/tag.sh", process.run(["sh", "packaging/tag.sh"], own), says=f" v{shared_cases.VERSION} bindings/go/v{shared_cases.VERSION}\n")
-    commit, branch = (clone.git("rev-parse", name, at=own).strip() for name in (f"v{shared_cases.VERSION}", "HEAD"))
-    added = {*clone.git("diff", "--name-only", untagged, commit, at=own).split()}
+    go = Go(room, PATH=shared_cases.few_programs(room, *NEEDED), GIT_CONFIG_GLOBAL=config, GOSUMDB="off",
+            GOFLAGS="-mod=mod -modcacherw", GOPROXY="direct")
+    untagged, files = (clone.git("rev-parse", "HEAD", at=repository).strip(), clone.git("ls-files", at=repository))
+    write(repository, ".git/config", read(repository, ".git/config") + b"[user]\n\tname = Ann\n\temail = ann@example.com\n")
+    tags = f" v{shared_cases.VERSION} bindings/go/v{shared_cases.VERSION}\n"
+    checks.ended("packaging/tag.sh", process.run(["sh", "packaging/tag.sh"], repository), says=tags)
+    commit, branch = (clone.git("rev-parse", name, at=repository).strip() for name in (f"v{shared_cases.VERSION}", "HEAD"))
+    added = {*clone.git("diff", "--name-only", untagged, commit, at=repository).split()}
     checks.check(added and all(re.fullmatch(r"bindings/go/[\w-]+\.[ach]", name) for name in added), f"the tagged commit adds {added}")
-    unchanged = (untagged, files, "") == (branch, clone.git("ls-files", at=own), clone.git("status", "--porcelain", at=own))
-    checks.check(unchanged, "packaging/tag.sh moved the branch or changed its index")
-    status, said = process.run(["sh", "packaging/tag.sh"], own)
-    checks.check(status == 1 and "there is a tag" in said, f"a second tag: status {status}: {said}")
-    for at in (commit, f"v{shared_cases.VERSION}"):
-        program = go.build("answers.go", os.path.join(room, f"a user's module at {at}"), f"example.com/repository.git/bindings/go@{at}")
-        said = Program(checks, program).run("verify", cases=shared_cases.corpus()[:1])[1]
-        checks.check(said.startswith(b"accepted") and "machine_minisign_update" not in names_in(program), f"by a git path at {at}: {said!r}")
+    after = branch, clone.git("ls-files", at=repository), clone.git("status", "--porcelain", at=repository)
+    checks.check((untagged, files, "") == after, "packaging/tag.sh moved the branch or changed its index")
+    status, output = process.run(["sh", "packaging/tag.sh"], repository)
+    checks.check(status == 1 and "there is a tag" in output, f"a second tag: status {status}: {output}")
+    for version in (commit, f"v{shared_cases.VERSION}"):
+        directory = os.path.join(room, f"a user's module at {version}")
+        program = go.build("answers.go", directory, f"example.com/repository.git/bindings/go@{version}")
+        output = Program(checks, program).run("verify", cases=shared_cases.corpus()[:1])[1]
+        has_archive = "machine_minisign_update" not in symbols_of(program)
+        checks.check(output.startswith(b"accepted") and has_archive, f"by a git path at {version}: {output!r}")
     try:
         go.build("answers.go", os.path.join(room, "without a tag"), f"example.com/repository.git/bindings/go@{untagged}")
-        checks.check(False, "a commit without a tag is built")
+        checks.check(False, "a commit without a tag can be built")
     except static_library.NotBuilt as why:
         checks.check("archive.h" in str(why), f"a commit without a tag: {why}")
 
 
 def check_without_cgo(checks, go, room, package):
-    """Without cgo a sentence says so first; where it is taken away, that is noticed."""
-    without_cgo = lambda at: (run([go.go, "build", "."], at, {**go.environment, "CGO_ENABLED": "0"})[2].splitlines() + ["", ""])[1]
-    checks.check(NO_CGO in without_cgo(package), f"without cgo: {without_cgo(package)}")
+    """Checks that a build without cgo first prints a sentence that says so, and that the sentence comes from cgo_needed.go."""
+    environment = {**go.environment, "CGO_ENABLED": "0"}
+    error_of = lambda directory: (run([go.go, "build", "."], directory, environment)[2].splitlines() + ["", ""])[1]
+    checks.check(NO_CGO in error_of(package), f"without cgo: {error_of(package)}")
     bare = os.path.join(room, "without-sentence")
     shutil.copytree(package, bare)
     os.remove(os.path.join(bare, "cgo_needed.go"))
-    checks.check(NO_CGO not in without_cgo(bare), "without cgo: the sentence is in another file")
+    checks.check(NO_CGO not in error_of(bare), "without cgo: the sentence is in another file")
 
 
 def with_compiled_c(go, package, room):
-    """A copy of the package whose C stands there compiled, as go links it: the bugs are in what is Go."""
+    """Returns a copy of the package whose C files are already compiled into an object that go links. The mutants are in Go files, so C need
+    not be compiled for each."""
     copied = shutil.copytree(package, os.path.join(room, "with-compiled-c"))
     sources = go.run(copied, "list", "-f", '{{join .CFiles " "}}').split()
     static_library.hold([go.environment["CC"], "-O2", "-I.", "-r", "-nostdlib", "-o", "compiled.syso", *sources], copied)
@@ -340,14 +358,14 @@ def with_compiled_c(go, package, room):
 
 
 def check_mutants(checks, go, package, room, minisign):
-    """Each mutant is noticed by what is asked of a program over the changed package."""
-    def ask(found, changed, directory, word):
-        built = lambda name: go.build(f"{name}.go", os.path.join(directory, name), changed, "-ldflags=-s -w")
+    """Checks that programs that use the package detect each mutant."""
+    def ask(checks, changed, directory, word):
+        build = lambda name: go.build(f"{name}.go", os.path.join(directory, name), changed, "-ldflags=-s -w")
         if word == "sign":
-            check_signing(Program(found, built("signing")), os.path.join(directory, "signed"), minisign)
+            check_signing(Program(checks, build("signing")), os.path.join(directory, "signed"), minisign)
         else:
-            ask_all(Program(found, built("answers")), directory, minisign, shared_cases.corpus())
-            check_changed(found, built("changed"))
+            ask_all(Program(checks, build("answers")), directory, minisign, shared_cases.corpus())
+            check_changed(checks, build("changed"))
 
     compiled = with_compiled_c(go, package, room)
     shared_cases.check_mutants(checks, compiled, "bindings/go", mutants_of("bindings", "go", "mutants"), room, ask)
@@ -360,13 +378,13 @@ def run_all(checks, room):
     check_own_tests(checks, go, package)
 
     def programs(source, name):
-        """A program as its user has it, and under the race detector."""
-        ways = ("", [], Go.AS_USUAL), ("-racing", ["-race", *QUICKLY], {})
-        built = [go.build(source, os.path.join(room, name + what), package, *words, **environment) for what, words, environment in ways]
-        return [Program(checks, path, name=os.path.basename(os.path.dirname(path))) for path in built]
+        """Builds a program twice: as a user builds it, and with the race detector."""
+        ways = ("", [], Go.OPTIMIZED), ("-racing", ["-race", *UNOPTIMIZED], {})
+        paths = [go.build(source, os.path.join(room, name + what), package, *words, **environment) for what, words, environment in ways]
+        return [Program(checks, path, name=os.path.basename(os.path.dirname(path))) for path in paths]
 
     program, racing = programs("answers.go", "answers")
-    checks.check(go.run(os.path.join(room, "answers"), "vet", "./...") == "", "go vet has words of the program")
+    checks.check(go.run(os.path.join(room, "answers"), "vet", "./...") == "", "go vet reports problems in a program that uses the module")
     ask_all(program, room, minisign, shared_cases.all_cases(checks, minisign))
     check_errors(program)
     few = shared_cases.corpus() + shared_cases.damaged(60)
@@ -378,7 +396,7 @@ def run_all(checks, room):
     signing.ask_growth(KEYS, PAGES_OF_KEYS)
     signing.ask_threads()
     racing.ask_threads()
-    check_changed(checks, go.build("changed.go", os.path.join(room, "changed"), package, **Go.AS_USUAL))
+    check_changed(checks, go.build("changed.go", os.path.join(room, "changed"), package, **Go.OPTIMIZED))
     check_go_minisign(checks, go, room, program)
     check_readme(checks, go, room, package, minisign)
     check_mutants(checks, go, package, room, minisign)

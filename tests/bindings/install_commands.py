@@ -1,11 +1,12 @@
 #!/usr/bin/env python3
-"""Runs the commands by which the READMEs of bindings/ have a user install each package, as they stand between the fences, in one
-clone of the repository and without the kit; and then a program of that user, which verifies by what was installed.
+"""Checks that the commands in the READMEs of bindings/ install each package: runs them, as they are in the READMEs, in a
+clone of the repository and without the kit, and then runs a user's program, which verifies a file with the package.
 
     tests/bindings/install_commands.py
 
-The clone has the name that the READMEs give it, beside the user's project. What installs packages of Debian is left out, and so is
-what npm does where there is no npm. It prints a line for each failure; the last line is `N passed, M failed`.
+The clone has the name that the READMEs give it, and is in the directory of the user's project. Commands that install Debian
+packages are left out, and so is JavaScript if there is no npm. It prints a line for each failure; the last line is
+`N passed, M failed`.
 
 Needs Python 3.9 or later with setuptools and wheel, golang-go, cargo, rustc, nodejs, make, binutils, clang, lld, git,
 a C compiler and libsodium with its header. It installs what is missing if it may.
@@ -28,9 +29,10 @@ from python import python
 from shared_cases import TOP, read, run, write
 
 CLONE = "minisign-in-rattle"
-# What is left out: it changes the system.
+# The beginning of commands that are left out, because they change the system.
 LEFT_OUT = "apt install "
-# In each language a user's project: what describes it, its program and the place of that, and how that is run.
+# A user's project in each language: the files that describe it, its program in tests/bindings, the path of that in the project, and the
+# command that runs it.
 USERS = {
     "go": ({"go.mod": "module user\n"}, "installed.go", "main.go", "go run ."),
     "rust": ({"Cargo.toml": '[package]\nname = "user"\nversion = "1.0.0"\nedition = "2021"\n\n'}, "installed.rs", "src/main.rs", "cargo run --quiet --offline"),
@@ -40,7 +42,7 @@ USERS = {
 
 
 def check_package(checks, package, room):
-    """Each command of a README succeeds, and the user's program accepts what the key has signed, and nothing else."""
+    """Checks that each command of a README succeeds, and that the user's program accepts a signed file and rejects another one."""
     described, source, place, program = USERS[package]
     readme = os.path.join("bindings", package, "README.md")
     dependencies = "".join(re.findall(r"^```toml\n(.*?)^```$", read(TOP, readme).decode(), re.M | re.S))
@@ -50,19 +52,20 @@ def check_package(checks, package, room):
         write(room, name, (text + dependencies).encode())
     shutil.copy(shared_cases.PATHS[2], os.path.join(room, "app.minisig"))
     os.symlink(os.path.join("..", CLONE), os.path.join(room, CLONE))
-    # (C is compiled without optimizing, to take less time)
+    # C is compiled without optimization, which takes less time.
     environment = {"PATH": static_library.path_without_kit(), "HOME": room, "GOPROXY": "off", "GOFLAGS": "", "GOTOOLCHAIN": "local",
                    "CARGO_HOME": f"{room}/cargo", "CARGO_NET_OFFLINE": "true", "CFLAGS": "-O0", "CGO_CFLAGS": "-O0"}
     lines = commands.commands_of(readme)
     checks.check(any(line.startswith(f"make -C {CLONE}/bindings {package}") for line in lines), f"{package}: README does not pack it")
     for line in lines:
         if not line.startswith(LEFT_OUT):
-            status, said, why = run(["sh", "-c", line], room, environment)
-            checks.check(status == 0, f"{package}: {line}: status {status}: {said.decode(errors='replace')[-500:]}{why[-800:]}")
-    for data, wanted in ((b"test", "true\n"), (b"another", "false\n")):
+            status, output, errors = run(["sh", "-c", line], room, environment)
+            checks.check(status == 0, f"{package}: {line}: status {status}: {output.decode(errors='replace')[-500:]}{errors[-800:]}")
+    for data, expected in ((b"test", "true\n"), (b"another", "false\n")):
         write(room, "app", data)
-        status, said, why = run(["sh", "-c", program], room, environment)
-        checks.check((status, said.decode()) == (0, wanted), f"{package}: the user's program of {data}: {status}, {said}, {why[-800:]}")
+        status, output, errors = run(["sh", "-c", program], room, environment)
+        is_right = (status, output.decode()) == (0, expected)
+        checks.check(is_right, f"{package}: the user's program with the data {data}: {status}, {output}, {errors[-800:]}")
 
 
 def run_all(checks, room):
@@ -76,11 +79,11 @@ def run_all(checks, room):
     os.rename(clone.top, os.path.join(room, CLONE))
     for package in USERS:
         if package == "javascript" and not shutil.which("npm", path=static_library.path_without_kit()):
-            print("left out: the commands for JavaScript: npm is not here")
+            print("skipped: the commands for JavaScript: there is no npm")
         else:
             check_package(checks, package, os.path.join(room, package))
-    new = clone.git("status", "--porcelain", at=os.path.join(room, CLONE))
-    checks.check(not new, f"git finds in the clone: {new}")
+    changed = clone.git("status", "--porcelain", at=os.path.join(room, CLONE))
+    checks.check(not changed, f"the commands change files in the clone: {changed}")
 
 
 if __name__ == "__main__":

@@ -1,18 +1,25 @@
 #!/usr/bin/env python3
-"""Tries the package of `bindings/javascript` as its user has it: what `npm pack` makes, unpacked into the directory
-`node_modules` of a program in an empty directory; in Node, and in a page and a worker of Chromium and of Firefox,
+"""Checks that the JavaScript package in bindings/javascript works for a user: the archive of `npm pack` is unpacked into
+the directory `node_modules` of a program, and used in Node, and in a page and a worker of Chromium and of Firefox,
 without network and kit.
 
     tests/bindings/javascript.py [PAGE]
 
-The module is that of PAGE, by default the one of `dist/`. What it answers is compared with `c/minisign`, with libsodium
-and with the header (`ASKED`), and its list of errors and its sizes of structs with the header. The types need neither
-those of the web nor those of Node. The examples of README.md are programs as they are pasted, each of which runs and
-has the right types. It runs where there is nothing but the language and a few globals that browsers, Node, Deno and
-workers all have, and needs each of these. Options are plain objects; long data does not block the event loop; a new
-key file is its owner's; a cleared key leaves no seed in memory; and a bundle that only verifies has no signing code.
-Each mutant of javascript/mutants is noticed. Where there is no npm, all files are packed that it could take. It
-prints a line for each failure; the last line is `N passed, M failed`.
+The WebAssembly module is that of PAGE, by default the page in `dist/`. The results are compared with `c/minisign`,
+libsodium and the header (`ASKED`), and the errors and the sizes of structs with the header. The script also checks that
+
+- the types need neither the DOM library nor those of Node;
+- each example of README.md, as a program of its own, runs and has the right types;
+- the package needs only the language and the globals in `GLOBALS`, and all of these;
+- options must be plain objects;
+- long data does not block the event loop;
+- only its owner can read a new key file;
+- no seed of a cleared key is left in memory;
+- a bundle that only verifies contains no code for signing;
+- each mutant of javascript/mutants is detected.
+
+If there is no npm, all files are packed that npm could take. It prints a line for each failure; the last line is
+`N passed, M failed`.
 
 Needs Linux, Python 3.9 or later, nodejs (the one that the environment names NODE, if any), node-typescript, esbuild,
 make, clang, lld, a C compiler, libsodium with its header, and for the browsers chromium, chromium-driver and
@@ -46,28 +53,29 @@ PACKAGE = os.path.join(TOP, "bindings", "javascript")
 PROGRAMS = [os.path.join(HERE, "javascript", f"{name}.mjs") for name in (
     "answers", "signing", "streams", "bare", "options", "long", "files", "heap", "bundled", "bundled_signing")]
 MODULE, SIGNING_MODULE = "module.js", "signing_module.js"
-# What tools/bindings.py makes, and which part of calls.js.
-MADE = ("errors.js", "header.js")
-MADE_IN_CALLS = re.compile("// ---- Of include/minisign.h, made by tools/bindings.py ----.*// ---- What is made ends here ----", re.S)
-# The globals that the package uses besides those of the language. All are of the web, and of the list that all of these have
-# (the "Minimum common web platform API").
+# The files that tools/bindings.py makes, and the part of calls.js.
+GENERATED = ("errors.js", "header.js")
+GENERATED_IN_CALLS = re.compile("// ---- From include/minisign.h, made by tools/bindings.py ----.*// ---- What is made ends here ----",
+                                re.S)
+# The globals that the package uses besides those of the language. Browsers, Node, Deno and workers all have them: they are in the "Minimum
+# common web platform API".
 GLOBALS = ("TextDecoder", "TextEncoder", "WebAssembly", "atob", "crypto")
-# How many bytes may be in memory after so many calls, or keys, that were not after a tenth of them. (A page of a module's memory, which
-# each key would keep, is more.)
+# The number of calls, or of keys, and by how many bytes the memory may grow after a tenth of them. If each key kept a page of a module's
+# memory, it would grow by more.
 CALLS, GROWTH = 5_000, 800_000
 KEYS, GROWTH_OF_KEYS = 1_000, 16 * 1048576
-# What becomes of streams, each tried in a program of its own, which an error that is lost would end.
+# The cases of streams.mjs. Each runs in its own process, because an error without a listener ends the process.
 STREAMS = ("aborted", "cancelled", "descriptors", "late", "event", "both", "absent", "opening", "begun", "between", "web", "accepted")
-# The errors of the header that verifying has besides usage errors.
+# The errors of the header that verifying can return, except for misuse.
 VERIFYING = {8, *range(16, 33), 44, 45, 81}
 
 
-def made(room, page):
-    """A user's directory with the packed package in it, and the programs: its path."""
+def install(room, page):
+    """Creates a user's directory with the packed package and the test programs, and returns its path."""
     user, packing = os.path.join(room, "user"), {"PAGE": page, "CLANG": needs.program("clang", "clang")}
     needs.program("wasm-ld", "lld")
     if shutil.which("npm", path=static_library.path_without_kit()) is None:
-        print("without npm: all files that it could take")
+        print("there is no npm: packing all files that it could take")
         packing["NPM"] = os.path.join(HERE, "javascript", "npm.sh")
     os.makedirs(os.path.join(user, "node_modules"))
     os.rename(shared_cases.packed("javascript", room, **packing), os.path.join(user, "node_modules", "minisign-proved"))
@@ -81,119 +89,122 @@ def text_of_package(name):
 
 
 def check_sources(checks, user):
-    """Checks that package.json names the files and the version, that only calls.js calls the module, and that the errors are those
-    of the header."""
+    """Checks that package.json names the files and the version, that only calls.js calls the module, and that the errors and the layout of
+    structs are those of the header."""
     described = json.loads(text_of_package("package.json"))
     checks.same(described["version"], shared_cases.VERSION, "the version of package.json")
     names = {name for name in os.listdir(os.path.join(user, "node_modules", "minisign-proved")) if name.endswith((".js", ".ts"))}
     checks.check(set(described["files"]) == names, f"package.json names {described['files']}, and there are {sorted(names)}")
-    for name in sorted(names - {MODULE, SIGNING_MODULE, *MADE}):
-        bare = re.sub(r"/\*.*?\*/", "", MADE_IN_CALLS.sub("", text_of_package(name)), flags=re.S)
+    for name in sorted(names - {MODULE, SIGNING_MODULE, *GENERATED}):
+        bare = re.sub(r"/\*.*?\*/", "", GENERATED_IN_CALLS.sub("", text_of_package(name)), flags=re.S)
         checks.check(name == "calls.js" or not re.search(r"page_|WebAssembly\.|\.memory\b|\.calls\b", bare), f"{name}: it calls the module")
     shared_cases.check_readme(checks, "javascript")
-    wanted, found = shared_cases.ERRORS, re.search(r"ERRORS = Object\.freeze\(\{(.*?)\}\)", text_of_package("errors.js"), re.S)[1]
-    errors = {name: int(number) for name, number in re.findall(r"(\w+): (\d+)", found)}
-    checks.check(errors == wanted, f"errors.js has other errors than the header: {set(errors.items()) ^ set(wanted.items())}")
+    expected, table = shared_cases.ERRORS, re.search(r"ERRORS = Object\.freeze\(\{(.*?)\}\)", text_of_package("errors.js"), re.S)[1]
+    errors = {name: int(number) for name, number in re.findall(r"(\w+): (\d+)", table)}
+    checks.check(errors == expected, f"errors.js has other errors than the header: {set(errors.items()) ^ set(expected.items())}")
     typed = set(re.findall(r'"([A-Z0-9_]+)"', re.search(r"type ErrorCode =(.*?);", text_of_package("errors.d.ts"), re.S)[1]))
-    checks.check(typed == set(wanted), f"errors.d.ts has other errors than the header: {typed ^ set(wanted)}")
+    checks.check(typed == set(expected), f"errors.d.ts has other errors than the header: {typed ^ set(expected)}")
     sizes = {name: int(size) for name, size in re.findall(r"const (STATE|KEY|SIGNATURE|QUESTIONS)_BYTES = (\d+);", text_of_package("calls.js"))}
     places = shared_cases.layout(user)
     structs = {"STATE": "state", "KEY": "public_key", "SIGNATURE": "signature", "QUESTIONS": "questions"}
     checks.check(sizes == {name: places[f"minisign_{of}"] for name, of in structs.items()}, f"calls.js has other sizes than the header: {sizes}")
     for struct, count in (("SIGNATURE", 2), ("QUESTIONS", 8)):
-        told = re.search(rf"const {struct} = \{{(.*?)\}};", text_of_package("calls.js"), re.S)[1]
-        found = {name: int(at) for name, at in re.findall(r"(\w+): (\d+)", told)}
-        wanted_at = {name: places[f"minisign_{struct.lower()}.{name}"] for name in found}
-        checks.check(len(found) >= count and found == wanted_at, f"calls.js has {struct} at {found}, and the header at {wanted_at}")
+        fields = re.search(rf"const {struct} = \{{(.*?)\}};", text_of_package("calls.js"), re.S)[1]
+        offsets = {name: int(offset) for name, offset in re.findall(r"(\w+): (\d+)", fields)}
+        expected = {name: places[f"minisign_{struct.lower()}.{name}"] for name in offsets}
+        is_right = len(offsets) >= count and offsets == expected
+        checks.check(is_right, f"calls.js has the offsets {offsets} of {struct}, and the header {expected}")
 
 
-# ---- What its programs answer ----
+# ---- Output of the test programs ----
 
 
 def by_node(checks, user, program):
-    """A program of a user's directory, run by Node."""
-    # (Node 18 warns that its Ed25519 is experimental)
+    """Returns a program of a user's directory, run by Node. Its warnings are turned off, because Node 18 warns that Ed25519 is
+    experimental."""
     return Program(checks, os.environ.get("NODE") or needs.node(), "--expose-gc", "--experimental-vm-modules", program, name=program,
                    directory=user, NODE_NO_WARNINGS="1", PATH=static_library.path_without_kit())
 
 
 def ask_cases(program, minisign, cases):
-    """With legacy signatures and without."""
+    """Checks the results with legacy signatures allowed and not, the errors, and the Ed25519 vectors."""
     program.ask_answers(minisign, cases, (["cases", "legacy"], True), (["cases"], False))
     program.ask_reasons(["cases"], shared_cases.rejections())
     program.ask_vectors(["cases", "legacy"])
 
 
 def ask_pieces(program, minisign, _):
-    """Data in pieces of each kind."""
+    """Checks the results with data of each kind."""
     cases = shared_cases.corpus() + shared_cases.large(minisign)
     program.ask_answers(minisign, cases, (["pieces"], False), (["pieces", "legacy"], True))
 
 
-def ask_itself(program, *_):
-    """Calls with other arguments, and the parts of a verifier."""
+def ask_arguments(program, *_):
+    """Checks arguments of wrong types, the properties of a verifier, and the trusted comment before there is data."""
     for least, word in ((32, "wrong"), (10, "verifier"), (9, "letters")):
-        program.ask_itself(least, word, cases=[PUBLISHED])
+        program.ask_pairs(least, word, cases=[PUBLISHED])
     program.ask_comments(["comment"])
 
 
 def ask_streams(program, *_):
+    """Checks what happens to streams that fail, or of which the verification fails."""
     for what in STREAMS:
-        by_node(program.checks, program.directory, "streams.mjs").ask_itself(1, what, *PATHS)
+        by_node(program.checks, program.directory, "streams.mjs").ask_pairs(1, what, *PATHS)
 
 
-def ask_readings(program, minisign, _):
-    """It tells which key a signature names, and whether it is legacy, before anything is asked; and verifies with what was read."""
-    def form(reading):
-        comment, = shared_cases.answers_of(minisign, [reading.case], allow_legacy)
-        ids = " ".join(map(shared_cases.shown_id, (reading.key_id, reading.signature_key_id)))
+def ask_fields(program, minisign, _):
+    """Checks the key IDs and legacy flags that are read before verifying, and that verifying with the objects that were read gives the same
+    results."""
+    def form(fields):
+        comment, = shared_cases.answers_of(minisign, [fields.case], allow_legacy)
+        ids = " ".join(map(shared_cases.key_id_text, (fields.key_id, fields.signature_key_id)))
         verdict = shared_cases.rejected(".*") if comment is None else shared_cases.accepted(comment)
-        return f"{ids} {str(reading.is_legacy).lower()} {verdict}"
+        return f"{ids} {str(fields.is_legacy).lower()} {verdict}"
 
     for words, allow_legacy in ((["read"], False), (["read", "legacy"], True)):
-        program.ask_readings(words, form)
+        program.ask_fields(words, form)
         rows = [(case, name) for case, name in shared_cases.rejections()
                 if case.signature != PUBLISHED.signature and not (allow_legacy and name == "LEGACY_NOT_ACCEPTED")]
         program.ask_reasons(words, rows, lambda name: rf"([0-9A-F]{{1,16}} [0-9A-F]{{1,16}} (true|false) )?rejected {name}")
 
 
 def ask_options(program, *_):
-    """Options are plain objects with own, known properties, whatever Object.prototype has."""
+    """Checks that options must be plain objects with known properties of their own, whatever Object.prototype has."""
     paths = [PATHS[0], PATHS[1], os.path.join(shared_cases.CORPUS, "published-legacy.minisig")]
     for least, word in ((120, "kinds"), (100, "polluted")):
-        by_node(program.checks, program.directory, "options.mjs").ask_itself(least, word, *paths)
+        by_node(program.checks, program.directory, "options.mjs").ask_pairs(least, word, *paths)
 
 
 def ask_long(program, *_):
-    """Other tasks run while long data is read, so that an AbortSignal ends it."""
+    """Checks that other tasks run while long data is read, so that an AbortSignal can stop it."""
     for least, word in ((6, "verifying"), (1, "signing"), (3, "timers"), (2, "same"), (8, "cut")):
-        by_node(program.checks, program.directory, "long.mjs").ask_itself(least, word, PATHS[0], PATHS[2])
+        by_node(program.checks, program.directory, "long.mjs").ask_pairs(least, word, PATHS[0], PATHS[2])
 
 
-# All that is asked of the programs that verify.
-ASKED = {"cases": ask_cases, "pieces": ask_pieces, "read": ask_readings, "itself": ask_itself, "streams": ask_streams, "options": ask_options,
-         "long": ask_long}
+# The checks of programs that verify, by the case that a mutant names.
+ASKED = {"cases": ask_cases, "pieces": ask_pieces, "read": ask_fields, "itself": ask_arguments, "streams": ask_streams,
+         "options": ask_options, "long": ask_long}
 
 
-def check_signing(checks, user, room, minisign, opens=True):
-    """The program and `c/minisign` read each other's keys and signatures; it shows no secret, and nothing is left of a key that was
-    cleared; arguments of other types are rejected, and streams closed; threads sign at once."""
+def check_signing(checks, user, room, minisign, decrypts=True):
+    """Checks that the program and `c/minisign` can read each other's keys and signatures, that keys do not show their secret and are
+    cleared, that arguments of wrong types are rejected and streams closed, and that threads can sign concurrently."""
     program = by_node(checks, user, "signing.mjs")
-    program.ask_itself(44, "itself", PATHS[1])
+    program.ask_pairs(44, "itself", PATHS[1])
     program.ask_threads()
-    shared_cases.check_signing(program, room, minisign, seals=False, opens=opens)
+    shared_cases.check_signing(program, room, minisign, takes_limits=False, decrypts=decrypts)
     return program
 
 
-# Names of files: in a directory, with letters of other languages and with what separates fields.
+# File names: with a directory, with letters that are not ASCII, and with a tab, which separates fields of the trusted comment.
 NAMES = ["app", "an app (1) \u00e9.tar.gz", "below/app.zip", "tab\there"]
 # Key IDs with leading zeros and without, as numbers.
 KEY_IDS = [0, 1, 0x0F, 0x10, 0xABCDEF0123, 0x0123456789ABCDEF, 0xE7620F1842B4E81F, 2**64 - 1]
 
 
 def check_files(checks, user, room, minisign):
-    """The default trusted comment of a file is that of `c/minisign`; a new key file is its owner's and replaces nothing; and a key ID
-    is what `c/minisign` prints."""
+    """Checks that the default trusted comment of a file and key IDs are those of `c/minisign`, and that only its owner can read a new key
+    file, which replaces no file."""
     os.makedirs(os.path.join(room, "below"))
     os.makedirs(os.path.join(room, "full"))
     program, secret = by_node(checks, user, "files.mjs"), os.path.join(room, "key")
@@ -202,73 +213,76 @@ def check_files(checks, user, room, minisign):
         write(room, name, b"data")
         run([minisign, "-S", "-s", "key", "-m", name, "-x", "sig"], room)
         wanted = re.sub(rb"timestamp:\d+", b"timestamp:TIME", read(room, "sig").split(b"\n")[2] + b"\n")
-        status, said, why = program.run("comments", os.path.join(room, name))
-        checks.check((status, said) == (0, wanted), f"the default comment of {name!r}: {said} {why} in place of {wanted}")
-    program.ask_itself(25, "names")
+        status, output, why = program.run("comments", os.path.join(room, name))
+        checks.check((status, output) == (0, wanted), f"the default comment of {name!r}: {output} {why} in place of {wanted}")
+    program.ask_pairs(25, "names")
     os.makedirs(os.path.join(room, "new"))
-    program.ask_itself(33, "new", os.path.join(room, "new"))
-    # (a limit of the size of files, which no file can have a byte under; Node ignores the signal)
+    program.ask_pairs(33, "new", os.path.join(room, "new"))
+    # With a file size limit of 0, nothing can be written. Node ignores SIGXFSZ.
     command = ["sh", "-c", 'ulimit -f 0; exec "$@"', "sh", *program.command, "full", os.path.join(room, "full")]
-    status, said, why = run(command, user, program.environment)
-    checks.check((status, said) == (0, b"EFBIG\tEFBIG\n\t\n"), f"a new file that cannot be written: {status} {said} {why}")
+    status, output, why = run(command, user, program.environment)
+    checks.check((status, output) == (0, b"EFBIG\tEFBIG\n\t\n"), f"a new file that cannot be written: {status} {output} {why}")
     record = record_of(read(secret))
     for number in KEY_IDS:
         path = write(room, "other", text_of(record[:54] + number.to_bytes(8, "little") + record[62:126] + bytes(32)))
         run([minisign, "-R", "-f", "-s", path, "-p", "other.pub"], room)
         wanted = f"{number:X}\n{read(room, 'other.pub').decode().splitlines()[0]}\n"
-        status, said, why = program.run("ids", path)
-        checks.check((status, said.decode()) == (0, wanted), f"the key ID {number:#x}: {said} {why} in place of {wanted!r}")
+        status, output, why = program.run("ids", path)
+        checks.check((status, output.decode()) == (0, wanted), f"the key ID {number:#x}: {output} {why} in place of {wanted!r}")
 
 
-# How often the seed may be found in what malloc has freed: WebCrypto leaves some copies there, but none for each signature.
+# The maximum number of copies of the seed in memory of malloc. WebCrypto leaves some freed copies there, but not one for each signature.
 MOST_FREED = 10
-# How often a search is repeated that finds the seed. A leak is found each time; what malloc has freed is sometimes reused late.
+# How often a search that finds the seed is repeated. A leak is found each time, but malloc sometimes reuses freed memory late.
 SEARCHES = 3
 
 
 def check_memory(checks, user, room, minisign):
-    """While a key is in use, and after it was cleared, its seed is nowhere in the engine's heap, of which nobody can clear it; and after
-    it was cleared no more copies are left than WebCrypto leaves."""
+    """Checks that the seed of a key is never in the engine's heap, where nobody could clear it, and that after clearing the key no more
+    copies are left than WebCrypto leaves."""
     run([minisign, "-G", "-W", "-s", "open", "-p", "pub"], room)
     write(room, "sealed", shared_cases.sealed(read(room, "open"), shared_cases.LIMITS[4][0]))
     program, ways = by_node(checks, user, "heap.mjs"), (["generate"], ["read", f"{room}/open"], ["read", f"{room}/sealed", shared_cases.PASSWORD])
     for words in ways:
         environment = dict(os.environ, **program.environment)
         for _ in range(SEARCHES):
-            found = javascript_memory.search([*program.command, *words], user, environment, MOST_FREED)
-            (used_freed, used), (freed, cleared) = found
+            counts = javascript_memory.search([*program.command, *words], user, environment, MOST_FREED)
+            (used_freed, used), (freed, cleared) = counts
             is_clean = used_freed > 0 and used == cleared == 0 and freed <= MOST_FREED
             if is_clean:
                 break
-        checks.check(is_clean, f"{words[0]}: the seed is in memory (malloc, others): {found}")
+        checks.check(is_clean, f"{words[0]}: copies of the seed (malloc, elsewhere), in use and cleared: {counts}")
 
 
-# What only a bundle that signs has.
-OF_SIGNING = ("pkcs8", "minisign_signed_text", "minisign_read_secret_key")
+# Texts that only a bundle that signs contains.
+ONLY_IN_SIGNING = ("pkcs8", "minisign_signed_text", "minisign_read_secret_key")
 
 
 def check_bundles(checks, user, room, _):
-    """A bundle of a program that only verifies has nothing of signing, and one of a program that signs has all of it. Both run."""
+    """Checks that a bundle of a program that only verifies contains no code for signing, and that one of a program that signs contains all
+    of it. Both run."""
     esbuild, of_module = needs.program("esbuild", "esbuild"), read(user, "node_modules", "minisign-proved", SIGNING_MODULE).decode()
-    of_signing = [*OF_SIGNING, re.search('"(.*)"', of_module)[1][:1000]]
+    of_signing = [*ONLY_IN_SIGNING, re.search('"(.*)"', of_module)[1][:1000]]
     words = [part.hex() for part in PUBLISHED[1:]]
     for name, comment in (("bundled", "timestamp:1556193335\tfile:test"), ("bundled_signing", "signed")):
         for form in [[f"--format={form}", f"--platform={platform}"] for form in ("esm", "cjs", "iife") for platform in ("node", "browser", "neutral")]:
-            made = os.path.join(room, "made.mjs" if "esm" in form[0] else "made.cjs")
-            told = run([esbuild, f"{name}.mjs", "--bundle", "--minify", "--log-level=warning", f"--outfile={made}", *form], user)
-            text = read(made).decode()
+            bundle = os.path.join(room, "bundle.mjs" if "esm" in form[0] else "bundle.cjs")
+            result = run([esbuild, f"{name}.mjs", "--bundle", "--minify", "--log-level=warning", f"--outfile={bundle}", *form], user)
+            text = read(bundle).decode()
             has = [part in text for part in of_signing]
-            checks.check(has == [name == "bundled_signing"] * len(has), f"esbuild {name} {form}: signing: {has}, {told}")
-            status, said, why = by_node(checks, user, made).run(*words)
-            checks.check((status, said.decode()) == (0, f"{comment}\n"), f"esbuild {name} {form}: {status} {said} {why}")
+            is_right = has == [name == "bundled_signing"] * len(has)
+            checks.check(is_right, f"esbuild {name} {form}: contains code for signing: {has}, {result}")
+            status, output, errors = by_node(checks, user, bundle).run(*words)
+            checks.check((status, output.decode()) == (0, f"{comment}\n"), f"esbuild {name} {form}: {status} {output} {errors}")
             if name == "bundled":
                 named = re.search(r"bundle has (\d+) kB", text_of_package("README.md"))
                 checks.check(named and abs(len(text) - 1000 * int(named[1])) < 1000, f"README.md does not say that a bundle has {len(text)} bytes")
 
 
 def check_readme(checks, user, room, minisign):
-    """Each block of the README is a program as it is pasted: all run in one project, in their order, and have the right types. The one
-    that verifies, and the one that reads a stream, reject other data; `c/minisign` accepts what the one that signs has written."""
+    """Checks that each example of the README, as a program of its own, runs in one project, in the order of the README, and has the right
+    types. The examples that verify and that read a stream reject other data, and `c/minisign` accepts what the example that signs has
+    written."""
     directory = shutil.copytree(user, os.path.join(room, "user"))
     blocks = shared_cases.readme_blocks("javascript")
     for name, text in (("app", read(PATHS[1])), ("app.minisig", read(PATHS[2])), ("release.zip", b"a release\n")):
@@ -278,9 +292,9 @@ def check_readme(checks, user, room, minisign):
         write(directory, f"readme-{number}.ts", block.encode())
     for name in ("readme.json", "readme_node.d.ts"):
         shutil.copy(os.path.join(HERE, "javascript", name), directory)
-    status, said, why = run([needs.program("tsc", "node-typescript"), "-p", "readme.json"], directory)
-    checks.check(status == 0, f"the types of the README's blocks: {said.decode()[-1500:]}{why}")
-    status, said, why = run([minisign, "-V", "-q", "-p", "minisign.pub", "-m", "release.zip"], directory)
+    status, output, why = run([needs.program("tsc", "node-typescript"), "-p", "readme.json"], directory)
+    checks.check(status == 0, f"the types of the README's blocks: {output.decode()[-1500:]}{why}")
+    status, output, why = run([minisign, "-V", "-q", "-p", "minisign.pub", "-m", "release.zip"], directory)
     checks.check(status != 0, "there is a signature before the README's block has made it")
     verified = "verified, and signed with it: timestamp:1556193335\tfile:test\n"
     streamed = r"[0-9A-F]{1,16} timestamp:\d+\tfile:release.zip\thashed\n"
@@ -288,12 +302,12 @@ def check_readme(checks, user, room, minisign):
     checks.same(len(blocks), len(rows), "the number of the README's blocks")
     for number, (data, wanted, reason) in enumerate(rows):
         program = by_node(checks, directory, f"readme-{number}.mjs")
-        status, said, why = program.run()
-        checks.check(status == 0 and re.fullmatch(wanted, said.decode()) and why == "", f"the README's block {number}: {status} {said} {why}")
+        status, output, why = program.run()
+        checks.check(status == 0 and re.fullmatch(wanted, output.decode()) and why == "", f"the README's block {number}: {status} {output} {why}")
         if reason:
             write(directory, data, read(directory, data) + b"x")
-            status, said, why = program.run()
-            checks.check(status == 1 and reason in why, f"the README's block {number} of other data: {status} {said} {why}")
+            status, output, why = program.run()
+            checks.check(status == 1 and reason in why, f"the README's block {number} of other data: {status} {output} {why}")
             write(directory, data, read(directory, data)[:-1])
     status, _, why = run([minisign, "-V", "-q", "-p", "minisign.pub", "-m", "release.zip"], directory)
     checks.check(status == 0, f"c/minisign of what the README's block has signed: {why}")
@@ -301,36 +315,37 @@ def check_readme(checks, user, room, minisign):
 
 
 def check_types(checks, user):
-    """The types need neither those of the web nor those of Node, and take what the web has."""
+    """Checks that the type declarations need neither the DOM library nor those of Node, and accept types of the DOM library."""
     compiler = needs.program("tsc", "node-typescript")
     for what in ("language", "web"):
         for kind in ("ts", "json"):
             shutil.copy(os.path.join(HERE, "javascript", f"{what}.{kind}"), user)
-        status, said, why = run([compiler, "-p", f"{what}.json"], user)
-        checks.check(status == 0, f"types, {what}: {said.decode()[-1500:]}{why}")
+        status, output, why = run([compiler, "-p", f"{what}.json"], user)
+        checks.check(status == 0, f"types, {what}: {output.decode()[-1500:]}{why}")
 
 
 def check_bare(checks, user):
-    """It needs no other globals than are named, in a context of its own and in a thread, and each of these."""
+    """Checks that the package works, in a new context and in a thread, if there are no other globals than GLOBALS, and fails without any of
+    these."""
     wanted = ["accepted timestamp:1556193335\tfile:test"] * 4 + ["rejected SIGNATURE_REFUSED"]
     rows = [("context", GLOBALS), ("thread", GLOBALS), *(("context", [word for word in GLOBALS if word != left_out]) for left_out in GLOBALS)]
     for where, names in rows:
-        status, said, why = by_node(checks, user, "bare.mjs").run(where, *names, cases=[PUBLISHED])
-        is_told = said.decode().splitlines() == wanted
-        checks.check(is_told == (names is GLOBALS), f"in a bare {where} with {names}: {said} {status} {why[-500:]}")
+        status, output, why = by_node(checks, user, "bare.mjs").run(where, *names, cases=[PUBLISHED])
+        works = output.decode().splitlines() == wanted
+        checks.check(works == (names is GLOBALS), f"in a bare {where} with {names}: {output} {status} {why[-500:]}")
 
 
 SECONDS = 600
-# Hands out the files of a directory, and says nothing.
+# Serves the files of a directory, without logging.
 Handler = type("Handler", (http.server.SimpleHTTPRequestHandler,), {"log_message": lambda *_: None})
 
 
 def check_browsers(checks, user, room, minisign):
-    """It answers in a page and in a worker of Chromium and of Firefox what it has to."""
-    kept, vectors = shared_cases.corpus(), [case for case, _ in shared_cases.vector_texts()]
-    cases = kept + shared_cases.damaged()
-    asked = {"cases": cases, "pieces": kept, "vectors": vectors}
-    digits = {what: [[part.hex() for part in case[1:]] for case in of] for what, of in asked.items()}
+    """Checks the results in a page and in a worker of Chromium and of Firefox."""
+    corpus, vectors = shared_cases.corpus(), [case for case, _ in shared_cases.vector_texts()]
+    cases = corpus + shared_cases.damaged()
+    asked = {"cases": cases, "pieces": corpus, "vectors": vectors}
+    digits = {what: [[part.hex() for part in case[1:]] for case in rows] for what, rows in asked.items()}
     run([minisign, "-G", "-W", "-s", "strong", "-p", "public"], room)
     sealed = shared_cases.sealed(read(room, "strong"), shared_cases.LIMITS[4][0]).decode()
     directory = os.path.join(room, "served")
@@ -340,23 +355,23 @@ def check_browsers(checks, user, room, minisign):
     write(directory, "asked.json", json.dumps({**digits, "sealed": sealed}).encode())
     with http.server.ThreadingHTTPServer(("127.0.0.1", 0), functools.partial(Handler, directory=directory)) as server:
         threading.Thread(target=server.serve_forever, daemon=True).start()
-        for begin in (lambda: Firefox(needs.firefox(), room), lambda: Chromium(*needs.chromium(), room)):
-            browser = begin()
+        for start in (lambda: Firefox(needs.firefox(), room), lambda: Chromium(*needs.chromium(), room)):
+            browser = start()
             try:
                 browser.go(f"http://127.0.0.1:{server.server_port}/")
                 browser.wait(lambda: browser.run("return document.documentElement.dataset.ready !== undefined"), SECONDS)
-                told, what = json.loads(browser.run("return document.body.textContent")), f"{browser.name} {browser.version()}"
+                answers, what = json.loads(browser.run("return document.body.textContent")), f"{browser.name} {browser.version()}"
             finally:
                 browser.quit()
             for where in ("page", "thread"):
-                if checks.check(where in told, f"{what}, {where}: {told}"):
-                    check_told(checks, f"{what}, {where}", told[where], room, minisign, cases)
+                if checks.check(where in answers, f"{what}, {where}: {answers}"):
+                    check_answers(checks, f"{what}, {where}", answers[where], room, minisign, cases)
             print(f"bindings/javascript: in a page and in a worker of {what}", flush=True)
         server.shutdown()
 
 
-def check_told(checks, what, answers, room, minisign, cases):
-    """What it has answered in one place of a browser."""
+def check_answers(checks, what, answers, room, minisign, cases):
+    """Checks the results in a page or a worker of a browser."""
     program = Program(checks, name=what)
     program.run = lambda word, **_: (0, "\n".join(answers[word]).encode(), "")
     program.ask_answers(minisign, cases, (["legacy"], True), (["strict"], False))
@@ -369,32 +384,32 @@ def check_told(checks, what, answers, room, minisign, cases):
     for name, text in zip(("sealed", "sealed.pub"), answers["pair"]):
         write(room, name, text.encode())
     run([minisign, "-S", "-s", "sealed", "-m", "public", "-x", "sig", "-t", what], room, data=f"{shared_cases.PASSWORD}\n".encode())
-    found = run([minisign, "-V", "-Q", "-p", "sealed.pub", "-m", "public", "-x", "sig"], room)
-    checks.check(found[:2] == (0, f"{what}\n".encode()), f"{what}: c/minisign does not sign by a sealed key: {found}")
+    verified = run([minisign, "-V", "-Q", "-p", "sealed.pub", "-m", "public", "-x", "sig"], room)
+    checks.check(verified[:2] == (0, f"{what}\n".encode()), f"{what}: c/minisign signs with an encrypted key: {verified}")
 
 
-# What is checked in a directory of its own.
-IN_ROOMS = {"files": check_files, "memory": check_memory, "bundles": check_bundles, "readme": check_readme}
+# The checks that need a new directory, by the case that a mutant names.
+IN_DIRECTORIES = {"files": check_files, "memory": check_memory, "bundles": check_bundles, "readme": check_readme}
 
 
-def room_of(room, name):
-    """A new directory in a room."""
+def new_directory(room, name):
+    """Creates a directory, and returns its path."""
     os.makedirs(os.path.join(room, name))
     return os.path.join(room, name)
 
 
 def check_mutants(checks, user, room, minisign):
-    """Each mutant is noticed by what is asked of the programs over the changed package, in Node."""
-    def ask(found, changed, directory, word):
-        """Asks in a copy of the user's directory, over the changed package."""
+    """Checks that the case that each mutant of the package names detects it, in Node."""
+    def ask(checks, changed, directory, word):
+        """Runs a case in a copy of the user's directory, with the changed package."""
         copied = shutil.copytree(user, os.path.join(directory, "user"), ignore=shutil.ignore_patterns("minisign-proved"))
         os.symlink(changed, os.path.join(copied, "node_modules", "minisign-proved"))
         if word == "sign":
-            check_signing(found, copied, os.path.join(directory, "signed"), minisign, opens=False)
-        elif word in IN_ROOMS:
-            IN_ROOMS[word](found, copied, room_of(directory, word), minisign)
+            check_signing(checks, copied, os.path.join(directory, "signed"), minisign, decrypts=False)
+        elif word in IN_DIRECTORIES:
+            IN_DIRECTORIES[word](checks, copied, new_directory(directory, word), minisign)
         else:
-            ASKED[word](by_node(found, copied, "answers.mjs"), minisign, shared_cases.corpus())
+            ASKED[word](by_node(checks, copied, "answers.mjs"), minisign, shared_cases.corpus())
 
     package = os.path.join(user, "node_modules", "minisign-proved")
     shared_cases.check_mutants(checks, package, "bindings/javascript", mutants_of("bindings", "javascript", "mutants"), room, ask)
@@ -402,7 +417,7 @@ def check_mutants(checks, user, room, minisign):
 
 def run_all(checks, room):
     page = next(filter(os.path.isfile, sys.argv[1:]), os.path.join(TOP, "dist", "minisign.html"))
-    user, minisign = made(room, page), shared_cases.c_minisign(room)
+    user, minisign = install(room, page), shared_cases.c_minisign(room)
     check_sources(checks, user)
     cases = shared_cases.all_cases(checks, minisign)
     program = by_node(checks, user, "answers.mjs")
@@ -410,14 +425,14 @@ def run_all(checks, room):
         ask(program, minisign, cases)
     program.ask_answers(minisign, cases, (["threads"], False))
     program.ask_growth(CALLS, GROWTH, cases=[PUBLISHED, PUBLISHED._replace(data=b"other data")])
-    tried = {name for _, name in shared_cases.rejections()} | {"BARE_PUBLIC_KEY_LENGTH", "BARE_PUBLIC_KEY_NOT_BASE64"}
-    wanted = {name for name, number in shared_cases.ERRORS.items() if number in VERIFYING}
-    checks.check(tried == wanted, f"an error is not tried: {tried ^ wanted}")
+    tested = {name for _, name in shared_cases.rejections()} | {"BARE_PUBLIC_KEY_LENGTH", "BARE_PUBLIC_KEY_NOT_BASE64"}
+    expected = {name for name, number in shared_cases.ERRORS.items() if number in VERIFYING}
+    checks.check(tested == expected, f"errors without a test, or unexpected ones: {tested ^ expected}")
     signing = check_signing(checks, user, os.path.join(room, "signed"), minisign)
     if signing:
         signing.ask_growth(KEYS, GROWTH_OF_KEYS)
-    for name, check in IN_ROOMS.items():
-        check(checks, user, room_of(room, name), minisign)
+    for name, check in IN_DIRECTORIES.items():
+        check(checks, user, new_directory(room, name), minisign)
     check_types(checks, user)
     check_bare(checks, user)
     check_browsers(checks, user, room, minisign)

@@ -1,16 +1,16 @@
 #!/usr/bin/env python3
-"""Tries the package of `bindings/python` as its user has it: builds the wheel from the packed archive of sources,
-without the kit, installs it into fresh environments without a network, and uses it over libsodium and over the
+"""Checks that the Python package in bindings/python works for a user: its wheel is built from the packed archive of
+sources, without the kit, installed into new environments, without a network, and used with libsodium and with the
 package `cryptography`.
 
     tests/bindings/python.py
 
-The archive is also built where there is no archive of calls for the system, and for others. Its answers are compared
-with those of `c/minisign`: the kept corpus, 500 damaged texts, data in pieces; and with those of libsodium: the
-signatures of Ed25519 that implementations answer differently. Also: the exceptions and structs are those of the
-header; the types hold; each call names the argument that is of another type or value; calls hold no memory in the end;
-threads; keys and signatures of Minisign's own program; the examples of the README; the cases of tests/installer for
-`install` and `check`; and each mutant of python/mutants is noticed. It prints a line for each case that failed or was
+The wheel is also built for systems for which there is no archive of proved functions, and for other systems. The results
+are compared with those of `c/minisign`, on the corpus, 500 damaged cases and data in pieces, and with those of libsodium,
+on Ed25519 signatures on which implementations differ. The script also checks the exceptions and structs, which must be
+those of the header; the type annotations; the error of each argument with a wrong type or value; memory; threads; keys
+and signatures of Minisign's own program; the examples of the README; `install` and `check`, with the cases of
+tests/installer; and that each mutant of python/mutants is detected. It prints a line for each case that failed or was
 skipped; the last line is `N passed, M failed`.
 
 Needs Debian's Python with pip, venv, setuptools, wheel and cryptography, mypy, make, binutils, clang, a C compiler,
@@ -53,45 +53,46 @@ ALWAYS = ("check_builds",)
 
 @functools.lru_cache(maxsize=None)
 def python():
-    """The path of Debian's Python with all that the package is built and tried with."""
-    path, look = os.path.join(needs.DEBIAN, "python3"), "import setuptools, pip, venv, ensurepip, wheel, cryptography"
-    return needs.need(lambda: path if os.path.exists(path) and run([path, "-c", look])[0] == 0 else None,
+    """Returns the path of Debian's Python with the modules that the package is built and tested with."""
+    path, imports = os.path.join(needs.DEBIAN, "python3"), "import setuptools, pip, venv, ensurepip, wheel, cryptography"
+    return needs.need(lambda: path if os.path.exists(path) and run([path, "-c", imports])[0] == 0 else None,
                       "Debian's Python with pip, venv, setuptools, wheel and cryptography", "python3-pip", "python3-venv",
                       "python3-setuptools", "python3-wheel", "python3-cryptography")
 
 
-# ---- How it is built ----
+# ---- Builds ----
 
-# All that building runs, beside Python: no make.
+# All programs that a build runs, except for Python. make is not one of them.
 NEEDED = ("gcc", "x86_64-linux-gnu-gcc", "ld", "as", "objcopy")
-NO_COMPILER = "minisign-proved is built by a C compiler with GNU's options, as gcc and clang have them: {} is none, so name one in CC"
-# The value of MINISIGN_PORTABLE with which a mutant of setup.py has to fail.
+NO_COMPILER = "minisign-proved needs a C compiler with GNU options, such as gcc or clang, and {} is none: name one in CC"
+# The value of MINISIGN_PORTABLE for each case in which a mutant of setup.py has to fail.
 SETUPS = {"C alone": "1", "the archives": ""}
 
 
 def build(sources, programs, **environment):
-    """Builds the library of these sources, without optimizing, and a wheel: how that ended, and what was said; and the library's path."""
+    """Builds the library without optimization, and a wheel. Returns the exit status, the error output, and the library's path."""
     words = ["-q", "build", "--build-lib", "built", "bdist_wheel", "--dist-dir", "made"]
-    status, _, why = run([python(), "setup.py", *words], sources, {"PATH": programs, "MINISIGN_PORTABLE": "", "CFLAGS": "-O0", **environment})
+    variables = {"PATH": programs, "MINISIGN_PORTABLE": "", "CFLAGS": "-O0", **environment}
+    status, _, why = run([python(), "setup.py", *words], sources, variables)
     return status, why, os.path.join(sources, "built", PACKAGE, "libminisign.so")
 
 
 def check_loaded(checks, what, compiler, library, before=(), **variables):
-    """The library is loaded, and hashes; and has a host, but for Windows."""
+    """Checks that a program can load the library and hash with it, and that the library has the installer, except on Windows."""
     program = os.path.join(os.path.dirname(library), "loaded.exe")
     hold([compiler, "-std=c11", "-w", "-I", os.path.join(TOP, "include"), "-o", program, os.path.join(HERE, "python", "loaded.c")])
-    said = run([*before, program, library], environment=variables)[1].decode()
-    wanted = rf"\d+ {hashlib.blake2b(bytes([7]) * 1000).hexdigest()} with{'out' if what == 'Windows' else ''} a host\r?\n"
-    checks.check(re.fullmatch(wanted, said), f"{what}: {said}")
+    output = run([*before, program, library], environment=variables)[1].decode()
+    expected = rf"\d+ {hashlib.blake2b(bytes([7]) * 1000).hexdigest()} with{'out' if what == 'Windows' else ''} installer\r?\n"
+    checks.check(re.fullmatch(expected, output), f"{what}: {output}")
 
 
 def check_builds(checks, archive, room):
-    """The archive of sources is built, in a path with blanks: as C by Debian's compiler and over musl, for AArch64 over its archive of
-    calls, and for Windows. A compiler without GNU's options is an error that says so."""
+    """Builds the archive of sources in a path with spaces: as C by Debian's compiler and with musl, for AArch64 with the archive of proved
+    functions, and for Windows. Checks that a compiler without GNU options is rejected with an error that says so."""
     programs, arm, windows = shared.few_programs(room, *NEEDED), emulated.AARCH64, portable.Windows(room)
 
     def unpacked(name):
-        directory = os.path.join(room, f"of {name}")
+        directory = os.path.join(room, f"sources of {name}")
         shutil.unpack_archive(archive, directory)
         return glob.glob(f"{glob.escape(directory)}/*")[0]
 
@@ -102,26 +103,27 @@ def check_builds(checks, archive, room):
             ("AArch64", emulated.compiler(arm), emulated.emulator(arm), "", "linux_aarch64"), ("Windows", mingw, [windows.program], "", "win_amd64")):
         sources = unpacked(what)
         status, why, library = build(sources, programs, CC=compiler, MINISIGN_PORTABLE=is_portable)
-        if checks.check(status == 0, f"{what}: it was not built: {why[-1000:]}"):
+        if checks.check(status == 0, f"{what}: the build failed: {why[-1000:]}"):
             check_loaded(checks, what, compiler, library, before, **windows.variables)
-            checks.check(("aarch64_minisign_update" in shared.names_in(library)) == (what == "AArch64"), f"{what}: the archives")
+            has_archive = "aarch64_minisign_update" in shared.symbols_of(library)
+            checks.check(has_archive == (what == "AArch64"), f"{what}: is linked with an archive: {has_archive}")
             wheel, = os.listdir(os.path.join(sources, "made"))
             checks.check(wheel.endswith(f"-none-{machine}.whl"), f"{what}: the wheel is {wheel}")
     windows.end()
     status, why, _ = build(unpacked("another compiler"), programs, CC="cl")
-    checks.check(status != 0 and NO_COMPILER.format("cl") in why, f"a compiler without GNU's options: {why[-500:]}")
+    checks.check(status != 0 and NO_COMPILER.format("cl") in why, f"a compiler without GNU options: {why[-500:]}")
 
-    def ask(found, changed, directory, setup):
+    def ask(checks, changed, directory, setup):
         status, why, library = build(changed, programs, CC=gcc, MINISIGN_PORTABLE=SETUPS[setup])
-        found.check(status == 0, why)
-        check_loaded(found, "a mutant", gcc, library)
+        checks.check(status == 0, why)
+        check_loaded(checks, "a mutant", gcc, library)
 
     shared.check_mutants(checks, unpacked("mutants"), "bindings/python", mutants_of("bindings", "python", "setup_mutants"), room, ask)
     return programs
 
 
 def build_wheel(checks, room):
-    """The wheel, built from the packed archive over the archives of calls."""
+    """Builds the wheel from the packed archive of sources, with the archives of proved functions, and checks it. Returns its path."""
     package = shared.packed("python", room, PYTHON=python())
     archive, = glob.glob(os.path.join(room, "packed", "*.tar.gz"))
     command = [python(), "-m", "pip", "wheel", "-q", "--no-index", "--no-build-isolation", "--no-deps", "-w", room, archive]
@@ -129,24 +131,24 @@ def build_wheel(checks, room):
     path, = glob.glob(os.path.join(room, "*.whl"))
     with zipfile.ZipFile(path) as wheel:
         names = {name.partition("/")[2] for name in wheel.namelist() if name.startswith(PACKAGE + "/")}
-        told, = (wheel.read(name).decode() for name in wheel.namelist() if name.endswith("METADATA"))
+        metadata, = (wheel.read(name).decode() for name in wheel.namelist() if name.endswith("METADATA"))
     sources = {os.path.basename(path) for path in glob.glob(os.path.join(package, "src", PACKAGE, "*.p*"))}
     checks.check(names == sources | {"libminisign.so", "py.typed"}, f"the wheel has {sorted(names)}")
-    checks.check(f"\nVersion: {shared.VERSION}\n" in told, f"the header is of version {shared.VERSION}, and the wheel says {told[:200]}")
-    checks.check("Requires-Dist" not in told and "Name: minisign-proved\n" in told, f"the wheel says {told[:300]}")
-    checks.check(re.search(r"-py3-none-linux_(x86_64|aarch64)\.whl$", path) is not None, f"the wheel is {path}")
+    checks.check(f"\nVersion: {shared.VERSION}\n" in metadata, f"the header has version {shared.VERSION}, and the wheel {metadata[:200]}")
+    checks.check("Requires-Dist" not in metadata and "Name: minisign-proved\n" in metadata, f"the metadata of the wheel: {metadata[:300]}")
+    checks.check(re.search(r"-py3-none-linux_(x86_64|aarch64)\.whl$", path) is not None, f"the name of the wheel: {path}")
     return path
 
 
 def environment(room, name, wheel, *words):
-    """A fresh environment that has the wheel: its Python, and where the package stands in it."""
+    """Creates a new environment with the wheel. Returns the paths of its Python and of the installed package."""
     path = os.path.join(room, name)
     hold([python(), "-m", "venv", "--without-pip", *words, path])
     hold([python(), "-m", "pip", "--python", f"{path}/bin/python", "install", "-q", "--no-index", wheel])
     return os.path.join(path, "bin", "python"), glob.glob(f"{path}/lib/python3*/site-packages/{PACKAGE}")[0]
 
 
-# ---- What it is made of ----
+# ---- Sources ----
 
 
 def check_sources(checks):
@@ -157,12 +159,13 @@ def check_sources(checks):
         checks.check(ast.parse(read(path), path, feature_version=(3, 9)))
 
 
-# A program that prints what the package has of the headers: the errors; the sizes of structs, and where their fields stand; and of the
-# installing host's structs, in one of which some fields stand inside of others in C, the numbers by what they are in C.
-TOLD = r"""
+# A program that prints what the package declares: the errors; the sizes of structs, and the offsets of their fields; and the sizes and
+# offsets of the installer's structs, named by the C expressions that give the same numbers. In C, three fields of one of these structs are
+# in nested structs.
+DECLARED = r"""
 import ctypes, json, re
 from minisign_proved import _calls, _header, errors, installing
-places, host = {}, {"INT64_MAX": installing.LONGEST, "sizeof(struct wanted)": ctypes.sizeof(installing.Wanted)}
+places, installer = {}, {"INT64_MAX": installing.MAX_SIZE, "sizeof(struct wanted)": ctypes.sizeof(installing.Wanted)}
 for name, struct in vars(_header).items():
     if isinstance(struct, type) and issubclass(struct, ctypes.Structure) and struct is not ctypes.Structure:
         name = "minisign" + re.sub("([A-Z])", r"_\1", name).lower()
@@ -173,54 +176,57 @@ for struct in (installing.Wanted, installing.Installing):
         name, value = "struct " + struct.__name__.lower(), getattr(struct, field)
         if name == "struct installing" and field in ("shown", "cause", "number"):
             field = "directory.trouble." + field
-        host.update({f"offsetof({name}, {field})": value.offset, f"sizeof((({name} *) 0)->{field})": value.size})
-print(json.dumps([[[number, kind.__name__, str(_calls.error_of(number))] for number, kind in errors.BY_NUMBER.items()], places, host]))
+        installer.update({f"offsetof({name}, {field})": value.offset, f"sizeof((({name} *) 0)->{field})": value.size})
+print(json.dumps([[[number, kind.__name__, str(_calls.error_of(number))] for number, kind in errors.BY_NUMBER.items()], places, installer]))
 """
 
 
 def check_headers(checks, room, python_path, package):
-    """The library is linked with the archives. The exceptions, the numbers, the structs and their fields are those of the headers, and of
-    c/install/installing.h as far as the package has them."""
-    checks.check("v3_minisign_update" in shared.names_in(f"{package}/libminisign.so"), "it is not linked with the archives")
-    errors, places, host = json.loads(hold([python_path, "-c", TOLD]))
-    wanted = [[number, "".join(map(str.capitalize, name.split("_"))), shared.error_texts()[name]] for name, number in shared.ERRORS.items()]
-    checks.same(sorted(errors), sorted(wanted), "the exceptions")
+    """Checks that the library is linked with the archives, and that the exceptions, the constants and the structs are those of the headers,
+    and those of c/install/installing.h that the package declares."""
+    checks.check("v3_minisign_update" in shared.symbols_of(f"{package}/libminisign.so"), "the library is not linked with the archives")
+    errors, places, installer = json.loads(hold([python_path, "-c", DECLARED]))
+    expected = [[number, "".join(map(str.capitalize, name.split("_"))), shared.error_texts()[name]]
+                for name, number in shared.ERRORS.items()]
+    checks.same(sorted(errors), sorted(expected), "the exceptions")
     checks.same(places, shared.layout(room), "the structs")
-    in_c = shared.numbers_in_c(room, ['"install/installing.h"'], [(expression, expression) for expression in host])
-    checks.check(host == in_c and len(in_c) > 30, f"the host's structs are {host}, and in C {in_c}")
+    in_c = shared.numbers_in_c(room, ['"install/installing.h"'], [(expression, expression) for expression in installer])
+    checks.check(installer == in_c and len(in_c) > 30, f"the structs of the installer are {installer}, and in C {in_c}")
 
 
 def check_types(checks, python_path, package):
+    """Checks the type annotations of the package, and its use in the tests, with mypy."""
     mypy = needs.program("mypy", "mypy")
-    status, said, why = run([mypy, "--strict", "--cache-dir=/dev/null", "--python-executable", python_path, package, USER, CHECKS])
-    checks.check(status == 0, f"types: {said.decode()[-1000:]}{why[-300:]}")
+    status, output, why = run([mypy, "--strict", "--cache-dir=/dev/null", "--python-executable", python_path, package, USER, CHECKS])
+    checks.check(status == 0, f"types: {output.decode()[-1000:]}{why[-300:]}")
 
 
-# ---- What its user is told ----
+# ---- Results ----
 
 
 def user_of(checks, python_path, kind, changed=""):
-    """The program of a user, by one kind of Ed25519, over the package of its Python or a changed one."""
+    """Returns the test program python_user.py, with one implementation of Ed25519, and the installed package or a changed one."""
     return shared.Program(checks, python_path, USER, kind, name=kind, PYTHONPATH=changed, PYTHONDONTWRITEBYTECODE="1",
                           PATH=static_library.path_without_kit())
 
 
-def shown(reading):
-    return f"{shared.shown_id(reading.key_id)} {shared.shown_id(reading.signature_key_id)} {reading.is_legacy}"
+def fields_line(fields):
+    """Returns the line that `read` prints for a case."""
+    return f"{shared.key_id_text(fields.key_id)} {shared.key_id_text(fields.signature_key_id)} {fields.is_legacy}"
 
 
 def ask_all(user, minisign, cases):
-    """The cases, with legacy signatures or without; data in pieces, each rejection by its name, also of vectors of Ed25519, and what is
-    read before anything is asked."""
+    """Checks all results of a program that verifies: cases with legacy signatures allowed or not, data in pieces, the error of each
+    rejection, Ed25519 vectors, and the fields that can be read before verifying."""
     user.ask_answers(minisign, cases, (["answers", "allow"], True), (["answers", "reject"], False))
     user.ask_answers(minisign, shared.corpus() + shared.large(minisign), (["pieces"], True))
     user.ask_reasons(["answers", "reject"], shared.rejections())
     user.ask_vectors(["answers", "allow"])
-    user.ask_readings(["read"], shown)
+    user.ask_fields(["read"], fields_line)
 
 
 def check_examples(checks, python_path, room):
-    """The examples of README.md, pasted into one program, in a directory with the files that they name."""
+    """Runs the examples of README.md, pasted into one program, in a directory with the files that they name."""
     os.makedirs(os.path.join(room, "there"))
     for name, data in (("app-2", b"version 2"), ("app-3", b"version 3"), ("data", b"data")):
         write(room, name, data)
@@ -231,14 +237,15 @@ def check_examples(checks, python_path, room):
     status, _, why = run([python_path, write(room, "program.py", shared.readme_program("python").encode())], room)
     checks.check(status == 0 and read(room, "there", "app") == b"version 2", f"the examples of the README: {why[-500:]}")
     status, _, why = minisign("-V", "-p", "new.pub", "-m", "app-3")
-    checks.check(status == 0, f"what the example has signed: {why}")
+    checks.check(status == 0, f"minisign verifies what the example has signed: {why}")
 
 
 def check_installing(checks, python_path, room):
-    """The cases of tests/installer over the package, by a program of it. (What Python itself calls is neither broken nor traced.)"""
+    """Runs the cases of tests/installer with the package. Only system calls of the library are disturbed and traced, not those of
+    Python."""
     preload = build_preload(room, "disturbed_calls", "libminisign.so")
-    said = checks.ended("installing", process.run([python_path, INSTALLER], LD_PRELOAD=preload), says=" passed, 0 failed\n")
-    skipped, passed = re.fullmatch(r"(.*?)(\d*)(?: passed, \d+ failed\n)?", said, re.S).groups()
+    output = checks.ended("installing", process.run([python_path, INSTALLER], LD_PRELOAD=preload), says=" passed, 0 failed\n")
+    skipped, passed = re.fullmatch(r"(.*?)(\d*)(?: passed, \d+ failed\n)?", output, re.S).groups()
     print(skipped, end="")
     checks.passed += int(passed or 0)
 
@@ -246,43 +253,45 @@ def check_installing(checks, python_path, room):
 # ---- Mutants ----
 
 def check_mutants(checks, python_path, package, room, minisign):
-    """Each mutant of the package is noticed by the checks that it names."""
-    def ask(found, changed, directory, word):
-        # (over libsodium a start takes less time)
-        user = user_of(found, python_path, "cryptography" if word in ("vectors", "strict") else "libsodium", os.path.dirname(changed))
-        asked = {"answers": lambda: user.ask_reasons(["answers", "reject"], shared.rejections()),
-                 "read": lambda: user.ask_readings(["read"], shown),
+    """Checks that the case that each mutant of the package names detects it."""
+    def ask(checks, changed, directory, word):
+        # libsodium is used where possible, because it loads faster.
+        user = user_of(checks, python_path, "cryptography" if word in ("vectors", "strict") else "libsodium", os.path.dirname(changed))
+        cases = {"answers": lambda: user.ask_reasons(["answers", "reject"], shared.rejections()),
+                 "read": lambda: user.ask_fields(["read"], fields_line),
                  "pieces": lambda: user.ask_answers(minisign, shared.corpus(), (["pieces"], True)),
                  "vectors": lambda: user.ask_vectors(["answers", "allow"]),
-                 "strict": lambda: user.ask_itself(1, "installing", directory),
+                 "strict": lambda: user.ask_pairs(1, "installing", directory),
                  "ids": lambda: shared.check_key_ids(user, os.path.join(directory, "ids"), minisign),
                  "sign": lambda: shared.check_signing(user, os.path.join(directory, "signed"), minisign)}
-        asked.get(word, lambda: user.ask_itself(1, word, directory))()
+        cases.get(word, lambda: user.ask_pairs(1, word, directory))()
 
     shared.check_mutants(checks, package, f"bindings/python/src/{PACKAGE}", mutants_of("bindings", "python", "mutants"), room, ask)
 
 
 def run_all(checks, room):
     minisign, wheel = shared.c_minisign(room), build_wheel(checks, room)
-    alone, place = environment(room, "alone", wheel)
-    beside, package = environment(room, "beside", wheel, "--system-site-packages")
+    with_libsodium, installed = environment(room, "with-libsodium", wheel)
+    with_cryptography, package = environment(room, "with-cryptography", wheel, "--system-site-packages")
     check_sources(checks)
-    check_headers(checks, room, alone, place)
-    check_types(checks, beside, package)
-    check_examples(checks, alone, os.path.join(room, "examples"))
+    check_headers(checks, room, with_libsodium, installed)
+    check_types(checks, with_cryptography, package)
+    check_examples(checks, with_libsodium, os.path.join(room, "examples"))
     cases = shared.all_cases(checks, minisign)
+    # The words of python_checks.py, and how many results each has at least.
     words = {"memory": 1, "threads": 3, "installing": 40, "signals": 3, "arguments": 1000, "parts": 25, "keys": 30, "writing": 40}
-    for kind, python_path, more in (("libsodium", alone, {"passwords": 10, "documentation": 100}), ("cryptography", beside, {})):
-        user, own = user_of(checks, python_path, kind), os.path.join(room, kind)
-        os.mkdir(own)
+    for kind, python_path, more in (("libsodium", with_libsodium, {"passwords": 10, "documentation": 100}),
+                                    ("cryptography", with_cryptography, {})):
+        user, directory = user_of(checks, python_path, kind), os.path.join(room, kind)
+        os.mkdir(directory)
         ask_all(user, minisign, cases)
         for word, least in {**words, **more}.items():
-            user.ask_itself(least, word, own)
-        shared.check_signing(user, os.path.join(own, "signed"), needs.minisign())
-        shared.check_key_ids(user, os.path.join(own, "ids"), minisign)
-    shared.check_written(user, os.path.join(room, "written"))
-    check_mutants(checks, beside, package, room, minisign)
-    check_installing(checks, alone, room)
+            user.ask_pairs(least, word, directory)
+        shared.check_signing(user, os.path.join(directory, "signed"), needs.minisign())
+        shared.check_key_ids(user, os.path.join(directory, "ids"), minisign)
+    shared.check_new_key_files(user, os.path.join(room, "written"))
+    check_mutants(checks, with_cryptography, package, room, minisign)
+    check_installing(checks, with_libsodium, room)
 
 
 if __name__ == "__main__":

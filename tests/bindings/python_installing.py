@@ -1,6 +1,6 @@
-"""The cases of tests/installer over `install` and `check` of the Python package, by a program that has the words of
-`minisign-install`. Each run of it is a fork of this process, which has loaded the package before. `python.py` runs it,
-in a Python that has the package installed, with `disturbed_calls.c` preloaded.
+"""Checks that `install` and `check` of the Python package pass the cases of tests/installer. A program in Python with the
+options of `minisign-install` calls them. Each run of the program is a fork of this process, which has loaded the package
+before. `python.py` runs this script in a Python that has the package installed, with `disturbed_calls.c` preloaded.
 
 It prints a line for each case that failed or was skipped; the last line counts the cases. Needs Python 3.9 or later,
 minisign and setfacl.
@@ -33,14 +33,14 @@ FAILED, MISUSED, REJECTED, OLDER, IN_USE, NOT_ON_DISK, UNRECORDED, SAME, EXPIRED
 OFFERS = {minisign.Offer.NEWER: 0, minisign.Offer.THERE: THERE, minisign.Offer.OLDER: OLDER}
 OPTIONS = ["first", "again", "check", "must-expire", "key=", "name=", "numbering=", "mode=", "most=", "wait="]
 
-# The exit status that `minisign-install` has for an error, where it is not that of a rejected update.
+# The exit statuses of `minisign-install` for errors. For all other errors the status is that of a rejected update.
 STATUSES = {
     minisign.OlderUpdate: OLDER, minisign.Expired: EXPIRED, minisign.TargetInUse: IN_USE, minisign.DirectoryNotSynced: NOT_ON_DISK,
     minisign.SameNumber: SAME,
     **dict.fromkeys((minisign.NoRecord, minisign.DamagedRecord, minisign.KeptByTimestamp, minisign.KeptByVersion), UNRECORDED),
     **dict.fromkeys((minisign.OutOfMemory, minisign.ReadingFailed, minisign.WritingFailed, minisign.RandomSourceFailed), FAILED),
 }
-# The hints of the program in C after some of them, and after causes of failed calls.
+# The hints of `minisign-install` for errors, and below for the causes of failed calls.
 HINTS = {
     minisign.NoRecord: "use --first for the first installation", minisign.DamagedRecord: "use --first to install anyway",
     minisign.SameNumber: "use --again to install anyway", minisign.TargetInUse: "use --wait SECONDS to wait for it",
@@ -62,39 +62,39 @@ HINTS_OF_CAUSES = {
 
 
 def failure(why, place):
-    """The error and the hint, if there is one, of the program in C about a call that failed."""
-    cause, is_own = why.strerror, why.strerror != os.strerror(why.errno)
-    if not is_own and isinstance(why, FileNotFoundError):
-        cause, is_own = "this directory does not exist", True
+    """Returns the error line and the hint, or None, that `minisign-install` prints for a failed call."""
+    cause, is_own_text = why.strerror, why.strerror != os.strerror(why.errno)
+    if not is_own_text and isinstance(why, FileNotFoundError):
+        cause, is_own_text = "this directory does not exist", True
     hint = next((hint for front, hint in HINTS_OF_CAUSES.items() if cause.startswith(front)), None)
     if cause.startswith("this is "):
         kind = cause if why.filename == place else ""
         hint = ("give the path that it leads to" if "symbolic link" in kind else "give the path of a file in it" if "directory" in kind
                 else "remove it or move it away")
-    return f"error: {why.filename}: {cause}" + ("" if is_own else f" (os error {why.errno})"), hint
+    return f"error: {why.filename}: {cause}" + ("" if is_own_text else f" (os error {why.errno})"), hint
 
 
 def rejection(data, signature, place, name, numbering, error):
-    """The error and the hint, if there is one, of the program in C about an update that is rejected."""
-    at = signature
+    """Returns the error line and the hint, or None, that `minisign-install` prints for a rejected update."""
+    file = signature
     if isinstance(error, (minisign.SignatureRefused, minisign.OlderUpdate, minisign.OtherSize, minisign.TooLong)):
-        at = data
+        file = data
     elif STATUSES.get(type(error)) == UNRECORDED:
-        at = os.path.join(os.path.dirname(place) or ".", f".{os.path.basename(place)}.number")
+        file = os.path.join(os.path.dirname(place) or ".", f".{os.path.basename(place)}.number")
     elif STATUSES.get(type(error)) in (FAILED, IN_USE, NOT_ON_DISK, SAME):
-        at = place
+        file = place
     hint = NO_NUMBER[numbering] if isinstance(error, minisign.NoNumber) else HINTS.get(type(error))
-    return f"error: {at}: {error}", hint and hint.format(name=name)
+    return f"error: {file}: {error}", hint and hint.format(name=name)
 
 
-def report(*said):
-    """Prints errors, and the last hint."""
-    hints = [f"hint: {hint}" for _, hint in said if hint]
-    print(*(error for error, _ in said), *hints[-1:], sep="\n", file=sys.stderr)
+def report(*errors):
+    """Prints error lines, and only the last of their hints."""
+    hints = [f"hint: {hint}" for _, hint in errors if hint]
+    print(*(error for error, _ in errors), *hints[-1:], sep="\n", file=sys.stderr)
 
 
 def read_text(kind, word):
-    """A public key, of a file or its letters, or a signature; or the end of the program."""
+    """Reads a public key, from a file or base64, or a signature. After an error, prints it and ends the program."""
     try:
         return kind(word)
     except minisign.MinisignError as error:
@@ -108,11 +108,11 @@ def read_text(kind, word):
 
 
 def install(words):
-    """What the program does by its words: the exit status."""
-    # (a signal for the process goes to this thread, where the other one holds it back)
+    """Runs the program with these words, and returns its exit status."""
+    # A second thread, which gets a signal for the process while the installer blocks signals in the first thread.
     threading.Thread(target=threading.Event().wait, daemon=True).start()
-    given, paths = getopt.gnu_getopt(words, "", OPTIONS)
-    options, keys = dict(given), [value for name, value in given if name == "--key"]
+    pairs, paths = getopt.gnu_getopt(words, "", OPTIONS)
+    options, keys = dict(pairs), [value for name, value in pairs if name == "--key"]
     key = None if keys else paths.pop(0)
     data = None if "--check" in options else paths.pop(0)
     signature, place = paths
@@ -123,18 +123,18 @@ def install(words):
     try:
         public_keys = [read_text(minisign.PublicKey.from_base64, text) for text in keys] or read_text(minisign.PublicKey.from_file, key)
         text = read_text(minisign.Signature.from_file, signature)
-        wanted = {"first": "--first" in options, "must_expire": "--must-expire" in options, "numbering": numbering, "name": name}
+        parameters = {"first": "--first" in options, "must_expire": "--must-expire" in options, "numbering": numbering, "name": name}
         if "--check" in options:
-            return OFFERS[minisign.check(public_keys, text, place, **wanted)]
+            return OFFERS[minisign.check(public_keys, text, place, **parameters)]
         is_new = minisign.install(public_keys, data, text, place, again="--again" in options, mode=None if mode is None else int(mode, 8),
-                                  most=most, wait=int(options.get("--wait", 0)), **wanted)
+                                  most=most, wait=int(options.get("--wait", 0)), **parameters)
     except minisign.MinisignError as error:
         status, cause = STATUSES.get(type(error), REJECTED), error.__cause__
         has_cause = status in (FAILED, NOT_ON_DISK, EXPIRED) and isinstance(cause, OSError)
-        said = [rejection(data, signature, place, name or os.path.basename(place), numbering, error)]
+        errors = [rejection(data, signature, place, name or os.path.basename(place), numbering, error)]
         if has_cause:
-            said = [*said[status == FAILED:], failure(cause, place)]
-        report(*said)
+            errors = [*errors[status == FAILED:], failure(cause, place)]
+        report(*errors)
         return status
     except OSError as why:
         report(failure(why, place))
@@ -142,27 +142,27 @@ def install(words):
     return 0 if is_new else THERE
 
 
-# ---- Its runs ----
+# ---- Runs of the program ----
 
-# What needs the words or the messages of a program, and not of a function.
-LEFT_OUT = {"progress at a terminal", "a closed error stream", "an allocation that fails", "an error stream that nobody reads",
-            "what a check shows", "the unit of the document",
-            "a mode that is asked for, of what is there already"}
-KEPT = {"a name that begins with a dash", "another name than the signed one"}
+# Cases that test the command line or the messages of a program, which functions do not have.
+LEFT_OUT = {"shows progress at a terminal", "works with a closed error stream", "installs nothing if an allocation fails",
+            "exits normally if nobody reads its errors", "--check shows only signed text, without control characters",
+            "the documented systemd unit installs an update", "warns that --mode does not change an installed file"}
+INCLUDED = {"takes a name that begins with a dash", "takes a file name other than the signed one"}
 
 
 def chosen_cases(installing):
-    # (what the host does after a cut over other beginnings, the cases of the program show)
-    cut_off = {f"cut off by {cut}, over {begin}" for begin, *_ in BEGINNINGS[1:] for cut, _ in CUTS}
-    # (the updater script runs a program)
-    left_out = LEFT_OUT | cut_off | {name for name, *_ in (*word_cases, *download_cases)} - KEPT
-    found = [*cases_of(installing)]
-    expect(left_out | KEPT <= {case[0] for case in found}, "what is left out is no case")
-    return [case for case in found if case[0] not in left_out]
+    # Interrupted runs that begin in other ways are left out, because the cases of `minisign-install` test the same C code.
+    cut_off = {f"recovers from {cut}, over {begin}" for begin, *_ in BEGINNINGS[1:] for cut, _ in CUTS}
+    # The cases of downloads are left out, because the updater script runs `minisign-install`.
+    left_out = LEFT_OUT | cut_off | {name for name, *_ in (*word_cases, *download_cases)} - INCLUDED
+    cases = [*cases_of(installing)]
+    expect(left_out | INCLUDED <= {case[0] for case in cases}, "a name of LEFT_OUT or INCLUDED is not the name of a case")
+    return [case for case in cases if case[0] not in left_out]
 
 
-def go_on(words, environment, descriptors):
-    """Goes on as the program in what was forked to run it: as Python begins, and with these descriptors open alone."""
+def run_as_program(words, environment, descriptors):
+    """Runs the program in a forked process, with the signal handlers of a new Python, and with only these descriptors open."""
     status = FAILED
     try:
         signal.signal(signal.SIGINT, signal.default_int_handler)
@@ -181,17 +181,17 @@ def go_on(words, environment, descriptors):
 
 
 def run_all(room):
-    """Runs the cases: the failures, and how many there were."""
-    # (other programs are asked for where a library is: without them the package takes libsodium by its usual name)
+    """Runs the cases, and returns the failures and the number of cases."""
+    # find_library runs other programs, which the cases would trace. Without it, the package loads libsodium by its usual name.
     ctypes.util.find_library = lambda _: None
     installing = Installing(__file__, RealInstaller(room), room)
     installing.preload, popen = os.environ.pop("LD_PRELOAD"), subprocess.Popen
 
     def begin(command, preexec_fn=None, pass_fds=(), **how):
-        """Begins a command as ever; and the program in what was forked and made ready for it, which then runs nothing else."""
+        """Starts a command as Popen does. If it is the program, the forked process runs `run_as_program` and executes nothing."""
         prepare = preexec_fn or bool
         if command[0] == installing.program:
-            preexec_fn, how["restore_signals"] = lambda: (prepare(), go_on(command[1:], how["env"], pass_fds)), False
+            preexec_fn, how["restore_signals"] = lambda: (prepare(), run_as_program(command[1:], how["env"], pass_fds)), False
         return popen(command, preexec_fn=preexec_fn, pass_fds=pass_fds, **how)
 
     with mock.patch.object(subprocess, "Popen", begin):

@@ -1,6 +1,8 @@
-"""A user of the Python package, in a Python that has it installed: `python.py` runs it. With the word `answers`,
-`pieces` or `read` it answers a line for each case that it reads; with `make`, `sign`, `opened`, `sealed`,
-`write` or `ids` it does that with a key; with another one it is `python_checks.py`, which imports more and so takes longer to begin.
+"""A test program that uses the Python package, in a Python that has it installed. `python.py` runs it.
+
+With the words `answers`, `pieces` or `read` it prints a line for each case on standard input. With `make`, `sign`,
+`opened`, `sealed`, `write` or `ids` it uses a key. Any other word is a function of `python_checks.py`, which is a separate
+module because it imports more, and so takes longer to start.
 
 Needs Python 3.9 or later.
 """
@@ -17,7 +19,7 @@ import minisign_proved as minisign
 from minisign_proved import PublicKey, SecretKey, Signature, Verifier
 
 
-# ---- Cases that are read ----
+# ---- Cases ----
 
 
 def read_cases() -> Iterator[Tuple[bytes, bytes, bytes]]:
@@ -27,7 +29,7 @@ def read_cases() -> Iterator[Tuple[bytes, bytes, bytes]]:
 
 
 def name_of(error: minisign.MinisignError) -> str:
-    """The name that an error has in the header."""
+    """Returns the name of an error in the header."""
     return re.sub(r"(?<!^)(?=[A-Z])", "_", type(error).__name__).upper()
 
 
@@ -44,16 +46,16 @@ def answers(word: str) -> None:
 
 
 def cut(data: bytes, choose: random.Random) -> Iterator[bytes]:
-    """The data in pieces of any length, also of none."""
-    at = 0
-    while at < len(data):
+    """Yields the data in pieces of random lengths. Some are empty."""
+    begin = 0
+    while begin < len(data):
         length = choose.choice((0, 1, 63, 64, 65, 127, 128, 129, choose.randrange(1, 70000)))
-        yield data[at:at + length]
-        at += length
+        yield data[begin:begin + length]
+        begin += length
 
 
 def pieces() -> None:
-    """Answers once where all ways to feed the data have the same answer."""
+    """Verifies each case in all ways to pass data, and prints the result, or all results if they differ."""
     choose = random.Random(3)
     for key, data, text in read_cases():
         signature = Signature(text)
@@ -69,12 +71,12 @@ def pieces() -> None:
             lambda: PublicKey(key).verify(io.BytesIO(data), signature, True),
             lambda: PublicKey(key).verify(cut(data, choose), signature, True),
             lambda: in_pieces(bytes), lambda: in_pieces(bytearray), lambda: in_pieces(memoryview)]
-        found = {answer(way) for way in ways}
-        print(found.pop() if len(found) == 1 else f"differs {found}")
+        results = {answer(way) for way in ways}
+        print(results.pop() if len(results) == 1 else f"differs {results}")
 
 
 def read() -> None:
-    """Tells key IDs, and whether signatures are over the data itself, before anything is asked."""
+    """Prints key IDs, and whether signatures are legacy, before anything is verified."""
     for key, _, text in read_cases():
         signature = Signature(text)
         print(PublicKey(key).key_id, signature.key_id, signature.is_legacy)
@@ -91,15 +93,15 @@ def write(room: str, name: str, data: bytes) -> str:
 
 
 def make(directory: str, password: Optional[str] = None) -> None:
-    """Makes a pair of keys in a directory; with a password it is sealed by the least work."""
+    """Writes a key pair into a directory. With a password, the key is encrypted with the lowest limits."""
     key = SecretKey.generate()
     write(directory, "secret", key.to_bytes(password, operations_limit=2**19, memory_limit=2**24))
     write(directory, "public", key.public_bytes())
 
 
 def sign(key: str, data: str, to: str, comment: str, password: Optional[str] = None) -> None:
-    made = SecretKey.from_file(key, password).sign(data, trusted_comment=comment)
-    write("", to, made.text)
+    signature = SecretKey.from_file(key, password).sign(data, trusted_comment=comment)
+    write("", to, signature.text)
 
 
 def sealed(operations: str, memory: str) -> None:
@@ -116,10 +118,10 @@ def write_key(path: str, text: str) -> None:
 
 
 def ids(key: str) -> None:
-    """Prints the key IDs of a secret key and of its public key, and the text of that."""
+    """Prints the key ID of a secret key and of its public key, and the public key file."""
     secret = SecretKey.from_file(key)
-    shown, = re.findall("<SecretKey (.*)>", repr(secret))
-    print(shown, secret.public_key.key_id)
+    key_id, = re.findall("<SecretKey (.*)>", repr(secret))
+    print(key_id, secret.public_key.key_id)
     print(secret.public_bytes().decode(), end="")
 
 
@@ -135,7 +137,7 @@ def outcome(call: Callable[..., None], *words: str) -> str:
     return "OK"
 
 
-# What says how it ended.
+# The words whose outcome is printed.
 CALLS: Dict[str, Callable[..., None]] = {"make": make, "sign": sign, "sealed": sealed, "write": write_key}
 
 if __name__ == "__main__":

@@ -1,12 +1,12 @@
 #!/usr/bin/env python3
-"""Builds the caller of examples/rattle in a copy, over the libraries as they stand proved (tests/shared/proved.py),
-and verifies files with keys of Minisign's own program: it accepts signed files, and rejects changed ones. The commands
-of its README.md are those that are tried: the copy is made by the first, and in place of `rt run`, which would prove all
-crates anew, the program that was built is run, by the same words.
+"""Checks the program in examples/rattle: it is built in a copy, from libraries that are already proved
+(tests/shared/proved.py), accepts files that Minisign's own program signed, and rejects changed ones.
 
     tests/bindings/rattle.py
 
-It prints a line for each failure; the last line is `N passed, M failed`.
+The commands of the example's README.md are tested: the first one renames files in the copy. `rt run` would prove all
+crates again, so instead the built program is run with the same arguments. It prints a line for each failure; the last
+line is `N passed, M failed`.
 
 Needs Python 3.9 or later, the Rattle kit, a C compiler, libsodium with its header and archive, and minisign. It
 installs what is missing if it may, but for the kit.
@@ -29,13 +29,13 @@ from shared_cases import TOP, read, run, write
 
 NAME = "verify_with_sodium"
 EXAMPLE = "examples/rattle"
-# The command that takes away the endings of a copy, the one that enters the program's directory, and how it runs the program.
+# The commands that rename the files of a copy, change to the program's directory, and run the program.
 RENAMING, ENTERING, RUNNING = commands_of(f"{EXAMPLE}/README.md")
-BEFORE, _, WORDS = RUNNING.partition(" -- ")
+RT_RUN, _, ARGUMENTS = RUNNING.partition(" -- ")
 
 
 def build(room, libsodium):
-    """The program, proved in a copy over the libraries as they stand proved, and built: its path, and what the prover said."""
+    """Proves and builds the program in a copy, with libraries that are already proved. Returns its path, and the output of the prover."""
     shutil.copytree(os.path.join(TOP, EXAMPLE), room, ignore=shutil.ignore_patterns("out", "*.a"))
     proved.hold(proved.run(["sh", "-c", RENAMING], room), RENAMING)
     lines = read(os.path.join(room, "crates.txt")).decode().splitlines()
@@ -55,8 +55,8 @@ def build(room, libsodium):
 
 
 def check_files(checks, program, room):
-    """A file that was signed, under the names of the document, and what is not what was signed. The signature that fits every file where
-    small orders are accepted is over the data itself: it is rejected before libsodium is asked."""
+    """Checks that the program accepts a signed file, with the file names of README.md, and rejects other keys, files and signatures. One
+    of them is a legacy signature that is valid for every file if small orders are accepted. It is rejected before libsodium is called."""
     minisign = lambda *words: run([needs.minisign(), *words], room)
     for name in ("app", "two"):
         minisign("-G", "-W", "-p", f"{name}.pub", "-s", f"{name}.key")
@@ -67,24 +67,24 @@ def check_files(checks, program, room):
     write(room, "comment.minisig", read(room, "app.minisig").replace(b"version:1", b"version:2"))
     for name, text in zip(("every.pub", "every.minisig"), edges.texts_for_every_file()):
         write(room, name, text)
-    checks.same((ENTERING, BEFORE), (f"cd crates/{NAME}", f"RT_ALLOW_C={NAME} rt run"), f"{EXAMPLE}/README.md")
-    status, said, why = run([program, *WORDS.split()], room)
-    checks.check((status, said) == (0, b"version:1\tfile:app\n"), f"a file that was signed: {status}, {said}, {why}")
+    checks.same((ENTERING, RT_RUN), (f"cd crates/{NAME}", f"RT_ALLOW_C={NAME} rt run"), f"{EXAMPLE}/README.md")
+    status, output, errors = run([program, *ARGUMENTS.split()], room)
+    checks.check((status, output) == (0, b"version:1\tfile:app\n"), f"a signed file: {status}, {output}, {errors}")
     for words, reason in ((("app.pub", "app.minisig", "changed"), "Signature verification failed"),
                           (("app.pub", "comment.minisig", "app"), "Comment signature verification failed"),
                           (("two.pub", "app.minisig", "app"), "key"), (("app.pub", "legacy.minisig", "app"), "Legacy"),
                           (("app.minisig", "app.minisig", "app"), ""), (("app.pub", "app.minisig", "none"), ""),
                           (("none", "app.minisig", "app"), ""), (("every.pub", "every.minisig", "app"), "")):
-        status, said, why = run([program, *words], room)
-        checks.check(status == 1 and said == b"" and reason in why, f"{words}: {status}, {said}, {why}")
-    status, said, _ = run([program], room)
-    checks.check(status == 2 and said == b"", f"no words: {status}, {said}")
+        status, output, errors = run([program, *words], room)
+        checks.check(status == 1 and output == b"" and reason in errors, f"{words}: {status}, {output}, {errors}")
+    status, output, _ = run([program], room)
+    checks.check(status == 2 and output == b"", f"no arguments: {status}, {output}")
 
 
 def run_all(checks, room):
     _, archive, _ = run([needs.libsodium(), "-print-file-name=libsodium.a"])
-    program, said = build(os.path.join(room, "copy"), archive.decode().strip())
-    checks.check(re.search(r"logic=proved", said) is not None, f"the example was not built: {said[-1500:]}")
+    program, output = build(os.path.join(room, "copy"), archive.decode().strip())
+    checks.check(re.search(r"logic=proved", output) is not None, f"the example was not built: {output[-1500:]}")
     check_files(checks, program, room)
 
 

@@ -1,8 +1,8 @@
-"""Shared by the tests of the packages in bindings/: the cases that each package has to answer, the answers of
-`c/minisign`, what is asked of each package's program, and the numbers and structs of the header.
+"""Test cases and checks that the tests of all packages in bindings/ share.
 
-A case is a public key, data and a signature, each as bytes. A package's test hands the cases to a program in the
-package's language, one on each line, and compares what comes back with `c/minisign` (`Program`).
+A case is a public key, data and a signature, each as bytes. The test of a package passes the cases to a program in the
+package's language, one case a line, and compares the output with the results of `c/minisign` (class `Program`). This
+module also reads the errors and the layout of structs from the header.
 
 Needs Python 3.9 or later, make, a C compiler and libsodium with its header. It installs what is missing if it may.
 """
@@ -41,13 +41,14 @@ DAMAGED, BY_LINES = 500, 150
 
 
 def run(command, directory=None, environment=None, data=b""):
-    """Runs a command: its status, its output, and what it said."""
+    """Runs a command, and returns its exit status, its output, and its error output."""
     ran = run_program(command, directory, data, SECONDS, env=dict(os.environ, **(environment or {})))
     return ran.status, ran.output, ran.said.decode(errors="replace")
 
 
 def packed(package, room, environment=None, **chosen):
-    """What a package's archive holds, unpacked into an empty directory: `make -C bindings` packs it, without the kit."""
+    """Packs a package with `make -C bindings`, without the kit, unpacks the archive, and returns the directory of its files. `chosen`
+    sets variables of the makefile."""
     out, to = os.path.join(room, "packed"), os.path.join(room, "unpacked")
     words = [f"{name}={value}" for name, value in {"OUT": out, "PYTHON": sys.executable, **chosen}.items()]
     command = [needs.program("make", "make"), "-s", "-C", os.path.join(TOP, "bindings"), package, *words]
@@ -58,7 +59,7 @@ def packed(package, room, environment=None, **chosen):
 
 
 def few_programs(room, *names):
-    """A directory for PATH that has these programs of Debian alone."""
+    """Makes a directory for PATH that has only these programs of Debian, and returns it."""
     directory = os.path.join(room, "programs")
     os.makedirs(directory)
     for name in names:
@@ -68,36 +69,36 @@ def few_programs(room, *names):
 
 
 def c_minisign(room):
-    """The path of the program minisign of `c/`, built over `dist/`."""
+    """Builds the program minisign of `c/` from `dist/`, and returns its path."""
     program = os.path.join(room, "c", "minisign")
     static_library.run_make(f"OUT={room}/c", f"CC={needs.libsodium()}", program)
     return program
 
 
-def names_in(program):
-    """What `nm` says of a program or a library."""
+def symbols_of(program):
+    """Returns the symbols of a program or a library, as `nm` prints them."""
     return run([needs.program("nm", "binutils"), program])[1].decode()
 
 
 def code_of(text, comment="//"):
-    """The lines of a source that are neither blank nor a comment."""
+    """Returns the lines of a source file that are neither empty nor comments."""
     return [line for line in text.splitlines() if line.strip() and not line.strip().startswith(comment)]
 
 
-# The sections of each package's README, in this order.
+# The sections that each package's README must have, in this order.
 README_PARTS = ["Install", "Verify", "Sign", "Stream", "Errors", "What is different from", "Systems", "What is proved, and what is not"]
-# What the blocks of each package's README are named after that are its examples.
+# The language of the fenced blocks in each package's README that are its examples.
 FENCES = {"rust": "rust", "go": "go", "python": "python", "javascript": "js"}
 
 
 def readme_blocks(package):
-    """The examples of a package's README, in their order, exactly as a reader pastes them."""
+    """Returns the examples of a package's README, in their order, exactly as a reader would paste them."""
     text = read(TOP, "bindings", package, "README.md").decode()
     return re.findall(rf"^```{FENCES[package]}\n(.*?)^```$", text, re.M | re.S)
 
 
 def readme_program(package):
-    """The program of a reader who pastes all examples of a package's README, one below the other, and adds nothing."""
+    """Returns the program of a reader who pastes all examples of a package's README into one file, and adds nothing."""
     return "\n".join(readme_blocks(package))
 
 
@@ -107,47 +108,48 @@ def check_readme(checks, package):
     parts = re.findall(r"^## (What is different from|.*)", text, re.M)
     checks.check([part for part in parts if part in README_PARTS] == README_PARTS, f"README.md has the parts {parts}")
     checks.check(re.search(r"^## Verify\n.*?^```\w+\n.+?^```", text, re.M | re.S), "README.md has no example of verifying")
-    kept = (PUBLISHED.key + b"\n" + PUBLISHED.signature).decode().split("\n")
+    published = (PUBLISHED.key + b"\n" + PUBLISHED.signature).decode().split("\n")
     for letters in re.findall(r"\bR[UW][A-Za-z0-9+/=]{54,}", text):
-        checks.check(letters in kept, f"README.md has other texts than the corpus: {letters}")
+        checks.check(letters in published, f"README.md has a key or signature that is not the published one: {letters}")
 
 
 # ---- Cases ----
 
 
-# What is verified together.
+# A public key, data and a signature, which are verified together.
 Case = namedtuple("Case", "name key data signature")
-# What a case says before anything is asked: the key IDs of its key and of its signature, and whether that is over the data itself.
-Reading = namedtuple("Reading", "case key_id signature_key_id is_legacy")
-# The texts that the crate's documentation has: of these the paths, and of its key the letters alone.
+# What can be read of a case before it is verified: the key IDs of its key and of its signature, and whether the signature is legacy.
+Fields = namedtuple("Fields", "case key_id signature_key_id is_legacy")
+# The key, data and signature that the documentation of the Rust crate minisign publishes: the paths, the case, and the base64 of the key.
 PATHS = [os.path.join(CORPUS, name) for name in ("published.pub", "test", "published.minisig")]
 PUBLISHED = Case("published", *map(read, PATHS))
 LETTERS = PUBLISHED.key.decode().split("\n")[1]
 
 
-def of_others(cases):
-    """Cases of the tests of whole programs."""
+def as_cases(cases):
+    """Converts cases of tests/verdicts."""
     return [Case(case.name, case.pk, case.data, case.sig) for case in cases]
 
 
 @functools.lru_cache(maxsize=None)
 def corpus():
-    """The kept keys, data and signatures of Minisign's own program."""
-    return of_others(kept_cases())
+    """Returns the keys, data and signatures in tests/corpus, which Minisign's own program made."""
+    return as_cases(kept_cases())
 
 
 def vectors():
-    """The signatures of Ed25519 that implementations answer differently, each with whether libsodium accepts it: as cases of which
-    the key has 32 bytes and the signature 64."""
-    of = bytes.fromhex
-    return [(Case(vector["name"], of(vector["A"]), of(vector["msg"]), of(vector["sig"])), vector["sodium"]) for vector in edges.vectors()]
+    """Returns the Ed25519 signatures on which implementations differ, each with whether libsodium accepts it. In these cases the key has
+    32 bytes and the signature 64."""
+    decode = bytes.fromhex
+    return [(Case(vector["name"], decode(vector["A"]), decode(vector["msg"]), decode(vector["sig"])), vector["sodium"])
+            for vector in edges.vectors()]
 
 
 @functools.lru_cache(maxsize=None)
 def vector_texts():
-    """Returns the same signatures as legacy signatures, each with the name of its error in the header. A host that accepts a vector rejects
-    its comment signature, so all are rejected, and the error tells the verdict. The last cases are valid for every file if small orders are
-    accepted."""
+    """Returns the same signatures as legacy signature files, each with the name of its error in the header. All are rejected, because an
+    Ed25519 that accepts a vector still rejects its comment signature; the error shows which of both was rejected. The last cases are valid
+    for every file if an Ed25519 accepts small orders."""
     rows = [(Case(vector["name"], key, bytes.fromhex(vector["msg"]), signature), edges.error_of(vector))
             for vector in edges.vectors() for key, signature in [edges.legacy_texts(vector)]]
     key, signature = edges.texts_for_every_file()
@@ -155,42 +157,44 @@ def vector_texts():
 
 
 def damaged(count=DAMAGED):
-    """Kept cases with random changes of the key, the signature or the data: the same ones at each run."""
-    return of_others(minisign_cases.random_cases(kept_cases(), count))
+    """Returns cases of the corpus with random changes of the key, the signature or the data, which are the same in each run."""
+    return as_cases(minisign_cases.random_cases(kept_cases(), count))
 
 
 def damaged_by_lines():
-    """A kept text, damaged by lines and by letters, cut, and over other data: some of these cases, the same ones at each run."""
+    """Returns a sample of cases in which lines or characters of a signature file are changed, or its end or the data. The sample is the
+    same in each run."""
     whole = next(case for case in kept_cases() if case.data and case.sig.count(b"\n") == 4)
-    return of_others(random.Random(BY_LINES).sample(minisign_cases.damaged(whole), BY_LINES))
+    return as_cases(random.Random(BY_LINES).sample(minisign_cases.damaged(whole), BY_LINES))
 
 
 def rejections():
-    """Cases that are rejected, each with the header's name of why: no legacy signatures are allowed."""
+    """Returns cases that are rejected if legacy signatures are not allowed, each with the name of its error in the header."""
     _, key, data, signature = PUBLISHED
-    found = [(error, error.text, signature) for error in key_errors(key)]
-    # (a changed signature of the data belies the trusted comment too, which is not looked at then: other data does not)
+    rows = [(error, error.text, signature) for error in key_errors(key)]
+    # The case of the error 31 is left out: if the signature of the data is changed, the comment signature is not valid either. For
+    # SIGNATURE_REFUSED the data is changed instead.
     errors = signature_errors(signature + b"\n", read(CORPUS, "second.minisig"))
-    found += [(error, key, error.text) for error in errors if error.number != 31]
+    rows += [(error, key, error.text) for error in errors if error.number != 31]
     names = {number: name for name, number in ERRORS.items()}
-    return [*((Case(error.words, key, data, signature), names[error.number]) for error, key, signature in found),
+    return [*((Case(error.words, key, data, signature), names[error.number]) for error, key, signature in rows),
             (Case("other data", key, data + b"2", signature), "SIGNATURE_REFUSED"),
             (Case("a legacy signature", key, data, read(CORPUS, "published-legacy.minisig")), "LEGACY_NOT_ACCEPTED")]
 
 
 @functools.lru_cache(maxsize=None)
-def readings():
-    """What the kept cases say that Minisign's own program accepts, but for the one of no UTF-8, and one whose signature is of
-    another key: as Python's base64 decodes it."""
+def expected_fields():
+    """Returns the expected fields of cases, as Python's base64 decodes them: the cases of the corpus that Minisign's own program accepts,
+    except for the one that is not UTF-8; a signature of another key; and short key IDs."""
     cases = [case for case, row in zip(corpus(), texts.kept_rows()) if row["status"] == 0 and row["signature"] != "no-utf8.minisig"]
     cases.append(cases[0]._replace(name="a signature of another key", key=read(CORPUS, "second.pub")))
     cases += [with_key_id(PUBLISHED, number) for number in SHORT_KEY_IDS]
     decoded = [(case, record_of(case.key), record_of(case.signature)) for case in cases]
-    return [Reading(case, key[2:10], signature[2:10], signature[:2] == b"Ed") for case, key, signature in decoded]
+    return [Fields(case, key[2:10], signature[2:10], signature[:2] == b"Ed") for case, key, signature in decoded]
 
 
-def shown_id(key_id):
-    """A key ID as Minisign prints it: upper-case hexadecimal digits, without leading zeros."""
+def key_id_text(key_id):
+    """Formats a key ID as Minisign prints it: in upper-case hexadecimal digits without leading zeros."""
     return f"{int.from_bytes(key_id, 'little'):X}"
 
 
@@ -199,7 +203,7 @@ SHORT_KEY_IDS = [0xABCDEF012345678, 0x620F1842B41F0A, 0x123456789, 0xB, 0]
 
 
 def with_key_id(case, number):
-    """A case whose key and signature have another key ID. It is accepted if the case is: Ed25519 does not sign key IDs."""
+    """Returns the case with another key ID in its key and its signature. It stays valid, because key IDs are not signed."""
     def changed(text):
         record = record_of(text)
         return text.replace(*map(base64.b64encode, (record, record[:2] + number.to_bytes(8, "little") + record[10:])))
@@ -207,29 +211,29 @@ def with_key_id(case, number):
     return case._replace(name=f"the key ID {number:X}", key=changed(case.key), signature=changed(case.signature))
 
 
-# ---- What c/minisign answers ----
+# ---- The results of c/minisign ----
 
 
 @functools.lru_cache(maxsize=None)
 def answer_of(minisign, case, allow_legacy):
-    """The trusted comment where `c/minisign` accepts a case, otherwise None."""
+    """Returns the trusted comment if `c/minisign` accepts a case, otherwise None."""
     with tempfile.TemporaryDirectory(prefix="case-") as room:
         key, data, signature = (write(room, part, text) for part, text in zip("kds", case[1:]))
-        status, said, _ = run([minisign, "-V", "-Q", *([] if allow_legacy else ["-H"]), "-p", key, "-m", data, "-x", signature])
+        status, output, _ = run([minisign, "-V", "-Q", *([] if allow_legacy else ["-H"]), "-p", key, "-m", data, "-x", signature])
     if status not in (0, 1, 2):
-        raise static_library.NotBuilt(f"{minisign} ended with {status} of {case.name}")
-    return said[:-1] if status == 0 else None
+        raise static_library.NotBuilt(f"{minisign} ended with status {status} for {case.name}")
+    return output[:-1] if status == 0 else None
 
 
 def answers_of(minisign, cases, allow_legacy):
-    """What `c/minisign` answers to each case: the trusted comment, or None where it rejects."""
+    """Returns the trusted comment of each case that `c/minisign` accepts, and None for the others."""
     with concurrent.futures.ThreadPoolExecutor(4) as pool:
         return list(pool.map(lambda case: answer_of(minisign, case, allow_legacy), cases))
 
 
 @functools.lru_cache(maxsize=None)
 def large(minisign):
-    """Data of 300,000 bytes that `c/minisign` has signed, and with its last byte changed."""
+    """Returns two cases: 300,000 bytes of data that `c/minisign` has signed, and the same data with its last byte changed."""
     data = bytes(at * at % 251 for at in range(300_000))
     with tempfile.TemporaryDirectory(prefix="large-") as room:
         write(room, "data", data)
@@ -240,8 +244,8 @@ def large(minisign):
 
 
 def all_cases(checks, minisign):
-    """Kept and damaged cases, of which `c/minisign` accepts neither too few nor too many, and the large data, of which it accepts what
-    was signed."""
+    """Returns the cases of the corpus, damaged cases, and large data. Checks that `c/minisign` accepts a plausible number of them, so that
+    the comparison with it means something."""
     cases = corpus() + damaged() + damaged_by_lines()
     count = sum(comment is not None for comment in answers_of(minisign, cases, True))
     checks.check(40 <= count <= 200, f"of the cases too few, or too many, are accepted: {count}")
@@ -249,114 +253,121 @@ def all_cases(checks, minisign):
     return cases + large(minisign)
 
 
-# ---- What a package's program is asked ----
+# ---- The programs that use a package ----
 
 
 def accepted(comment):
-    """What a program says of a case that it accepts with this trusted comment, as bytes."""
+    """Returns the line that a program prints for a case that it accepts with this trusted comment."""
     return f"accepted {comment.hex() or '-'}"
 
 
 def rejected(name):
-    """What it says of one that it rejects, by the header's name of why."""
+    """Returns the line that a program prints for a case that it rejects with this error of the header."""
     return f"rejected {name}"
 
 
 class Program:
-    """A program of a package's user, and the words that run it. It is asked by words more, with cases on its standard input: on each
-    line a key, data and a signature in hexadecimal digits, `-` where there are none. It answers each in a line: `accepted` and the
-    trusted comment in hexadecimal digits, `-` where that is empty; or `rejected` and why."""
+    """Runs a test program that uses a package, and checks its output.
+
+    The program takes words as arguments, and cases on its standard input: each line has a key, data and a signature in hexadecimal
+    digits, or `-` for an empty one. It prints a line for each case: `accepted` and the trusted comment in hexadecimal digits, or `-` for
+    an empty one; or `rejected` and the error."""
 
     def __init__(self, checks, *command, name="", directory=None, **environment):
         self.checks, self.command, self.name = checks, command, name
         self.directory, self.environment = directory, environment
 
     def run(self, *words, cases=()):
-        """How it ends, what it prints, and what it says."""
+        """Runs the program, and returns its exit status, its output, and its error output."""
         lines = "".join(" ".join(part.hex() or "-" for part in case[1:]) + "\n" for case in cases)
         return run([*self.command, *words], self.directory, self.environment, lines.encode())
 
     def ask(self, words, cases, forms):
-        """Each line that it answers has the form that is wanted of the case, a regular expression."""
-        status, said, why = self.run(*words, cases=cases)
-        lines = said.decode(errors="replace").splitlines()
-        is_whole = status == 0 and len(lines) == len(cases) == len(forms) > 0
-        self.checks.check(is_whole, f"{self.name} {words}: {status}, {len(lines)} answers to {len(forms)} cases: {why[-800:]}")
+        """Checks that the line that the program prints for each case matches the regular expression for this case."""
+        status, output, errors = self.run(*words, cases=cases)
+        lines = output.decode(errors="replace").splitlines()
+        is_complete = status == 0 and len(lines) == len(cases) == len(forms) > 0
+        self.checks.check(is_complete, f"{self.name} {words}: status {status}, {len(lines)} lines for {len(forms)} cases: {errors[-800:]}")
         for case, line, form in zip(cases, lines, forms):
-            self.checks.check(re.fullmatch(form, line), f"{self.name} {words}, {case.name}: {line} in place of {form}")
+            self.checks.check(re.fullmatch(form, line), f"{self.name} {words}, {case.name}: printed {line}, expected {form}")
 
-    def ask_itself(self, least, *words, cases=()):
-        """It says of so many things at least what has to come of them, and behind a tabulator what came."""
-        status, said, why = self.run(*words, cases=cases)
-        lines = said.decode(errors="replace").splitlines()
-        self.checks.check(status == 0 and len(lines) >= least, f"{self.name} {words}: {status}, {lines[-5:]}, {why[-800:]}")
+    def ask_pairs(self, least, *words, cases=()):
+        """Checks the results of the program's own tests: it prints at least this many lines, each with an expected value, a tab, and the
+        actual value."""
+        status, output, errors = self.run(*words, cases=cases)
+        lines = output.decode(errors="replace").splitlines()
+        self.checks.check(status == 0 and len(lines) >= least, f"{self.name} {words}: status {status}, {lines[-5:]}, {errors[-800:]}")
         for line in lines:
-            wanted, _, came = line.partition("\t")
-            self.checks.check(wanted == came, f"{self.name} {words}: {came} in place of {wanted}")
+            expected, _, actual = line.partition("\t")
+            self.checks.check(expected == actual, f"{self.name} {words}: {actual}, expected {expected}")
 
     def ask_answers(self, minisign, cases, *ways):
-        """It answers as `c/minisign`, in each way: by these words, and with legacy signatures or without."""
+        """Checks that the program accepts the cases that `c/minisign` accepts, with the same trusted comments. Each way has the words for
+        the program, and whether it allows legacy signatures."""
         for words, allow_legacy in ways:
             wanted = answers_of(minisign, cases, allow_legacy)
             self.ask(words, cases, ["rejected .*" if comment is None else accepted(comment) for comment in wanted])
 
-    def ask_reasons(self, words, rows, told=rejected):
-        """It rejects each case for the reason that its row names."""
-        self.ask(words, [case for case, _ in rows], [told(name) for _, name in rows])
+    def ask_reasons(self, words, rows, form=rejected):
+        """Checks that the program rejects each case with the error of its row. `form` makes the expected line from the error's name."""
+        self.ask(words, [case for case, _ in rows], [form(name) for _, name in rows])
 
-    def ask_comments(self, words, told=rejected):
-        """Before there is data the trusted comment is told where its own signature is accepted, and no other one."""
+    def ask_comments(self, words, form=rejected):
+        """Checks that, without data, the program returns the trusted comment exactly if the comment signature is valid."""
         comment = PUBLISHED.signature.split(b"\n")[2].removeprefix(b"trusted comment: ")
-        self.ask_reasons(words, rejections(), lambda name: accepted(comment) if name == "SIGNATURE_REFUSED" else told(name))
+        self.ask_reasons(words, rejections(), lambda name: accepted(comment) if name == "SIGNATURE_REFUSED" else form(name))
 
-    def ask_readings(self, words, form):
-        """It tells key IDs and legacy signatures before anything is asked, as `form` writes them."""
-        rows = readings()
-        self.checks.check(len(rows) > 20 and {reading.is_legacy for reading in rows} == {True, False}, f"only {len(rows)} cases are read")
-        self.ask(words, [reading.case for reading in rows], [form(reading) for reading in rows])
+    def ask_fields(self, words, form):
+        """Checks the key IDs and legacy flags that the program reads before it verifies. `form` makes the expected line from `Fields`."""
+        rows = expected_fields()
+        self.checks.check(len(rows) > 20 and {fields.is_legacy for fields in rows} == {True, False}, f"only {len(rows)} cases are read")
+        self.ask(words, [fields.case for fields in rows], [form(fields) for fields in rows])
 
-    def ask_bare(self, *answers):
-        """It reads the letters of a key alone; and rejects what is too short, what is no base64, and what has two lines. The answers are
-        patterns."""
-        for text, wanted in zip((LETTERS, LETTERS[:-1], LETTERS[:-1] + "!", f"x\n{LETTERS}"), answers):
-            said = self.run("bare", text)[1].decode()
-            self.checks.check(re.fullmatch(wanted, said.strip(), re.S), f"{self.name}: the key {text!r} alone: {said} in place of {wanted}")
+    def ask_bare_keys(self, *forms):
+        """Checks how the program reads a public key from base64 only: a valid key, one that is too short, one that is not base64, and two
+        lines. For each there is a regular expression that the output has to match."""
+        for text, form in zip((LETTERS, LETTERS[:-1], LETTERS[:-1] + "!", f"x\n{LETTERS}"), forms):
+            output = self.run("bare", text)[1].decode()
+            is_right = re.fullmatch(form, output.strip(), re.S)
+            self.checks.check(is_right, f"{self.name}: the bare key {text!r}: printed {output}, expected {form}")
 
-    def ask_vectors(self, words, told=rejected):
-        """Its verdicts on the vectors are those of libsodium, whatever Ed25519 it is over."""
+    def ask_vectors(self, words, form=rejected):
+        """Checks that the verdicts on the vectors are those of libsodium, whatever implementation of Ed25519 the program uses."""
         rows = vector_texts()
         self.checks.check(len(rows) == edges.COUNT + 3, f"there are {len(rows)} vectors")
-        self.ask_reasons(words, rows, told)
+        self.ask_reasons(words, rows, form)
 
     def ask_libsodium(self, words):
-        """Its Ed25519, which is that of libsodium, accepts the vectors that libsodium accepts."""
-        cases, wanted = zip(*vectors())
+        """Checks that the program's Ed25519, which is that of libsodium, accepts the vectors that libsodium accepts."""
+        cases, verdicts = zip(*vectors())
         self.checks.check(len(cases) == edges.COUNT, f"there are {len(cases)} vectors")
-        self.ask(words, cases, ["true" if is_accepted else "false" for is_accepted in wanted])
+        self.ask(words, cases, ["true" if is_accepted else "false" for is_accepted in verdicts])
 
     def ask_growth(self, count, most, cases=()):
-        """After so many calls no more is in memory than after a tenth of them, but for so much at the most."""
-        status, said, why = self.run("growth", str(count), cases=cases)
-        self.checks.check(status == 0 and int(said) <= most, f"{self.name}: after {count} calls {said!r} more is in memory: {why[-500:]}")
+        """Checks that the program's memory grows by at most `most` between a tenth of the calls and all of them. The unit is the
+        program's: pages or bytes."""
+        status, output, errors = self.run("growth", str(count), cases=cases)
+        self.checks.check(status == 0 and int(output) <= most, f"{self.name}: memory grows by {output!r} in {count} calls: {errors[-500:]}")
 
     def ask_threads(self, cases=()):
-        """Threads get the answers that one gets."""
-        status, said, why = self.run("threads", cases=cases)
-        self.checks.check((status, said, why) == (0, b"true\n", ""), f"{self.name}: threads: {said!r}, {why[-1000:]}")
+        """Checks that concurrent threads get the same results as a single thread."""
+        status, output, errors = self.run("threads", cases=cases)
+        self.checks.check((status, output, errors) == (0, b"true\n", ""), f"{self.name}: threads: {output!r}, {errors[-1000:]}")
 
 
 # ---- Signing ----
 
-# A comment that is signed, and a password.
+# The trusted comment and the password of the cases of signing.
 COMMENT, PASSWORD = "version:2\tfile:app \u00e9", "pass word"
-# Limits of a sealed key, and whether they are weak, which all are that have fewer rows than the weakest key of `minisign -G`.
+# Limits that a key file is encrypted with, and whether they are weak: they are if they give fewer rows than the lowest limits of
+# `minisign -G`.
 LIMITS = [(Limits(0, 0, 2, 512), True), (Limits(1 << 24, 32768, 1 << 10, 1), True), (Limits(1 << 30, 524287, 1 << 13, 1), True),
           (Limits((1 << 24) - 1, 1048576, 1 << 13, 4), True), (Limits(1 << 24, 524288, 1 << 14, 1), False),
           (Limits(1 << 25, 1048576, 1 << 15, 1), False)]
-# Limits that a package is asked to seal under, and whether they are too weak.
-SEALED_UNDER = [((524287, 1 << 24), True), ((524288, (1 << 24) - 1), True), ((1, 1), True), ((524288, 1 << 24), False)]
-# What a key signs with, by its directory: the comment, the password, and for what it is rejected.
-SIGNED = [
+# Limits that a package is asked to encrypt with, and whether it has to reject them as too weak.
+ENCRYPTED_WITH = [((524287, 1 << 24), True), ((524288, (1 << 24) - 1), True), ((1, 1), True), ((524288, 1 << 24), False)]
+# The directory of a key, the trusted comment and the password to sign with, and the expected error or None.
+SIGNING_CASES = [
     ("open", COMMENT, [], None), ("sealed", COMMENT, [PASSWORD], None), ("by-c", "", [], None), ("open", "a\nb", [], "BAD_COMMENT"),
     ("open", "a\rb", [], "UNREADABLE_COMMENT"), ("open", "a", [PASSWORD], "KEY_NOT_SEALED"), ("sealed", "a", [], "KEY_SEALED"),
     ("sealed", "a", ["password"], "WRONG_PASSWORD"),
@@ -364,184 +375,190 @@ SIGNED = [
 
 
 def sealed(text, limits):
-    """The text of a secret key that is not sealed, sealed under the password and these limits."""
+    """Encrypts the content of an unencrypted secret key file with PASSWORD and these limits."""
     return text_of(texts.sealed(record_of(text), PASSWORD.encode(), limits))
 
 
-def check_signing(program, room, minisign, told=str, good="OK", seals=True, opens=True):
-    """A package's program and `c/minisign` read each other's keys and signatures: `make DIRECTORY [PASSWORD]` makes a pair of keys there,
-    and `sign KEY DATA TO COMMENT [PASSWORD]` a signature. It says that all was good, or for what it was rejected. Where it seals under no
-    other limits than the usual ones (`seals`) it is not asked to, and no key of these is made where it is not to open one (`opens`)."""
-    checks, names = program.checks, ["open", "sealed" if opens else "other", "by-c"]
+def check_signing(program, room, minisign, form=str, success="OK", takes_limits=True, decrypts=True):
+    """Checks that a package's program and `c/minisign` can read each other's keys and signatures.
+
+    `make DIRECTORY [PASSWORD]` of the program writes a key pair, and `sign KEY DATA TO COMMENT [PASSWORD]` a signature. The program
+    prints `success`, or the error, which `form` makes from the error's name. `takes_limits` is false if a package encrypts only with the
+    default limits; then other limits are not tried. If `decrypts` is false, no encrypted key is tried, to save time."""
+    checks, names = program.checks, ["open", "sealed" if decrypts else "other", "by-c"]
     for name in names:
         os.makedirs(os.path.join(room, name))
     data, sig = write(room, "data", b"some data\n" * 500), os.path.join(room, "sig")
-    answer = lambda *words: program.run(*words)[1].decode().strip()
+    output_of = lambda *words: program.run(*words)[1].decode().strip()
     by_c = lambda *words: run([minisign, *words], room, data=f"{PASSWORD}\n".encode())
     verified = lambda name: by_c("-V", "-H", "-Q", "-p", f"{name}/public", "-m", "data", "-x", "sig")
     for name in names[:2]:
-        said = answer("make", os.path.join(room, name), *([PASSWORD] if name == "sealed" else []))
-        checks.check(said == good, f"a key, {name}: {said!r}")
+        output = output_of("make", os.path.join(room, name), *([PASSWORD] if name == "sealed" else []))
+        checks.check(output == success, f"making a key, {name}: {output!r}")
         by_c("-S", "-s", f"{name}/secret", "-m", "data", "-x", "sig", "-t", "t")
-        found = verified(name)
-        checks.check(found[:2] == (0, b"t\n"), f"c/minisign with a key, {name}: {found}")
-        by_c("-R", "-s", f"{name}/secret", "-p", f"{name}/again")
-        checks.check(read(room, name, "public") == read(room, name, "again"), f"c/minisign writes another public key, {name}")
+        result = verified(name)
+        checks.check(result[:2] == (0, b"t\n"), f"c/minisign with the key {name}: {result}")
+        by_c("-R", "-s", f"{name}/secret", "-p", f"{name}/recreated")
+        checks.check(read(room, name, "public") == read(room, name, "recreated"), f"c/minisign writes another public key for {name}")
     records = [record_of(read(room, name, "public")) for name in names[:2]]
     checks.check(all(records[0][at:at + 8] != records[1][at:at + 8] for at in (2, 10)), "two keys have one key ID, or are the same")
     by_c("-G", "-W", "-s", "by-c/secret", "-p", "by-c/public")
-    for name, comment, password, why in (row for row in SIGNED if row[0] in names):
+    for name, comment, password, why in (row for row in SIGNING_CASES if row[0] in names):
         os.remove(sig)
-        said, wanted = answer("sign", f"{room}/{name}/secret", data, sig, comment, *password), told(why) if why else good
-        checks.check(said == wanted, f"signing, {name}, {comment!r}: {said!r} in place of {wanted}")
+        output, expected = output_of("sign", f"{room}/{name}/secret", data, sig, comment, *password), form(why) if why else success
+        checks.check(output == expected, f"signing, {name}, {comment!r}: {output!r}, expected {expected}")
         if why is None:
-            found = verified(name)
-            checks.check(found[:2] == (0, f"{comment}\n".encode()), f"c/minisign of a signature, {name}: {found}")
+            result = verified(name)
+            checks.check(result[:2] == (0, f"{comment}\n".encode()), f"c/minisign verifies a signature of {name}: {result}")
         else:
             checks.check(not os.path.exists(sig), f"signing, {name}, {comment!r}: a file was written")
             write(room, "sig", b"")
-    # (a key with a byte of its public half changed, which would give its secret away: of no checksum)
+    # A key with a changed byte in its public key, whose signatures would reveal the secret. It has no checksum.
     secret = read(room, "by-c", "secret")
     damaged_key = write(room, "damaged", text_of(turned(record_of(secret), 100)[:126] + bytes(32)))
-    said = answer("sign", damaged_key, data, f"{room}/none", "a")
-    checks.check("SIGNATURE_REFUSED" in said and not os.path.exists(f"{room}/none"), f"a key of two halves that do not fit: {said}")
-    check_weak(checks, answer, room, secret, good if seals else None)
+    output = output_of("sign", damaged_key, data, f"{room}/none", "a")
+    checks.check("SIGNATURE_REFUSED" in output and not os.path.exists(f"{room}/none"), f"signing with a damaged key: {output}")
+    check_weak_limits(checks, output_of, room, secret, success if takes_limits else None)
 
 
-def check_weak(checks, answer, room, secret, good):
-    """Of a key that is sealed weakly `opened KEY [PASSWORD]` says so, and of another one that it is strong; and none is sealed so by
-    `sealed OPERATIONS MEMORY`, which names why, where the package seals under other limits than the usual ones."""
-    said = answer("opened", write(room, "unsealed", secret))
-    checks.check(said == "strong", f"a key that is not sealed is {said}")
+def check_weak_limits(checks, output_of, room, secret, success):
+    """Checks that a program recognizes key files that are encrypted with weak limits: `opened KEY [PASSWORD]` prints `weak` or `strong`.
+    Checks also that it encrypts no key with weak limits: `sealed OPERATIONS MEMORY` prints WEAK_LIMITS. `success` is None if the package
+    takes no limits."""
+    output = output_of("opened", write(room, "unsealed", secret))
+    checks.check(output == "strong", f"a key that is not encrypted is {output}")
     for limits, is_weak in LIMITS:
-        said, wanted = answer("opened", write(room, "weak", sealed(secret, limits)), PASSWORD), "weak" if is_weak else "strong"
-        checks.check(said == wanted, f"a key of the limits {limits} is {said}")
-    for limits, is_weak in SEALED_UNDER if good else []:
-        said = answer("sealed", *map(str, limits))
-        checks.check(said == ("WEAK_LIMITS" if is_weak else good), f"sealing under {limits}: {said}")
+        output, expected = output_of("opened", write(room, "weak", sealed(secret, limits)), PASSWORD), "weak" if is_weak else "strong"
+        checks.check(output == expected, f"a key that is encrypted with {limits} is {output}")
+    for limits, is_weak in ENCRYPTED_WITH if success else []:
+        output = output_of("sealed", *map(str, limits))
+        checks.check(output == ("WEAK_LIMITS" if is_weak else success), f"encrypting with {limits}: {output}")
 
 
 def check_key_ids(program, room, minisign):
-    """A package's program and `c/minisign` print a key ID as Debian's minisign does, also one with leading zeros: `ids KEY` prints the key
-    IDs of a secret key and of its public key, and then the text of the public key, which has the key ID in its comment."""
+    """Checks that a package's program and `c/minisign` print key IDs as Debian's minisign does, also those with leading zeros. `ids KEY`
+    prints the key ID of a secret key and of its public key, and the public key file, whose comment has the key ID."""
     os.makedirs(room)
     run([minisign, "-G", "-W", "-s", "secret", "-p", "public"], room)
     record = record_of(read(room, "secret"))
     for number in SHORT_KEY_IDS:
         key = write(room, "short", text_of(record[:54] + number.to_bytes(8, "little") + record[62:126] + bytes(32)))
-        wanted = []
-        for name, made in ((needs.minisign(), "by-debian"), (minisign, "by-c")):
-            run([name, "-R", "-f", "-s", key, "-p", made], room)
-            wanted.append(read(room, made).decode())
-        shown = f"{number:X}"
-        program.checks.same(wanted[0].split("\n")[0], f"untrusted comment: minisign public key {shown}", "Debian's minisign")
-        program.checks.same(wanted[1], wanted[0], f"the public key {shown} of c/minisign")
-        said = program.run("ids", key)[1].decode()
-        program.checks.same(said, f"{shown} {shown}\n{wanted[0]}", f"{program.name}, the key {shown}")
+        public_keys = []
+        for name, path in ((needs.minisign(), "by-debian"), (minisign, "by-c")):
+            run([name, "-R", "-f", "-s", key, "-p", path], room)
+            public_keys.append(read(room, path).decode())
+        key_id = f"{number:X}"
+        program.checks.same(public_keys[0].split("\n")[0], f"untrusted comment: minisign public key {key_id}", "Debian's minisign")
+        program.checks.same(public_keys[1], public_keys[0], f"the public key {key_id} of c/minisign")
+        output = program.run("ids", key)[1].decode()
+        program.checks.same(output, f"{key_id} {key_id}\n{public_keys[0]}", f"{program.name}, the key {key_id}")
 
 
-# Runs a program under a umask, and with files of at most 512 bytes: a write beyond these fails, as on a full disk.
-LIMITED = 'trap "" XFSZ; umask "$0"; ulimit -f 1; exec "$@"'
+# Runs a program with a umask, and with files of at most 512 bytes: a write beyond this size fails, as on a full disk.
+LIMITED_SHELL = 'trap "" XFSZ; umask "$0"; ulimit -f 1; exec "$@"'
 KEY_TEXT = "the text of a key\n" * 20
 
 
-def check_written(program, room, good="OK"):
-    """`write FILE TEXT` writes a new key file that only its owner may read, replaces nothing, syncs the file and its directory, and leaves
-    no file after an error. It says that all was good, or why it was not."""
+def check_new_key_files(program, room, success="OK"):
+    """Checks that `write FILE TEXT` of a program writes a new key file that only its owner can read, replaces no file, syncs the file and
+    its directory, and leaves no file after an error. It prints `success` or the error."""
     os.makedirs(room)
     checks, path = program.checks, os.path.join(room, "new.key")
-    there = lambda: {name: os.path.islink(os.path.join(room, name)) or read(room, name) for name in os.listdir(room)}
+    files = lambda: {name: os.path.islink(os.path.join(room, name)) or read(room, name) for name in os.listdir(room)}
 
-    def written(what, is_good, *before, text=KEY_TEXT, mask="022"):
-        limited = Program(checks, *before, "sh", "-c", LIMITED, mask, *program.command, **program.environment)
-        status, said, why = limited.run("write", path, text)
-        checks.check((said.decode().strip() == good) == is_good and status == 0, f"{program.name}, {what}: {status}, {said}, {why[-500:]}")
+    def write_key(what, succeeds, *before, text=KEY_TEXT, mask="022"):
+        limited = Program(checks, *before, "sh", "-c", LIMITED_SHELL, mask, *program.command, **program.environment)
+        status, output, errors = limited.run("write", path, text)
+        is_right = (output.decode().strip() == success) == succeeds and status == 0
+        checks.check(is_right, f"{program.name}, {what}: {status}, {output}, {errors[-500:]}")
 
     for mask in ("777", "277", "022", "000"):
-        written(f"a new key under the umask {mask}", True, mask=mask)
+        write_key(f"a new key under the umask {mask}", True, mask=mask)
         mode = os.stat(path).st_mode & 0o7777
-        checks.check((mode, there()) == (0o600, {"new.key": KEY_TEXT.encode()}), f"{program.name}, the umask {mask}: {mode:o}, {there()}")
-        written("a key at a name that is taken", False, text="other")
-        checks.check(there() == {"new.key": KEY_TEXT.encode()}, f"{program.name}, a key at a name that is taken: {there()}")
+        checks.check((mode, files()) == (0o600, {"new.key": KEY_TEXT.encode()}), f"{program.name}, the umask {mask}: {mode:o}, {files()}")
+        write_key("a key at an existing path", False, text="other")
+        checks.check(files() == {"new.key": KEY_TEXT.encode()}, f"{program.name}, a key at an existing path: {files()}")
         os.remove(path)
     os.symlink("elsewhere", path)
-    written("a key at a link that leads nowhere", False)
-    checks.check(there() == {"new.key": True}, f"{program.name}, a key at a link that leads nowhere: {there()}")
+    write_key("a key at a dangling link", False)
+    checks.check(files() == {"new.key": True}, f"{program.name}, a key at a dangling link: {files()}")
     os.remove(path)
-    written("a key on a full disk", False, text=KEY_TEXT * 2)
-    checks.check(there() == {}, f"{program.name}, a key on a full disk leaves {there()}")
+    write_key("a key on a full disk", False, text=KEY_TEXT * 2)
+    checks.check(files() == {}, f"{program.name}, a key on a full disk leaves {files()}")
     strace = needs.program("strace", "strace")
     if run([strace, "true"])[0] != 0:
-        print(f"skipped: whether {program.name} syncs a new key: strace may not trace here")
+        print(f"skipped: whether {program.name} syncs a new key: strace is not allowed to trace here")
         return
     trace = os.path.join(os.path.dirname(room), os.path.basename(room) + "-trace")
-    written("a key that is synced", True, strace, "-f", "-qq", "-y", "-e", "trace=fsync,openat", "-o", trace)
+    write_key("a new key under strace", True, strace, "-f", "-qq", "-y", "-e", "trace=fsync,openat", "-o", trace)
     calls = read(trace).decode()
     synced = re.findall(r"fsync\(\d+<(.*?)>\) += 0", calls)
-    checks.check(synced == [path, room], f"{program.name}, a new key: synced are {synced}")
+    checks.check(synced == [path, room], f"{program.name}, a new key: synced {synced}, expected {[path, room]}")
     created = re.findall(rf'"{path}", ([A-Z_|]+), (\d+)', calls)
     checks.check([mode for flags, mode in created if "O_EXCL" in flags] == ["0600"], f"{program.name}, a new key is created with {created}")
-    for at, error in ((path, "EIO"), (path, "EINVAL"), (room, "EIO"), (room, "EINVAL")):
+    for synced, error in ((path, "EIO"), (path, "EINVAL"), (room, "EIO"), (room, "EINVAL")):
         with contextlib.suppress(FileNotFoundError):
             os.remove(path)
-        is_good = (at, error) == (room, "EINVAL")
-        written(f"{at} that is not synced: {error}", is_good, strace, "-f", "-qq", "-P", at, "-e", f"inject=fsync:error={error}", "-o", trace)
-        checks.check(os.path.exists(path) == is_good, f"{program.name}, {at} that is not synced, {error}: {there()}")
+        succeeds = (synced, error) == (room, "EINVAL")
+        inject = ["-P", synced, "-e", f"inject=fsync:error={error}"]
+        write_key(f"fsync of {synced} fails with {error}", succeeds, strace, "-f", "-qq", *inject, "-o", trace)
+        checks.check(os.path.exists(path) == succeeds, f"{program.name}, fsync of {synced} fails with {error}: {files()}")
 
 
 # ---- Mutants ----
 
 
-class Noticing(Checks):
-    """Ends at the first check that fails."""
+class FirstFailure(Checks):
+    """Stops at the first check that fails."""
 
     def check(self, holds, *what):
         expect(holds, *what)
         return True
 
 
-def is_noticed(package, room, ask, word, mutant=None, inside=""):
-    """Returns true if a check fails over a copy of a package with this mutant, or without any."""
+def is_detected(package, room, ask, word, mutant=None, inside=""):
+    """Returns True if a check fails with a copy of a package that has this mutant, or no mutant."""
     with tempfile.TemporaryDirectory(prefix="mutant-", dir=room) as directory:
         changed = shutil.copytree(package, os.path.join(directory, "package", os.path.basename(package)))
         if mutant:
             mutants.apply(mutant, changed, inside)
         try:
-            ask(Noticing(), changed, directory, word)
+            ask(FirstFailure(), changed, directory, word)
         except (Failure, OSError):
             return True
     return False
 
 
-def check_mutants(checks, package, inside, found, room, ask):
-    """Checks that `ask` notices each mutant of a package, and no copy without a mutant. The package is a copy of the repository's directory
-    `inside`. `ask` takes the checks, the changed copy, an empty directory and the case that must fail."""
-    for word in sorted({mutant.case for mutant in found}):
-        checks.check(not is_noticed(package, room, ask, word), f"{word}: it fails over a copy without a mutant")
-    for mutant in found:
+def check_mutants(checks, package, inside, package_mutants, room, ask):
+    """Checks that `ask` detects each mutant of a package, and passes for a copy without a mutant. The package is a copy of the repository's
+    directory `inside`. `ask` takes the checks, the changed copy, an empty directory and the case that must fail."""
+    for word in sorted({mutant.case for mutant in package_mutants}):
+        checks.check(not is_detected(package, room, ask, word), f"{word}: fails for a copy without a mutant")
+    for mutant in package_mutants:
         try:
-            checks.check(is_noticed(package, room, ask, mutant.case, mutant, inside), f"{mutant.case} does not notice the mutant {mutant.name}")
+            is_failing = is_detected(package, room, ask, mutant.case, mutant, inside)
+            checks.check(is_failing, f"{mutant.case} does not detect the mutant {mutant.name}")
         except Failure as why:
             checks.check(False, str(why))
 
 
-# ---- What the header says ----
+# ---- The errors and structs of the header ----
 
 
 HEADERS = c_header.both()
 VERSION = dict(HEADERS.texts)["VERSION_TEXT"].strip('"')
-# The numbers of errors by their names, without `MINISIGN_`.
+# The numbers of the errors by name, without `MINISIGN_`.
 ERRORS = {error.name: error.number for error in HEADERS.errors}
 
 
 @functools.lru_cache(maxsize=None)
 def error_texts():
-    """The texts of errors, as the published list has them, by the same names."""
+    """Returns the texts of the errors by name, from tests/c/error_texts.c."""
     return dict(re.findall(r'\[MINISIGN_(\w+)\] = "(.*)",', read(TOP, "tests", "c", "error_texts.c").decode()))
 
 
 def numbers_in_c(room, includes, rows):
-    """What a program in C prints of expressions of these headers, each with its name: the names, and the numbers."""
+    """Returns the values of C expressions by name. A row has a name and an expression, and the headers are those that it needs."""
     lines = [f'printf("{name} %lld\\n", (long long) {expression});\n' for name, expression in rows]
     text = "".join(f"#include {header}\n" for header in ("<stddef.h>", "<stdint.h>", "<stdio.h>", *includes))
     path = write(room, "numbers.c", f"{text}int main(void) {{\n{''.join(lines)}return 0; }}\n".encode())
@@ -551,7 +568,7 @@ def numbers_in_c(room, includes, rows):
 
 
 def layout(room):
-    """The sizes of the structs of both headers, and where their fields stand: `name` or `name.field`, and a number of bytes."""
+    """Returns the sizes of the structs of both headers by `name`, and the offsets of their fields by `name.field`, in bytes."""
     rows = [(name, f"sizeof({name})") for name in HEADERS.structs]
     rows += [(f"{name}.{field.name}", f"offsetof({name}, {field.name})") for name, fields in HEADERS.structs.items() for field in fields]
     return numbers_in_c(room, ['"minisign_install.h"'], rows)

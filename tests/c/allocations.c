@@ -1,12 +1,11 @@
 /*
- * The calls for memory of c/library/allocation.c, which the proved calls make. Each block is whole and aligned, and
- * cleared when it is given back, also where it grew and was moved. A refusal leaves the older block. Only large
- * blocks are brought in at once, and it does no harm if the system refuses that. Then the library's own calls:
- * making, opening and signing with a key gives everything back, cleared.
+ * Checks the allocation functions of c/library/allocation.c, which the proved calls use. Each block is complete and
+ * aligned, and is cleared when it is freed or has grown into a new block. A failed allocation leaves the old block
+ * unchanged. Only large blocks are mapped in advance with madvise, which may fail. Then it makes, opens and signs with
+ * a key, which frees and clears all memory.
  *
- * Linked with -Wl,--wrap=malloc -Wl,--wrap=realloc -Wl,--wrap=free -Wl,--wrap=madvise. With -DMINISIGN_MALLOC_ALONE
- * the calls are those of c/library/portable/allocation.c, which asks the system for nothing, and nothing is about
- * pages.
+ * Linked with -Wl,--wrap=malloc -Wl,--wrap=realloc -Wl,--wrap=free -Wl,--wrap=madvise. With -DMINISIGN_MALLOC_ALONE the
+ * functions are those of c/library/portable/allocation.c, which call nothing but malloc and free.
  */
 #ifdef MINISIGN_MALLOC_ALONE
 #include "../../c/library/portable/allocation.c"
@@ -20,8 +19,8 @@
 #define HINTS(len) ((len) >= LARGE_BYTES ? 2 : 0)
 #endif
 
-/* The rows of a key that are such a block, and how many times as great the next alignment is that is asked for: with
- * -DIS_EMULATED the smallest, and fewer of them. */
+/* The bytes of a key's rows that make a large block, and the factor between tested alignments. With -DIS_EMULATED
+ * the least large block, and fewer alignments. */
 #define LARGE_ROWS (IS_EMULATED ? LARGE_BYTES : (size_t) 16 << 20)
 #define NEXT_ALIGNMENT (IS_EMULATED ? 64 : 4)
 
@@ -30,7 +29,7 @@
 
 #include "texts_for_tests.h"
 
-/* All of it is zero but for one front. */
+/* Returns true if a block is zero except for one heading. */
 static int is_cleared(const char *block, size_t len)
 {
     size_t first = 0, front = len >= LARGE_BYTES ? LARGE_FRONT_BYTES : sizeof(struct heading);
@@ -45,16 +44,17 @@ static int is_cleared(const char *block, size_t len)
     return first + front >= len || is_zeros(block + first + front, len - first - front);
 }
 
-/* Blocks that were given back with more in them than a front, and blocks in all. */
+/* Freed blocks that were not cleared, and all freed blocks. */
 static volatile unsigned uncleared, given_back;
 
 #define LOOK_AT(block, len) (given_back++, uncleared += !is_cleared(block, len))
 #include "counted_memory.h"
 
-/* What the system was asked for: how often, and each time the range. (This is volatile as what counted_memory.h notes.) */
+/* The calls of madvise: range and advice of each, and how many there were. (They are volatile like the variables of
+ * counted_memory.h.) */
 static volatile struct { char *from; size_t len; int hint; } hinted[64];
 static volatile unsigned hints;
-/* Whether it does what it is asked, refuses, says yes and does nothing, or is slow with huge pages. */
+/* What madvise does: it works, fails, does nothing and returns 0, or is slow for huge pages. */
 static volatile enum { WILLING, REFUSING, LYING, SLOW } system_is;
 
 static void check_block_of(int holds, const char *what, size_t len, size_t alignment)
@@ -83,13 +83,13 @@ int __wrap_madvise(void *from, size_t len, int hint)
 
 #endif
 
-/* Whether so many blocks are held, and all that were given back were cleared. */
+/* Returns true if this many blocks are allocated, and all freed blocks were cleared. */
 static int is_held(long blocks)
 {
     return held == blocks && uncleared == 0;
 }
 
-/* A pattern that differs from byte to byte, is nowhere zero, and comes again after so many bytes. */
+/* A pattern without zeros, whose neighbouring bytes differ, and that repeats after PERIOD bytes. */
 enum { PERIOD = 251 };
 
 static void paint(char *block, size_t len)
@@ -111,45 +111,46 @@ static int is_painted(const char *block, size_t len)
                          : memcmp(block, front, PERIOD) == 0 && memcmp(block, block + PERIOD, len - PERIOD) == 0;
 }
 
-/* One block that is used whole, and grows and shrinks to another length. */
-static void check_block(size_t len, size_t alignment, size_t other)
+/* Allocates a block, fills it, and resizes it to another length, with failing allocations in between. */
+static void check_block(size_t len, size_t alignment, size_t new_len)
 {
-    struct grant one, two;
-    size_t kept = len < other ? len : other;
+    struct grant block, resized;
+    size_t common = len < new_len ? len : new_len;
 
     hints = 0;
     errno = 77;
-    one = rattle_alloc(len, alignment);
-    check_block_of(one.is_granted == 1 && (uintptr_t) one.block % alignment == 0, "a block", len, alignment);
+    block = rattle_alloc(len, alignment);
+    check_block_of(block.is_granted == 1 && (uintptr_t) block.block % alignment == 0, "allocating", len, alignment);
     check_block_of(errno == 77, "errno was changed", len, alignment);
-    check_block_of(hints == HINTS(len), "how often the system was asked", len, alignment);
+    check_block_of(hints == HINTS(len), "the number of madvise calls", len, alignment);
 #ifndef MINISIGN_MALLOC_ALONE
     for (unsigned at = 0; at < hints; at++) {
-        check_block_of(hinted[at].hint == (at == 0 ? MADV_HUGEPAGE : MADV_POPULATE_WRITE) && hinted[at].from == one.block
-                  && hinted[at].len <= len && hinted[at].len + 65536 > len, "what the system was asked", len, alignment);
+        check_block_of(hinted[at].hint == (at == 0 ? MADV_HUGEPAGE : MADV_POPULATE_WRITE) && hinted[at].from == block.block
+                  && hinted[at].len <= len && hinted[at].len + 65536 > len, "the arguments of madvise", len, alignment);
     }
 #endif
-    paint(one.block, len);
-    two = rattle_realloc(one.block, len, other, alignment);
-    check_block_of(two.is_granted == 1 && (uintptr_t) two.block % alignment == 0 && is_painted(two.block, kept), "growing", other, alignment);
-    check_block_of(is_held(1), "the older block", len, alignment);
-    paint(two.block, other);
+    paint(block.block, len);
+    resized = rattle_realloc(block.block, len, new_len, alignment);
+    check_block_of(resized.is_granted == 1 && (uintptr_t) resized.block % alignment == 0 && is_painted(resized.block, common),
+                   "resizing", new_len, alignment);
+    check_block_of(is_held(1), "the old block was not freed or cleared", len, alignment);
+    paint(resized.block, new_len);
     greatest = 0;
-    one = rattle_realloc(two.block, other, other + 1, alignment);
-    check_block_of(one.is_granted == 0 && one.block != NULL, "growing that is refused", other, alignment);
-    one = rattle_alloc(len, alignment);
-    check_block_of(one.is_granted == 0 && one.block != NULL, "a block that is refused", len, alignment);
+    block = rattle_realloc(resized.block, new_len, new_len + 1, alignment);
+    check_block_of(block.is_granted == 0 && block.block != NULL, "resizing without memory", new_len, alignment);
+    block = rattle_alloc(len, alignment);
+    check_block_of(block.is_granted == 0 && block.block != NULL, "allocating without memory", len, alignment);
     greatest = SIZE_MAX;
-    check_block_of(is_held(1) && is_painted(two.block, other), "the block that could not grow", other, alignment);
+    check_block_of(is_held(1) && is_painted(resized.block, new_len), "the block after a failed resize", new_len, alignment);
     errno = 77;
-    rattle_dealloc(two.block);
-    check_block_of(is_held(0), "a block that was given back", other, alignment);
-    check_block_of(errno == 77, "errno was changed by giving back", other, alignment);
+    rattle_dealloc(resized.block);
+    check_block_of(is_held(0), "the freed block", new_len, alignment);
+    check_block_of(errno == 77, "errno was changed by freeing", new_len, alignment);
 }
 
 #ifndef MINISIGN_MALLOC_ALONE
 
-/* Waits until a thread has brought in all of a block. */
+/* Waits until a thread has mapped all pages of a block. */
 static void wait_for_pages(void *block)
 {
     struct pages *pages = pages_of(block);
@@ -160,8 +161,8 @@ static void wait_for_pages(void *block)
     }
 }
 
-/* A block of several parts: all is brought in, from its begin to its end, and the part after a slow one in other
- * pages. */
+/* Allocates a block of several parts. All of it is mapped, from begin to end. After a part was slow, the next part
+ * uses small pages. */
 static void check_parts(void)
 {
     size_t len = 3 * PART_BYTES + 12345, at = 0;
@@ -170,7 +171,7 @@ static void check_parts(void)
     hints = 0;
     grant = rattle_alloc(len, 1);
     wait_for_pages(grant.block);
-    check_block_of(grant.is_granted == 1 && hints == 8, "a block of several parts", len, 1);
+    check_block_of(grant.is_granted == 1 && hints == 8, "the madvise calls for several parts", len, 1);
     for (unsigned part = 0; part < hints; part += 2) {
         check_block_of(hinted[part].from == (char *) grant.block + at && hinted[part + 1].from == hinted[part].from
                   && hinted[part].len == hinted[part + 1].len && hinted[part + 1].hint == MADV_POPULATE_WRITE, "a part", len, 1);
@@ -178,18 +179,18 @@ static void check_parts(void)
         check_block_of(part > 2 || hinted[part].hint == (part == 2 ? MADV_HUGEPAGE : MADV_NOHUGEPAGE), "the first parts", len, 1);
         at += hinted[part].len;
     }
-    check_block_of(at <= len && at + 65536 > len, "all of a block", len, 1);
+    check_block_of(at <= len && at + 65536 > len, "the length of all parts", len, 1);
     paint(grant.block, len);
     rattle_dealloc(grant.block);
-    check_block_of(is_held(0), "a block of several parts that was given back", len, 1);
-    /* One that is given back while its pages are still brought in. */
+    check_block_of(is_held(0), "the freed block of several parts", len, 1);
+    /* A block that is freed while its pages are still being mapped. */
     grant = rattle_alloc(len, 1);
     paint(grant.block, PART_BYTES);
     rattle_dealloc(grant.block);
-    check_block_of(is_held(0), "a block that was given back early", len, 1);
+    check_block_of(is_held(0), "the block that was freed early", len, 1);
     at = hints;
     usleep(20000);
-    check_block_of(hints == at, "a thread that has not ended with its block", len, 1);
+    check_block_of(hints == at, "the thread did not end with its block", len, 1);
 }
 
 #endif
@@ -198,10 +199,10 @@ static void check_blocks(void)
 {
     static const size_t lens[] = { 0, 1, 15, 16, 17, 1000, LARGE_BYTES - 1, LARGE_BYTES, LARGE_BYTES + 123457 };
 
-    for (size_t one = 0; one < LENGTH(lens); one++) {
+    for (size_t i = 0; i < LENGTH(lens); i++) {
         for (size_t alignment = 1; alignment <= 4096; alignment *= NEXT_ALIGNMENT) {
-            check_block(lens[one], alignment, lens[one] + 100);
-            check_block(lens[one], alignment, lens[one] / 2);
+            check_block(lens[i], alignment, lens[i] + 100);
+            check_block(lens[i], alignment, lens[i] / 2);
         }
     }
 #ifndef MINISIGN_MALLOC_ALONE
@@ -216,20 +217,20 @@ static void check_blocks(void)
 #endif
 }
 
-/* Lengths that no block can have are refused, and malloc is not asked. */
+/* Impossible lengths are rejected without calling malloc. */
 static void check_lengths(void)
 {
     static const size_t lens[] = { SIZE_MAX, SIZE_MAX - 15, SIZE_MAX / 2 + 1, SIZE_MAX / 2, SIZE_MAX / 2 - 16 };
 
-    for (size_t one = 0; one < LENGTH(lens); one++) {
+    for (size_t i = 0; i < LENGTH(lens); i++) {
         const long before = requests;
-        struct grant grant = rattle_alloc(lens[one], 1);
+        struct grant grant = rattle_alloc(lens[i], 1);
 
-        check_block_of(grant.is_granted == 0 && requests == before, "a length that cannot be", lens[one], 1);
+        check_block_of(grant.is_granted == 0 && requests == before, "an impossible length", lens[i], 1);
     }
 }
 
-/* The library's calls, with a key sealed in so many bytes of rows. */
+/* Makes, reads, opens and signs with a key that is encrypted with this much memory of scrypt. */
 static void check_library(size_t memory)
 {
     static const char password[] = "a long password";

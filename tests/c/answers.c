@@ -1,7 +1,7 @@
 /*
- * Prints a line for each text of a file that portable.py wrote: all numbers that the calls of minisign.h return, and
- * a sum over all bytes that they write. Two libraries answer the same if the lines are the same, also on processors
- * of another byte order.
+ * Prints the results of the calls of minisign.h for each case of a file that portable.py wrote: all returned numbers,
+ * and a sum of all bytes that are written. Two libraries behave the same if they print the same, also on processors of
+ * another byte order.
  *
  *     answers FILE
  */
@@ -72,7 +72,7 @@ static size_t length_in(FILE *file)
     return b[0] | (size_t) b[1] << 8 | (size_t) b[2] << 16 | (size_t) b[3] << 24;
 }
 
-static void tell_error_texts(void)
+static void print_error_texts(void)
 {
     for (uint32_t number = 0; number < 256; number++) {
         char text[MINISIGN_ERROR_TEXT_BYTES];
@@ -83,8 +83,8 @@ static void tell_error_texts(void)
     printf("%016llx\n", (unsigned long long) sum);
 }
 
-/* A signature is asked about with a text, and judged, with data that comes before and after it is asked. */
-static void tell_verdict(const minisign_public_key *key, const minisign_signature *signature, const uint8_t *text,
+/* Asks about a signature and prints the verdict. A third of the data is fed before the question, the rest after it. */
+static void print_verdict(const minisign_public_key *key, const minisign_signature *signature, const uint8_t *text,
                          size_t text_len, const uint8_t *data, size_t len, uint32_t legacy, uint32_t answers, size_t room)
 {
     static uint8_t message[MOST];
@@ -119,7 +119,7 @@ int main(int argc, char **argv)
     if (file == NULL) {
         return 2;
     }
-    tell_error_texts();
+    print_error_texts();
     for (size_t number = 0, count = length_in(file); number < count; number++) {
         minisign_public_key key, bare;
         minisign_signature signature;
@@ -142,9 +142,10 @@ int main(int argc, char **argv)
         printf("%d ", minisign_read_signature(texts[1], lens[1], &signature));
         add_signature(&signature);
         for (uint32_t i = 0; i < 12; i++) {
-            /* (one in sixteen has too little room, one another text, and one another place in it) */
+            /* (One case in sixteen has a buffer that is too small, one another text, and one another offset of the
+             * comment.) */
             signature.comment_offset += number % 16 == 6 ? UINT64_C(1) << 5 * i : 0;
-            tell_verdict(&key, &signature, texts[1], lens[1] - (number % 16 == 7 && lens[1] > 0), texts[2], lens[2], i / 4, i % 4,
+            print_verdict(&key, &signature, texts[1], lens[1] - (number % 16 == 7 && lens[1] > 0), texts[2], lens[2], i / 4, i % 4,
                          number % 16 == 5 ? 70 : lens[1]);
         }
         printf("%016llx\n", (unsigned long long) sum);

@@ -1,7 +1,7 @@
 /*
- * Reads the texts of keys and signatures and asks about them, with keys and signatures that Minisign made, most by 0.11 of
- * the bytes `hello` and a line feed, and compares the number of each rejected text. The bytes were read from the texts by
- * Python's base64; the digests are those of its hashlib. Nothing of that allocates.
+ * Parses and verifies keys and signatures that Minisign made (most by 0.11, of `hello` and a line feed), and compares
+ * the error for each invalid text. The expected bytes were decoded by Python's base64, the digests are those of its
+ * hashlib. Parsing and verifying allocates nothing.
  *
  * Linked with -Wl,--wrap=malloc -Wl,--wrap=realloc -Wl,--wrap=free.
  */
@@ -21,7 +21,7 @@ static const char LEGACY[] =
 static const char DIGEST[] =
     "f60ce482e5cc1229f39d71313171a8d9f4ca3a87d066bf4b205effb528192a75f14f3271e2c1a90e1de53f275b4d4793"
     "eef2f5e31ea90d2ce29d2e481c36435f";
-/* The Blake2b digests of 32 bytes of PREHASHED and of LEGACY. */
+/* The Blake2b digests, of 32 bytes, of PREHASHED and of LEGACY. */
 static const char TEXT_DIGEST[] = "3d5e0455569719fc7b08d2328d4738eb12c3fa4ec4b6a07cf554ac51be495855";
 static const char LEGACY_TEXT_DIGEST[] = "add91b152541ffc3ce0fd091e45f1029635c407b50cbf487ff393cddc5284215";
 static const char PUBLIC_KEY[] = "7575ae18298f2a4026f58a9bc4f0755e23d3616e7c04c2b1440b8e10db4adcad";
@@ -34,20 +34,20 @@ static const char COMMENT_SIGNATURE[] =
 static const char KEY_ID[] = "b8a0ef8e4c6be621";
 #define HELLO_COMMENT "a trusted comment"
 
-/* Of the secret key of texts_for_tests.h, which has no checksum. */
+/* The secret and the key ID of SECRET_KEY of texts_for_tests.h, which has no checksum. */
 static const char SECRET[] =
     "f9b70e35e2d0769774b4015e01b61a56ad61f203e22db1e862b23b11f0044e83e57c360f364c01163e9721a9b9611456"
     "b2eff9108a88977e738b0f53a6c938bd";
 static const char SECRET_KEY_ID[] = "bbcd807aefe53eab";
 
-/* The same with this key derivation, limits, key ID and checksum. */
+/* The same secret key with another key derivation, limits, key ID and checksum. */
 #define KEY_TEXT(derivation, limits, key_id, checksum) \
     "untrusted comment: x\nRW" derivation "IyAAAAAAAAAAAAAAAAAAAAAAAAAAAAAAAAAAAAAAAAAA" limits key_id \
     "5tw414tB2l3S0AV4BthpWrWHyA+ItsehisjsR8AROg+V8Ng82TAEWPpchqblhFFay7/kQioiXfnOLD1OmyTi9A" checksum \
     "AAAAAAAAAAAAAAAAAAAAAAAAAAAAAAAAAAAAAAAAA=\n"
 #define NO_LIMITS "AAAAAAAAAAAAAAAAAAAAAA"
 
-/* Under the identifier of HELLO_KEY, with a checksum that does not match, and under other key derivations. */
+/* Secret keys: with the key ID of HELLO_KEY; with a wrong checksum; encrypted; with an unknown key derivation. */
 static const char KEY_OF_SIGNATURE[] = KEY_TEXT("QAAE", NO_LIMITS, "uKDvjkxr5iH", "A");
 static const char CORRUPTED_KEY[] = KEY_TEXT("QAAE", NO_LIMITS, "u82Aeu/lPqv", "Q");
 static const char SEALED_KEY[] = KEY_TEXT("RTY0", "AAABAAAAAAAAAAAAIAAAAA", "u82Aeu/lPqv", "A");
@@ -58,7 +58,7 @@ static minisign_unopened_key unopened;
 static minisign_secret_key signing;
 static uint8_t message[64 + sizeof HELLO_COMMENT - 1];
 
-/* Reads the key and the signature, and asks: the number of the first that rejects. */
+/* Parses the key and the signature, and asks. Returns the first error. */
 static enum minisign_error ask(minisign_state *state, const char *key, const char *text, uint32_t allow_legacy)
 {
     minisign_public_key pk;
@@ -73,8 +73,8 @@ static enum minisign_error ask(minisign_state *state, const char *key, const cha
                                                message, sizeof message);
 }
 
-/* A signature is what its text says, before anything is asked. */
-static void read_as(void)
+/* Parsing fills all fields of a signature. */
+static void parses_signatures(void)
 {
     static const char cut[] = "untrusted comment: x\r\n" OTHER_RECORD "\ntrusted comment: \t \xc3\xa9 t \r\nAAAA";
     minisign_signature prehashed = signature_of(PREHASHED), legacy = signature_of(LEGACY), short_one = signature_of(cut);
@@ -88,13 +88,13 @@ static void read_as(void)
     CHECK(legacy.legacy == 1 && legacy.whole == 1 && legacy.reserved == 0 && legacy.mark == prehashed.mark);
     CHECK(legacy.comment_len == strlen("legacy one") && LEGACY + legacy.comment_offset == strstr(LEGACY, "legacy one"));
     CHECK(is_hex(legacy.text_digest, LEGACY_TEXT_DIGEST));
-    /* White space at the ends of a comment is not part of it, and a comment signature may be too short. */
+    /* White space around a comment is not part of it, and a comment signature may be too short. */
     CHECK(is_hex(short_one.signature, SIGNATURE_BYTES) && is_zeros(short_one.comment_signature, 64));
     CHECK(short_one.whole == 0 && short_one.comment_len == 4 && cut + short_one.comment_offset == strstr(cut, "\xc3\xa9 t"));
 }
 
-/* The questions are those of the texts, and both answers decide. */
-static void told(void)
+/* The questions have the fields of the key and the signature, and a good answer to both is needed. */
+static void asks_and_verifies(void)
 {
     const minisign_public_key key = key_of(HELLO_KEY);
     const minisign_signature none = { 0 }, legacy = signature_of(LEGACY);
@@ -118,12 +118,12 @@ static void told(void)
     CHECK(ask(&state, HELLO_KEY, LEGACY, 1) == MINISIGN_OK && questions.legacy == 1);
 }
 
-/* The number for each text of a public key and of a signature, which leaves the state as it was. */
-static void rejected(void)
+/* The error for each invalid public key and signature. The state is unchanged. */
+static void rejects_signature_texts(void)
 {
     static const struct {
         const char *key, *signature;
-        enum minisign_error number;
+        enum minisign_error error;
     } rows[] = {
         { HELLO_KEY, LEGACY, MINISIGN_LEGACY_NOT_ACCEPTED },
         { "untrusted comment: x\nRWQBAgMEBQYHCFpaWlpaWlpaWlpaWlpaWlpaWlpaWlpaWlpaWlpaWlpa\n", PREHASHED,
@@ -135,7 +135,7 @@ static void rejected(void)
         { HELLO_KEY, "x\nRUS4\ntrusted comment: y\nRUS4\n", MINISIGN_UNTRUSTED_COMMENT_PREFIX },
         { HELLO_KEY, "untrusted comment: x\nRUS!\ntrusted comment: y\nRUS4\n", MINISIGN_SIGNATURE_NOT_BASE64 },
         { HELLO_KEY, "untrusted comment: x\nRUS4\ntrusted comment: y\nRUS4\n", MINISIGN_RECORD_TOO_SHORT },
-        /* Padding may stand at the end alone (RFC 4648, section 4), and not after the 74 bytes that are read. */
+        /* Padding is allowed only at the end (RFC 4648, section 4), and not after the 74 bytes that are decoded. */
         { HELLO_KEY,
           "untrusted comment: x\n" OTHER_RECORD "AAAA\ntrusted comment: a trusted comment\n"
           "VFXOnLXSP360tFPUt7eqzsSHMo0p1bPS9fRkoO0MOvNy8kHZu0k9okhkkORQyQv79DEl+OdNXurVl1Qt+AMEAQ==\n",
@@ -147,13 +147,15 @@ static void rejected(void)
     for (size_t row = 0; row < LENGTH(rows); row++) {
         minisign_state state = begun;
 
-        check(ask(&state, rows[row].key, rows[row].signature, 0) == rows[row].number, "%s", rows[row].signature);
+        enum minisign_error error = ask(&state, rows[row].key, rows[row].signature, 0);
+
+        check(error == rows[row].error, "error %u, expected %u: %s", error, rows[row].error, rows[row].signature);
         CHECK(memcmp(&state, &begun, sizeof state) == 0);
     }
 }
 
-/* The secret and the key ID of a key, and its public half. */
-static void opened(void)
+/* Opening a secret key returns its secret and its key ID, from which the public key is made. */
+static void opens_secret_key(void)
 {
     minisign_public_key half;
 
@@ -163,12 +165,12 @@ static void opened(void)
     CHECK(is_hex(half.key, SECRET + 64) && is_hex(half.key_id, SECRET_KEY_ID));
 }
 
-/* The number for each text of a secret key, of which nothing is told. */
-static void not_opened(void)
+/* The error for each invalid secret key. Nothing is written. */
+static void rejects_secret_keys(void)
 {
     static const struct {
         const char *key, *password;
-        enum minisign_error number;
+        enum minisign_error error;
     } rows[] = {
         { "", NULL, MINISIGN_MISSING_SECRET_KEY_COMMENT },
         { "untrusted comment: x\n", NULL, MINISIGN_MISSING_SECRET_KEY },
@@ -183,14 +185,17 @@ static void not_opened(void)
     static const minisign_secret_key nothing;
 
     for (size_t row = 0; row < LENGTH(rows); row++) {
+        enum minisign_error error;
+
         signing = nothing;
-        check(read_and_open(rows[row].key, rows[row].password, &unopened, &signing) == rows[row].number, "%s", rows[row].key);
+        error = read_and_open(rows[row].key, rows[row].password, &unopened, &signing);
+        check(error == rows[row].error, "error %u, expected %u: %s", error, rows[row].error, rows[row].key);
         CHECK(memcmp(&signing, &nothing, sizeof signing) == 0);
     }
 }
 
-/* What the two signatures of Minisign make with their comments is what it wrote. */
-static void written(void)
+/* The two signatures and comments of a Minisign signature make the same file again. */
+static void writes_signature(void)
 {
     static const char untrusted[] = "signature from minisign secret key";
     const minisign_signature read = signature_of(PREHASHED);
@@ -209,24 +214,24 @@ static void written(void)
 /* ---- Public keys ---- */
 
 #define LINE KEY_LINE
-#define OTHER_LINE "RWQgIL+P9InzHS80IJTTlmrDw4sxOtdRTc3QnmnZMSSaSrd2GcKR5OlJ"
-/* The key and the key ID of each. */
-#define ONE "79a561e70ee08cd3e754c63e9bd6b9c3520a1d4204cd104da2e7ef763b1853b71fe8b442180f62e7"
-#define OTHER "2f342094d3966ac3c38b313ad7514dcdd09e69d931249a4ab77619c291e4e9492020bf8ff489f31d"
+#define SECOND_LINE "RWQgIL+P9InzHS80IJTTlmrDw4sxOtdRTc3QnmnZMSSaSrd2GcKR5OlJ"
+/* The key and the key ID of each line. */
+#define FIRST_KEY "79a561e70ee08cd3e754c63e9bd6b9c3520a1d4204cd104da2e7ef763b1853b71fe8b442180f62e7"
+#define SECOND_KEY "2f342094d3966ac3c38b313ad7514dcdd09e69d931249a4ab77619c291e4e9492020bf8ff489f31d"
 
-/* A text, and the key that it reads as, or why it is rejected. */
+/* A text, and the key that it is parsed to, or the error. */
 struct row {
     const char *text;
     const char *key;
     enum minisign_error error;
 };
 
-static const struct row of_two_lines[] = {
-    { KEY_COMMENT LINE "\n", ONE, MINISIGN_OK },
-    { KEY_COMMENT LINE, ONE, MINISIGN_OK },
-    { KEY_COMMENT LINE "\r\n", ONE, MINISIGN_OK },
-    { "\n" LINE "\nmore\n", ONE, MINISIGN_OK },
-    { "any comment\n" OTHER_LINE "\n", OTHER, MINISIGN_OK },
+static const struct row key_files[] = {
+    { KEY_COMMENT LINE "\n", FIRST_KEY, MINISIGN_OK },
+    { KEY_COMMENT LINE, FIRST_KEY, MINISIGN_OK },
+    { KEY_COMMENT LINE "\r\n", FIRST_KEY, MINISIGN_OK },
+    { "\n" LINE "\nmore\n", FIRST_KEY, MINISIGN_OK },
+    { "any comment\n" SECOND_LINE "\n", SECOND_KEY, MINISIGN_OK },
     { "", NULL, MINISIGN_MISSING_PUBLIC_KEY_COMMENT },
     { KEY_COMMENT, NULL, MINISIGN_MISSING_PUBLIC_KEY },
     { LINE "\n", NULL, MINISIGN_MISSING_PUBLIC_KEY },
@@ -239,9 +244,9 @@ static const struct row of_two_lines[] = {
     { KEY_COMMENT "    RWQf6LRCGA9i53mlYecO4IzT51TGPpvWucNSCh1CBM0QTaLn73Y7\n", NULL, MINISIGN_RECORD_TOO_SHORT },
     { "\xff\n" LINE "\n", NULL, MINISIGN_NOT_UTF8 },
 };
-static const struct row bare[] = {
-    { LINE, ONE, MINISIGN_OK },
-    { OTHER_LINE, OTHER, MINISIGN_OK },
+static const struct row bare_keys[] = {
+    { LINE, FIRST_KEY, MINISIGN_OK },
+    { SECOND_LINE, SECOND_KEY, MINISIGN_OK },
     { "", NULL, MINISIGN_BARE_PUBLIC_KEY_LENGTH },
     { KEY_COMMENT LINE, NULL, MINISIGN_BARE_PUBLIC_KEY_LENGTH },
     { LINE "A", NULL, MINISIGN_BARE_PUBLIC_KEY_LENGTH },
@@ -252,34 +257,36 @@ static const struct row bare[] = {
     { "\xff", NULL, MINISIGN_NOT_UTF8 },
 };
 
-/* Reads each text of a table, and compares all of the key, which a rejection leaves as it was. */
+/* Parses each text of a table. A rejected text leaves the key unchanged. */
 static void read_keys(enum minisign_error (*read)(const uint8_t *text, size_t len, minisign_public_key *key),
                       const struct row *rows, size_t count)
 {
     for (const struct row *row = rows; row < rows + count; row++) {
-        minisign_public_key told, untouched;
+        minisign_public_key parsed, untouched;
+        enum minisign_error error;
 
-        memset(&told, 0xa5, sizeof told);
-        untouched = told;
-        check(read(bytes_of(row->text), strlen(row->text), &told) == row->error, "not the error %u: %s", row->error, row->text);
-        check(row->key != NULL ? is_hex((const uint8_t *) &told + offsetof(minisign_public_key, key), row->key)
-                               : memcmp(&told, &untouched, sizeof told) == 0,
-              "another key: %s", row->text);
+        memset(&parsed, 0xa5, sizeof parsed);
+        untouched = parsed;
+        error = read(bytes_of(row->text), strlen(row->text), &parsed);
+        check(error == row->error, "error %u, expected %u: %s", error, row->error, row->text);
+        check(row->key != NULL ? is_hex((const uint8_t *) &parsed + offsetof(minisign_public_key, key), row->key)
+                               : memcmp(&parsed, &untouched, sizeof parsed) == 0,
+              "the wrong key: %s", row->text);
     }
 }
 
 int main(void)
 {
-    /* (what comes before this may allocate) */
+    /* (code before main may allocate) */
     requests = held = 0;
-    read_keys(minisign_read_public_key, of_two_lines, LENGTH(of_two_lines));
-    read_keys(minisign_read_bare_public_key, bare, LENGTH(bare));
-    read_as();
-    told();
-    rejected();
-    opened();
-    not_opened();
+    read_keys(minisign_read_public_key, key_files, LENGTH(key_files));
+    read_keys(minisign_read_bare_public_key, bare_keys, LENGTH(bare_keys));
+    parses_signatures();
+    asks_and_verifies();
+    rejects_signature_texts();
+    opens_secret_key();
+    rejects_secret_keys();
     CHECK(requests == 0 && held == 0);
-    written();
+    writes_signature();
     return ended();
 }

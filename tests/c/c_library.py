@@ -1,17 +1,25 @@
 #!/usr/bin/env python3
-"""Compiles and runs programs that call the static library of `c/` through `include/minisign.h` alone.
+"""Checks the static library of `c/` with programs that call it only through the headers.
 
     tests/c/c_library.py [WORD ..]
 
-They try the declarations beside the exports of the sources, the layout of its structs as C and as C++ (`exports.py`),
-usage errors and NULL (`usage_errors.c`), keys and signatures that strict Ed25519 rejects (`weak_ed25519.c`), the texts of keys and signatures, of which reading and verifying make no
-allocation, and the number of each rejection (`asked_texts.c`), the text of each number (`error_texts.c`), an
-installation at each of its calls (`installations.c`), memory from malloc, which is cleared before it is given back
-(`allocations.c`), each allocation failing (`out_of_memory.c`), buffers beside pages without access (`guard_pages.c`),
-threads (`threads.c`), and random calls beside a model (`random_calls.c`); each program also with sanitizers, where the
-compiler has them. The library is built over `dist/` (`static_library.py`), once more with the copy of the calls for
-processors without AVX2 alone, and once more with -DMINISIGN_NO_THREADS: such a library names no call for threads. WORD
-selects the libraries and the programs whose name contains it. It prints a line for each failure; the last line is `N passed, M failed`.
+WORD selects the libraries and the programs whose name contains it.
+
+- exports.py: declarations against the exports of the sources, and the layout of the structs as C and as C++;
+- usage_errors.c: API misuse and NULL;
+- weak_ed25519.c: keys and signatures that strict Ed25519 rejects;
+- asked_texts.c: key and signature files, and the error of each rejection;
+- error_texts.c: the text of each error;
+- installations.c: an installation at each of its calls;
+- guard_pages.c: buffers beside pages without access;
+- random_calls.c: random calls against a model;
+- allocations.c: memory, which is cleared before it is freed;
+- threads.c: several threads at once;
+- out_of_memory.c: failing allocations.
+
+The library is built over `dist/` (static_library.py), once more only with the copy of the calls for processors without
+AVX2, and once more with -DMINISIGN_NO_THREADS, which calls no function for threads. Each program is also built with
+sanitizers, if the compiler has them. It prints a line for each failure; the last line is `N passed, M failed`.
 
 Needs binutils, clang, a C compiler and a C++ compiler, and installs what is missing if it may.
 """
@@ -35,21 +43,21 @@ STRICT = ["-Wall", "-Wextra", "-Wpedantic", "-Werror"]
 SANITIZED = ["-fsanitize=address,undefined", "-fno-sanitize-recover=all"]
 WRAPPED = ["-Wl,--wrap=malloc", "-Wl,--wrap=realloc", "-Wl,--wrap=free"]
 
-# The programs, with what each is linked with.
+# The programs, with linker flags.
 PROGRAMS = {"usage_errors": [], "weak_ed25519": [], "asked_texts": WRAPPED, "error_texts": [], "installations": WRAPPED, "guard_pages": [], "random_calls": [],
             "allocations": [*WRAPPED, "-Wl,--wrap=madvise"], "threads": ["-pthread"],
             "out_of_memory": [*WRAPPED, "-Wl,--wrap=madvise", "-Wl,--wrap=pthread_create"]}
 programs_named = lambda *names: {name: PROGRAMS[name] for name in names}
-# With these the programs do less of what takes long, which they do here.
+# With this flag the programs do less of what takes long.
 LESS = ["-DIS_EMULATED"]
-# The libraries, with what make is told of each, and the flags that the programs are built with once each.
+# The libraries: variables for make, and the flags of the programs, which are built once with each set of flags.
 NO_THREADS = "-DMINISIGN_NO_THREADS"
 LIBRARIES = {"both copies": ([], ([], SANITIZED)), "for x86-64-v2": ([f"V3={static_library.DIST}/calls-x86-64-v2.a"], ([],)),
              "without threads": (["C_CALLS=", f"CPPFLAGS=-D_FORTIFY_SOURCE=2 {NO_THREADS}"], ([NO_THREADS],))}
 
 
 def compiled(checks, what, name, compiler, library, *flags):
-    """The path of a program of this directory that is built over a library, beside which it stands."""
+    """Builds a program of this directory over a library, and returns its path, which is beside the library."""
     program, source = os.path.join(os.path.dirname(library), name), os.path.join(HERE, f"{name}.c")
     command = [compiler, "-std=c11", *STRICT, "-O1", "-I", INCLUDE, "-o", program, source, library, *flags]
     checks.ended(f"{what}: {name}.c", run(command))
@@ -57,7 +65,7 @@ def compiled(checks, what, name, compiler, library, *flags):
 
 
 def check_programs(checks, what, programs, compiler, library, *flags, before=()):
-    """Programs that count what they check: by these words before them, they are run."""
+    """Builds and runs programs, and adds their counts. `before` are words before the command."""
     for name, linking in programs.items():
         status, said, why = run_apart([*before, compiled(checks, what, name, compiler, library, *flags, *linking)])
         said = checks.ended(f"{what}: {name}", (status, said.replace("\r\n", "\n") + why), says=" passed, 0 failed\n")
@@ -65,7 +73,7 @@ def check_programs(checks, what, programs, compiler, library, *flags, before=())
 
 
 def check_declarations(checks, room):
-    """The declarations fit the exports, and the structs are laid out so, as C and as C++."""
+    """The declarations match the exports, and the structs have the same layout as C and as C++."""
     unfit, layout = exports.unfit_declarations(), exports.write_layout(room)
     checks.check(not unfit, *unfit)
     for command in ([needs.c_compiler(), "-x", "c", "-std=c11"], [needs.cpp_compiler(), "-x", "c++", "-std=c++11"]):
@@ -76,7 +84,7 @@ def run_all(checks, room):
     compiler = needs.c_compiler()
     if selected.is_selected("declarations"):
         check_declarations(checks, room)
-    for number, (what, (words, kinds)) in enumerate(LIBRARIES.items()):
+    for number, (what, (words, flag_sets)) in enumerate(LIBRARIES.items()):
         if os.environ.get("UNPROVED") and any("dist" in word for word in words):
             print(f"left out with UNPROVED: {what}")
             continue
@@ -85,8 +93,8 @@ def run_all(checks, room):
             continue
         library = static_library.library(os.path.join(room, str(number)), *words)
         named = {*re.findall(r"\w*pthread\w*", run([needs.program("nm", "binutils"), "--undefined-only", library])[1])}
-        checks.check(bool(named) != (what == "without threads"), f"{what}: the library calls for threads {named}")
-        for flags in kinds:
+        checks.check(bool(named) != (what == "without threads"), f"{what}: the library calls the thread functions {named}")
+        for flags in flag_sets:
             if flags == SANITIZED and not needs.compiles(compiler, needs.HELLO, SANITIZED):
                 print("skipped: the programs with sanitizers, which the compiler lacks")
             else:

@@ -1,12 +1,12 @@
 /*
- * Searches memory for the secrets that calls were given. cleared.py says which bytes are looked for, in needles.h, the
- * first half of a secret key first and a password as the fourth, and what has to be found of them.
+ * Searches registers and memory for secrets after each call of the library, for cleared.py, which writes the searched
+ * bytes into needles.h: the first half of a secret key comes first, and a password is the fourth.
  *
- * After each call it searches all registers and all memory that the program may write, but for the caller's own, in
- * which the secrets are found where they belong. A signal on a stack of its own has the system write the registers
- * into memory. For each call and each needle there is a line: the call, the needle, how often it is found in
- * registers, on the stack and elsewhere, and how often in the caller's own memory. A line `deepest` says how far
- * below the frame of the caller the stack was written.
+ * After each call it searches all registers and all writable memory. The caller's own variables are counted separately,
+ * because secrets belong there. A signal on its own stack makes the system write the registers into memory. For each
+ * call and each searched needle it prints a line: the call, the needle, how often it was found in registers, on the
+ * stack and elsewhere, and how often in the caller's variables. A line `deepest` says how far below the caller's frame
+ * the stack was written.
  */
 #define _GNU_SOURCE
 #include <stdio.h>
@@ -15,7 +15,7 @@
 #include "minisign.h"
 #include "search_memory.h"
 
-/* ---- What the calls are given, and what they make ---- */
+/* ---- Arguments and results of the calls ---- */
 
 static uint8_t password[64], sealed[1024], damaged[1024], unsealed[1024], public_key[1024], text[4096];
 static size_t password_len, sealed_len, unsealed_len, public_len, text_len;
@@ -41,7 +41,7 @@ struct range {
     size_t len;
 };
 
-/* What is the caller's own: secrets stand in it by right. */
+/* The caller's variables, which may hold secrets. */
 static const struct range own[] = { { new_key.secret, sizeof new_key.secret }, { password, sizeof password },
                                     { unsealed, sizeof unsealed },     { &key, sizeof key },
                                     { &opened, sizeof opened },        { &unopened, sizeof unopened } };
@@ -62,7 +62,7 @@ static int place_of(const uint8_t *at, bool is_undumped)
                                                                 : ELSEWHERE;
 }
 
-/* Measures how far below the caller's frame the first byte stands that is no paint, and searches. */
+/* Finds the first byte of the stack that was overwritten, and searches all memory. */
 static void look(void)
 {
     const volatile uint8_t *at = frame - PAINTED_BYTES + 4096;
@@ -74,7 +74,7 @@ static void look(void)
     search_all("/proc/self/maps");
 }
 
-/* Writes paint on the stack below the frame that calls it. */
+/* Fills the stack below the calling frame with PAINT. */
 __attribute__((noinline)) static void paint(void)
 {
     volatile uint8_t painted[PAINTED_BYTES];
@@ -86,11 +86,11 @@ __attribute__((noinline)) static void paint(void)
 
 /* ---- The calls ---- */
 
-/* A call with what it is given: the limits of a key and how many of its rows are kept, or how it is opened. */
+/* A call with its arguments: the limits of a key, how many of its rows are kept, and how it is opened. */
 struct step {
     const char *name;
     enum minisign_error (*call)(void);
-    uint64_t operations, memory, kept;
+    uint64_t operations, memory, keep_every;
     enum { WITH_PASSWORD, IN_PLACE } how;
     bool is_damaged, has_signals;
 };
@@ -103,7 +103,7 @@ static enum minisign_error take(void)
     return MINISIGN_OK;
 }
 
-static enum minisign_error tell_public(void)
+static enum minisign_error get_public_key(void)
 {
     return minisign_public_key_of(&key, &public);
 }
@@ -119,7 +119,7 @@ static enum minisign_error make_sealed(void)
     for (size_t i = 0; i < sizeof sealing.salt; i++) {
         sealing.salt[i] = (uint8_t) i;
     }
-    rows = step->kept;
+    rows = step->keep_every;
     return minisign_secret_key_text_with_any_limits(&key, 1, password, password_len, &sealing, rows, COMMENT,
                                                     sizeof COMMENT - 1, sealed, sizeof sealed, &sealed_len);
 }
@@ -137,17 +137,17 @@ static enum minisign_error open_unsealed(void)
     return error != MINISIGN_OK ? error : minisign_open_unsealed_key(&unopened, &opened);
 }
 
-/* Memory that the caller lends: it is not the caller's own when it is searched, for the library has cleared it. */
+/* Memory for opening in place. It is searched as if it were the library's, because the library has to clear it. */
 static uint32_t words[256 * (4096 + 3)];
 static uint8_t room_of_parts[1024];
 
-/* (a signal has the system write the registers on the stack that the call is on) */
-static void nothing(int number)
+/* (a signal makes the system write the registers on the stack of the call) */
+static void ignore_signal(int number)
 {
     (void) number;
 }
 
-/* A key whose checksum does not fit is opened all the same before that is seen. */
+/* Opens the encrypted key. With a wrong checksum the key is decrypted before the error is found. */
 static enum minisign_error open_sealed(void)
 {
     struct itimerval often = { { 0, 200 }, { 0, 200 } }, never = { { 0, 0 }, { 0, 0 } };
@@ -160,7 +160,7 @@ static enum minisign_error open_sealed(void)
         return error;
     }
     if (step->has_signals) {
-        signal(SIGALRM, nothing);
+        signal(SIGALRM, ignore_signal);
         setitimer(ITIMER_REAL, &often, NULL);
     }
     error = step->how == WITH_PASSWORD
@@ -186,7 +186,7 @@ static enum minisign_error sign(void)
     return error != MINISIGN_OK ? error : minisign_signed_text(&public, &parts, text, sizeof text, &text_len);
 }
 
-/* What the search has to find: a secret on the stack, in a register, and elsewhere. */
+/* Leaves a secret on the stack, in a register and elsewhere, which the search has to find. */
 volatile uint8_t elsewhere[256];
 
 static enum minisign_error leave_all(void)
@@ -212,28 +212,28 @@ static enum minisign_error leave_all(void)
 }
 
 static const struct step steps[] = {
-    { "a key that is taken in", .call = take },
-    { "a public key that is told", .call = tell_public },
-    { "a public key that is made", .call = make_public },
-    { "a key that is made", make_sealed, 32768, 1 << 20, .kept = MINISIGN_KEEP_EVERY_ROW },
-    { "a key that is opened", .call = open_sealed },
-    { "a key that is opened with a wrong checksum", .call = open_sealed, .is_damaged = true },
-    { "a key that is opened in place", .call = open_sealed, .how = IN_PLACE },
-    { "a key that is opened in place with a wrong checksum", .call = open_sealed, .how = IN_PLACE, .is_damaged = true },
-    { "a key of more work that is made", make_sealed, 131072, 4 << 20, .kept = MINISIGN_KEEP_EVERY_ROW },
-    { "a key of more work that is opened", .call = open_sealed },
-    { "a key that is opened with signals meanwhile", .call = open_sealed, .has_signals = true },
-    { "a key that is opened in place with signals meanwhile", .call = open_sealed, .how = IN_PLACE, .has_signals = true },
-    { "a key that is made in few rows", make_sealed, 32768, 1 << 20, .kept = MINISIGN_KEEP_FEW_ROWS },
-    { "a key that is opened in few rows", .call = open_sealed },
-    { "a key that is opened in few rows in place", .call = open_sealed, .how = IN_PLACE },
-    { "a key that is made without a password", .call = make_unsealed },
-    { "a key that is opened without a password", .call = open_unsealed },
-    { "a signature that is made", .call = sign },
-    { "what is left by intent", .call = leave_all },
+    { "taking a key", .call = take },
+    { "getting a public key", .call = get_public_key },
+    { "writing a public key", .call = make_public },
+    { "encrypting a key", make_sealed, 32768, 1 << 20, .keep_every = MINISIGN_KEEP_EVERY_ROW },
+    { "opening a key", .call = open_sealed },
+    { "opening a key with a wrong checksum", .call = open_sealed, .is_damaged = true },
+    { "opening a key in place", .call = open_sealed, .how = IN_PLACE },
+    { "opening a key with a wrong checksum in place", .call = open_sealed, .how = IN_PLACE, .is_damaged = true },
+    { "encrypting a key with more work", make_sealed, 131072, 4 << 20, .keep_every = MINISIGN_KEEP_EVERY_ROW },
+    { "opening a key with more work", .call = open_sealed },
+    { "opening a key with signals", .call = open_sealed, .has_signals = true },
+    { "opening a key in place with signals", .call = open_sealed, .how = IN_PLACE, .has_signals = true },
+    { "encrypting a key with few rows", make_sealed, 32768, 1 << 20, .keep_every = MINISIGN_KEEP_FEW_ROWS },
+    { "opening a key with few rows", .call = open_sealed },
+    { "opening a key with few rows in place", .call = open_sealed, .how = IN_PLACE },
+    { "writing a key without a password", .call = make_unsealed },
+    { "opening a key without a password", .call = open_unsealed },
+    { "writing a signature", .call = sign },
+    { "leaving a secret on purpose", .call = leave_all },
 };
 
-/* Makes a call and searches: whether it went well. */
+/* Makes a call and searches. Returns true if the call succeeded. */
 __attribute__((noinline)) static bool search_after(void)
 {
     enum minisign_error error;
@@ -243,7 +243,7 @@ __attribute__((noinline)) static bool search_after(void)
     error = step->call();
     TRAP();
     if (error != MINISIGN_OK) {
-        printf("%s ended with %d\n", step->name, (int) error);
+        printf("%s returned %d\n", step->name, (int) error);
     }
     for (size_t n = 0; n < NEEDLES; n++) {
         printf(COUNTS_OF(step->name, n));
@@ -263,7 +263,7 @@ int main(void)
     for (password_len = 0; password_len < needles[3].len; password_len++) {
         password[password_len] = needles[3].masked[password_len] ^ MASK;
     }
-    /* (the output is not to take what was given back) */
+    /* (the output buffer must not reuse freed memory) */
     setvbuf(stdout, malloc(65536), _IOFBF, 65536);
     for (step = steps; step < steps + sizeof steps / sizeof *steps; step++) {
         is_well &= search_after();

@@ -1,9 +1,10 @@
 /*
- * Makes one call of the library under valgrind, with the secret bytes that it is given marked as undefined. valgrind
- * then reports each branch and each address that depends on them.
+ * Makes one call of the library under valgrind, with its secret bytes marked as undefined. valgrind reports each branch
+ * and each address that depends on them.
  *
- * constant_time.py builds it, with secret_texts.h, and names the call. It prints the call's result, and for a text that
- * everybody may read the number of the first byte that depends on a secret, or `public`.
+ * constant_time.py builds this program with secret_texts.h, and passes the name of the call. The program prints the
+ * call's result, and whether the output that everybody may read depends on a secret: the first such byte, or `public`.
+ * Without a name it lists the calls.
  */
 #include <stdio.h>
 #include <stdlib.h>
@@ -26,7 +27,7 @@ static minisign_secret_key key;
 static minisign_public_key public_key;
 static minisign_sealing sealing = { .operations_limit = OPERATIONS_LIMIT, .memory_limit = MEMORY_LIMIT };
 
-static void need(enum minisign_error error)
+static void require_ok(enum minisign_error error)
 {
     if (error != MINISIGN_OK) {
         fprintf(stderr, "a call that prepares this one failed: %d\n", (int) error);
@@ -42,7 +43,7 @@ static void take_text(const unsigned char *bytes, size_t len)
     text_len = len;
 }
 
-/* Hides the letters of base64 that hold these bytes of the record. */
+/* Hides the base64 characters that encode these bytes of the record. */
 static void hide_record(size_t from, size_t to)
 {
     const size_t first = from / 3 * 4, end = (to + 2) / 3 * 4;
@@ -53,7 +54,7 @@ static void hide_record(size_t from, size_t to)
 static void read_text(const unsigned char *bytes, size_t len)
 {
     take_text(bytes, len);
-    need(minisign_read_secret_key(text, text_len, &unopened));
+    require_ok(minisign_read_secret_key(text, text_len, &unopened));
 }
 
 static void hide_password(void)
@@ -61,7 +62,7 @@ static void hide_password(void)
     HIDE(password, sizeof password);
 }
 
-/* Takes in the key. The first half of its secret is hidden, and not the second, which is the public key. */
+/* Takes the key. The first half of its secret is hidden. The second half is the public key. */
 static void take_key(void)
 {
     minisign_take_secret_key(&new_key, &key);
@@ -98,7 +99,7 @@ static enum minisign_error open_unsealed(void)
     return open_text(UNSEALED, sizeof UNSEALED);
 }
 
-/* The checksum is wrong in its first byte, and in its last one. */
+/* The checksum is wrong in its first or in its last byte. */
 static enum minisign_error open_wrong_first(void)
 {
     return open_text(UNSEALED_WRONG_FIRST, sizeof UNSEALED_WRONG_FIRST);
@@ -190,11 +191,11 @@ static enum minisign_error write_signature(void)
     static minisign_state state;
 
     take_key();
-    need(minisign_public_key_of(&key, &public_key));
+    require_ok(minisign_public_key_of(&key, &public_key));
     minisign_init(&state);
-    need(minisign_update(&state, TEXT("data")));
-    need(minisign_digest(&state, digest));
-    need(minisign_comment_message(parts.signature, parts.trusted_comment, parts.trusted_comment_len, message, sizeof message));
+    require_ok(minisign_update(&state, TEXT("data")));
+    require_ok(minisign_digest(&state, digest));
+    require_ok(minisign_comment_message(parts.signature, parts.trusted_comment, parts.trusted_comment_len, message, sizeof message));
     return minisign_signed_text(&public_key, &parts, out, sizeof out, &out_len);
 }
 
@@ -216,7 +217,7 @@ static enum minisign_error write_sealed(void)
     return write_key(1);
 }
 
-/* Shows that a branch and an address that depend on a secret are reported. */
+/* Has a branch and an address that depend on a secret, which valgrind must report. */
 static enum minisign_error leak(void)
 {
     static const uint8_t table[256] = { 1 };
@@ -251,7 +252,7 @@ static const struct {
     { "leak", leak },
 };
 
-/* Prints where the first byte is that depends on a secret. */
+/* Prints the offset of the first byte that depends on a secret, or `public`. */
 static void print_public(const uint8_t *bytes, size_t len)
 {
     const uintptr_t found = VALGRIND_CHECK_MEM_IS_DEFINED(bytes, len);

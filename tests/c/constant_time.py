@@ -1,25 +1,25 @@
 #!/usr/bin/env python3
-"""Checks that no branch and no address of the library depends on a secret, but for those of a list.
+"""Checks that no branch and no address in the library depends on a secret, except those of a list.
 
     tests/c/constant_time.py            runs the checks
     tests/c/constant_time.py --list     prints the places that were found, to compare with the list
 
-`constant_time.c` makes each call with its secret bytes marked as undefined, and valgrind (memcheck) reports each branch
+constant_time.c makes each call with its secret bytes marked as undefined, and valgrind (memcheck) reports each branch
 and each address that depends on them. The calls read, open and write secret keys, with and without a password, and
-write public keys and signatures. They are made over each copy of the proved calls that this processor can run, and of
-the calls as C over the code of gcc and of clang, always through the header, as an application does.
+write public keys and signatures. They run over each copy of the proved calls that this processor supports, and over the
+calls as C, compiled by gcc and by clang.
 
-`constant_time.txt` lists the functions that may depend on a secret, in how many places, and why. A function that is not
-in the list is a failure, and so is one more place in a function that is. The checksum of a key is compared as a whole: a
-key whose checksum is wrong in its first byte takes the same branches as one that is wrong in its last.
-Public keys and signatures must not hold a byte that depends on a secret. To show that the search is not blind, branches
-and lookups that depend on a secret are planted in copies of the sources, and each is found.
+constant_time.txt lists the functions that may depend on a secret, at how many places, and why. Another function, or one
+more place in a listed function, is a failure. The checksum of a key is compared as a whole: a checksum that is wrong in
+its first byte takes the same branches as one that is wrong in its last. Public keys and signatures must not hold a byte
+that depends on a secret. To show that the search works, branches and lookups that depend on a secret are planted in
+copies of the sources, and each has to be found.
 
-This does not show that an instruction takes the same time for all operands (valgrind knows no times), nor anything about
-processors other than x86-64, other compilers, or inputs that these calls do not have. Ed25519 is the caller's.
+This does not show that an instruction takes the same time for all operands (valgrind does not measure time), nor
+anything about processors other than x86-64, other compilers, or other inputs. Ed25519 is done by the caller.
 
-It prints a line for each failure; the last line is `N passed, M failed`. Needs valgrind with its header, make, binutils,
-gcc and clang, and installs what is missing if it may.
+It prints a line for each failure; the last line is `N passed, M failed`. Needs valgrind with its header, make,
+binutils, gcc and clang, and installs what is missing if it may.
 """
 
 import concurrent.futures
@@ -47,33 +47,35 @@ SEED = hashlib.sha256(b"the seed").digest()
 KEY_ID = b"12345678"
 PASSWORD = "correct horse battery stäple".encode()
 COMMENT = b"minisign encrypted secret key"
-# Limits of scrypt that take little time, under which the parameters are N = 1024 and p = 1.
+# Limits of scrypt that take little time: N = 1024 and p = 1.
 LIMITS = Limits(memory=1 << 20, operations=32768, rows=1024, parts=1)
 
-# The copies of the calls by their names: what make is told, and whether they were compiled here, from C.
+# A copy of the calls: its name, the variables for make, and whether it is compiled here, from C.
 Copy = namedtuple("Copy", "name words is_c")
 COPIES = (Copy("x86-64-v2", ("V3=../dist/calls-x86-64-v2.a", "C_CALLS="), False), Copy("x86-64-v3", ("C_CALLS=",), False),
           Copy("C, gcc", ("PORTABLE=1", "CFLAGS=-O2 -gdwarf-4"), True), Copy("C, clang", ("PORTABLE=1", "CFLAGS=-O2 -gdwarf-4", "CC=clang"), True))
 V3, C_BY_GCC = COPIES[1:3]
-# What a processor has to have for the second copy, by the names of Linux.
-OF_V3 = {"avx2", "bmi1", "bmi2", "f16c", "fma", "movbe", "abm"}
+# The processor features that the second copy needs, as Linux names them.
+FLAGS_OF_V3 = {"avx2", "bmi1", "bmi2", "f16c", "fma", "movbe", "abm"}
 
-# The calls that succeed, and the errors of the others. The last call is the planted one of constant_time.c.
+# The errors of calls that fail; the other calls succeed. The last one is the planted call of constant_time.c.
 ERRORS = {"open_wrong_first": 37, "open_wrong_last": 37, "open_sealed_wrong_first": 42, "open_sealed_wrong_last": 42, "leak": 5}
 PUBLIC = ("make_public_key", "write_public_key", "write_signature")
 LEAK = "leak"
 
-# A place in the code that depends on a secret: the function, where in it, and whether it branches there or reads from an address.
+# A place in the code that depends on a secret: the function, the line or address, and whether it is a branch or a
+# memory access.
 Place = namedtuple("Place", "function at is_branch")
-# What a call did: its result, whether what it wrote is public, the places, how often each was met, and whether valgrind worked.
-Made = namedtuple("Made", "result public places times wrong")
+# The outcome of a call: its result, whether its output is public, the places, how often each was reached, and an error
+# of valgrind, if any.
+Outcome = namedtuple("Outcome", "result public places times wrong")
 
 
 # ---- Building and running ----
 
 
 def secrets_text():
-    """The header with the texts and the secrets."""
+    """Returns the header with the key files and the secrets."""
     record = with_checksum(b"Ed\0\0B2" + bytes(48) + KEY_ID + SEED + hashlib.sha256(SEED).digest() + bytes(32))
     closed = sealed(record, PASSWORD, LIMITS)
     made = {"UNSEALED": text_of(record), "UNSEALED_WRONG_FIRST": text_of(turned(record, 126)), "UNSEALED_WRONG_LAST": text_of(turned(record)),
@@ -86,7 +88,7 @@ def secrets_text():
 
 @functools.lru_cache(maxsize=None)
 def compiler():
-    """A C compiler that finds valgrind's header."""
+    """Returns a C compiler that finds valgrind's header."""
     return needs.need(lambda: needs.compiler_of("#include <valgrind/memcheck.h>\n" + needs.HELLO), "valgrind's header", "valgrind", "gcc", "libc6-dev")
 
 
@@ -98,7 +100,7 @@ class Builder(cleared.Builder):
         write(room, "secret_texts.h", secrets_text().encode())
 
     def built(self, copy, top=cleared.proved.ROOT):
-        """The path of the program over this copy, of these sources."""
+        """Builds the program over a copy of the calls, and returns its path."""
         words = [f"CC={needs.program('clang', 'clang')}" if word == "CC=clang" else word for word in copy.words]
         library = self.make("libminisign.a", *words, top=top)
         made = os.path.join(os.path.dirname(library), "constant_time")
@@ -108,24 +110,25 @@ class Builder(cleared.Builder):
 
 
 def function_of(frames):
-    """The function that an error belongs to: the innermost one of the proved calls, or the innermost of all; and the number of its
-    frame. The calls as C have the names of the archives, with `_` for what C does not have in a name."""
+    """Returns the function that an error belongs to (the innermost of the proved calls, otherwise the innermost), and
+    the index of its frame. The calls as C have the names of the archives, with `_` for characters that C does not
+    allow."""
     names = [re.sub(r"\.(part|constprop|isra|cold)\b.*", "", frame.findtext("fn") or "") for frame in frames]
     for at, name in enumerate(names):
         found = re.fullmatch(r"do_(\w+)|(?:machine|v2|v3)_(minisign_\w+)|(\w+::.*)", name)
         if found:
-            # (what an item is generic over is a number, or its sum)
+            # (the arguments of a generic function are a number, or its hash)
             return re.sub(r"\W+", "_", re.sub(r"::<.*|_[0-9a-f]{16}$", "", next(filter(None, found.groups())))), at
     return names[0] if names else "nothing", 0
 
 
 def places_in(report):
-    """The places that a report of valgrind names, with how often it met each."""
+    """Returns the places that a report of valgrind names, and how often each was reached."""
     times, found = Counter(), {}
     for error in report.iter("error"):
         frames = error.findall("stack/frame")
         function, at = function_of(frames)
-        # (where it was compiled here, by lines: how a compiler arranges the code of a line does not matter)
+        # (code compiled here is identified by lines, because the instructions of a line depend on the compiler)
         line = frames[at].findtext("line") if frames else None
         found[error.findtext("unique")] = Place(function, line or frames[0].findtext("ip"), error.findtext("kind") == "UninitCondition")
     for pair in report.iter("pair"):
@@ -135,26 +138,26 @@ def places_in(report):
 
 
 def make_call(program, name):
-    """What a call does under valgrind."""
+    """Runs a call under valgrind."""
     report = f"{program}.{name}.xml"
     command = [needs.program("valgrind", "valgrind"), "--error-limit=no", "--num-callers=12", "--xml=yes", f"--xml-file={report}", program, name]
     status, said, why = run_apart(command, seconds=600)
     result = re.search(r"(?m)^result (\d+)$", said)
     if status or not result:
-        return Made(None, False, set(), Counter(), f"status {status}: {said[-300:]}{why[-500:]}")
+        return Outcome(None, False, set(), Counter(), f"status {status}: {said[-300:]}{why[-500:]}")
     times = places_in(xml.etree.ElementTree.parse(report))
-    return Made(int(result[1]), "\npublic" in said, {*times}, times, "")
+    return Outcome(int(result[1]), "\npublic" in said, {*times}, times, "")
 
 
 def calls_of(program):
-    """The names of the calls."""
+    """Returns the names of the calls."""
     return run_apart([program])[1].split()
 
 
 def copies_here():
-    """The copies that this processor can run."""
+    """Returns the copies that this processor can run."""
     flags = re.search(r"(?m)^flags\s*:(.*)$", read("/proc", "cpuinfo").decode())
-    has_v3 = flags is not None and OF_V3 <= {*flags[1].split()}
+    has_v3 = flags is not None and FLAGS_OF_V3 <= {*flags[1].split()}
     if not has_v3:
         print("left out: x86-64-v3, which this processor does not have")
     return [copy for copy in COPIES if copy != V3 or has_v3]
@@ -166,58 +169,61 @@ def copies_here():
 Allowed = namedtuple("Allowed", "archives c why")
 
 
-def allowed():
-    """The functions of the list."""
+def read_list():
+    """Returns the functions of the list."""
     lines = re.findall(r"(?m)^(\w+) +(\d+) +(\d+) +(\S.*)$", read(HERE, LIST).decode())
     return {name: Allowed(int(archives), int(c), why) for name, archives, c, why in lines}
 
 
 def counts_of(places):
-    """How many places each function has."""
+    """Returns the number of places by function."""
     counts = Counter(place.function for place in places)
     return dict(sorted(counts.items()))
 
 
-def too_many(places, is_c, listed):
-    """The functions with more places than the list allows, with both numbers."""
-    limits = {name: one.c if is_c else one.archives for name, one in listed.items()}
+def exceeding(places, is_c, listed):
+    """Returns the functions with more places than the list allows, with both numbers."""
+    limits = {name: outcome.c if is_c else outcome.archives for name, outcome in listed.items()}
     return {name: (count, limits.get(name, 0)) for name, count in counts_of(places).items() if count > limits.get(name, 0)}
 
 
-# ---- What is checked ----
+# ---- Checks ----
 
 
-def found_in(builder, copy, pool, top=cleared.proved.ROOT, names=None):
-    """What each call does over a copy."""
+def outcomes_over(builder, copy, pool, top=cleared.proved.ROOT, names=None):
+    """Returns the outcomes of all calls over a copy."""
     program = builder.built(copy, top=top)
     names = names or calls_of(program)
     return dict(zip(names, pool.map(functools.partial(make_call, program), names)))
 
 
 def check_calls(checks, copy, made, listed):
-    """The calls of a copy depend on secrets only as the list allows."""
-    for name, one in made.items():
+    """Checks that the calls of a copy depend on secrets only as the list allows."""
+    for name, outcome in made.items():
         what = f"{copy.name}: {name}"
-        checks.check(not one.wrong and one.result == ERRORS.get(name, 0), f"{what}: result {one.result} {one.wrong}")
+        expected = ERRORS.get(name, 0)
+        is_right = not outcome.wrong and outcome.result == expected
+        checks.check(is_right, f"{what}: result {outcome.result}, expected {expected} {outcome.wrong}")
         if name != LEAK:
-            more = too_many(one.places, copy.is_c, listed)
-            checks.check(not more, f"{what}: so many places depend on a secret, and so many may: {more}: {sorted(one.places)[:20]}")
-    # (what comes out of a lookup counts as public, so this takes both)
+            more = exceeding(outcome.places, copy.is_c, listed)
+            checks.check(not more, f"{what}: more places depend on a secret than the list allows (found, allowed): {more}: "
+                         f"{sorted(outcome.places)[:20]}")
+    # (valgrind takes the result of a lookup for public, so both are checked)
     for name in PUBLIC:
         checks.check(made[name].public and not made[name].places, f"{copy.name}: {name} depends on the secret: {made[name]}")
     kinds = {place.is_branch for place in made[LEAK].places}
-    checks.check(kinds == {True, False}, f"{copy.name}: of a branch and an address that are planted valgrind reports {made[LEAK].places}")
+    checks.check(kinds == {True, False}, f"{copy.name}: a planted branch and address: valgrind reports only {made[LEAK].places}")
 
 
-def check_whole(checks, copy, made):
-    """A checksum is compared as a whole."""
+def check_checksum_is_compared_whole(checks, copy, made):
+    """Checks that a checksum is compared as a whole."""
     for first, last in (("open_wrong_first", "open_wrong_last"), ("open_sealed_wrong_first", "open_sealed_wrong_last")):
         checks.check(made[first].times == made[last].times, f"{copy.name}: {first} and {last} differ in "
                      f"{(made[first].times - made[last].times) + (made[last].times - made[first].times)}")
 
 
-# What is planted: in which file of c/, what is there, what comes instead, and over which copy and by which call it is found. A compiler
-# can make a lookup or a conditional move of a branch, but not of one around assembly.
+# Planted dependences: the file of c/, a pattern, what is added after it, the copy, and the call that finds it. A
+# compiler can turn a branch into a lookup or a conditional move, but not a branch around assembly.
 BRANCH = '    if ((%s) & 1) {\n        __asm__ __volatile__("");\n    }\n'
 PLANTED = {
     "a branch in the boundary": ("library/boundary.c", r"(?m)^(uint32_t|enum minisign_error) minisign_public_key_of\(.*\)\n\{\n",
@@ -229,22 +235,23 @@ PLANTED = {
 }
 
 
-def check_planted(checks, builder, pool, listed):
-    """Each dependence that is planted is found."""
+def check_planted_dependences(checks, builder, pool, listed):
+    """Checks that each planted dependence is found."""
     for what, (file, place, text, copy, name) in PLANTED.items():
         top = builder.copy(file, place, lambda found, text=text: found[0] + text)
-        # (a word about the calls as C keeps make from taking an object that was compiled before)
+        # (with C_CALLS given, make does not use an object that was compiled before)
         planted = copy._replace(words=(*copy.words, f"C_CALLS={top}/dist/calls.c")) if copy.is_c else copy
-        made = found_in(builder, planted, pool, top, [name])[name]
-        checks.check(not made.wrong and too_many(made.places, copy.is_c, listed), f"{what} is not found by {name}: {made.wrong} {made.places}")
+        made = outcomes_over(builder, planted, pool, top, [name])[name]
+        checks.check(not made.wrong and exceeding(made.places, copy.is_c, listed),
+                     f"{what} is not found by {name}: {made.wrong} {made.places}")
 
 
 def print_list(found):
-    """Prints the functions with the most places that a call has in each."""
+    """Prints the functions with the greatest number of places in a call."""
     most = defaultdict(lambda: [0, 0])
     for copy, made in found.items():
-        for name, one in made.items():
-            for function, count in counts_of(one.places).items() if name != LEAK else ():
+        for name, outcome in made.items():
+            for function, count in counts_of(outcome.places).items() if name != LEAK else ():
                 most[function][copy.is_c] = max(most[function][copy.is_c], count)
     for function, (archives, c) in sorted(most.items()):
         print(f"{function:<40} {archives:>3} {c:>3}")
@@ -252,22 +259,22 @@ def print_list(found):
 
 
 def check_list(checks, found, listed):
-    """Each line of the list has a reason, and is needed: there is such a place."""
-    seen = {place.function for made in found.values() for name, one in made.items() if name != LEAK for place in one.places}
+    """Checks that each line of the list has such a place."""
+    seen = {place.function for made in found.values() for name, outcome in made.items() if name != LEAK for place in outcome.places}
     checks.check(not {*listed} - seen, f"no place depends on a secret in {sorted({*listed} - seen)}, which the list names")
 
 
 def run_all(checks, room):
-    builder, listed = Builder(room), allowed()
+    builder, listed = Builder(room), read_list()
     with concurrent.futures.ThreadPoolExecutor(os.cpu_count() or 1) as pool:
-        found = {copy: found_in(builder, copy, pool) for copy in copies_here()}
+        found = {copy: outcomes_over(builder, copy, pool) for copy in copies_here()}
         if "--list" in sys.argv[1:]:
             print_list(found)
         for copy, made in found.items():
             check_calls(checks, copy, made, listed)
-            check_whole(checks, copy, made)
+            check_checksum_is_compared_whole(checks, copy, made)
         check_list(checks, found, listed)
-        check_planted(checks, builder, pool, listed)
+        check_planted_dependences(checks, builder, pool, listed)
 
 
 if __name__ == "__main__":

@@ -1,4 +1,6 @@
-"""A clean copy of the repository, and the few programs with which a user builds there, without the kit and Python."""
+"""Makes clean copies of the repository, and a PATH with the few programs with which a user builds there, without the
+kit and Python.
+"""
 
 import os
 import shutil
@@ -8,13 +10,13 @@ import static_library
 from process import run
 from proved import ROOT as TOP
 
-# What is in PATH besides a compiler: of Debian's base, and of make and binutils.
+# The programs in PATH besides a compiler: those of Debian's base, and those of make and binutils.
 BASE = ("sh", "cat", "cp", "cut", "dirname", "echo", "find", "grep", "install", "ln", "mkdir", "rm", "sed", "sha256sum", "sort", "xargs")
 TOOLS = ("ar", "as", "ld", "make", "objcopy")
 
 
-def listed():
-    """The names of what the repository has, where this is a clone of it, else None."""
+def repository_files():
+    """Returns the names of the files of the repository, or None if this is no clone."""
     if not os.path.exists(os.path.join(TOP, ".git")):
         return None
     status, said = run([needs.git(), "-C", TOP, "ls-files", "-z", "--cached", "--others", "--exclude-standard"])
@@ -22,8 +24,8 @@ def listed():
 
 
 def copy_tree(to):
-    """Copies what the repository has, and nothing that was built."""
-    names = listed()
+    """Copies the files of the repository, without build results."""
+    names = repository_files()
     if names is None:
         shutil.copytree(TOP, to, ignore=shutil.ignore_patterns("out", ".git", "__pycache__", "try-*"))
     for name in names or []:
@@ -33,12 +35,12 @@ def copy_tree(to):
 
 
 def files_below(directory):
-    """The paths of the files in a directory."""
+    """Returns the relative paths of all files below a directory."""
     return {os.path.relpath(os.path.join(at, name), directory) for at, _, names in os.walk(directory) for name in names}
 
 
 class Tree:
-    """What stands in a directory, and the few programs that are in PATH: these, and the compiler by these names."""
+    """A directory, and a PATH with BASE, TOOLS, the compiler under these names, and `more`."""
 
     def __init__(self, room, top, compiler, names, *more):
         self.top, self.bin = top, os.path.join(room, "bin")
@@ -51,5 +53,5 @@ class Tree:
             os.symlink(compiler, os.path.join(self.bin, name))
 
     def run(self, command):
-        """Runs a line of a shell at the top: its status, and what it said."""
+        """Runs a shell command line in the directory. Returns its status and its output."""
         return run(["env", "-i", f"PATH={self.bin}", f"HOME={self.top}", "sh", "-c", command], self.top, seconds=600)

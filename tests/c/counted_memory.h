@@ -1,6 +1,6 @@
-/* Counts the requests for memory of a program, and refuses some on demand: linked with -Wl,--wrap=malloc
- * -Wl,--wrap=realloc -Wl,--wrap=free. All is volatile: the compiler knows malloc and free as functions that change nothing
- * of a file's own. */
+/* Counts the allocations of a program, and refuses some on demand. Linked with -Wl,--wrap=malloc -Wl,--wrap=realloc
+ * -Wl,--wrap=free. All variables are volatile, because compilers assume that malloc and free change no variables of
+ * the file. */
 #ifndef COUNTED_MEMORY_H
 #define COUNTED_MEMORY_H
 
@@ -8,14 +8,15 @@
 #include <stdlib.h>
 #include <string.h>
 
-/* The number of the request that is refused, and of the last one: 0 for none. */
+/* The numbers of the first and of the last request that are refused, or 0 for none. */
 static volatile long refused_from, refused_to;
 /* Requests for more bytes than this are refused. */
 static volatile size_t greatest = SIZE_MAX;
-/* How many requests there were, and how many blocks are held. */
+/* The number of requests, and of blocks that are allocated. */
 static volatile long requests, held;
 
-/* What is looked at in a block that is given back, and what a block is filled with: zeros where that is whether it was cleared. */
+/* LOOK_AT is called with each block that is freed. Blocks are filled with zeros if it checks that they were cleared,
+ * otherwise with other bytes. */
 #ifndef LOOK_AT
 #define LOOK_AT(block, len)
 #define FILLED_WITH 0xa5
@@ -23,7 +24,7 @@ static volatile long requests, held;
 #define FILLED_WITH 0
 #endif
 
-/* How much stands in front of a block, as far as malloc aligns: its length, and that with all bits turned. */
+/* Bytes before a block: its length, and the inverted length. This keeps the alignment of malloc. */
 #define FRONT 16
 
 void *__real_malloc(size_t size);
@@ -45,7 +46,7 @@ void *__wrap_malloc(size_t size)
     return taken + FRONT;
 }
 
-/* The library does not call it: what grows is moved by a new block. */
+/* The library never calls realloc: it allocates a new block instead. */
 void *__wrap_realloc(void *old, size_t size)
 {
     (void) old, (void) size;

@@ -1,18 +1,18 @@
 #!/usr/bin/env python3
-"""Checks that minisign.h, minisign_stream.h and minisign(3) say which Ed25519 inputs the library rejects, that what they say
-of libsodium and of OpenSSL 3.0 is true, and that the library gives the same verdicts over both.
+"""Checks that minisign.h, minisign_stream.h and minisign(3) say which Ed25519 inputs the library rejects, that what
+they say about libsodium and OpenSSL 3.0 is true, and that the library gives the same verdicts with both.
 
     tests/c/ed25519_inputs.py
 
-libsodium's crypto_sign_verify_detached is called with points of small order, with points and numbers that are not
-canonically encoded, and with valid signatures. OpenSSL is called by Debian's Python: it accepts 64 zero bytes as a
-signature under a key of 32 zero bytes, which the library reads from 56 letters A. A program in C (verify_over.c) verifies
-the 293 vectors of tests/shared/ed25519_vectors.json over each of the two. OpenSSL by itself accepts some that libsodium
-rejects; over the library both give the verdict of libsodium. It prints a line for each failure; the last line is
-`N passed, M failed`.
+It calls libsodium's crypto_sign_verify_detached with points of small order, with points and numbers that are not
+canonically encoded, and with valid signatures. It calls OpenSSL through Debian's Python: OpenSSL accepts 64 zero bytes
+as a signature under a key of 32 zero bytes, which the library parses from 56 letters A. A program in C (verify_over.c)
+verifies the 293 vectors of tests/shared/ed25519_vectors.json with each of the two. OpenSSL by itself accepts some that
+libsodium rejects; through the library both give the verdict of libsodium. It prints a line for each failure; the last
+line is `N passed, M failed`.
 
-Needs make, clang, a C compiler, libsodium and OpenSSL with their headers, and Debian's Python with cryptography, and installs
-what is missing if it may.
+Needs make, clang, a C compiler, libsodium and OpenSSL with their headers, and Debian's Python with cryptography, and
+installs what is missing if it may.
 """
 
 import ctypes
@@ -33,7 +33,7 @@ from edges import ORDER, P, SMALL
 from process import run
 from running import read
 
-# What each text has to say, as words between which there may be others.
+# What each document has to say, as patterns of its words.
 RULES = ("public key .*?R.* small order", "R that is not canonically encoded", "S .*?that is not below the group order",
          "OpenSSL 3\\.0, 64 zero bytes are a valid signature of one message in four under a public key of 32 zero bytes",
          "56 letters A", "crypto_sign_verify_detached of libsodium rejects all three")
@@ -43,7 +43,7 @@ OF_STREAM = ("need not reject a public key or a point R .*?of small order", "R t
 TEXTS = {"include/minisign.h": RULES + DETAILS, "include/minisign_stream.h": OF_STREAM, "c/man/minisign.3": RULES + DETAILS}
 
 MESSAGES = [b"%d" % number for number in range(400)]
-# What Debian's Python prints: the version of OpenSSL, and how many of the messages it accepts.
+# A script for Debian's Python, which prints the version of OpenSSL and how many of the messages it accepts.
 BY_OPENSSL = """
 from cryptography.exceptions import InvalidSignature
 from cryptography.hazmat.backends.openssl import backend
@@ -57,7 +57,7 @@ for number in range(400):
         pass
 print(backend.openssl_version_text(), accepted, sep="|")
 """
-# Reads a bare public key, and prints the error and the key.
+# A program that parses a bare public key, and prints the error and the key.
 READING = """
 #include <minisign.h>
 #include <stdio.h>
@@ -76,7 +76,7 @@ int main(int count, char **words)
 
 
 def plain(name):
-    """The words of a header or of a manual page."""
+    """Returns the words of a header or of a manual page."""
     text = read(TOP, name).decode()
     text = text.replace("\\-", "-").replace("\\(ha", "^").replace("\\(aq", "'") if name.endswith(".3") else re.sub(r"(?m)^ ?/?\*+/?", "", text)
     return " ".join(text.split())
@@ -90,7 +90,7 @@ def check_texts(checks):
 
 
 class Sodium:
-    """libsodium, by the calls that the documents name."""
+    """Calls libsodium."""
 
     def __init__(self):
         needs.libsodium()
@@ -116,7 +116,7 @@ def encoded(y, sign=0):
 
 
 def check_libsodium(checks):
-    """libsodium rejects what an implementation must reject. (Among 40 messages are some for which two points of small order satisfy
+    """libsodium rejects what an implementation must reject. (For some of 40 messages, two points of small order satisfy
     the equation.)"""
     sodium = Sodium()
     public, secret = sodium.pair()
@@ -124,13 +124,14 @@ def check_libsodium(checks):
         signature = sodium.sign(message, secret)
         checks.check(sodium.accepts(signature, message, public), f"libsodium rejects a valid signature of {message}")
         larger = int.from_bytes(signature[32:], "little") + ORDER
-        checks.check(not sodium.accepts(signature[:32] + encoded(larger), message, public), f"libsodium accepts S + the order for {message}")
+        checks.check(not sodium.accepts(signature[:32] + encoded(larger), message, public),
+                     f"libsodium accepts S + the order for {message}")
     points = [encoded(y + more, sign) for y in SMALL for more in (0, P) if y + more < 2**255 for sign in (0, 1)]
     for point in points:
-        for other in (*points, public):
-            found = [message for message in MESSAGES[:40] if sodium.accepts(other + bytes(32), message, point)
-                     or sodium.accepts(point + bytes(32), message, other)]
-            checks.check(not found, f"libsodium accepts S = 0 under {point.hex()} and {other.hex()}: {found[:3]}")
+        for second_point in (*points, public):
+            found = [message for message in MESSAGES[:40] if sodium.accepts(second_point + bytes(32), message, point)
+                     or sodium.accepts(point + bytes(32), message, second_point)]
+            checks.check(not found, f"libsodium accepts S = 0 under {point.hex()} and {second_point.hex()}: {found[:3]}")
 
 
 def check_openssl(checks):
@@ -141,7 +142,7 @@ def check_openssl(checks):
     status, said = run([python, "-c", BY_OPENSSL])
     version, _, accepted = said.strip().partition("|")
     if checks.check(status == 0, f"OpenSSL: {said[-400:]}") and version.startswith("OpenSSL 3.0"):
-        checks.check(60 <= int(accepted) <= 140, f"{version} accepts {accepted} of {len(MESSAGES)} messages, and not one in four")
+        checks.check(60 <= int(accepted) <= 140, f"{version} accepts {accepted} of {len(MESSAGES)} messages, expected about one in four")
 
 
 # A program that needs the header and the library of OpenSSL.
@@ -149,12 +150,12 @@ OPENSSL = "#include <openssl/evp.h>\nint main(void) { return EVP_MD_CTX_new() ==
 
 
 def openssl(compiler):
-    """Looks for OpenSSL's header and library."""
+    """Raises an exception if OpenSSL with its header is missing and cannot be installed."""
     needs.need(lambda: needs.compiles(compiler, OPENSSL, ["-lcrypto"]) or None, "OpenSSL with its header", "libssl-dev")
 
 
 def check_vectors(checks, room, library):
-    """Over OpenSSL and over libsodium the library has the verdicts of libsodium."""
+    """With OpenSSL and with libsodium the library gives the verdicts of libsodium."""
     compiler, program, vectors = needs.libsodium(), f"{room}/verify_over", edges.vectors()
     openssl(compiler)
     command = [compiler, "-O2", "-Wall", "-Wextra", "-Werror", "-I", f"{TOP}/include", f"{TOP}/tests/c/verify_over.c", library,
@@ -168,18 +169,19 @@ def check_vectors(checks, room, library):
         lines.append(f"{key.hex()} {vector['msg'] or '-'} {signature.hex()}\n")
     for name in ("libsodium", "openssl"):
         rows = [row.split() for row in checks.ended(name, run([program, name], typed="".join(lines).encode())).splitlines()]
-        checks.check(len(rows) == len(vectors) == edges.COUNT, f"{name}: {len(rows)} verdicts on {len(vectors)} vectors")
+        checks.check(len(rows) == len(vectors) == edges.COUNT,
+                     f"{name}: {len(rows)} verdicts on {len(vectors)} vectors, expected {edges.COUNT}")
         for vector, (error, _) in zip(vectors, rows):
-            wanted = numbers[edges.error_of(vector)]
-            checks.check(error == wanted, f"{name}, {vector['name']}: the error {error}, and not {wanted}")
-        differing = [vector for vector, (_, alone) in zip(vectors, rows) if (alone == "1") != vector["sodium"]]
+            expected = numbers[edges.error_of(vector)]
+            checks.check(error == expected, f"{name}, {vector['name']}: error {error}, expected {expected}")
+        differing = [vector for vector, (_, by_itself) in zip(vectors, rows) if (by_itself == "1") != vector["sodium"]]
         checks.check(all(map(edges.is_weak, differing)), f"{name} differs from libsodium in {[vector['name'] for vector in differing]}")
         checks.check(bool(differing) == (name == "openssl"), f"{name} by itself differs from libsodium in {len(differing)} vectors")
         print(f"ed25519-inputs: by itself {name} accepts {len(differing)} vectors that libsodium rejects")
 
 
-def check_letters(checks, room, library):
-    """56 letters A are read as a key of zeros."""
+def check_key_of_zeros(checks, room, library):
+    """56 letters A are parsed to a key of zeros."""
     program = f"{room}/reading"
     command = [needs.c_compiler(), "-I", f"{TOP}/include", "-x", "c", "-", "-x", "none", library, "-pthread", "-o", program]
     checks.ended("a program that reads a key", run(command, typed=READING.encode()))
@@ -191,7 +193,7 @@ def run_all(checks, room):
     check_libsodium(checks)
     check_openssl(checks)
     library = static_library.library(f"{room}/out", "C_CALLS=")
-    check_letters(checks, room, library)
+    check_key_of_zeros(checks, room, library)
     check_vectors(checks, room, library)
 
 

@@ -1,8 +1,9 @@
-"""Builds `c/` for other processors by cross compilers of Debian, and runs it under qemu; and says how it is built over musl.
+"""Builds `c/` for other processors with Debian's cross compilers, and runs it under qemu. Also knows how to build with
+musl.
 
-apt-get fetches Debian's libsodium for a processor once, and it is unpacked beside what is built here: the system
-stays as it is. Where Debian has none the programs of c/ are not built, and the library is tried alone. The compiler
-of musl finds nothing of Debian's: it is told of Debian's libsodium, which is built over the other C library.
+apt-get downloads Debian's libsodium for a processor once, and it is unpacked beside the build results; the system is
+unchanged. If Debian has no libsodium for it, the programs of c/ are not built, and only the library is tested. The musl
+compiler does not search Debian's directories: it is given the path of Debian's libsodium, which is built with glibc.
 """
 
 import glob
@@ -20,25 +21,25 @@ from process import run
 from proved import ROOT
 from running import read, write
 
-# How many rows of a derivation the key of a usual limit takes.
+# The number of rows of a key with default limits.
 USUAL_ROWS = "1048576"
 
-# What Debian's libsodium calls of its own C library.
-OF_GLIBC = b"""#define _GNU_SOURCE
+# glibc functions that Debian's libsodium needs and musl lacks.
+GLIBC_FUNCTIONS = b"""#define _GNU_SOURCE
 #include <string.h>
 void __explicit_bzero_chk(void *data, size_t len, size_t size);
 void __explicit_bzero_chk(void *data, size_t len, size_t size) { (void) size; explicit_bzero(data, len); }
 """
 
-# A kind of processors: its name, how the names of its compiler begin and what Debian calls it, the emulator, how readelf names
-# it, whether Debian has a libsodium for it, and whether its pointers have 32 bits.
+# A kind of processor: its name, the prefix of its compiler's name, Debian's name, the emulator, its name in readelf,
+# whether Debian has a libsodium for it, and whether it has 32-bit pointers.
 Kind = namedtuple("Kind", "name triple debian emulator elf has_sodium has_32_bits", defaults=(True, False))
 AARCH64 = Kind("AArch64", "aarch64-linux-gnu", "arm64", "aarch64", "AArch64")
 musl_compiler = lambda: needs.program("musl-gcc", "musl-tools")
 
 
 def fetch(kind, place, *packages):
-    """Has apt-get fetch packages of Debian for a processor, with a list of packages of its own, and unpacks them into a directory."""
+    """Downloads Debian packages for a processor, with a package list of its own, and unpacks them into a directory."""
     if not needs.is_debian():
         raise needs.Missing(f"{' and '.join(packages)} for {kind.debian} is not here: unpack it into {os.path.relpath(place, ROOT)}")
     with tempfile.TemporaryDirectory(prefix="packages-") as room:
@@ -47,14 +48,14 @@ def fetch(kind, place, *packages):
         options = [f"-o{option}" for option in (
             f"Dir::State::lists={room}/lists", f"Dir::Cache={room}/cache", f"APT::Architecture={kind.debian}",
             f"APT::Architectures={kind.debian}", "APT::Sandbox::User=root", "Acquire::Retries=3", "Acquire::Languages=none")]
-        # (a mirror may lack one of the lists for a while, of which the packages need the first)
+        # (A mirror may temporarily lack one of the lists. The packages need only the first.)
         _, listed = run(["apt-get", "-q", *options, "update"], room)
         status, said = run(["apt-get", "-q", *options, "download", *packages], room)
         if status != 0:
             raise needs.Missing(f"{' and '.join(packages)} for {kind.name} was not fetched: {listed[-300:]}{said[-300:]}")
         for package in glob.glob(f"{room}/*.deb"):
             subprocess.run(["dpkg", "-x", package, f"{room}/unpacked"], check=True)
-        # (`rt ci`, beside which this may run, takes no link in the repository)
+        # (`rt ci`, which may run at the same time, accepts no links in the repository)
         for link in filter(os.path.islink, glob.glob(f"{room}/unpacked/**", recursive=True)):
             os.remove(link)
         shutil.rmtree(place, ignore_errors=True)
@@ -62,8 +63,8 @@ def fetch(kind, place, *packages):
         shutil.move(f"{room}/unpacked", place)
 
 
-def sodium(kind):
-    """What make is told of Debian's libsodium, whose archive has a directory of Debian's name for the processor."""
+def sodium_words(kind):
+    """Returns the variables for make for Debian's libsodium, whose archive is in a directory named after the processor."""
     place = os.path.join(ROOT, "out", f"libsodium-for-{kind.name.lower()}")
     archives = f"{place}/usr/lib/*/libsodium.a"
     if not glob.glob(archives):
@@ -73,7 +74,8 @@ def sodium(kind):
 
 
 def emulator(kind):
-    """The words before a program that run it. An x86-64 runs what is for i386 itself: under qemu threads of it do not end."""
+    """Returns the words before the command of a program. An x86-64 runs i386 programs itself: under qemu, threads of
+    them do not end."""
     root = f"/usr/{kind.triple}"
     if kind.debian == "i386" and os.uname().machine == "x86_64":
         return [f"{root}/lib/ld-linux.so.2", "--library-path", f"{root}/lib"]
@@ -81,14 +83,14 @@ def emulator(kind):
 
 
 def compiler(kind):
-    """The path of the cross compiler, with the C library for it."""
+    """Returns the path of the cross compiler. Installs the C library for it if that is missing."""
     found, header = needs.program(f"{kind.triple}-gcc", f"gcc-{kind.triple}"), f"/usr/{kind.triple}/include/stdio.h"
     needs.need(lambda: os.path.exists(header) or None, f"the C library for {kind.name}", f"libc6-dev-{kind.debian}-cross")
     return found
 
 
 def headers_of_sodium(room):
-    """A directory that has libsodium's headers and no others."""
+    """Returns a directory that has only libsodium's headers."""
     needs.libsodium()
     place = os.path.join(room, "of-sodium")
     os.makedirs(place, exist_ok=True)
@@ -97,36 +99,37 @@ def headers_of_sodium(room):
 
 
 def musl_variables(room):
-    """What make is told to build over musl."""
-    run([musl_compiler(), "-c", "-o", f"{room}/of-glibc.o", write(room, "of-glibc.c", OF_GLIBC)])
+    """Returns the variables for make to build with musl."""
+    run([musl_compiler(), "-c", "-o", f"{room}/of-glibc.o", write(room, "of-glibc.c", GLIBC_FUNCTIONS)])
     archive, headers = run([needs.libsodium(), "-print-file-name=libsodium.a"])[1].strip(), headers_of_sodium(room)
     return {"CC": musl_compiler(), "CPPFLAGS": f"-isystem {headers}", "SODIUM": f"{archive} {room}/of-glibc.o"}
 
 
 def musl_words(room):
-    """The words of make for static programs over musl."""
+    """Returns the words for make to build static programs with musl."""
     return [*(f"{name}={value}" for name, value in musl_variables(room).items()), "LDFLAGS=-static"]
 
 
 class Emulated:
-    """The compiler, the emulator, and what was built, with a directory for the files of the programs."""
+    """The compiler, the emulator and the build results for a kind of processor, and a directory for files of the programs."""
 
     def __init__(self, checks, room, kind, *more):
         self.checks, self.kind, self.room = checks, kind, f"{room}/{kind.name}"
         self.out, self.directory, self.library = (f"{self.room}/{name}" for name in ("out", "files", "out/libminisign.a"))
         self.compiler, self.emulator = compiler(kind), emulator(kind)
-        self.flags = [f"CC={self.compiler}", *(sodium(kind) if kind.has_sodium else []), *more]
+        self.flags = [f"CC={self.compiler}", *(sodium_words(kind) if kind.has_sodium else []), *more]
         static_library.run_make(*self.flags, f"OUT={self.out}", "all" if kind.has_sodium else "library")
         os.mkdir(self.directory)
 
     def ended(self, name, *words, status=0, typed=b""):
-        """Runs a program that was built, which has to end with this status: what it said."""
+        """Runs a program for the processor, and checks its exit status. Returns its output."""
         ran = run([*self.emulator, f"{self.out}/{name}", *words], self.directory, typed)
         return self.checks.ended(f"{self.kind.name}: {name} {' '.join(words)}", ran, status)
 
 
 def check_keys(checks, built, own):
-    """A key from its making to a signature; its text is the one of the library of this processor."""
+    """Makes a key, encrypts it, decrypts it and signs with it. The encrypted key file is the same as the one of this
+    machine's library (`own`)."""
     compiled(checks, built.kind.name, "keys", built.compiler, built.library, *LESS)
     built.ended("minisign", "-G", "-W", "-p", "a.pub", "-s", "open.key")
     opened = built.ended("keys", "open", "1", USUAL_ROWS, read(built.directory, "open.key").decode()).split()
@@ -149,21 +152,21 @@ def check_keys(checks, built, own):
 
 
 def check_installing(checks, built):
-    """A first installation, an update, an older one, and one that is there already."""
+    """A first installation, an update, an older update, and one that is already installed."""
     os.mkdir(f"{built.directory}/there")
     built.ended("minisign", "-G", "-W", "-p", "b.pub", "-s", "b.key")
     for number in "12":
         write(built.directory, number, f"version {number}\n".encode())
         built.ended("minisign", "-S", "-s", "b.key", "-m", number, "-t", f"version:{number}\tfile:app")
-    for number, first, status, there in (("1", ["--first"], 0, "1"), ("2", [], 0, "2"), ("1", [], 4, "2"), ("2", [], 10, "2")):
+    for number, first, status, installed in (("1", ["--first"], 0, "1"), ("2", [], 0, "2"), ("1", [], 4, "2"), ("2", [], 10, "2")):
         built.ended("minisign-install", *first, "--numbering", "version", "b.pub", number, f"{number}.minisig", "there/app", status=status)
         found = read(built.directory, "there", "app")
-        checks.check(found == f"version {there}\n".encode(), f"{built.kind.name}: installing {number}: {found}")
+        checks.same(found, f"version {installed}\n".encode(), f"{built.kind.name}: installing {number}")
 
 
 def check_all(checks, built, own, programs):
-    """What was built is for this processor, and its structs are laid out as those of the library; the programs of tests/c. And where
-    there is a libsodium all that those of c/ do, beside a library of the processor that this runs on."""
+    """The results are for this processor, their structs have the layout of the library, and the programs of tests/c
+    pass. If there is a libsodium, also runs the programs of c/ beside the library of this machine (`own`)."""
     name = built.kind.name
     checks.ended(f"{name}: the library", run(["readelf", "-h", f"{built.out}/libminisign.so"]), says=built.kind.elf)
     layout = [built.compiler, "-std=c11", *STRICT, "-I", INCLUDE, "-fsyntax-only", exports.write_layout(built.room)]

@@ -1,6 +1,7 @@
 /*
- * The text of each number of minisign.h: errors as the published list has them, and usage errors in the library's own
- * words; whole in MINISIGN_ERROR_TEXT_BYTES, cut in less, and no byte after it written.
+ * Checks the text of each error of minisign.h: errors of the published list have its texts, API misuse has the
+ * library's own. A text is complete in MINISIGN_ERROR_TEXT_BYTES, truncated in a smaller buffer, and never written
+ * beyond it.
  */
 #include "texts_for_tests.h"
 
@@ -86,21 +87,22 @@ int main(void)
 
     for (uint32_t number = 0; number <= GREATEST; number++) {
         if (texts[number] == NULL && number > 63) {
-            continue; /* of errors that no call answers */
+            continue; /* errors that no call returns */
         }
         const char *text = texts[number] != NULL ? texts[number] : "unknown error";
         size_t len = strlen(text);
 
         memset(whole, 0xaa, sizeof whole);
-        check(minisign_error_text(number, whole, sizeof whole) == len, "number %u: another length", number);
-        check(len < sizeof whole && memcmp(whole, text, len + 1) == 0, "number %u: another text", number);
+        check(minisign_error_text(number, whole, sizeof whole) == len, "error %u: wrong length", number);
+        check(len < sizeof whole && memcmp(whole, text, len + 1) == 0, "error %u: wrong text, expected: %s", number, text);
         for (size_t room = 0; room <= len; room++) {
             memset(cut, 0xaa, sizeof cut);
-            check(minisign_error_text(number, cut, room) == len, "number %u: another length where it is cut", number);
-            check(room == 0 || (memcmp(cut, text, room - 1) == 0 && cut[room - 1] == 0), "number %u: it is cut elsewhere", number);
-            check(cut[room] == (char) 0xaa, "number %u: it is written after its room", number);
+            check(minisign_error_text(number, cut, room) == len, "error %u: wrong length for a buffer of %zu bytes", number, room);
+            check(room == 0 || (memcmp(cut, text, room - 1) == 0 && cut[room - 1] == 0),
+                  "error %u: wrongly truncated to %zu bytes", number, room);
+            check(cut[room] == (char) 0xaa, "error %u: written beyond %zu bytes", number, room);
         }
     }
-    check(minisign_error_text(UINT32_MAX, whole, sizeof whole) == strlen("unknown error"), "%u: another length", UINT32_MAX);
+    check(minisign_error_text(UINT32_MAX, whole, sizeof whole) == strlen("unknown error"), "error %u: wrong length", UINT32_MAX);
     return ended();
 }

@@ -1,6 +1,6 @@
 /*
- * Puts each buffer of a call right before an inaccessible page, and then right after one: no call reads or writes a
- * byte beside it. A wild access ends the program.
+ * Checks that no call reads or writes beyond its buffers: each buffer lies directly before an inaccessible page, and
+ * then directly after one. A bad access ends the program.
  */
 #define _DEFAULT_SOURCE
 
@@ -11,13 +11,13 @@
 #include "minisign_install.h"
 #include "texts_for_tests.h"
 
-/* (whole pages of each size that systems have, up to 64 KiB; and how much on a buffer's other side holds nothing of before) */
+/* BYTES is a multiple of all page sizes, up to 64 KiB. BESIDE bytes on the other side of a buffer are overwritten. */
 enum { BYTES = 2 << 16, REGIONS = 16, BESIDE = 256 };
 
 static uint8_t *regions[REGIONS];
 static int used, at_end;
 
-/* A new buffer of so many bytes beside a page without access. */
+/* Returns a new buffer of this length beside a page without access. */
 static uint8_t *buffer(size_t len)
 {
     uint8_t *region = regions[used++];
@@ -32,19 +32,19 @@ static uint8_t *copied(const void *bytes, size_t len)
     return memcpy(buffer(len), bytes, len);
 }
 
-/* Room for a value of a type; and such a value, alone in its bytes. */
+/* A buffer for a value of a type, and a copy of such a value in its own buffer. */
 #define NEW(type) ((type *) (void *) buffer(sizeof(type)))
 #define ALONE(type, value) ((type *) (void *) copied((type[1]) { value }, sizeof(type)))
 #define PUBLIC_KEY() ALONE(minisign_public_key, key_of(KEY))
 #define SIGNATURE_READ() ALONE(minisign_signature, signature_of(SIGNATURE))
 
-/* So many of one letter. */
+/* Returns this many bytes of one value. */
 static uint8_t *filled(size_t len, int letter)
 {
     return memset(buffer(len), letter, len);
 }
 
-static minisign_state *begun(void)
+static minisign_state *new_state(void)
 {
     minisign_state *state = NEW(minisign_state);
 
@@ -52,7 +52,7 @@ static minisign_state *begun(void)
     return state;
 }
 
-static void feeding(void)
+static void feeds_data(void)
 {
     static uint8_t data[BYTES];
     static const size_t lens[] = { 0, 1, 2, 63, 64, 127, 128, 129, 255, 256, 257, 383, 384, 385, 4095, 4096, 65535, 65536, BYTES };
@@ -63,7 +63,7 @@ static void feeding(void)
     for (size_t i = 0; i < LENGTH(lens); i++) {
         for (size_t before = 0; before < 260; before += 43) {
             used = 0;
-            minisign_state *state = begun(), other;
+            minisign_state *state = new_state(), other;
             CHECK(minisign_update(state, copied(data, before), before) == MINISIGN_OK);
             CHECK(minisign_update(state, copied(data, lens[i]), lens[i]) == MINISIGN_OK);
             minisign_init(&other);
@@ -74,26 +74,26 @@ static void feeding(void)
     }
 }
 
-/* Asks with so much of the text of a signature, and so much room. */
+/* Asks with the first bytes of a signature file, and a message buffer of this size. */
 static enum minisign_error ask_with(minisign_state *state, const minisign_signature *read, size_t len, size_t room)
 {
     return minisign_ask(state, PUBLIC_KEY(), read, copied(SIGNATURE, len), len, 0, NEW(minisign_questions), buffer(room), room);
 }
 
-/* A signature whose comment is said to begin here and to have this length: nothing outside the text is read. */
+/* Asks about a signature with this offset and length of the comment. Nothing beyond the text is read. */
 static void ask_about_place(uint64_t offset, uint64_t len)
 {
     used = 0;
     minisign_signature *read = SIGNATURE_READ();
     read->comment_offset = offset;
     read->comment_len = len;
-    enum minisign_error error = ask_with(begun(), read, sizeof SIGNATURE - 1, 1024);
+    enum minisign_error error = ask_with(new_state(), read, sizeof SIGNATURE - 1, 1024);
     CHECK(offset <= sizeof SIGNATURE - 1 && len <= sizeof SIGNATURE - 1 - offset ? error != MINISIGN_SIGNATURE_NOT_READ
                                                                                  : error == MINISIGN_OTHER_SIGNATURE_TEXT);
 }
 
-/* The texts cut at each length, and room of each length for the message. */
-static void asking(void)
+/* Key and signature files cut at each length, and message buffers of each size. */
+static void asks_with_cut_texts(void)
 {
     static const uint64_t places[] = { 0, 1, sizeof SIGNATURE - 2, sizeof SIGNATURE - 1, sizeof SIGNATURE, BYTES, UINT32_MAX,
                                        UINT64_MAX - 1, UINT64_MAX };
@@ -103,9 +103,9 @@ static void asking(void)
         minisign_signature *cut = NEW(minisign_signature);
         int is_read = minisign_read_signature(copied(SIGNATURE, len), len, cut) == MINISIGN_OK;
         CHECK(is_read || len < sizeof SIGNATURE - 1);
-        CHECK(ask_with(begun(), cut, len, len) == (is_read ? MINISIGN_OK : MINISIGN_SIGNATURE_NOT_READ));
+        CHECK(ask_with(new_state(), cut, len, len) == (is_read ? MINISIGN_OK : MINISIGN_SIGNATURE_NOT_READ));
         used = 0;
-        CHECK(ask_with(begun(), SIGNATURE_READ(), len, MESSAGE_LEN)
+        CHECK(ask_with(new_state(), SIGNATURE_READ(), len, MESSAGE_LEN)
               == (len < sizeof SIGNATURE - 1 ? MINISIGN_OTHER_SIGNATURE_TEXT : MINISIGN_OK));
     }
     for (size_t i = 0; i < LENGTH(places); i++) {
@@ -125,7 +125,7 @@ static void asking(void)
         const int is_asked = room == MESSAGE_LEN;
 
         used = 0;
-        minisign_state *state = begun();
+        minisign_state *state = new_state();
         CHECK(ask_with(state, SIGNATURE_READ(), sizeof SIGNATURE - 1, room) == (is_asked ? MINISIGN_OK : MINISIGN_NO_ROOM));
         CHECK(minisign_comment_verdict(state, YES) == (is_asked ? MINISIGN_OK : MINISIGN_NOT_ASKED));
         CHECK(minisign_digest(state, buffer(64)) == MINISIGN_OK);
@@ -133,7 +133,7 @@ static void asking(void)
     }
 }
 
-static void signing(void)
+static void signs_with_cut_keys(void)
 {
     minisign_unopened_key of_tests;
     minisign_secret_key opened;
@@ -173,8 +173,8 @@ static void signing(void)
     }
 }
 
-/* Keys that are taken in, their public halves, and room of each length for their texts. */
-static void making(void)
+/* New keys, their public keys, and buffers of each size for key files. */
+static void writes_keys(void)
 {
     static const minisign_new_key new_key = { "1234567", { 1 } };
     static const minisign_sealing none;
@@ -194,8 +194,8 @@ static void making(void)
     }
 }
 
-/* Memory of just the size, and of a word or a byte less: what is opened in it, whatever it held, and that it is cleared. */
-static void opening_in_place(uint64_t p)
+/* Opens a key in memory of exactly the size that is needed, and of a word or a byte less. The memory is cleared. */
+static void opens_in_place(uint64_t p)
 {
     static const uint8_t secret[64] = { 1 };
     static const uint64_t kept[] = { 9, 16 };
@@ -229,7 +229,7 @@ static void opening_in_place(uint64_t p)
     }
 }
 
-/* Asks about the signature, with this room for the message, and has these answers. */
+/* Asks about the signature, and answers yes. */
 static enum minisign_error ask_and_answer(minisign_installation *i)
 {
     enum minisign_error error = minisign_install_ask(i, bytes_of(SIGNATURE), sizeof SIGNATURE - 1, copied("test", 4), 4, 0,
@@ -238,7 +238,7 @@ static enum minisign_error ask_and_answer(minisign_installation *i)
     return error == MINISIGN_OK ? minisign_install_answer(i, YES, YES) : error;
 }
 
-/* An installation at which this is due. */
+/* Returns an installation at which this is due. */
 static minisign_installation *installing(uint32_t due)
 {
     static const minisign_install_options options = { .numbering = MINISIGN_NUMBERING_TIMESTAMP };
@@ -258,7 +258,7 @@ static minisign_installation *installing(uint32_t due)
     return i;
 }
 
-/* Asks with so much of the text of a signature, and so much room for the message. */
+/* Asks to install with the first bytes of a signature file, and a message buffer of this size. */
 static enum minisign_error ask_to_install(size_t len, size_t room)
 {
     used = 0;
@@ -267,8 +267,8 @@ static enum minisign_error ask_to_install(size_t len, size_t room)
     return minisign_install_ask(i, copied(SIGNATURE, len), len, copied("test", 4), 4, 0, NEW(minisign_questions), buffer(room), room);
 }
 
-/* Records, names and comments of each length, and room of each length for the message and the record. */
-static void installations(void)
+/* Records, names and comments of each length, and buffers of each size for the message and the record. */
+static void installs(void)
 {
     static const char comment[] = COMMENT;
     const size_t len = sizeof SIGNATURE - 1, record_len = sizeof "timestamp:1556193335" + 64 + 1 + 128;
@@ -301,7 +301,7 @@ static void installations(void)
     }
 }
 
-static void texts(void)
+static void writes_error_texts(void)
 {
     for (uint32_t number = 0; number < 70; number++) {
         for (size_t room = 0; room <= MINISIGN_ERROR_TEXT_BYTES; room++) {
@@ -325,15 +325,15 @@ int main(void)
         regions[i] = all + page;
     }
     for (at_end = 0; at_end < 2; at_end++) {
-        feeding();
-        asking();
-        signing();
-        making();
+        feeds_data();
+        asks_with_cut_texts();
+        signs_with_cut_keys();
+        writes_keys();
         for (uint64_t p = IS_EMULATED ? 2 : 1; p <= 2; p++) {
-            opening_in_place(p);
+            opens_in_place(p);
         }
-        installations();
-        texts();
+        installs();
+        writes_error_texts();
     }
     return ended();
 }

@@ -1,17 +1,17 @@
 #!/usr/bin/env python3
-"""Checks that a compiler warns of wrong pointers and lengths, by the attributes that `tools/header.py` puts into the headers,
-and that the examples follow the headers' rules.
+"""Checks that compilers warn of wrong pointers and lengths, by the attributes that `tools/header.py` puts into the
+headers, and that the examples follow the headers' rules.
 
     tests/c/header_rules.py
 
-For each call of minisign.h and minisign_install.h, and each pointer with a length, gcc must warn of a length that is one
-more than the buffer has; for each other pointer gcc and clang must warn of NULL. Without the attributes none of these
-warnings comes. A program that makes every call rightly compiles without a warning by gcc, g++, clang, clang++, tcc and
-musl-gcc, also with a NULL pointer for each length of 0. A compiler that is none of these sees no attribute.
+For each call of minisign.h and minisign_install.h, and each pointer with a length, gcc must warn of a length that is
+one greater than the buffer; for each other pointer gcc and clang must warn of NULL. Without the attributes none of
+these warnings comes. A program that makes every call correctly compiles without a warning with gcc, g++, clang,
+clang++, tcc and musl-gcc, also with a NULL pointer for each length of 0. Other compilers see no attribute.
 
-A secret that one call marks with MINISIGN_ROLE is marked in every call. The examples, which the manual pages show, and
-the functions of the headers set each signature and each key to zeros
-before its first use, as minisign.h demands. It prints a line for each failure; the last line is `N passed, M failed`.
+A parameter that one call marks as a secret with MINISIGN_ROLE is marked in every call. The examples, which the manual
+pages show, and the functions of the headers set each signature and each key to zeros before its first use, as
+minisign.h demands. It prints a line for each failure; the last line is `N passed, M failed`.
 
 Needs gcc, g++, clang, tcc and musl-gcc, and installs what is missing if it may.
 """
@@ -39,27 +39,27 @@ BLOCK = re.compile(r"/\* Attributes, made by tools/header\.py\. \*/\n.*?/\* The 
 
 
 def pointers(call):
-    """The pointers of a call: where each is, and whether a length comes after it."""
+    """Yields the pointer parameters of a call: the index, and whether a length follows."""
     parameters = call.parameters
-    for at, one in enumerate(parameters):
-        if one.star or one.count:
+    for at, parameter in enumerate(parameters):
+        if parameter.star or parameter.count:
             after = parameters[at + 1] if at + 1 < len(parameters) else None
-            is_counted = one.kind in ("uint8_t", "uint32_t", "char", "void") and not one.count
+            is_counted = parameter.kind in ("uint8_t", "uint32_t", "char", "void") and not parameter.count
             yield at, bool(is_counted and after and after.kind == "size_t" and not after.star)
 
 
 def call_text(name, call, given):
-    """A function that makes a call, with these arguments in place of the right ones."""
+    """Returns a function that makes a call, with these arguments in place of correct ones."""
     declared, arguments, counted = [], [], dict(pointers(call))
-    for at, one in enumerate(call.parameters):
+    for at, parameter in enumerate(call.parameters):
         if at in given:
             arguments.append(given[at])
         elif at in counted:
-            size = f"[{one.count or ELEMENTS}]" if one.count or counted[at] else ""
-            declared.append(f"    static {'uint8_t' if one.kind == 'void' else one.kind} p{at}{size};\n")
+            size = f"[{parameter.count or ELEMENTS}]" if parameter.count or counted[at] else ""
+            declared.append(f"    static {'uint8_t' if parameter.kind == 'void' else parameter.kind} p{at}{size};\n")
             arguments.append(f"p{at}" if size else f"&p{at}")
         else:
-            arguments.append(str(ELEMENTS) if counted.get(at - 1) else f"({one.kind}) 1")
+            arguments.append(str(ELEMENTS) if counted.get(at - 1) else f"({parameter.kind}) 1")
     made = f"{'' if call.answer == 'void' else '(void) !'}{call.name}({', '.join(arguments)});"
     return f"void {name}(void);\nvoid {name}(void)\n{{\n{''.join(declared)}    {made}\n}}\n"
 
@@ -69,7 +69,7 @@ def program(functions):
 
 
 def mistakes(calls):
-    """Functions with one mistake each, by their names: those with a length that is too great, and those with NULL."""
+    """Returns functions with one mistake each, by name: those with a length that is too great, and those with NULL."""
     too_long, null = {}, {}
     for call in calls:
         for at, is_counted in pointers(call):
@@ -79,8 +79,8 @@ def mistakes(calls):
     return too_long, null
 
 
-def warned(room, compiler, functions, include):
-    """The functions in which a compiler warns."""
+def functions_with_warnings(room, compiler, functions, include):
+    """Returns the functions in which a compiler warns."""
     texts = {name: call_text(name, *how) for name, how in functions.items()}
     text = program(texts.values())
     source = write(room, "mistakes.c", text.encode())
@@ -89,38 +89,39 @@ def warned(room, compiler, functions, include):
         return [said[-500:]]
     lines = text.split("\n")
     numbers = {int(number) for number in re.findall(r"mistakes\.c:(\d+):\d+: warning:", said)}
-    # (the function in which a line is)
+    # (the function that contains the line)
     return {next(found[1] for line in reversed(lines[:number]) if (found := re.match(r"void (\w+)\(void\)$", line))) for number in numbers}
 
 
 def without_attributes(room):
-    """A copy of the headers without their attributes."""
+    """Makes a copy of the headers without their attributes."""
     for name in HEADERS:
         text, count = BLOCK.subn("", read(INCLUDE, name).decode())
         if count != 1:
-            raise needs.Missing(f"{name} has {count} blocks of attributes")
+            raise needs.Missing(f"{name} has {count} blocks of attributes, expected 1")
         write(room, name, text.encode())
     return room
 
 
 def check_mistakes(checks, room, calls):
-    """Each mistake is warned of."""
+    """Compilers warn of each mistake."""
     gcc, clang = [needs.program("gcc", "gcc")], [needs.program("clang", "clang")]
     too_long, null = mistakes(calls)
-    # (clang has no attribute for lengths, so a pointer with one may be NULL for it)
-    of_clang = {name: how for name, how in null.items() if f"long_{name[5:]}" not in too_long}
-    checks.check(len(too_long) > 20 and len(of_clang) > 40, f"{len(too_long)} lengths and {len(of_clang)} pointers")
-    for compiler, functions in ((gcc, too_long), (gcc, null), (clang, of_clang)):
-        found = warned(room, compiler, functions, INCLUDE)
+    # (clang has no attribute for lengths, so it accepts NULL for a pointer with a length)
+    null_without_length = {name: how for name, how in null.items() if f"long_{name[5:]}" not in too_long}
+    checks.check(len(too_long) > 20 and len(null_without_length) > 40,
+                 f"only {len(too_long)} lengths and {len(null_without_length)} pointers were found")
+    for compiler, functions in ((gcc, too_long), (gcc, null), (clang, null_without_length)):
+        found = functions_with_warnings(room, compiler, functions, INCLUDE)
         for name in functions:
             checks.check(name in found, f"{compiler[0]} does not warn of {name}")
-    found = warned(room, gcc, {**too_long, **null}, without_attributes(room))
+    found = functions_with_warnings(room, gcc, {**too_long, **null}, without_attributes(room))
     # (an array of a fixed size has its own warning)
     checks.check(not [name for name in found if name in too_long], f"without attributes gcc warns of {found}")
 
 
-def check_right(checks, room, calls):
-    """Right calls get no warning, and attributes come only where they are known."""
+def check_correct_calls(checks, room, calls):
+    """Correct calls get no warning, and only known compilers see attributes."""
     functions = [call_text(f"right_{call.name}", call, {}) for call in calls]
     functions += [call_text(f"empty_{call.name}_{at}", call, {at: "NULL", at + 1: "0"})
                   for call in calls for at, is_counted in pointers(call) if is_counted]
@@ -130,20 +131,21 @@ def check_right(checks, room, calls):
         source = write(room, f"right.{'cpp' if '++' in name else 'c'}", text.encode())
         command = [needs.program(name, package), *flags, *(STRICT if name != "tcc" else ("-Wall",)), "-Werror", "-I", INCLUDE, "-c", "-o",
                    f"{room}/right.o", source]
-        checks.ended(f"right calls by {name}", run(command))
+        checks.ended(f"correct calls by {name}", run(command))
     for name in HEADERS:
-        said = checks.ended(f"{name} by another compiler", run([needs.program("gcc", "gcc"), "-U__GNUC__", "-E", "-P", f"{INCLUDE}/{name}"]))
+        command = [needs.program("gcc", "gcc"), "-U__GNUC__", "-E", "-P", f"{INCLUDE}/{name}"]
+        said = checks.ended(f"{name} for another compiler", run(command))
         own = said[said.find("minisign"):]
         checks.check("__attribute__" not in own and "__typeof__" not in own and "minisign" in own, f"{name}: {own[:300]}")
 
 
-# What has to be zeros before its first use: a variable of these types within a function, unless it is static.
+# Variables that must be zero before their first use: those of these types within a function, unless they are static.
 ZEROED = re.compile(r"(?m)^ +(minisign_(?:signature|public_key|secret_key|unopened_key)) (\w+(?:, \w+)*)( = \{ 0 \})?;")
 
 
 def not_zeroed(text):
-    """The variables of C that are not set to zeros where they are declared, or by memset in the same function."""
-    # (fields of a struct are set with the struct)
+    """Yields the variables that are not set to zeros where they are declared, or by memset in the same function."""
+    # (fields are set with their struct)
     text = re.sub(r"(?ms)^(typedef )?(static )?(const )?struct \w* ?\{.*?^\}", "", text)
     for function in re.split(r"(?m)^\}", text):
         for kind, names, is_zero in ZEROED.findall(function):
@@ -151,22 +153,23 @@ def not_zeroed(text):
 
 
 def check_examples(checks):
-    """Examples, and functions of the headers, set what has a mark to zeros."""
+    """Examples, and functions of the headers, set these variables to zeros."""
     files = [*glob.glob(f"{TOP}/c/examples/*.c"), *glob.glob(f"{INCLUDE}/*.h"), *glob.glob(f"{TOP}/bench/*.c")]
     texts = {os.path.relpath(file, TOP): read(file).decode() for file in files}
-    checks.check(sum(len(ZEROED.findall(text)) for text in texts.values()) > 4, "examples have no variable that has to be zeros")
+    checks.check(sum(len(ZEROED.findall(text)) for text in texts.values()) > 4, "the examples have too few such variables")
     for name, text in texts.items():
         checks.check(not [*not_zeroed(text)], f"{name}: not set to zeros: {', '.join(not_zeroed(text))}")
 
 
 def check_roles(checks, calls, structs):
-    """A parameter that one call marks as a secret is marked in each call, so that the boundary clears what each call used."""
-    secrets = {(one.name, one.kind) for call in calls for one in call.parameters if "secret" in one.roles}
+    """A parameter that one call marks as a secret is marked in each call, so that the boundary clears memory after each
+    of them."""
+    secrets = {(parameter.name, parameter.kind) for call in calls for parameter in call.parameters if "secret" in parameter.roles}
     checks.check(secrets and structs, f"the headers mark as secrets only the parameters {secrets} and the fields of {structs}")
     for call in calls:
-        for one in call.parameters:
-            if (one.name, one.kind) in secrets:
-                checks.check("secret" in one.roles, f"{call.name}: {one.name} is not marked as a secret, as in other calls")
+        for parameter in call.parameters:
+            if (parameter.name, parameter.kind) in secrets:
+                checks.check("secret" in parameter.roles, f"{call.name}: {parameter.name} is not marked as a secret, as in other calls")
 
 
 def run_all(checks, room):
@@ -174,7 +177,7 @@ def run_all(checks, room):
     calls = [call for call in header.calls if call.parameters]
     check_roles(checks, calls, header.secrets)
     check_mistakes(checks, room, calls)
-    check_right(checks, room, calls)
+    check_correct_calls(checks, room, calls)
     check_examples(checks)
 
 

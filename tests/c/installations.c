@@ -1,7 +1,7 @@
 /*
- * An installation through minisign_install.h. At each call that may be due it makes each call of the header, and
- * compares what is due then with a table of its own. A usage error changes no byte of the struct. Also the records
- * and the signed comments that are taken and rejected, and the questions to Ed25519; and nothing allocates.
+ * Checks installations with the calls of minisign_install.h. At each due action it makes each call of the header, and
+ * compares the next due action with a table. API misuse changes no byte of the struct. Further checks: valid and
+ * invalid records and trusted comments, and the questions for Ed25519. Nothing allocates.
  *
  * Linked with -Wl,--wrap=malloc -Wl,--wrap=realloc -Wl,--wrap=free.
  */
@@ -11,16 +11,16 @@
 #include "minisign_install.h"
 #include "texts_for_tests.h"
 
-#define CHECK_AT(due, condition) check((condition), "where %u is due: %s", (due), #condition)
+#define CHECK_AT(due, condition) check((condition), "while %u is due: %s", (due), #condition)
 
 #define NUMBER 1556193335
-/* What is written into the record of it, with the data `abc`: the key's bytes behind its key ID, and the digest below. */
+/* The record of this timestamp for the data `abc`: the key, and the digest. */
 #define OWN_NUMBER "timestamp:1556193335"
 #define OWN_RECORD OWN_NUMBER                                            \
     "\n79a561e70ee08cd3e754c63e9bd6b9c3520a1d4204cd104da2e7ef763b1853b7" \
     "\n" HEX_OF_ABC
 
-/* What is due after each call: where it was done, if that is told by minisign_install_done, and where it failed. */
+/* What is due next after minisign_install_done (0 if that is not allowed), and after minisign_install_failed. */
 static const struct row {
     uint32_t due, done, failed;
 } table[] = {
@@ -57,17 +57,17 @@ static const struct row {
 
 #define ROWS LENGTH(table)
 
-/* The moment that is passed: the signature of these tests never expires. */
+/* The current time of the calls. The signature of these tests never expires. */
 #define NOW 1000
 
 static minisign_questions questions;
 static uint8_t message[4096];
 
-/* What is asked about: a signature with this text, and the name that is wanted; and when a record was written. */
+/* The signature file and the file name of `ask`, and the date of the record. */
 static const char *asked_text = SIGNATURE, *asked_name = "test";
 static uint64_t written;
 
-/* Asks about a signature with this text. */
+/* Asks about a signature file. */
 static enum minisign_error ask_of(minisign_installation *i, const char *sig_text, const char *file, size_t room)
 {
     return minisign_install_ask(i, bytes_of(sig_text), strlen(sig_text), bytes_of(file), strlen(file), NOW,
@@ -79,7 +79,7 @@ static enum minisign_error ask(minisign_installation *i)
     return ask_of(i, asked_text, asked_name, sizeof message);
 }
 
-/* Asks, and has these answers. */
+/* Asks and answers. */
 static enum minisign_error judge(minisign_installation *i, enum minisign_answer first, enum minisign_answer second)
 {
     enum minisign_error error = ask(i);
@@ -97,7 +97,7 @@ static enum minisign_error piece(minisign_installation *i, const char *data)
     return minisign_install_piece(i, bytes_of(data), strlen(data));
 }
 
-/* Hands over `abc`, and the end. */
+/* Passes `abc` and the end of the data. */
 static enum minisign_error pieces(minisign_installation *i)
 {
     enum minisign_error error = piece(i, "abc");
@@ -105,7 +105,7 @@ static enum minisign_error pieces(minisign_installation *i)
     return error == MINISIGN_OK ? piece(i, "") : error;
 }
 
-/* An installation under the published key alone, which has to say when it expires, or not. */
+/* Begins an installation under the published key. must_expire is an option of it. */
 static uint32_t must_expire;
 
 static enum minisign_error begin(minisign_installation *i, uint32_t is_first, uint32_t again, uint32_t is_check,
@@ -118,13 +118,13 @@ static enum minisign_error begin(minisign_installation *i, uint32_t is_first, ui
     return minisign_install_init(i, &key, &key, &options);
 }
 
-/* Makes the call that is due, which goes well; the record holds this. */
-static void step(minisign_installation *i, const char *kept)
+/* Does what is due, successfully. The record has this text. */
+static void step(minisign_installation *i, const char *record_text)
 {
     enum minisign_error error;
 
     switch (minisign_install_due(i)) {
-    case MINISIGN_DUE_READ_RECORD: error = record(i, kept); break;
+    case MINISIGN_DUE_READ_RECORD: error = record(i, record_text); break;
     case MINISIGN_DUE_JUDGE: error = judge(i, NO, YES); break;
     case MINISIGN_DUE_LOOK:
     case MINISIGN_DUE_READ_BACK: error = pieces(i); break;
@@ -133,27 +133,28 @@ static void step(minisign_installation *i, const char *kept)
     default: error = minisign_install_done(i);
     }
     if (error != MINISIGN_OK) {
-        printf("the call %u cannot be made: %u\n", minisign_install_due(i), (unsigned) error);
+        printf("the action %u fails with error %u\n", minisign_install_due(i), (unsigned) error);
         exit(1);
     }
 }
 
-/* Makes the calls that are due until this is; the record holds that. */
-static void go_to(minisign_installation *i, uint32_t due, const char *kept)
+/* Does what is due until this is due. The record has this text. */
+static void go_to(minisign_installation *i, uint32_t due, const char *record_text)
 {
     for (int calls = 0; minisign_install_due(i) != due; calls++) {
         if (calls == 40) {
-            printf("the call %u is never due\n", due);
+            printf("the action %u is never due\n", due);
             exit(1);
         }
-        step(i, kept);
+        step(i, record_text);
     }
 }
 
-/* An installation at which this is due: over an older number, but where it is looked what stands at the target. */
+/* Returns an installation at which this is due. The recorded version is older, unless the installed file is to be
+ * read. */
 static minisign_installation at(uint32_t due)
 {
-    int looks = due >= MINISIGN_DUE_LOOK && due <= MINISIGN_DUE_SYNC_TARGET_NAME;
+    int reads_target = due >= MINISIGN_DUE_LOOK && due <= MINISIGN_DUE_SYNC_TARGET_NAME;
     int waits = due == MINISIGN_DUE_UNLOCK || due == MINISIGN_DUE_RECEIVE;
     uint32_t by = due == MINISIGN_DUE_REMOVE_RECORD ? MINISIGN_DUE_WRITE_RECORD
                   : due == MINISIGN_DUE_REMOVE      ? MINISIGN_DUE_COPY
@@ -162,7 +163,7 @@ static minisign_installation at(uint32_t due)
     minisign_installation i;
 
     CHECK(begin(&i, 0, 0, due == MINISIGN_DUE_WOULD_INSTALL, waits, MINISIGN_NUMBERING_TIMESTAMP) == MINISIGN_OK);
-    go_to(&i, by, looks || due == MINISIGN_DUE_ALREADY ? OWN_NUMBER : "5");
+    go_to(&i, by, reads_target || due == MINISIGN_DUE_ALREADY ? OWN_NUMBER : "5");
     CHECK(by == due || minisign_install_failed(&i, MINISIGN_WRITING_FAILED) == MINISIGN_OK);
     CHECK(minisign_install_due(&i) == due);
     return i;
@@ -173,7 +174,8 @@ static int same(const minisign_installation *one, const minisign_installation *o
     return memcmp(one, other, sizeof *one) == 0;
 }
 
-/* That a call went well, or is not due, and what is due then: 0 where it is not. */
+/* Checks that a call succeeds and what is due next (`to`), or with `to` 0 that it returns MINISIGN_NOT_DUE and
+ * changes nothing. */
 #define GOES(due, call, to)                                                                                             \
     do {                                                                                                                \
         const minisign_installation before = at(due);                                                                   \
@@ -185,8 +187,8 @@ static int same(const minisign_installation *one, const minisign_installation *o
                                 : error == MINISIGN_OK && minisign_install_due(&i) == next);                            \
     } while (0)
 
-/* Each call where each is due; and the record is written where that is, if there is room. */
-static void order(void)
+/* Makes each call at each due action. The record text is available when it is to be written. */
+static void makes_each_call_at_each_action(void)
 {
     for (size_t row = 0; row < ROWS; row++) {
         const uint32_t due = table[row].due;
@@ -218,8 +220,8 @@ static void order(void)
     }
 }
 
-/* What a run is rejected for in the end: the first failure, whatever comes of the removals. */
-static void failures(void)
+/* The error of an installation is its first failure, whatever happens to the removals after it. */
+static void keeps_first_failure(void)
 {
     static const enum minisign_error reasons[] = { MINISIGN_OUT_OF_MEMORY, MINISIGN_READING_FAILED, MINISIGN_WRITING_FAILED,
                                                    MINISIGN_RANDOM_SOURCE_FAILED, MINISIGN_TARGET_IN_USE };
@@ -254,8 +256,8 @@ static void failures(void)
     }
 }
 
-/* What was never begun, and what is begun wrongly. */
-static void beginnings(void)
+/* Structs that were not initialized, and invalid options. */
+static void rejects_bad_beginnings(void)
 {
     minisign_installation i, before;
 
@@ -285,8 +287,8 @@ static void beginnings(void)
     }
 }
 
-/* A record where it is the first installation by this field or not: what is due then, and the rejection. */
-static void record_gives(const uint8_t *text, size_t len, uint32_t is_first, uint32_t numbering, enum minisign_error rejected)
+/* Checks the error of a record with these options. A NULL text is a missing record. */
+static void check_record(const uint8_t *text, size_t len, uint32_t is_first, uint32_t numbering, enum minisign_error rejected)
 {
     minisign_installation i;
 
@@ -297,18 +299,18 @@ static void record_gives(const uint8_t *text, size_t len, uint32_t is_first, uin
     CHECK(minisign_install_error(&i) == rejected);
 }
 
-/* A text of a record, by each field and at the first installation or not. */
-static void text_gives(const char *text, enum minisign_error by_time, enum minisign_error by_version)
+/* Checks the errors of a record for each field, with and without is_first. */
+static void check_record_text(const char *text, enum minisign_error by_time, enum minisign_error by_version)
 {
-    record_gives(bytes_of(text), strlen(text), 0, MINISIGN_NUMBERING_TIMESTAMP, by_time);
-    record_gives(bytes_of(text), strlen(text), 0, MINISIGN_NUMBERING_VERSION, by_version);
-    record_gives(bytes_of(text), strlen(text), 1, MINISIGN_NUMBERING_TIMESTAMP, MINISIGN_OK);
-    record_gives(bytes_of(text), strlen(text), 1, MINISIGN_NUMBERING_VERSION, MINISIGN_OK);
+    check_record(bytes_of(text), strlen(text), 0, MINISIGN_NUMBERING_TIMESTAMP, by_time);
+    check_record(bytes_of(text), strlen(text), 0, MINISIGN_NUMBERING_VERSION, by_version);
+    check_record(bytes_of(text), strlen(text), 1, MINISIGN_NUMBERING_TIMESTAMP, MINISIGN_OK);
+    check_record(bytes_of(text), strlen(text), 1, MINISIGN_NUMBERING_VERSION, MINISIGN_OK);
 }
 
-static void records(void)
+static void reads_records(void)
 {
-    /* A number alone counts for either field. */
+    /* A record of a number only is valid for both fields. */
     static const char *const numbers[] = { "0", "5", "5\n", "18446744073709551615",
                                            "0000000000000000000000000000000000000000000000000000000000000005",
                                            "000000000000000000000000000000000000000000000000000000000000005\n" };
@@ -329,28 +331,28 @@ static void records(void)
                                         "timestamp:5\n" HEX_OF_ABC "\n" HEX_OF_ABC "\n" HEX_OF_ABC };
 
     for (size_t n = 0; n < LENGTH(numbers); n++) {
-        text_gives(numbers[n], MINISIGN_OK, MINISIGN_OK);
+        check_record_text(numbers[n], MINISIGN_OK, MINISIGN_OK);
     }
     for (size_t n = 0; n < LENGTH(timestamps); n++) {
-        text_gives(timestamps[n], MINISIGN_OK, MINISIGN_KEPT_BY_TIMESTAMP);
+        check_record_text(timestamps[n], MINISIGN_OK, MINISIGN_KEPT_BY_TIMESTAMP);
     }
     for (size_t n = 0; n < LENGTH(versions); n++) {
-        text_gives(versions[n], MINISIGN_KEPT_BY_VERSION, MINISIGN_OK);
+        check_record_text(versions[n], MINISIGN_KEPT_BY_VERSION, MINISIGN_OK);
     }
     for (size_t n = 0; n < LENGTH(none); n++) {
-        text_gives(none[n], MINISIGN_DAMAGED_RECORD, MINISIGN_DAMAGED_RECORD);
+        check_record_text(none[n], MINISIGN_DAMAGED_RECORD, MINISIGN_DAMAGED_RECORD);
     }
     for (uint32_t numbering = 0; numbering < 2; numbering++) {
-        record_gives(bytes_of("5\0"), 2, 0, numbering, MINISIGN_DAMAGED_RECORD);
-        record_gives(bytes_of("\xff"), 1, 0, numbering, MINISIGN_DAMAGED_RECORD);
-        record_gives(NULL, 0, 0, numbering, MINISIGN_NO_RECORD);
-        record_gives(NULL, 0, 1, numbering, MINISIGN_OK);
+        check_record(bytes_of("5\0"), 2, 0, numbering, MINISIGN_DAMAGED_RECORD);
+        check_record(bytes_of("\xff"), 1, 0, numbering, MINISIGN_DAMAGED_RECORD);
+        check_record(NULL, 0, 0, numbering, MINISIGN_NO_RECORD);
+        check_record(NULL, 0, 1, numbering, MINISIGN_OK);
     }
 }
 
-/* What the comment of this number gives over a record, where the key has signed it or not: at the judgement before anything is
- * staged, and, but of an update that is asked about there, at the one after that. */
-static void gives(const char *kept, uint32_t is_first, const char *signature, const char *file, uint32_t numbering,
+/* Checks the error and the version number of a trusted comment over a record, if `second` is the result for the
+ * comment signature. */
+static void check_comment(const char *record_text, uint32_t is_first, const char *signature, const char *file, uint32_t numbering,
                   enum minisign_answer second, enum minisign_error rejected, uint64_t number)
 {
     minisign_installation i;
@@ -358,7 +360,7 @@ static void gives(const char *kept, uint32_t is_first, const char *signature, co
     uint32_t vouched = 0;
 
     CHECK(begin(&i, is_first, 0, 0, 0, numbering) == MINISIGN_OK);
-    go_to(&i, MINISIGN_DUE_JUDGE, kept);
+    go_to(&i, MINISIGN_DUE_JUDGE, record_text);
     error = ask_of(&i, signature, file, sizeof message);
     if (error == MINISIGN_OK) {
         CHECK(minisign_install_error(&i) == MINISIGN_OK && minisign_install_due(&i) == MINISIGN_DUE_JUDGE);
@@ -366,13 +368,14 @@ static void gives(const char *kept, uint32_t is_first, const char *signature, co
         error = minisign_install_answer(&i, NO, second);
         vouched = second == YES;
     }
-    check(error == rejected && minisign_install_error(&i) == rejected, "%s: not the error %u", signature, (unsigned) rejected);
+    check(error == rejected && minisign_install_error(&i) == rejected, "%s: error %u, expected %u", signature, (unsigned) error,
+          (unsigned) rejected);
     CHECK((minisign_install_due(&i) == MINISIGN_DUE_REFUSED) == (rejected != MINISIGN_OK));
-    check(minisign_install_is_vouched(&i) == vouched && minisign_install_number(&i) == number, "%s: another number", signature);
+    check(minisign_install_is_vouched(&i) == vouched && minisign_install_number(&i) == number, "%s: wrong version number", signature);
 }
 
-/* What the answers give of what the stage holds. */
-static void staged_gives(enum minisign_answer first, enum minisign_answer second, enum minisign_error rejected)
+/* Checks the verdict on the temporary file. */
+static void check_staged(enum minisign_answer first, enum minisign_answer second, enum minisign_error rejected)
 {
     minisign_installation i = at(MINISIGN_DUE_ANSWER);
 
@@ -386,36 +389,37 @@ static void staged_gives(enum minisign_answer first, enum minisign_answer second
     }
 }
 
-static void answers(void)
+static void judges_comments_and_data(void)
 {
     const uint32_t by_time = MINISIGN_NUMBERING_TIMESTAMP, by_version = MINISIGN_NUMBERING_VERSION;
 
-    gives("0", 0, SIGNATURE, "test", by_time, YES, MINISIGN_OK, NUMBER);
-    gives(OWN_NUMBER, 0, SIGNATURE, "test", by_time, YES, MINISIGN_OK, NUMBER);
-    gives(OWN_RECORD, 0, SIGNATURE, "test", by_time, YES, MINISIGN_OK, NUMBER);
-    gives("1556193336", 0, SIGNATURE, "test", by_time, YES, MINISIGN_OLDER_UPDATE, NUMBER);
-    gives("timestamp:1556193336", 0, SIGNATURE, "test", by_time, YES, MINISIGN_OLDER_UPDATE, NUMBER);
-    gives("timestamp:1556193336\n" HEX_OF_ABC, 1, SIGNATURE, "test", by_time, YES, MINISIGN_OK, NUMBER);
-    /* At a first installation a number of the other field does not count, one of the same field and one alone do. */
-    gives("version:1556193336", 1, SIGNATURE, "test", by_time, YES, MINISIGN_OK, NUMBER);
-    gives("timestamp:1556193336", 1, SIGNATURE, "test", by_time, YES, MINISIGN_OLDER_UPDATE, NUMBER);
-    gives("1556193336", 1, SIGNATURE, "test", by_time, YES, MINISIGN_OLDER_UPDATE, NUMBER);
-    gives("0", 0, SIGNATURE, "tes", by_time, YES, MINISIGN_OTHER_FILE, NUMBER);
-    gives("0", 0, SIGNATURE, "", by_time, YES, MINISIGN_OTHER_FILE, NUMBER);
-    gives("0", 0, SIGNATURE, "test", by_version, YES, MINISIGN_NO_NUMBER, 0);
-    /* What is said of the comment comes after the verdict. */
-    gives("1556193336", 0, SIGNATURE, "tes", by_version, NO, MINISIGN_COMMENT_SIGNATURE_REFUSED, 0);
-    gives("0", 0, LEGACY_SIGNATURE, "test", by_time, YES, MINISIGN_LEGACY_NOT_ACCEPTED, 0);
-    gives("0", 0, OTHER_SIGNATURE, "test", by_time, YES, MINISIGN_DIFFERENT_KEY_IDS, 0);
-    gives("0", 0, SIGNATURE, "\xff", by_time, YES, MINISIGN_NOT_UTF8, 0);
-    gives("0", 0, "untrusted comment: none", "test", by_time, YES, MINISIGN_MISSING_SIGNATURE, 0);
-    staged_gives(YES, YES, MINISIGN_OK);
-    staged_gives(NO, NO, MINISIGN_SIGNATURE_REFUSED);
-    staged_gives(NO, YES, MINISIGN_SIGNATURE_REFUSED);
-    staged_gives(YES, NO, MINISIGN_COMMENT_SIGNATURE_REFUSED);
+    check_comment("0", 0, SIGNATURE, "test", by_time, YES, MINISIGN_OK, NUMBER);
+    check_comment(OWN_NUMBER, 0, SIGNATURE, "test", by_time, YES, MINISIGN_OK, NUMBER);
+    check_comment(OWN_RECORD, 0, SIGNATURE, "test", by_time, YES, MINISIGN_OK, NUMBER);
+    check_comment("1556193336", 0, SIGNATURE, "test", by_time, YES, MINISIGN_OLDER_UPDATE, NUMBER);
+    check_comment("timestamp:1556193336", 0, SIGNATURE, "test", by_time, YES, MINISIGN_OLDER_UPDATE, NUMBER);
+    check_comment("timestamp:1556193336\n" HEX_OF_ABC, 1, SIGNATURE, "test", by_time, YES, MINISIGN_OK, NUMBER);
+    /* With is_first a recorded number of the other field is ignored. One of the same field, or without a field, is
+     * not. */
+    check_comment("version:1556193336", 1, SIGNATURE, "test", by_time, YES, MINISIGN_OK, NUMBER);
+    check_comment("timestamp:1556193336", 1, SIGNATURE, "test", by_time, YES, MINISIGN_OLDER_UPDATE, NUMBER);
+    check_comment("1556193336", 1, SIGNATURE, "test", by_time, YES, MINISIGN_OLDER_UPDATE, NUMBER);
+    check_comment("0", 0, SIGNATURE, "tes", by_time, YES, MINISIGN_OTHER_FILE, NUMBER);
+    check_comment("0", 0, SIGNATURE, "", by_time, YES, MINISIGN_OTHER_FILE, NUMBER);
+    check_comment("0", 0, SIGNATURE, "test", by_version, YES, MINISIGN_NO_NUMBER, 0);
+    /* The verdict on the comment signature comes before errors of the comment. */
+    check_comment("1556193336", 0, SIGNATURE, "tes", by_version, NO, MINISIGN_COMMENT_SIGNATURE_REFUSED, 0);
+    check_comment("0", 0, LEGACY_SIGNATURE, "test", by_time, YES, MINISIGN_LEGACY_NOT_ACCEPTED, 0);
+    check_comment("0", 0, OTHER_SIGNATURE, "test", by_time, YES, MINISIGN_DIFFERENT_KEY_IDS, 0);
+    check_comment("0", 0, SIGNATURE, "\xff", by_time, YES, MINISIGN_NOT_UTF8, 0);
+    check_comment("0", 0, "untrusted comment: none", "test", by_time, YES, MINISIGN_MISSING_SIGNATURE, 0);
+    check_staged(YES, YES, MINISIGN_OK);
+    check_staged(NO, NO, MINISIGN_SIGNATURE_REFUSED);
+    check_staged(NO, YES, MINISIGN_SIGNATURE_REFUSED);
+    check_staged(YES, NO, MINISIGN_COMMENT_SIGNATURE_REFUSED);
 }
 
-/* The text of a signature with this comment. */
+/* Returns a signature file with this trusted comment. */
 static const char *with_comment(const char *comment)
 {
     static char text[1024];
@@ -424,59 +428,61 @@ static const char *with_comment(const char *comment)
     return text;
 }
 
-/* What a comment of this form with this part and this number, which the key has signed, gives over the number 2. */
-static void signed_gives(const char *form, const char *part, uint32_t is_first, enum minisign_error rejected, uint64_t number)
+/* Checks the error and the version number of a signed trusted comment, in the format of printf with one argument,
+ * over the recorded version 2. */
+static void check_signed_comment(const char *form, const char *part, uint32_t is_first, enum minisign_error rejected, uint64_t number)
 {
     char comment[256];
 
     snprintf(comment, sizeof comment, form, part);
-    gives("2", is_first, with_comment(comment), "a", MINISIGN_NUMBERING_VERSION, YES, rejected, number);
+    check_comment("2", is_first, with_comment(comment), "a", MINISIGN_NUMBERING_VERSION, YES, rejected, number);
 }
 
-/* When the update expires, and how long the data is. */
-static void fields(void)
+/* The fields expires: and size:. */
+static void reads_expiry_and_size(void)
 {
     static const char *const loose[] = { "Expires:2000", "EXPIRES:2000", "ex pires: 2000", "expires :2000", "expires\f:2000" };
     static const char *const others[] = { "expire:2000", "expires2000", "xexpires:2000", "expires", "" };
-    static const char *const sizes[] = { "size:", "size:x", "size:+5", "size: 5", "size:18446744073709551616", "size:5\tsize:5", "size:5\tsize:x" };
+    static const char *const sizes[] = { "size:", "size:x", "size:+5", "size: 5", "size:18446744073709551616", "size:5\tsize:5",
+                                        "size:5\tsize:x" };
     static const char *const lengths[] = { "size:0", "size:18446744073709551615", "Size:x", "si ze:x", "size" };
 
     for (must_expire = 0; must_expire < 2; must_expire++) {
         const enum minisign_error unsaid = must_expire ? MINISIGN_NO_EXPIRY : MINISIGN_OK;
         const enum minisign_error unclear = must_expire ? MINISIGN_BAD_EXPIRY : MINISIGN_OK;
 
-        signed_gives("file:a\tversion:3\texpires:1001", "", 0, MINISIGN_OK, 3);
-        signed_gives("file:a\tversion:3\texpires:1000", "", 0, MINISIGN_EXPIRED, 3);
-        signed_gives("file:a\tversion:3\texpires:x", "", 0, MINISIGN_BAD_EXPIRY, 3);
-        signed_gives("expires:2000\tfile:a\tversion:3\texpires:2000", "", 0, MINISIGN_BAD_EXPIRY, 3);
-        signed_gives("file:b\tversion:3", "", 0, MINISIGN_OTHER_FILE, 3);
-        signed_gives("file:a\tversion:x", "", 0, MINISIGN_NO_NUMBER, 0);
-        signed_gives("file:a\tversion:1\texpires:2000", "", 0, MINISIGN_OLDER_UPDATE, 1);
-        signed_gives("file:a\t expires:2000\tversion:3", "", 0, unclear, 3);
+        check_signed_comment("file:a\tversion:3\texpires:1001", "", 0, MINISIGN_OK, 3);
+        check_signed_comment("file:a\tversion:3\texpires:1000", "", 0, MINISIGN_EXPIRED, 3);
+        check_signed_comment("file:a\tversion:3\texpires:x", "", 0, MINISIGN_BAD_EXPIRY, 3);
+        check_signed_comment("expires:2000\tfile:a\tversion:3\texpires:2000", "", 0, MINISIGN_BAD_EXPIRY, 3);
+        check_signed_comment("file:b\tversion:3", "", 0, MINISIGN_OTHER_FILE, 3);
+        check_signed_comment("file:a\tversion:x", "", 0, MINISIGN_NO_NUMBER, 0);
+        check_signed_comment("file:a\tversion:1\texpires:2000", "", 0, MINISIGN_OLDER_UPDATE, 1);
+        check_signed_comment("file:a\t expires:2000\tversion:3", "", 0, unclear, 3);
         for (size_t n = 0; n < LENGTH(others); n++) {
-            signed_gives("file:a\tversion:3\t%s", others[n], 0, unsaid, 3);
-            signed_gives("%s\tfile:a\tversion:3\texpires:2000", others[n], 0, MINISIGN_OK, 3);
+            check_signed_comment("file:a\tversion:3\t%s", others[n], 0, unsaid, 3);
+            check_signed_comment("%s\tfile:a\tversion:3\texpires:2000", others[n], 0, MINISIGN_OK, 3);
         }
         for (size_t n = 0; n < LENGTH(loose); n++) {
-            signed_gives("file:a\tversion:3\t%s", loose[n], 0, unclear, 3);
-            signed_gives("%s\tfile:a\tversion:3\texpires:2000", loose[n], 0, unclear, 3);
-            signed_gives("file:a\tversion:3\texpires:2000\t%s", loose[n], 0, unclear, 3);
+            check_signed_comment("file:a\tversion:3\t%s", loose[n], 0, unclear, 3);
+            check_signed_comment("%s\tfile:a\tversion:3\texpires:2000", loose[n], 0, unclear, 3);
+            check_signed_comment("file:a\tversion:3\texpires:2000\t%s", loose[n], 0, unclear, 3);
         }
     }
     must_expire = 0;
     for (size_t n = 0; n < LENGTH(sizes); n++) {
-        /* The expiry comes before the size, and the age after it. */
-        signed_gives("file:a\tversion:1\t%s", sizes[n], 0, MINISIGN_BAD_SIZE, 1);
-        signed_gives("file:a\tversion:3\texpires:1000\t%s", sizes[n], 0, MINISIGN_EXPIRED, 3);
+        /* The expiry is checked before the size, and the version after it. */
+        check_signed_comment("file:a\tversion:1\t%s", sizes[n], 0, MINISIGN_BAD_SIZE, 1);
+        check_signed_comment("file:a\tversion:3\texpires:1000\t%s", sizes[n], 0, MINISIGN_EXPIRED, 3);
     }
-    signed_gives("file:a\tsize:5 \tversion:3", "", 0, MINISIGN_BAD_SIZE, 3);
-    signed_gives("file:a\t size:x\tversion:3", "", 0, MINISIGN_OK, 3);
+    check_signed_comment("file:a\tsize:5 \tversion:3", "", 0, MINISIGN_BAD_SIZE, 3);
+    check_signed_comment("file:a\t size:x\tversion:3", "", 0, MINISIGN_OK, 3);
     for (size_t n = 0; n < LENGTH(lengths); n++) {
-        signed_gives("%s\tfile:a\tversion:3", lengths[n], 0, MINISIGN_OK, 3);
+        check_signed_comment("%s\tfile:a\tversion:3", lengths[n], 0, MINISIGN_OK, 3);
     }
 }
 
-/* An installation of version 3 over version 2 at which this is due, of an update whose comment has this field. */
+/* Returns an installation of version 3 over version 2 at which this is due. The trusted comment has this field. */
 static minisign_installation sized(const char *field, uint32_t due)
 {
     static char comment[128];
@@ -490,8 +496,8 @@ static minisign_installation sized(const char *field, uint32_t due)
     return i;
 }
 
-/* What two pieces and their end give where this is due: one of these three calls is rejected, or with 3 none. */
-static void pieces_give(const char *field, uint32_t due, size_t one, size_t two, int rejected)
+/* Passes the sizes of two pieces, and the end. The call with the number `rejected` fails, or with 3 none. */
+static void check_pieces(const char *field, uint32_t due, size_t one, size_t two, int rejected)
 {
     const uint32_t left = due == MINISIGN_DUE_COPY ? MINISIGN_DUE_REMOVE : MINISIGN_DUE_REFUSED;
     const uint32_t next = due == MINISIGN_DUE_COPY ? MINISIGN_DUE_READ_BACK : MINISIGN_DUE_LOCK;
@@ -509,21 +515,21 @@ static void pieces_give(const char *field, uint32_t due, size_t one, size_t two,
     CHECK(rejected == 3 || (minisign_install_due(&i) == MINISIGN_DUE_REFUSED && minisign_install_error(&i) == MINISIGN_OTHER_SIZE));
 }
 
-/* As many bytes come as the comment says, where it does; they are counted anew where the data is copied. */
-static void sizes(void)
+/* The data has to have the signed size, if there is one. The bytes are counted again when the data is copied. */
+static void checks_size_of_data(void)
 {
     minisign_installation i;
 
     for (uint32_t due = MINISIGN_DUE_RECEIVE; due <= MINISIGN_DUE_COPY; due += MINISIGN_DUE_COPY - MINISIGN_DUE_RECEIVE) {
-        pieces_give("size:0", due, 0, 0, 3);
-        pieces_give("size:0", due, 1, 0, 0);
-        pieces_give("size:5", due, 3, 2, 3);
-        pieces_give("size:5", due, 5, 0, 3);
-        pieces_give("size:5", due, 3, 1, 2);
-        pieces_give("size:5", due, 3, 3, 1);
-        pieces_give("size:5", due, 6, 0, 0);
-        pieces_give("size:5", due, 5, SIZE_MAX, 1);
-        pieces_give("size", due, SIZE_MAX, SIZE_MAX, 3);
+        check_pieces("size:0", due, 0, 0, 3);
+        check_pieces("size:0", due, 1, 0, 0);
+        check_pieces("size:5", due, 3, 2, 3);
+        check_pieces("size:5", due, 5, 0, 3);
+        check_pieces("size:5", due, 3, 1, 2);
+        check_pieces("size:5", due, 3, 3, 1);
+        check_pieces("size:5", due, 6, 0, 0);
+        check_pieces("size:5", due, 5, SIZE_MAX, 1);
+        check_pieces("size", due, SIZE_MAX, SIZE_MAX, 3);
     }
     i = sized("size:5", MINISIGN_DUE_RECEIVE);
     CHECK(minisign_install_more(&i, 5) == MINISIGN_OK && minisign_install_done(&i) == MINISIGN_OK);
@@ -534,15 +540,16 @@ static void sizes(void)
     asked_name = "test";
 }
 
-/* A clock that shows less than when the record was written is none: what expires has expired. */
-static void clock_gives(const char *comment, uint64_t when, uint32_t is_first, enum minisign_error rejected, uint64_t number)
+/* Checks a trusted comment over a record with this date. If the clock is behind that date, an update with an expiry
+ * date counts as expired. */
+static void check_clock(const char *comment, uint64_t when, uint32_t is_first, enum minisign_error rejected, uint64_t number)
 {
     written = when;
-    signed_gives("%s", comment, is_first, rejected, number);
+    check_signed_comment("%s", comment, is_first, rejected, number);
     written = 0;
 }
 
-static void clocks(void)
+static void distrusts_clock_behind_record(void)
 {
     static const char expires[] = "file:a\tversion:3\texpires:18446744073709551615";
 
@@ -550,18 +557,19 @@ static void clocks(void)
         const enum minisign_error expired = is_first ? MINISIGN_OK : MINISIGN_EXPIRED;
         const enum minisign_error older = is_first ? MINISIGN_OLDER_UPDATE : MINISIGN_EXPIRED;
 
-        clock_gives(expires, 0, is_first, MINISIGN_OK, 3);
-        clock_gives(expires, NOW, is_first, MINISIGN_OK, 3);
-        clock_gives(expires, NOW + 1, is_first, expired, 3);
-        clock_gives(expires, UINT64_MAX, is_first, expired, 3);
-        clock_gives("file:a\tversion:3", UINT64_MAX, is_first, MINISIGN_OK, 3);
-        clock_gives("file:a\tversion:1", UINT64_MAX, is_first, MINISIGN_OLDER_UPDATE, 1);
-        clock_gives("file:a\tversion:1\texpires:2000", UINT64_MAX, is_first, older, 1);
+        check_clock(expires, 0, is_first, MINISIGN_OK, 3);
+        check_clock(expires, NOW, is_first, MINISIGN_OK, 3);
+        check_clock(expires, NOW + 1, is_first, expired, 3);
+        check_clock(expires, UINT64_MAX, is_first, expired, 3);
+        check_clock("file:a\tversion:3", UINT64_MAX, is_first, MINISIGN_OK, 3);
+        check_clock("file:a\tversion:1", UINT64_MAX, is_first, MINISIGN_OLDER_UPDATE, 1);
+        check_clock("file:a\tversion:1\texpires:2000", UINT64_MAX, is_first, older, 1);
     }
 }
 
-/* At a first installation a record by a key that is neither of those counts as none: whichever number it has. */
-static void key_gives(const char *digits, uint32_t is_first, enum minisign_error rejected)
+/* Checks the error over a record under this key. With is_first a record under neither of the two keys is ignored,
+ * whatever its number. */
+static void check_key_of_record(const char *digits, uint32_t is_first, enum minisign_error rejected)
 {
     const minisign_public_key key = key_of(KEY);
     const minisign_install_options options = { .numbering = MINISIGN_NUMBERING_TIMESTAMP, .is_first = is_first };
@@ -577,21 +585,21 @@ static void key_gives(const char *digits, uint32_t is_first, enum minisign_error
     CHECK(judge(&i, YES, YES) == rejected);
 }
 
-static void keys(void)
+static void compares_key_of_record(void)
 {
     static const char own[] = "79a561e70ee08cd3e754c63e9bd6b9c3520a1d4204cd104da2e7ef763b1853b7";
     static const char second[] = "5a5a5a5a5a5a5a5a5a5a5a5a5a5a5a5a5a5a5a5a5a5a5a5a5a5a5a5a5a5a5a5a";
     static const char third[] = "5b5a5a5a5a5a5a5a5a5a5a5a5a5a5a5a5a5a5a5a5a5a5a5a5a5a5a5a5a5a5a5a";
 
     for (uint32_t is_first = 0; is_first < 2; is_first++) {
-        key_gives(own, is_first, MINISIGN_OLDER_UPDATE);
-        key_gives(second, is_first, MINISIGN_OLDER_UPDATE);
-        key_gives(third, is_first, is_first ? MINISIGN_OK : MINISIGN_OLDER_UPDATE);
+        check_key_of_record(own, is_first, MINISIGN_OLDER_UPDATE);
+        check_key_of_record(second, is_first, MINISIGN_OLDER_UPDATE);
+        check_key_of_record(third, is_first, is_first ? MINISIGN_OK : MINISIGN_OLDER_UPDATE);
     }
 }
 
-/* What is asked, and of which key; and what is used wrongly changes nothing. */
-static void asked(void)
+/* The questions and their key. API misuse changes nothing. */
+static void asks_for_selected_key(void)
 {
     static const uint32_t judging[] = { MINISIGN_DUE_JUDGE, MINISIGN_DUE_JUDGE_TARGET, MINISIGN_DUE_ANSWER };
     static const minisign_install_options options;
@@ -612,7 +620,7 @@ static void asked(void)
         CHECK(minisign_install_answer(&i, (enum minisign_answer) 1, YES) == MINISIGN_BAD_ANSWER && same(&i, &before));
         CHECK(minisign_install_answer(&i, YES, (enum minisign_answer) 0) == MINISIGN_BAD_ANSWER && same(&i, &before));
     }
-    /* Either of two keys may have signed, by its key ID. */
+    /* Either of two keys may have signed. The key ID selects it. */
     other.key_id[0] ^= 1;
     other.key[0] ^= 1;
     for (int n = 0; n < 4; n++) {
@@ -623,48 +631,49 @@ static void asked(void)
     }
 }
 
-/* What is due where the number is the kept one: whether the record is of this update, and what stands at the target. */
-static void kept_gives(const char *kept, uint32_t again, uint32_t is_check, uint32_t is_waiting, enum minisign_answer own,
-                       enum minisign_answer there, uint32_t due, enum minisign_error rejected)
+/* Checks what is due and the error for an update of the recorded version, with the answers about the record's digest
+ * (`own`) and about the installed file (`installed`). */
+static void check_recorded(const char *record_text, uint32_t again, uint32_t is_check, uint32_t is_waiting, enum minisign_answer own,
+                           enum minisign_answer installed, uint32_t due, enum minisign_error rejected)
 {
     minisign_installation i;
 
     CHECK(begin(&i, 0, again, is_check, is_waiting, MINISIGN_NUMBERING_TIMESTAMP) == MINISIGN_OK);
-    go_to(&i, MINISIGN_DUE_JUDGE, kept);
+    go_to(&i, MINISIGN_DUE_JUDGE, record_text);
     CHECK(ask(&i) == MINISIGN_OK);
-    CHECK(strlen(kept) > 64 ? is_hex(questions.digest, HEX_OF_ABC) : is_zeros(questions.digest, sizeof questions.digest));
+    CHECK(strlen(record_text) > 64 ? is_hex(questions.digest, HEX_OF_ABC) : is_zeros(questions.digest, sizeof questions.digest));
     CHECK(minisign_install_answer(&i, own, YES) == MINISIGN_OK && minisign_install_due(&i) == MINISIGN_DUE_LOOK);
     CHECK(pieces(&i) == MINISIGN_OK && ask(&i) == MINISIGN_OK);
     CHECK(is_hex(questions.digest, HEX_OF_ABC));
     CHECK(minisign_install_is_vouched(&i) == 0);
-    CHECK(minisign_install_answer(&i, there, YES) == rejected);
+    CHECK(minisign_install_answer(&i, installed, YES) == rejected);
     CHECK(minisign_install_is_vouched(&i) == 1 && minisign_install_number(&i) == NUMBER);
     CHECK(minisign_install_due(&i) == due && minisign_install_error(&i) == rejected);
 }
 
-static void kept(void)
+static void judges_recorded_version(void)
 {
     for (uint32_t waits = 0; waits < 2; waits++) {
-        const uint32_t on = waits ? MINISIGN_DUE_UNLOCK : MINISIGN_DUE_CLEAR;
+        const uint32_t next = waits ? MINISIGN_DUE_UNLOCK : MINISIGN_DUE_CLEAR;
 
         for (uint32_t again = 0; again < 2; again++) {
-            kept_gives(OWN_RECORD, again, 0, waits, YES, YES, MINISIGN_DUE_SYNC_TARGET, MINISIGN_OK);
-            kept_gives(OWN_NUMBER, again, 0, waits, NO, YES, MINISIGN_DUE_SYNC_TARGET, MINISIGN_OK);
-            kept_gives(OWN_RECORD, again, 1, waits, YES, YES, MINISIGN_DUE_ALREADY, MINISIGN_OK);
-            kept_gives(OWN_RECORD, again, 0, waits, YES, NO, on, MINISIGN_OK);
-            kept_gives(OWN_RECORD, again, 1, waits, YES, NO, MINISIGN_DUE_WOULD_INSTALL, MINISIGN_OK);
+            check_recorded(OWN_RECORD, again, 0, waits, YES, YES, MINISIGN_DUE_SYNC_TARGET, MINISIGN_OK);
+            check_recorded(OWN_NUMBER, again, 0, waits, NO, YES, MINISIGN_DUE_SYNC_TARGET, MINISIGN_OK);
+            check_recorded(OWN_RECORD, again, 1, waits, YES, YES, MINISIGN_DUE_ALREADY, MINISIGN_OK);
+            check_recorded(OWN_RECORD, again, 0, waits, YES, NO, next, MINISIGN_OK);
+            check_recorded(OWN_RECORD, again, 1, waits, YES, NO, MINISIGN_DUE_WOULD_INSTALL, MINISIGN_OK);
         }
-        kept_gives(OWN_RECORD, 1, 0, waits, NO, NO, on, MINISIGN_OK);
-        kept_gives(OWN_RECORD, 0, 0, waits, NO, NO, MINISIGN_DUE_REFUSED, MINISIGN_SAME_NUMBER);
-        kept_gives(OWN_RECORD, 0, 1, waits, NO, NO, MINISIGN_DUE_REFUSED, MINISIGN_SAME_NUMBER);
-        /* A record that says nothing of the data is of none, whatever is answered. */
-        kept_gives(OWN_NUMBER, 0, 0, waits, YES, NO, MINISIGN_DUE_REFUSED, MINISIGN_SAME_NUMBER);
-        kept_gives("1556193335", 0, 1, waits, YES, NO, MINISIGN_DUE_REFUSED, MINISIGN_SAME_NUMBER);
+        check_recorded(OWN_RECORD, 1, 0, waits, NO, NO, next, MINISIGN_OK);
+        check_recorded(OWN_RECORD, 0, 0, waits, NO, NO, MINISIGN_DUE_REFUSED, MINISIGN_SAME_NUMBER);
+        check_recorded(OWN_RECORD, 0, 1, waits, NO, NO, MINISIGN_DUE_REFUSED, MINISIGN_SAME_NUMBER);
+        /* A record without a digest does not match any data, whatever the answer. */
+        check_recorded(OWN_NUMBER, 0, 0, waits, YES, NO, MINISIGN_DUE_REFUSED, MINISIGN_SAME_NUMBER);
+        check_recorded("1556193335", 0, 1, waits, YES, NO, MINISIGN_DUE_REFUSED, MINISIGN_SAME_NUMBER);
     }
 }
 
-/* Data that may stand still is received while the target is not locked, and all is judged again then. */
-static void received(void)
+/* Data from a pipe is received while the target is not locked. Then everything is checked again. */
+static void receives_without_lock(void)
 {
     minisign_installation i;
 
@@ -681,67 +690,68 @@ static void received(void)
     CHECK(minisign_install_no_target(&i) == MINISIGN_OK && minisign_install_due(&i) == MINISIGN_DUE_CLEAR);
 }
 
-static void comment_gives(const char *comment, const char *file, uint32_t numbering, uint64_t kept,
-                          enum minisign_error error, uint64_t wanted)
+/* Checks the result of minisign_judge_comment. */
+static void check_judged_comment(const char *comment, const char *file, uint32_t numbering, uint64_t recorded,
+                          enum minisign_error error, uint64_t expected)
 {
     uint64_t number = 77;
 
     CHECK(minisign_judge_comment(bytes_of(comment), strlen(comment), bytes_of(file), strlen(file), numbering,
-                                 NOW, kept, &number)
+                                 NOW, recorded, &number)
           == error);
-    CHECK(number == (error == MINISIGN_OK ? wanted : 77));
+    CHECK(number == (error == MINISIGN_OK ? expected : 77));
 }
 
-static void comments(void)
+static void judges_plain_comments(void)
 {
     const uint32_t by_time = MINISIGN_NUMBERING_TIMESTAMP, by_version = MINISIGN_NUMBERING_VERSION;
 
-    comment_gives(COMMENT, "test", by_time, 0, MINISIGN_OK, 1556193335);
-    comment_gives(COMMENT, "test", by_time, 1556193335, MINISIGN_OK, 1556193335);
-    comment_gives(COMMENT, "test", by_time, 1556193336, MINISIGN_OLDER_UPDATE, 0);
-    comment_gives(COMMENT, "test", by_version, 0, MINISIGN_NO_NUMBER, 0);
-    comment_gives(COMMENT, "Test", by_time, 0, MINISIGN_OTHER_FILE, 0);
-    comment_gives("version:18446744073709551615\tfile:a b", "a b", by_version, UINT64_MAX, MINISIGN_OK, UINT64_MAX);
-    comment_gives("version:18446744073709551616\tfile:a", "a", by_version, 0, MINISIGN_NO_NUMBER, 0);
-    comment_gives("file:a\tversion:1\tversion:2\tfile:b", "a", by_version, 0, MINISIGN_OK, 1);
-    comment_gives("file:a\tversion:1\tversion:2\tfile:b", "b", by_version, 0, MINISIGN_OTHER_FILE, 0);
-    comment_gives("file:a\tversion:x\tversion:2", "a", by_version, 0, MINISIGN_NO_NUMBER, 0);
-    comment_gives("file:a\tversion:", "a", by_version, 0, MINISIGN_NO_NUMBER, 0);
-    comment_gives("file:a\tversion:+5", "a", by_version, 0, MINISIGN_NO_NUMBER, 0);
-    comment_gives("timestamp:+5\tfile:a", "a", by_time, 0, MINISIGN_NO_NUMBER, 0);
-    comment_gives("timestamp:-5\tfile:a", "a", by_time, 0, MINISIGN_NO_NUMBER, 0);
-    comment_gives("timestamp:+\tfile:a", "a", by_time, 0, MINISIGN_NO_NUMBER, 0);
-    comment_gives("timestamp:005\tfile:a", "a", by_time, 0, MINISIGN_OK, 5);
-    comment_gives("file:a version:1", "a", by_version, 0, MINISIGN_OTHER_FILE, 0);
-    comment_gives("", "", by_version, 0, MINISIGN_OTHER_FILE, 0);
-    comment_gives("file:\tversion:0", "", by_version, 0, MINISIGN_OK, 0);
-    comment_gives(COMMENT, "test", 2, 0, MINISIGN_BAD_NUMBERING, 0);
-    comment_gives("\xff", "test", by_time, 0, MINISIGN_NOT_UTF8, 0);
-    comment_gives(COMMENT, "\xff", by_time, 0, MINISIGN_NOT_UTF8, 0);
+    check_judged_comment(COMMENT, "test", by_time, 0, MINISIGN_OK, 1556193335);
+    check_judged_comment(COMMENT, "test", by_time, 1556193335, MINISIGN_OK, 1556193335);
+    check_judged_comment(COMMENT, "test", by_time, 1556193336, MINISIGN_OLDER_UPDATE, 0);
+    check_judged_comment(COMMENT, "test", by_version, 0, MINISIGN_NO_NUMBER, 0);
+    check_judged_comment(COMMENT, "Test", by_time, 0, MINISIGN_OTHER_FILE, 0);
+    check_judged_comment("version:18446744073709551615\tfile:a b", "a b", by_version, UINT64_MAX, MINISIGN_OK, UINT64_MAX);
+    check_judged_comment("version:18446744073709551616\tfile:a", "a", by_version, 0, MINISIGN_NO_NUMBER, 0);
+    check_judged_comment("file:a\tversion:1\tversion:2\tfile:b", "a", by_version, 0, MINISIGN_OK, 1);
+    check_judged_comment("file:a\tversion:1\tversion:2\tfile:b", "b", by_version, 0, MINISIGN_OTHER_FILE, 0);
+    check_judged_comment("file:a\tversion:x\tversion:2", "a", by_version, 0, MINISIGN_NO_NUMBER, 0);
+    check_judged_comment("file:a\tversion:", "a", by_version, 0, MINISIGN_NO_NUMBER, 0);
+    check_judged_comment("file:a\tversion:+5", "a", by_version, 0, MINISIGN_NO_NUMBER, 0);
+    check_judged_comment("timestamp:+5\tfile:a", "a", by_time, 0, MINISIGN_NO_NUMBER, 0);
+    check_judged_comment("timestamp:-5\tfile:a", "a", by_time, 0, MINISIGN_NO_NUMBER, 0);
+    check_judged_comment("timestamp:+\tfile:a", "a", by_time, 0, MINISIGN_NO_NUMBER, 0);
+    check_judged_comment("timestamp:005\tfile:a", "a", by_time, 0, MINISIGN_OK, 5);
+    check_judged_comment("file:a version:1", "a", by_version, 0, MINISIGN_OTHER_FILE, 0);
+    check_judged_comment("", "", by_version, 0, MINISIGN_OTHER_FILE, 0);
+    check_judged_comment("file:\tversion:0", "", by_version, 0, MINISIGN_OK, 0);
+    check_judged_comment(COMMENT, "test", 2, 0, MINISIGN_BAD_NUMBERING, 0);
+    check_judged_comment("\xff", "test", by_time, 0, MINISIGN_NOT_UTF8, 0);
+    check_judged_comment(COMMENT, "\xff", by_time, 0, MINISIGN_NOT_UTF8, 0);
 
-    /* It expires at a moment that is to come, or has done so; and what does not say when is rejected. */
-    comment_gives("file:a\tversion:1\texpires:1001", "a", by_version, 0, MINISIGN_OK, 1);
-    comment_gives("expires:18446744073709551615\tfile:a\tversion:1", "a", by_version, 0, MINISIGN_OK, 1);
-    comment_gives("file:a\tversion:1\texpires:1000", "a", by_version, 0, MINISIGN_EXPIRED, 0);
-    comment_gives("file:a\tversion:1\texpires:0", "a", by_version, 0, MINISIGN_EXPIRED, 0);
-    comment_gives("file:a\tversion:1\texpires:18446744073709551616", "a", by_version, 0, MINISIGN_BAD_EXPIRY, 0);
-    comment_gives("file:a\tversion:1\texpires:", "a", by_version, 0, MINISIGN_BAD_EXPIRY, 0);
-    comment_gives("file:a\tversion:1\texpires:+2000", "a", by_version, 0, MINISIGN_BAD_EXPIRY, 0);
-    comment_gives("file:a\tversion:1\texpires:2000 ", "a", by_version, 0, MINISIGN_BAD_EXPIRY, 0);
-    comment_gives("file:a\tversion:1\texpires:2000\texpires:2000", "a", by_version, 0, MINISIGN_BAD_EXPIRY, 0);
-    comment_gives("expires:1\tfile:a\tversion:1\texpires:2000", "a", by_version, 0, MINISIGN_BAD_EXPIRY, 0);
-    comment_gives("expires:2000\texpires:x\tfile:a\tversion:1", "a", by_version, 0, MINISIGN_BAD_EXPIRY, 0);
-    comment_gives("file:a\tversion:1\texpire:1\tEXPIRES:1\t expires:1", "a", by_version, 0, MINISIGN_OK, 1);
-    comment_gives("file:a\tversion:1\tsize:x\tsize:5", "a", by_version, 0, MINISIGN_OK, 1);
-    /* The name and the number come first, and the age last. */
-    comment_gives("file:a\tversion:1\texpires:1", "b", by_version, 0, MINISIGN_OTHER_FILE, 0);
-    comment_gives("file:a\tversion:x\texpires:1", "a", by_version, 0, MINISIGN_NO_NUMBER, 0);
-    comment_gives("file:a\tversion:1\texpires:1", "a", by_version, 2, MINISIGN_EXPIRED, 0);
-    comment_gives("file:a\tversion:1\texpires:2000", "a", by_version, 2, MINISIGN_OLDER_UPDATE, 0);
+    /* The update expires later, or has expired, or its expiry date is invalid. */
+    check_judged_comment("file:a\tversion:1\texpires:1001", "a", by_version, 0, MINISIGN_OK, 1);
+    check_judged_comment("expires:18446744073709551615\tfile:a\tversion:1", "a", by_version, 0, MINISIGN_OK, 1);
+    check_judged_comment("file:a\tversion:1\texpires:1000", "a", by_version, 0, MINISIGN_EXPIRED, 0);
+    check_judged_comment("file:a\tversion:1\texpires:0", "a", by_version, 0, MINISIGN_EXPIRED, 0);
+    check_judged_comment("file:a\tversion:1\texpires:18446744073709551616", "a", by_version, 0, MINISIGN_BAD_EXPIRY, 0);
+    check_judged_comment("file:a\tversion:1\texpires:", "a", by_version, 0, MINISIGN_BAD_EXPIRY, 0);
+    check_judged_comment("file:a\tversion:1\texpires:+2000", "a", by_version, 0, MINISIGN_BAD_EXPIRY, 0);
+    check_judged_comment("file:a\tversion:1\texpires:2000 ", "a", by_version, 0, MINISIGN_BAD_EXPIRY, 0);
+    check_judged_comment("file:a\tversion:1\texpires:2000\texpires:2000", "a", by_version, 0, MINISIGN_BAD_EXPIRY, 0);
+    check_judged_comment("expires:1\tfile:a\tversion:1\texpires:2000", "a", by_version, 0, MINISIGN_BAD_EXPIRY, 0);
+    check_judged_comment("expires:2000\texpires:x\tfile:a\tversion:1", "a", by_version, 0, MINISIGN_BAD_EXPIRY, 0);
+    check_judged_comment("file:a\tversion:1\texpire:1\tEXPIRES:1\t expires:1", "a", by_version, 0, MINISIGN_OK, 1);
+    check_judged_comment("file:a\tversion:1\tsize:x\tsize:5", "a", by_version, 0, MINISIGN_OK, 1);
+    /* File name and version number are checked first, and an older version last. */
+    check_judged_comment("file:a\tversion:1\texpires:1", "b", by_version, 0, MINISIGN_OTHER_FILE, 0);
+    check_judged_comment("file:a\tversion:x\texpires:1", "a", by_version, 0, MINISIGN_NO_NUMBER, 0);
+    check_judged_comment("file:a\tversion:1\texpires:1", "a", by_version, 2, MINISIGN_EXPIRED, 0);
+    check_judged_comment("file:a\tversion:1\texpires:2000", "a", by_version, 2, MINISIGN_OLDER_UPDATE, 0);
 }
 
-/* NULL where there are no bytes. */
-static void nulls(void)
+/* NULL for no bytes. */
+static void takes_null_for_no_bytes(void)
 {
     minisign_installation i = at(MINISIGN_DUE_READ_RECORD);
     uint64_t number;
@@ -758,20 +768,20 @@ static void nulls(void)
 
 int main(void)
 {
-    order();
-    failures();
-    beginnings();
-    records();
-    answers();
-    fields();
-    sizes();
-    clocks();
-    keys();
-    asked();
-    kept();
-    received();
-    comments();
-    nulls();
+    makes_each_call_at_each_action();
+    keeps_first_failure();
+    rejects_bad_beginnings();
+    reads_records();
+    judges_comments_and_data();
+    reads_expiry_and_size();
+    checks_size_of_data();
+    distrusts_clock_behind_record();
+    compares_key_of_record();
+    asks_for_selected_key();
+    judges_recorded_version();
+    receives_without_lock();
+    judges_plain_comments();
+    takes_null_for_no_bytes();
     CHECK(requests == 0 && held == 0);
     return ended();
 }

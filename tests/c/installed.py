@@ -1,11 +1,12 @@
 #!/usr/bin/env python3
-"""Installs the library of `c/` into a directory of its own, and uses only what was installed: from C, linked as a
-static and as a shared library, from C++ and from Rust (`tests/bindings/python.py` calls it from Python). The examples
-of the header verify and sign good and bad input. A release installs the same (`releases.py`).
+"""Checks that an installed library of `c/` works from C, C++ and Rust, and that the examples of the headers verify and
+sign good and bad input.
 
     tests/c/installed.py
 
-It prints a line for each failure; the last line is `N passed, M failed`.
+It installs into an empty directory and uses only what was installed: linked statically and dynamically from C, and from
+C++ and Rust (tests/bindings/python.py loads it into Python). releases.py checks that a release installs the same. It
+prints a line for each failure; the last line is `N passed, M failed`.
 
 Needs make, binutils, pkg-config, groff, clang, a C and a C++ compiler, rustc, libsodium with its header, minisign and
 ssh-agent, and installs what is missing if it may.
@@ -36,49 +37,50 @@ EXAMPLES = os.path.join(static_library.DIRECTORY, "examples")
 README = os.path.join(HERE, "..", "..", "README.md")
 STRICT = ["-Wall", "-Wextra", "-Wpedantic", "-Werror"]
 
-# What is installed beside the shared library, whose name has its version.
+# The installed files, except the shared library, whose name has its version.
 FILES = ["bin/minisign", "bin/minisign-install", "include/minisign.h", "include/minisign_install.h", "include/minisign_stream.h",
          "lib/libminisign.a", "lib/libminisign.so", "lib/pkgconfig/minisign.pc", "share/man/man1/minisign.1",
          "share/man/man1/minisign-install.1", "share/man/man3/minisign.3", "share/man/man3/minisign_install.3"]
-# A result that is dropped.
+# C that drops a result.
 DROPPED = b"#include <minisign.h>\nint main(void) { minisign_state s; minisign_init(&s); minisign_update(&s, 0, 0); return 0; }\n"
 COMMENT = "version 2 \u00e9"
 
 
 def installed_files(checks, root):
-    """What was installed, and the names in it."""
+    """Checks which files are installed, and which names the libraries define."""
     found = {os.path.relpath(os.path.join(at, name), root) for at, _, names in os.walk(root) for name in names}
     versions = [name for name in found if re.fullmatch(r"lib/libminisign\.so\.\d+\.\d+(?:\.\d+)?", name)]
     pages = {page: {call.name for call in c_header.parsed(read(root, "include", f"{page}.h").decode()).calls}
              for page in ("minisign", "minisign_install")}
     names = set().union(*pages.values())
     links = {f"share/man/man3/{name}.3": page for page, calls in pages.items() for name in calls}
-    checks.check(len(versions) == 2 and found == {*FILES, *versions, *links}, f"other files were installed: {sorted(found)}")
+    checks.check(len(versions) == 2 and found == {*FILES, *versions, *links},
+                 f"installed files that differ: {sorted(found ^ {*FILES, *versions, *links})}")
     is_led = all(read(root, link) == f".so man3/{page}.3\n".encode() for link, page in links.items())
-    checks.check(is_led, "a page of a call leads elsewhere")
-    checks.check(all(len(calls) >= 9 for calls in pages.values()), f"a header has only these names: {pages}")
+    checks.check(is_led, "a manual page of a call leads to another page")
+    checks.check(all(len(calls) >= 9 for calls in pages.values()), f"a header has only these calls: {pages}")
     for name, flags in (("libminisign.so", ["-D"]), ("libminisign.a", [])):
         _, said = run([needs.program("nm", "binutils"), "-g", "--defined-only", *flags, f"{root}/lib/{name}"])
         defined = {*re.findall(r"(?m)^[0-9a-f]+ [A-Z] (?:.* )?(\S+)$", said)}
-        checks.check(defined == names, f"{name} defines {sorted(defined ^ names)}, of which the header or the library has nothing")
+        checks.check(defined == names, f"names that only {name} or only the headers have: {sorted(defined ^ names)}")
     _, said = run([needs.program("readelf", "binutils"), "-d", f"{root}/lib/libminisign.so"])
-    # (before 1.0 a program that was built for another revision does not start)
+    # (before 1.0 a program built for another minor version must not start)
     soname = re.search(r"\(SONAME\).*\[(libminisign\.so\.0\.\d+)\]", said)
-    checks.check(soname and f"lib/{soname[1]}" in found, f"the soname is not one of a file: {said}")
-    checks.check("TEXTREL" not in said, "the shared library has to be changed where it is loaded")
+    checks.check(soname and f"lib/{soname[1]}" in found, f"no file has the soname: {said}")
+    checks.check("TEXTREL" not in said, "the shared library has text relocations")
     for page in (name for name in FILES if "/man/" in name):
         status, _, said = run_apart([needs.program("groff", "groff"), "-man", "-ww", "-Tutf8", f"{root}/{page}"])
         checks.check(status == 0 and not said, f"{page}: {said}")
 
 
-def flags_of(root, room, *wanted):
-    """What pkg-config tells of what was installed."""
+def flags_of(root, room, *options):
+    """Returns pkg-config's flags for the installed library."""
     environment = {"PKG_CONFIG_PATH": f"{root}/lib/pkgconfig", "PKG_CONFIG_SYSROOT_DIR": f"{room}/dest"}
-    return shlex.split(static_library.hold([needs.program("pkg-config", "pkg-config"), *wanted, "minisign"], **environment))
+    return shlex.split(static_library.hold([needs.program("pkg-config", "pkg-config"), *options, "minisign"], **environment))
 
 
 class Installed:
-    """What was installed below a directory, how programs are built over it in another one, and Minisign's own program."""
+    """An installed library, programs that are built with it in another directory, and Minisign's own program."""
 
     def __init__(self, checks, root, room):
         self.checks, self.root, self.room, self.minisign = checks, root, room, needs.minisign()
@@ -98,7 +100,7 @@ class Installed:
             "stream": [self.c, "-std=c99", *self.flags, f"{HERE}/stream.c", *self.linking]}.items()}
 
     def build(self, name, command):
-        """The words that run a program, which is built."""
+        """Builds a program, and returns the words that run it."""
         program = os.path.join(self.room, name.replace(" ", "-"))
         self.checks.ended(f"{name} is built", run([*command, "-o", program]))
         return [program]
@@ -110,21 +112,21 @@ class Installed:
         return os.path.join(self.room, name)
 
     def by_minisign(self, *words, typed=b""):
-        """Runs Minisign's own program, which has to do it: what it says."""
+        """Runs Minisign's own program, which has to succeed. Returns its output."""
         return self.checks.ended(f"minisign {' '.join(words)}", run([self.minisign, *words], self.room, typed))
 
 
-def check_dropped(checks, over):
-    """A result that is dropped is a warning."""
+def check_dropped_results(checks, over):
+    """Compilers warn if a result is dropped."""
     source = write(over.room, "dropped", DROPPED)
     for command in ([over.c, "-std=c11", "-x", "c"], [over.cpp, "-std=c++17", "-x", "c++"]):
         status, said = run([*command, *over.flags, "-c", source, "-o", os.devnull])
-        checks.check(status != 0 and "minisign_update" in said, f"{command}: a result that is dropped is no warning")
+        checks.check(status != 0 and "minisign_update" in said, f"{command}: no warning of a dropped result")
 
 
 def verifying_cases(over):
-    """A key, data and a signature, and the trusted comment where these vouch for the data, else None: of the good ones one is another,
-    or is not there."""
+    """Yields cases: a key, data, a signature, and the trusted comment if the signature is valid, otherwise None. In a
+    bad case one of the three files is wrong or missing."""
     for name in ("key", "other"):
         over.by_minisign("-G", "-W", "-p", f"{name}.pub", "-s", f"{name}.key")
     write(over.room, "data", b"some data\n" * 20000)
@@ -134,7 +136,7 @@ def verifying_cases(over):
         over.by_minisign("-S", "-s", "key.key", "-m", *words)
     good = key, data, sig = [read(over.room, name) for name in ("key.pub", "data", "sig")]
     second, fourth = (sig.index(sig.split(b"\n")[number]) for number in (1, 3))
-    in_sig = {"first signature": second + 40, "second signature": fourth + 40, "identifier": second + 5,
+    in_sig = {"first signature": second + 40, "second signature": fourth + 40, "key ID": second + 5,
               "trusted comment": sig.index(COMMENT.encode())}
     yield "good", *good, COMMENT
     yield "no data", key, b"", read(over.room, "empty.sig"), "t"
@@ -158,16 +160,16 @@ def check_verifiers(checks, over):
 
 
 def check_signing(checks, over, program, cases):
-    """Signs, and has Minisign's own program verify what was signed; what is rejected leaves no signature. A case has the key, the data,
-    the comment and maybe the password, and what is said where no text is made."""
+    """Signs, and verifies the signature with Minisign's own program. A rejected case leaves no signature. A case has
+    the key, the data, the comment, maybe the password, and the error if there is one."""
     made = over.path("made")
     for what, (secret, data, comment, *password), rejected in cases:
         if os.path.exists(made):
             os.remove(made)
         status, _, why = run_apart([*program, secret, data, made, comment, *password])
         if rejected:
-            is_said = why in (f"sign: {rejected}\n", f"stream: {rejected}\n")
-            checks.check(status == 1 and is_said, f"{program}, {what}: status {status}, {why!r}")
+            has_error = why in (f"sign: {rejected}\n", f"stream: {rejected}\n")
+            checks.check(status == 1 and has_error, f"{program}, {what}: status {status}, {why!r}, expected {rejected}")
             checks.check(not os.path.exists(made), f"{program}, {what}: a signature was written")
         else:
             checks.check(status == 0 and not why, f"{program}, {what}: status {status}, {why!r}")
@@ -177,36 +179,36 @@ def check_signing(checks, over, program, cases):
 
 
 def check_signers(checks, over):
-    """Signs with the example and with the calls of minisign_stream.h, which take no password here."""
+    """Signs with the example, and with the calls of minisign_stream.h, here without a password."""
     key, pub, data, nothing = map(over.path, ("key.key", "key.pub", "data", "nothing"))
     record, by_minisign = record_of(read(key)), over.path("sealed.key")
     over.by_minisign("-G", "-p", "sealed.pub", "-s", "sealed.key", typed=b"pw\npw\n")
     good, wrong, endless = (write(over.room, name, text) for name, text in (("pw", b"pw\n"), ("wrong", b"pv\n"), ("endless", b"pw")))
-    # (Minisign cuts a longer password than of 1,023 bytes)
+    # (Minisign truncates passwords to 1,023 bytes)
     of_long = write(over.room, "long.key", text_of(sealed(record, b"p" * 1024, Limits())))
     long, shorter = (write(over.room, f"{count}.password", b"p" * count + b"\n") for count in (1024, 1023))
-    # (of each half a byte, and the last one; Minisign leaves the checksum of such a key at zeros)
+    # (a byte of each half, and the last byte; Minisign leaves the checksum of such a key zero)
     halves = [write(over.room, f"half{number}.key", text_of(turned(record, at)))
               for number, at in enumerate((SEED_AT + 32, SEED_AT, SEED_AT + 63))]
     two_lines = "a comment contains a line break, or the trusted comment begins or ends with white space"
     not_taken = "a comment is too long for Minisign, or contains a zero byte or a carriage return"
     of_halves, unread = "the key does not sign: its halves do not belong together", "a file cannot be opened"
     cases = [
-        ("a key that was never sealed", (key, data, COMMENT), None),
+        ("an unencrypted key", (key, data, COMMENT), None),
         ("no comment", (key, data, ""), None),
-        ("a sealed key", (by_minisign, data, COMMENT, good), None),
-        ("a sealed key without a password", (by_minisign, data, COMMENT), "Key might be encrypted"),
+        ("an encrypted key", (by_minisign, data, COMMENT, good), None),
+        ("an encrypted key without a password", (by_minisign, data, COMMENT), "Key might be encrypted"),
         ("a wrong password", (by_minisign, data, COMMENT, wrong), "Wrong password for that key"),
         ("a password of 1,024 bytes", (of_long, data, COMMENT, long), None),
         ("its first 1,023 bytes", (of_long, data, COMMENT, shorter), "Wrong password for that key"),
-        ("a password without an end", (by_minisign, data, COMMENT, endless), "the password cannot be read"),
-        ("a password for a key without one", (key, data, COMMENT, good), "Key is not encrypted"),
+        ("a password without a line end", (by_minisign, data, COMMENT, endless), "the password cannot be read"),
+        ("a password for an unencrypted key", (key, data, COMMENT, good), "Key is not encrypted"),
         ("a public key", (pub, data, COMMENT), "failed to fill whole buffer"),
         ("a comment of two lines", (key, data, "a\nb"), two_lines),
         ("a carriage return", (key, data, "a\rb"), not_taken),
         ("too long a comment", (key, data, "a" * 8174), not_taken),
         ("the longest comment", (key, data, "a" * 8173), None),
-        *((f"{half}, of which a half was changed", (half, data, COMMENT), of_halves) for half in halves),
+        *((f"{half} with one changed half", (half, data, COMMENT), of_halves) for half in halves),
         ("no data", (key, nothing, COMMENT), unread),
         ("no key", (nothing, data, COMMENT), unread)]
     by_stream = {of_halves: "Signature verification failed", unread: "a file cannot be read"}
@@ -218,17 +220,17 @@ def check_signers(checks, over):
         checks.same(run([*example, key, data, made, COMMENT]), (1, f"sign: {rejected}\n"), f"signing to {made}")
 
 
-def with_another_letter(text, at):
-    """Base64 in which one letter is another one."""
+def with_changed_character(text, at):
+    """Returns base64 with one changed character."""
     return text[:at] + (b"B" if text[at:at + 1] == b"A" else b"A") + text[at + 1:]
 
 
 def outcomes(over, program):
-    """The results of the stream calls on valid and invalid input."""
+    """Yields the results of the stream calls on valid and invalid input."""
     paths = [os.path.join(CORPUS, name) for name in ("published.pub", "test", "published.minisig")]
     key, data, sig, made = *map(over.path, ("key.pub", "data", "sig")), over.path("made-by-a-mutant")
     text = read(sig)
-    wrong = [write(over.room, f"{at}.sig", with_another_letter(text, text.index(text.split(b"\n")[number]) + at))
+    wrong = [write(over.room, f"{at}.sig", with_changed_character(text, text.index(text.split(b"\n")[number]) + at))
              for number, at in ((1, 41), (3, 42))]
     yield run([*program, "misuse", *paths])
     for path in wrong:
@@ -239,15 +241,15 @@ def outcomes(over, program):
 
 def check_mutants(checks, over):
     """Each mutant of minisign_stream.h changes the result of a call."""
-    wanted = [*outcomes(over, over.verifiers["stream"])]
+    unchanged = [*outcomes(over, over.verifiers["stream"])]
     for mutant in mutants.mutants_of("c", "stream_mutants"):
         copy = mutants.copy_sources(over.room, "include")
         mutants.apply(mutant, copy)
         program = over.build(f"program {mutant.name}", [over.c, "-std=c99", "-I", f"{copy}/include", f"{HERE}/stream.c", *over.linking])
-        checks.check([*outcomes(over, program)] != wanted, f"nothing noticed the mutant {mutant.name}")
+        checks.check([*outcomes(over, program)] != unchanged, f"nothing noticed the mutant {mutant.name}")
 
 
-# What follows the function of README.md to make it a program: readme DATA SIGNATURE.
+# The rest of a program with the function of README.md: readme DATA SIGNATURE.
 CALLING_README = """
 int main(int argc, char **argv)
 {
@@ -269,16 +271,16 @@ def check_readme(checks, over):
 
 
 def check_updater(checks, over):
-    """Runs the updater's check with the published key, and with a key that signed an empty file: a file that cannot be read
-    does not pass for an empty one."""
+    """Runs the example of an updater with the published key, and with a key that signed an empty file. A file that
+    cannot be read is not taken for an empty one."""
     good, signature = (os.path.join(CORPUS, name) for name in ("test", "published.minisig"))
-    other, long = write(over.room, "other-test", turned(read(good), 0)), write(over.room, "long", bytes(1 << 24))
+    changed, long = write(over.room, "other-test", turned(read(good), 0)), write(over.room, "long", bytes(1 << 24))
     missing, empty, empty_signature = map(over.path, ("nothing", "empty", "empty.sig"))
     source = f"{EXAMPLES}/check.c"
     own = re.sub(rb'KEY\[\] = "[^"]*"', b'KEY[] = "%s"' % read(over.room, "key.pub").split()[-1], read(source))
     published, under = over.build_c("check", source), over.build_c("check-under", write(over.room, "check-under.c", own))
     for what, check, words, status in (
-            ("good", published, (good, signature), 0), ("other data", published, (other, signature), 1),
+            ("good", published, (good, signature), 0), ("other data", published, (changed, signature), 1),
             ("no signature", published, (good, good), 1), ("no data", published, (missing, signature), 2),
             ("no signature file", published, (good, missing), 2), ("too long a signature file", published, (good, long), 2),
             ("an empty file", under, (empty, empty_signature), 0), ("other data than none", under, (good, empty_signature), 1),
@@ -291,7 +293,7 @@ def check_updater(checks, over):
     checks.same(run([*over.verifiers["stream"], "misuse", *published_paths]), (0, ""), "misuse of the stream calls")
 
 
-# An agent that answers each request of a signature by these bytes.
+# An agent that answers each request with these bytes.
 FALSE_AGENT = """
 import socket, sys
 server = socket.socket(socket.AF_UNIX)
@@ -307,14 +309,14 @@ while True:
 
 
 def public_key_of_ssh(line):
-    """The minisign public key file for the key in a line of an ssh public key file."""
+    """Returns a minisign public key file for the key of an ssh public key file."""
     key = base64.b64decode(line.split()[1])[-32:]
     return b"untrusted comment: an ssh key\n" + base64.b64encode(b"Ed" + b"\1\2\3\4\5\6\7\10" + key) + b"\n"
 
 
 @contextlib.contextmanager
 def running_agent(command, socket):
-    """Runs an agent at a socket until it is no longer needed."""
+    """Runs an agent at a socket, and stops it at the end."""
     with subprocess.Popen(command, stdout=subprocess.PIPE, stderr=subprocess.DEVNULL) as process:
         process.stdout.readline()
         yield {"SSH_AUTH_SOCK": socket}
@@ -322,7 +324,8 @@ def running_agent(command, socket):
 
 
 def check_agent(checks, over):
-    """Signs with a key that an ssh-agent holds. A false signature, and an agent without the key, leave no signature file."""
+    """Signs with a key of an ssh-agent. After a wrong signature, or if the agent does not have the key, there is no
+    signature file."""
     keygen, agent, add = (needs.program(name, "openssh-client") for name in ("ssh-keygen", "ssh-agent", "ssh-add"))
     program = over.build("agent_sign", [over.c, "-std=c11", "-D_DEFAULT_SOURCE", *over.flags, f"{EXAMPLES}/agent_sign.c", *over.linking])
     for name in ("first", "second"):
@@ -336,8 +339,8 @@ def check_agent(checks, over):
         said = over.by_minisign("-Q", "-V", "-p", "first.minisign.pub", "-m", data, "-x", made)
         checks.same(said, f"{COMMENT}\n", "the signature of an agent")
         os.remove(made)
-        other = run_apart([*program, over.path("second.minisign.pub"), *commands[1:]], **environment)
-        checks.same(other, (1, "", "agent_sign: Signature verification failed\n"), "an agent without the key")
+        ran = run_apart([*program, over.path("second.minisign.pub"), *commands[1:]], **environment)
+        checks.same(ran, (1, "", "agent_sign: Signature verification failed\n"), "an agent without the key")
     false = "00000053" "0e" "0000004f" "0000000b" + b"ssh-ed25519".hex() + "00000040" + "07" * 64
     for what, answer in (("a false signature", false), ("a short answer", "00000001" "05"), ("no answer", "")):
         with running_agent([sys.executable, "-c", FALSE_AGENT, room(f"false {what}"), answer], room(f"false {what}")) as environment:
@@ -349,9 +352,9 @@ def check_agent(checks, over):
 
 
 def check_programs(checks, over):
-    """The programs that were installed are those that were built, which `command_line.py` and `real_installing.py` try."""
+    """The installed programs are those that were built, which command_line.py and real_installing.py test."""
     for name, flag in (("minisign", "-v"), ("minisign-install", "--version")):
-        checks.check(read(over.root, "bin", name) == read(over.room, "out", name), f"another {name} is installed than is built")
+        checks.check(read(over.root, "bin", name) == read(over.room, "out", name), f"the installed {name} is not the one that was built")
         checks.ended(f"{name}, installed", run([f"{over.root}/bin/{name}", flag]), says=name)
 
 
@@ -361,7 +364,7 @@ def run_all(checks, room):
     root = f"{room}/dest/prefix"
     installed_files(checks, root)
     over = Installed(checks, root, room)
-    for check in (check_dropped, check_verifiers, check_signers, check_mutants, check_readme, check_updater, check_agent,
+    for check in (check_dropped_results, check_verifiers, check_signers, check_mutants, check_readme, check_updater, check_agent,
                   check_programs):
         check(checks, over)
 

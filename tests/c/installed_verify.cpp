@@ -1,5 +1,5 @@
-// Verifying from C++: the header as C++ reads it, and the flags that pkg-config tells.
-// installed_verify PUBLIC_KEY DATA SIGNATURE ends as the example in C does.
+// Verifies from C++, with the installed header and pkg-config's flags, for installed.py. installed_verify PUBLIC_KEY
+// DATA SIGNATURE ends like the example in C.
 #include <cstdio>
 #include <fstream>
 #include <iterator>

@@ -1,12 +1,13 @@
-//! Verifying from Rust, by calls that this program declares itself: `tests/c/installed.py` builds it over what
-//! `make -C c install` installs. `installed_verify PUBLIC_KEY DATA SIGNATURE` ends as the example in C does: with status 0
-//! where the texts vouch for the data, and it prints the trusted comment; else with 1, or 2 where a file could not be read.
+//! Verifies from Rust, with its own declarations of the calls. `tests/c/installed.py` builds it
+//! over the library that `make -C c install` installs. `installed_verify PUBLIC_KEY DATA SIGNATURE`
+//! ends like the example in C: with status 0 and the trusted comment if the signature is valid,
+//! otherwise with 1, or with 2 if a file cannot be read.
 
 use std::fs::{self, File};
 use std::io::{self, Read, Write};
 use std::process::ExitCode;
 
-/// What minisign.h declares.
+/// Declarations of minisign.h.
 mod minisign {
     pub const OK: u32 = 0;
     pub const ANSWER_YES: u32 = 0x796573;
@@ -19,7 +20,7 @@ mod minisign {
     }
 
     impl State {
-        /// A state that was fed nothing.
+        /// Returns a new state.
         pub fn new() -> State {
             let mut state = State { opaque: [0; 64] };
             unsafe { minisign_init(&mut state) };
@@ -27,7 +28,7 @@ mod minisign {
         }
     }
 
-    /// What is written to a state is fed to it.
+    /// Data that is written to a state is fed to it.
     impl std::io::Write for State {
         fn write(&mut self, data: &[u8]) -> std::io::Result<usize> {
             match unsafe { minisign_update(self, data.as_ptr(), data.len()) } {
@@ -96,7 +97,7 @@ extern "C" {
     fn crypto_sign_verify_detached(signature: *const u8, message: *const u8, len: u64, key: *const u8) -> i32;
 }
 
-/// Whether libsodium accepts a signature of 64 bytes under a key of 32, as the library wants it told.
+/// Returns the answer of libsodium about a signature, in the form that the library takes.
 fn accepts(signature: &[u8; 64], message: &[u8], public_key: &[u8; 32]) -> u32 {
     let rejected = unsafe {
         crypto_sign_verify_detached(signature.as_ptr(), message.as_ptr(), message.len() as u64, public_key.as_ptr())
@@ -104,18 +105,19 @@ fn accepts(signature: &[u8; 64], message: &[u8], public_key: &[u8; 32]) -> u32 {
     if rejected == 0 { minisign::ANSWER_YES } else { minisign::ANSWER_NO }
 }
 
-/// Why the texts do not vouch for the data: the number of the first error, or that the data could not be read.
+/// Why verification failed: an error of the library, or of reading the data.
 enum Rejection {
     Number(u32),
     Unread(io::Error),
 }
 
-/// What a call answered.
+/// Converts the result of a call.
 fn expect(error: u32) -> Result<(), Rejection> {
     if error == minisign::OK { Ok(()) } else { Err(Rejection::Number(error)) }
 }
 
-/// The trusted comment where the texts vouch for all of the data. What the texts are rejected for is known before any data is read.
+/// Verifies the data, and returns the trusted comment. Errors of the key and the signature are
+/// found before any data is read.
 fn verify(pk_text: &[u8], sig_text: &[u8], data: &mut impl Read) -> Result<Vec<u8>, Rejection> {
     let mut key = minisign::PublicKey::default();
     let mut state = minisign::State::new();
@@ -143,7 +145,7 @@ fn verify(pk_text: &[u8], sig_text: &[u8], data: &mut impl Read) -> Result<Vec<u
     Ok(message.split_off(questions.comment_offset as usize))
 }
 
-/// What an error means.
+/// Returns the text of an error.
 fn error_text(error: u32) -> String {
     let mut text = vec![0; minisign::ERROR_TEXT_BYTES];
     let len = unsafe { minisign::minisign_error_text(error, text.as_mut_ptr(), text.len()) };

@@ -1,5 +1,5 @@
 /*
- * Makes and opens keys through minisign.h, for made_keys.py.
+ * Makes and opens keys with the calls of minisign.h, for made_keys.py.
  *
  *     keys secret KEY_ID SECRET SALT OPERATIONS MEMORY EVERY COMMENT [PASSWORD]
  *     keys public KEY_ID SECRET COMMENT
@@ -7,10 +7,10 @@
  *     keys place EVERY ROWS TEXT [PASSWORD]
  *     keys memory EVERY TEXT
  *
- * EVERY says how many rows of scrypt are kept, and ROWS how many may be made, as in the header. KEY_ID, SECRET and SALT are in
- * hexadecimal; TEXT is that of a secret key. With `place` the key is opened in memory of just the size that `memory` writes,
- * in words and bytes. The memory is filled before and has to be zeros after. Otherwise it writes the text, or the key ID and
- * the secret in hexadecimal; or the number of the error, with the exit status 1.
+ * EVERY is keep_every and ROWS the most rows, as in the header. KEY_ID, SECRET and SALT are in hexadecimal; TEXT is a
+ * secret key file. `place` opens the key in memory of exactly the size that `memory` prints, in words and bytes: the
+ * memory is filled before, and has to be zero afterwards. Prints the key file, or the key ID and the secret in
+ * hexadecimal, or the error number with exit status 1.
  */
 #include <inttypes.h>
 #include <stdlib.h>
@@ -48,7 +48,7 @@ static int status_of(uint32_t error)
     return error != MINISIGN_OK;
 }
 
-/* Writes a text of the key of a key ID and a secret: of this, sealed where there is a password, or of its public key. */
+/* Writes the secret key file, encrypted if there is a password, or the public key file. */
 static int make(int argc, char **argv, int is_secret)
 {
     static uint8_t text[4096];
@@ -79,7 +79,7 @@ static int make(int argc, char **argv, int is_secret)
     return status_of(error);
 }
 
-/* Memory of just this size, which is filled. */
+/* Allocates and fills memory of this size. */
 static void *filled(uint64_t len)
 {
     void *at = malloc((size_t) len);
@@ -100,7 +100,7 @@ static uint32_t open_in_place(const minisign_unopened_key *unopened, const char 
     error = minisign_open_sealed_key_in_place(unopened, bytes_of(password), strlen(password), every, rows, words,
                                               (size_t) words_wanted, parts, (size_t) bytes_wanted, key);
     if (!is_zeros(words, (size_t) words_wanted * sizeof *words) || !is_zeros(parts, (size_t) bytes_wanted)) {
-        printf("the memory does not hold zeros\n");
+        printf("the memory was not cleared\n");
         exit(2);
     }
     free(words);
@@ -108,7 +108,7 @@ static uint32_t open_in_place(const minisign_unopened_key *unopened, const char 
     return error;
 }
 
-static int tell_memory(char **argv)
+static int print_memory(char **argv)
 {
     minisign_unopened_key unopened;
     uint64_t words, parts;
@@ -148,6 +148,6 @@ int main(int argc, char **argv)
     return argc >= 9 && strcmp(how, "secret") == 0                                ? make(argc, argv, 1)
            : argc == 5 && strcmp(how, "public") == 0                              ? make(argc, argv, 0)
            : argc >= 5 && (strcmp(how, "open") == 0 || strcmp(how, "place") == 0) ? open_key(argc, argv)
-           : argc == 4 && strcmp(how, "memory") == 0                              ? tell_memory(argv)
+           : argc == 4 && strcmp(how, "memory") == 0                              ? print_memory(argv)
                                                                                   : 2;
 }

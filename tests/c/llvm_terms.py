@@ -1,5 +1,5 @@
-"""Reads functions of LLVM IR, as clang writes it, and gives what they compute as terms of z3. An instruction or a
-flag that this module does not know is an error.
+"""Translates functions of clang's LLVM IR into terms of z3. An instruction or a flag that this module does not know is
+an error.
 
 Needs z3 for Python (Debian's python3-z3), so Debian's own Python.
 """
@@ -9,8 +9,8 @@ from collections import namedtuple
 
 import z3
 
-# What a function does for given arguments: the value it returns (None if it returns nothing), the memory after it,
-# the condition under which it calls abort, and the condition under which its behaviour is undefined.
+# The effect of a function: the value it returns (None if it returns nothing), the memory after it, the condition under
+# which it calls abort, and the condition under which its behaviour is undefined.
 Outcome = namedtuple("Outcome", "result memory ends undefined")
 Function = namedtuple("Function", "parameters blocks")
 
@@ -24,12 +24,12 @@ class Unknown(Exception):
 
 
 def memory():
-    """A memory of bytes, about which nothing is known."""
+    """Returns a memory of unknown bytes."""
     return z3.Array("memory", z3.BitVecSort(ADDRESS_BITS), z3.BitVecSort(8))
 
 
 def load(contents, address, size):
-    """Returns the little-endian number of so many bytes at an address."""
+    """Returns the little-endian number of this many bytes at an address."""
     return z3.simplify(z3.Concat([contents[address + at] for at in reversed(range(size))]) if size > 1 else contents[address])
 
 
@@ -48,7 +48,7 @@ def count_ones(x):
 
 
 def zeros(x, positions):
-    """The number of zeros before the first one, in the order of these positions."""
+    """Returns the number of zeros before the first one, in the order of these positions."""
     found = z3.BitVecVal(x.size(), x.size())
     for count, at in reversed([*enumerate(positions)]):
         found = z3.If(z3.Extract(at, at, x) == 1, z3.BitVecVal(count, x.size()), found)
@@ -63,8 +63,8 @@ def trailing_zeros(x):
     return zeros(x, range(x.size()))
 
 
-# Unsigned division is left open: what is proved holds for every function of two 64-bit numbers, so also for division.
-# Division of 32-bit numbers is division of the same numbers with 64 bits.
+# Unsigned division is an uninterpreted function: what is proved holds for every function of two 64-bit numbers, so also
+# for division. Division of 32-bit numbers is division of the same numbers with 64 bits.
 QUOTIENT, REMAINDER = (z3.Function(name, *[z3.BitVecSort(64)] * 3) for name in ("quotient", "remainder"))
 
 
@@ -105,7 +105,7 @@ COMPARED = {
 
 
 def funnel(a, b, by, is_left):
-    """What llvm.fshl and llvm.fshr compute: the two numbers in a row, shifted."""
+    """Computes llvm.fshl or llvm.fshr: the concatenation of two numbers, shifted."""
     bits, both = a.size(), z3.Concat(a, b)
     by = z3.ZeroExt(bits, z3.URem(by, z3.BitVecVal(bits, bits)))
     return z3.Extract(2 * bits - 1, bits, both << by) if is_left else z3.Extract(bits - 1, 0, z3.LShR(both, by))
@@ -119,17 +119,17 @@ INTRINSICS = {
     "ctlz": lambda a, _: leading_zeros(a),
     "cttz": lambda a, _: trailing_zeros(a),
 }
-# The second argument of these says whether one input gives poison, and this is that input.
+# If the second argument of these intrinsics is 1, this input gives poison.
 POISONED = {"ctlz": lambda bits: 0, "cttz": lambda bits: 0, "abs": lambda bits: 1 << bits - 1}
 
 
 def functions_of(text):
-    """The functions of a module, by their names."""
+    """Returns the functions of a module, by name."""
     found = {}
     for name, parameters, body in re.findall(r"^define [^@]*@(\w+)\(([^)]*)\)[^{]*\{\n(.*?)\n\}", text, re.S | re.M):
         blocks, block = {}, "entry"
         for line in body.split("\n"):
-            # (without metadata, comments and the numbers of attributes)
+            # (without metadata, comments and attribute numbers)
             line = re.sub(r", !.*|\s+;.*| #\d+$", "", line)
             label = re.match(r"([\w.]+):", line)
             if label:
@@ -141,7 +141,7 @@ def functions_of(text):
 
 
 class Execution:
-    """Runs a function on terms. Every path is followed; a loop is an error."""
+    """Executes a function on terms, along every path. A loop is an error."""
 
     def __init__(self, function, arguments, contents):
         self.function, self.undefined = function, []
@@ -150,7 +150,8 @@ class Execution:
         self.outcome = Outcome(result, contents, ends, z3.Or(NEVER, *self.undefined))
 
     def block(self, name, before, values, contents, reached, above):
-        """Runs a block, and all that follow: what is returned, the memory then, and when the program ends."""
+        """Executes a block and all that follow. Returns the result, the memory, and the condition under which the
+        program ends."""
         if name in above:
             raise Unknown(f"a loop at {name}")
         values, above = dict(values), (*above, name)
@@ -172,7 +173,7 @@ class Execution:
                 values[target[1:]] = self.term(text, before, values, contents, reached)
             elif text != "tail call void @abort()":
                 raise Unknown(line)
-        raise Unknown(f"{name} does not end")
+        raise Unknown(f"the block {name} has no terminator")
 
     def branch(self, text, name, values, contents, reached, above):
         found = re.fullmatch(r"br label %([\w.]+)", text)
@@ -181,11 +182,11 @@ class Execution:
         found = re.fullmatch(r"br i1 (\S+), label %([\w.]+), label %([\w.]+)", text)
         if not found:
             raise Unknown(text)
-        asked = self.value(values, found[1], 1) == 1
-        yes = self.block(found[2], name, values, contents, z3.And(reached, asked), above)
-        no = self.block(found[3], name, values, contents, z3.And(reached, z3.Not(asked)), above)
-        result = no[0] if yes[0] is None else yes[0] if no[0] is None else z3.If(asked, yes[0], no[0])
-        return result, z3.If(asked, yes[1], no[1]), z3.If(asked, yes[2], no[2])
+        condition = self.value(values, found[1], 1) == 1
+        yes = self.block(found[2], name, values, contents, z3.And(reached, condition), above)
+        no = self.block(found[3], name, values, contents, z3.And(reached, z3.Not(condition)), above)
+        result = no[0] if yes[0] is None else yes[0] if no[0] is None else z3.If(condition, yes[0], no[0])
+        return result, z3.If(condition, yes[1], no[1]), z3.If(condition, yes[2], no[2])
 
     @staticmethod
     def value(values, word, bits):
@@ -200,7 +201,7 @@ class Execution:
         return store(contents, self.value(values, found[3], ADDRESS_BITS), self.value(values, found[2], int(found[1])))
 
     def term(self, text, before, values, contents, reached):
-        """The value of an instruction."""
+        """Returns the value of an instruction."""
         for pattern, how in self.FORMS:
             found = re.fullmatch(pattern, text)
             if found:
@@ -267,5 +268,5 @@ class Execution:
 
 
 def execute(function, arguments, contents):
-    """What a function does with these arguments and this memory."""
+    """Returns the effect of a function on these arguments and this memory."""
     return Execution(function, arguments, contents).outcome

@@ -1,11 +1,11 @@
 /*
- * Opening a secret key in the caller's memory makes no request for memory, begins no thread, and does not tell the system
- * how to bring it in. (Nor does verifying: asked_texts.c.) Of the other calls each request is refused in turn: the
- * number is MINISIGN_OUT_OF_MEMORY, the key stays as it was, and what was allocated is freed. The same with each
- * request after it refused, and with the whole memory of scrypt refused for a key sealed as `minisign -G` seals.
+ * Checks calls without memory. Opening a secret key in the caller's memory allocates nothing, starts no thread and
+ * calls no madvise. (Verifying does not either: asked_texts.c.) In the other calls each allocation fails in turn, alone
+ * or with all later ones: the call returns MINISIGN_OUT_OF_MEMORY, the key is unchanged, and all memory is freed. So it
+ * is if the memory of scrypt cannot be allocated for a key of default limits.
  *
  * Linked with -Wl,--wrap=malloc -Wl,--wrap=realloc -Wl,--wrap=free -Wl,--wrap=madvise -Wl,--wrap=pthread_create, and
- * built with -DMINISIGN_NO_THREADS where the library is.
+ * built with -DMINISIGN_NO_THREADS if the library is.
  */
 #define _DEFAULT_SOURCE
 
@@ -16,7 +16,7 @@
 #include "counted_memory.h"
 #include "texts_for_tests.h"
 
-/* How many threads were asked for, and how many hints about memory the system got. */
+/* The number of calls of pthread_create and of madvise. */
 static long threads, hints;
 
 int __real_madvise(void *from, size_t len, int hint);
@@ -27,7 +27,7 @@ int __wrap_madvise(void *from, size_t len, int hint)
     return __real_madvise(from, len, hint);
 }
 
-/* There is none to be had: the library does without. */
+/* No thread can be started (EAGAIN). The library does without. */
 int __wrap_pthread_create(void *thread, const void *attributes, void *(*begin)(void *), void *with)
 {
     (void) thread, (void) attributes, (void) begin, (void) with;
@@ -35,13 +35,13 @@ int __wrap_pthread_create(void *thread, const void *attributes, void *(*begin)(v
     return 11;
 }
 
-/* What holds of a call, where this request for memory was refused. */
+/* Checks a condition after this allocation of a call failed. */
 static void check_call(int holds, const char *call, const char *what, long request)
 {
-    check(holds, "%s, request %ld for memory refused: %s", call, request, what);
+    check(holds, "%s, allocation %ld failed: %s", call, request, what);
 }
 
-/* A secret key that Minisign made with -G and the password `pw`, for these checks alone. */
+/* A secret key for these tests, which Minisign made with -G and the password `pw`. */
 static const char SEALED[] =
     "untrusted comment: minisign encrypted secret key\n"
     "RWRTY0IyQuX046PjIcXDk/r4CSffEseU3JAL7PlB8O5JOO7pY2sAAAACAAAAAAAAAEAAAAAAytQo"
@@ -71,7 +71,7 @@ static enum minisign_error write_text(void)
     return make_signed_text(&key, first, second, bytes_of("t"), 1, bytes_of("u"), 1, message, sizeof message, &text_len);
 }
 
-/* One call with this key, with one request refused or with this one and all after it: whether the call came to it. */
+/* Makes a call while the allocations from request to last fail. Returns true if it made that many. */
 static int refuse(const char *name, enum minisign_error (*call)(void), const minisign_secret_key *before, long request,
                   long last)
 {
@@ -85,8 +85,8 @@ static int refuse(const char *name, enum minisign_error (*call)(void), const min
     error = call();
     refused_from = refused_to = 0;
     came = requests >= request;
-    check_call(held == 0, name, "memory is not given back", request);
-    check_call(error == (came ? MINISIGN_OUT_OF_MEMORY : MINISIGN_OK), name, "another number", request);
+    check_call(held == 0, name, "memory is not freed", request);
+    check_call(error == (came ? MINISIGN_OUT_OF_MEMORY : MINISIGN_OK), name, "wrong error", request);
     check_call(!came || memcmp(before, &key, sizeof key) == 0, name, "the key has changed", request);
     return came;
 }
@@ -99,11 +99,11 @@ static void refuse_each(const char *name, enum minisign_error (*call)(void), con
         refuse(name, call, before, request, 1000000);
         request++;
     }
-    check_call(1 < request && request < 1000, name, "no end of requests", request);
+    check_call(1 < request && request < 1000, name, "too few or too many allocations", request);
 }
 
-/* A sealed key whose rows take 32 MiB: the call that takes them from malloc asks for a thread. With -DIS_EMULATED it is the smallest
- * large block, for which that has no thread. */
+/* The rows of the encrypted key take 32 MiB, for which the call that allocates them starts a thread. With
+ * -DIS_EMULATED they take the least large block, for which it starts none. */
 enum { LARGE_ROWS = IS_EMULATED ? 4096 : 32768 };
 
 static uint32_t words[256 * (LARGE_ROWS + 3)];
@@ -115,7 +115,8 @@ static enum minisign_error open_in_place(const char *password, size_t room)
                                              MINISIGN_USUAL_ROWS, words, room, parts, sizeof parts, &key);
 }
 
-/* Opening in memory of the caller's makes no request and no hint, and begins no thread, also where no request would be granted. */
+/* Opening in the caller's memory allocates nothing, calls no madvise and starts no thread, also if no allocation
+ * would succeed. */
 static void open_without_memory(const minisign_secret_key *opened)
 {
     const size_t room = LENGTH(words);
@@ -126,7 +127,7 @@ static void open_without_memory(const minisign_secret_key *opened)
     requests = held = threads = hints = 0;
     CHECK(minisign_open_sealed_key(&unopened, bytes_of("pw"), 2, MINISIGN_KEEP_EVERY_ROW, MINISIGN_USUAL_ROWS, &key) == MINISIGN_OK);
     CHECK(requests > 0 && held == 0);
-    /* (where c/library/allocation.c is what takes the memory) */
+    /* (only if the library uses c/library/allocation.c) */
 #if defined(__LP64__) && defined(MADV_HUGEPAGE) && defined(MADV_POPULATE_WRITE) && !defined(MINISIGN_NO_THREADS)
     CHECK(threads == !IS_EMULATED && hints > 0);
 #endif

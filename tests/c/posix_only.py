@@ -1,11 +1,11 @@
 #!/usr/bin/env python3
-"""Builds the programs of `c/` with -DPOSIX_ONLY, which takes nothing that Linux alone has, and runs all tests of both.
+"""Checks that the programs of `c/` work without what only Linux has, built with -DPOSIX_ONLY.
 
     tests/c/posix_only.py
 
-All cases of `tests/command_line/command_line.py` and `tests/installer/real_installing.py` pass, but for those that
-this names, each with what is weaker there; one of these that passes is a failure too. In none of them a stranger gets
-a key. It prints a line for each failure; the last line is `N passed, M failed`.
+It runs all cases of tests/command_line/command_line.py and tests/installer/real_installing.py. Each case passes, except
+those that WEAKER lists with the protection that is missing. A case of WEAKER that passes is a failure too. In no case
+does another user get a key. It prints a line for each failure; the last line is `N passed, M failed`.
 
 Needs what these two scripts need, and installs what is missing if it may.
 """
@@ -22,46 +22,46 @@ import needs
 import static_library
 from process import run
 
-LISTS = "POSIX has no access control lists: none is copied, and one that a directory gives stays"
-EXCHANGE = "no two names are exchanged, so a failure or a signal leaves the first of a pair in place of an older one"
-UNNAMED = "each new file has a name from the start, which a kill leaves there until the next run"
-DIRECTORY = "a directory is gone to by its name, which one that was removed has not"
+LISTS = "POSIX has no access control lists: none is copied, and an inherited one is not removed"
+EXCHANGE = "two files cannot be exchanged, so after a failure or a signal the first file of a pair may be new and the second old"
+UNNAMED = "each new file has a name from the start, so a kill leaves a temporary file until the next run"
+DIRECTORY = "a directory is opened by its name, which a removed directory does not have"
 
-# Patterns of the names of cases, and what is weaker, by the script that has them.
+# Patterns of the names of cases that fail, and why, by script.
 WEAKER = {
     "command_line/command_line.py": {
         r"the permissions of a replaced file: a list ": LISTS,
-        r"a pair over an older one, and (a call fails|signal \d+ at each call)": EXCHANGE,
-        r"a new pair, killed: no stage": UNNAMED,
-        r"a directory without a name": DIRECTORY,
+        r"replaced key pair: (complete if a call fails|no temporary file is left by signal \d+)": EXCHANGE,
+        r"new key pair: no temporary file is left by a kill": UNNAMED,
+        r"writes into a directory without a name": DIRECTORY,
     },
     "installer/real_installing.py": {
         r"the permissions of a replaced file: a (list|mode that is asked for over a list) ": LISTS,
-        r"f(get|remove)xattr (fails|is interrupted)": LISTS,
-        r"a list that the directory gives to a first file": LISTS,
+        r"(stays consistent if|retries) f(get|remove)xattr ": LISTS,
+        r"first file (with --mode )?gets no inherited access list": LISTS,
     },
 }
 
-# Calls that Linux alone has.
-OF_LINUX = {"renameat2", "syscall", "sync_file_range", "getrandom", "fstatfs", "getxattr", "fgetxattr", "fsetxattr", "fremovexattr"}
+# Calls that only Linux has.
+LINUX_CALLS = {"renameat2", "syscall", "sync_file_range", "getrandom", "fstatfs", "getxattr", "fgetxattr", "fsetxattr", "fremovexattr"}
 
 
 def check_calls(checks, program):
-    """A program calls nothing that Linux alone has."""
-    taken = set(re.findall(r" U (\w+)", run([needs.program("nm", "binutils"), "-D", "--undefined-only", program])[1]))
-    checks.check("openat" in taken and not taken & OF_LINUX, f"{program} calls {sorted(taken & OF_LINUX)}")
+    """Checks that a program calls nothing that only Linux has."""
+    called = set(re.findall(r" U (\w+)", run([needs.program("nm", "binutils"), "-D", "--undefined-only", program])[1]))
+    checks.check("openat" in called and not called & LINUX_CALLS, f"{program} calls {sorted(called & LINUX_CALLS)}")
 
 
 def check_script(checks, script, *arguments):
-    """Runs a script over a program: each of its failures has to be named, and each name has to be of one."""
+    """Runs a script over a program. Each failure has to match a pattern of WEAKER, and each pattern a failure."""
     _, said = run([sys.executable, os.path.join(HERE, "..", script), *arguments], seconds=None)
     ended = re.search(r"(?m)^(\d+) passed, \d+ failed\n\Z", said)
-    checks.passed = (int(ended[1]) if checks.check(ended, f"{script} ended with {said[-800:]}") else 0) + checks.passed
+    checks.passed = (int(ended[1]) if checks.check(ended, f"{script} did not finish: {said[-800:]}") else 0) + checks.passed
     failed = {*re.findall(r"(?m)^FAILED: (?:minisign-install: )?(.*)$", said)}
-    print(f"that fail in {script}: {len(failed)} cases")
+    print(f"{script}: {len(failed)} cases fail")
     for pattern, why in WEAKER[script].items():
         weaker = {name for name in failed if re.match(pattern, name)}
-        checks.check(weaker, f"no case fails that is named {pattern}, of which it is said: {why}")
+        checks.check(weaker, f"no case fails that matches {pattern}, although {why}")
         failed -= weaker
     checks.check(not failed, *failed)
 

@@ -1,12 +1,12 @@
 #!/usr/bin/env python3
-"""Applies each mutant of the programs of `c/` and checks that the test case that it names fails: the mutants of
-tests/installer in `minisign-install`, and those of tests/command_line in `minisign`, each of which removes a step that
-protects files from other users.
+"""Checks that the tests notice each mutant of the programs of `c/`: the test case that a mutant names has to fail.
 
     tests/c/program_mutants.py [NAME ..]     tries all mutants, or those of these names
 
-Each mutant is built in a copy of the sources over the static library (tests/shared/mutants.py). The script prints a line
-for each mutant that nothing noticed; the last line is `N passed, M failed`.
+The mutants of tests/installer break `minisign-install`, and those of tests/command_line remove steps of `minisign` that
+protect files from other users. Each is built in a copy of the sources over the static library
+(tests/shared/mutants.py). The script prints a line for each mutant that nothing noticed; the last line is `N passed, M
+failed`.
 
 Needs what `real_installing.py` and `command_line.py` need, and root for the mutants of `minisign`.
 """
@@ -30,23 +30,23 @@ import static_library
 from command_cases import keys_of
 from command_places import Places
 from command_running import Whole
-from command_strangers import Strangers
+from command_other_users import OtherUsers
 from installers import NAME, RealInstaller
 from process import run
 from real_installing import cases_of
 from running import SECONDS, Failure, Skip, build_preload, expect, run_one
 from runs import Installing
 
-# The directory of c/ with the parts that only this program has.
+# The directory of c/ with the sources that only this program has.
 DIRECTORIES = {"minisign": "minisign", NAME: "install"}
 
 
 def build(copy, name):
     """Builds a program in a copy and returns its path. Only the changed files are compiled."""
     sources, own = os.path.join(copy, "c"), DIRECTORIES[name]
-    parts = [f"{part}/{source.stem}.o" for part in (own, "shared") for source in sorted(pathlib.Path(sources, part).glob("*.c"))]
-    words = [f"{own.upper()}_PARTS={' '.join(parts)} {'out/clearing.o' * (own == 'minisign')}", f"out/{name}"]
-    # (the library is newer than its sources)
+    objects = [f"{part}/{source.stem}.o" for part in (own, "shared") for source in sorted(pathlib.Path(sources, part).glob("*.c"))]
+    words = [f"{own.upper()}_PARTS={' '.join(objects)} {'out/clearing.o' * (own == 'minisign')}", f"out/{name}"]
+    # (-o: the library in the copy is not rebuilt from its sources)
     status, said = run(["make", "-C", sources, "-o", "out/libminisign.a", "CFLAGS=-O0 -std=c11 -I. -I../include", *words],
                        seconds=10 * SECONDS)
     expect(status == 0, f"the mutant was not built: {said[-500:]}")
@@ -54,7 +54,8 @@ def build(copy, name):
 
 
 def failure_of(room, built, name, cases_of, mutant):
-    """Returns why a mutant does not pass, or nothing. `cases_of` takes the mutant's program and an empty directory."""
+    """Returns why a mutant is a failure of this script, or "" if its case fails. `cases_of` takes the mutant's program
+    and an empty directory."""
     try:
         copy, own = shutil.copytree(built, tempfile.mkdtemp(dir=room), dirs_exist_ok=True), tempfile.mkdtemp(dir=room)
         mutants.apply(mutant, copy)
@@ -75,25 +76,26 @@ def try_mutants(tried, room, name, cases_of):
     os.mkdir(os.path.join(built, "c", "out"))
     shutil.copy(static_library.library(os.path.join(room, "built")), os.path.join(built, "c", "out"))
     build(built, name)
-    judge = partial(failure_of, room, built, name, cases_of)
+    try_mutant = partial(failure_of, room, built, name, cases_of)
     with concurrent.futures.ProcessPoolExecutor(os.cpu_count() or 1) as pool:
-        return [f"{mutant.name}: {why}" for mutant, why in zip(tried, pool.map(judge, tried)) if why]
+        return [f"{mutant.name}: {why}" for mutant, why in zip(tried, pool.map(try_mutant, tried)) if why]
 
 
 def cases_of_installer(preload, program, room):
-    """Returns the cases over a program, with a key of its own."""
+    """Returns the cases of a minisign-install, with a fresh key."""
     installing = Installing(program, RealInstaller(room), room)
     installing.preload = preload
     return cases_of(installing)
 
 
 def cases_of_minisign(whole, keys, program, room):
-    for part in (Strangers, Places):
+    """Yields the cases of a minisign that have mutants."""
+    for part in (OtherUsers, Places):
         yield from part(whole._replace(ours=program), room, keys).cases()
 
 
 def run_all(room):
-    """Tries the mutants and returns the failures, and how many mutants there were."""
+    """Tries the mutants. Returns the failures and the number of mutants."""
     needs.libsodium()
     names, failures, count = sys.argv[1:], [], 0
     lists = [(mutants.mutants_of("installer", "mutants"), NAME, partial(cases_of_installer, build_preload(room, "disturbed_calls")))]

@@ -72,7 +72,7 @@ static int verify(void)
     return 0;
 }
 
-/* The results that finish has to return after each mistake. */
+/* Checks the results of finish after each mistake. */
 static int misuse(void)
 {
     static minisign_verifier verifier;

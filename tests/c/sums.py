@@ -1,16 +1,16 @@
 #!/usr/bin/env python3
-"""Checks that dist/ is compared with its SHA-256 sums and with its sources, by sha256sum, shasum or sha256, and that
+"""Checks that builds compare dist/ with its SHA-256 sums and with its sources, by sha256sum, shasum or sha256, and that
 nothing is built if none of these works.
 
     tests/c/sums.py
 
-In a copy of the repository, with few programs in PATH, it takes away sha256sum and puts shasum or sha256 there, or a
-program that prints nothing or a wrong sum, or nothing at all. With each of them it runs tools/sha256.sh,
-tools/sources.sh, c/Makefile, bindings/Makefile, page/build.py and the build.rs of the crate; that one also in a packed
-crate, which has no sources. Sources that were changed and archives that were damaged are rejected. It prints a line
-for each failure; the last line is `N passed, M failed`.
+In a copy of the repository, with few programs in PATH, it removes sha256sum and puts shasum or sha256 there, or a
+program that prints nothing or a wrong sum, or none at all. With each of them it runs tools/sha256.sh, tools/sources.sh,
+c/Makefile, bindings/Makefile, page/build.py and the build.rs of the crate; the last one also in a packed crate, which
+has no sources. Changed sources and damaged archives are rejected. It prints a line for each failure; the last line is
+`N passed, M failed`.
 
-Needs git where this is a clone, make, binutils, a C compiler, cargo and rustc, and installs what is missing if it may.
+Needs git if this is a clone, make, binutils, a C compiler, cargo and rustc, and installs what is missing if it may.
 """
 
 import hashlib
@@ -29,7 +29,7 @@ from process import run
 from running import read, write
 from texts import turned
 
-# SHA-256 programs, as scripts: each is given the arguments and standard input of the real one, and prints what that prints.
+# SHA-256 programs, as scripts with the arguments, input and output of the real ones.
 HASHING = """#!{python} -IS
 import hashlib, sys
 words = sys.argv[1:]
@@ -52,7 +52,7 @@ if not names: print(sum_of("-"))
 """,
 }
 SILENT, WRONG = "#!/bin/sh\nexit 0\n", f"#!/bin/sh\necho '{'0' * 64}  -'\n"
-# The programs that are in PATH in place of the system's sha256sum, and whether sums can be computed by them.
+# The programs in PATH in place of the system's sha256sum, and whether they can compute sums.
 PLACES = {
     "shasum only": ({"shasum": PROGRAMS["shasum"]}, True),
     "sha256 only": ({"sha256": PROGRAMS["sha256"]}, True),
@@ -91,14 +91,14 @@ class Copy:
             os.chmod(f"{self.programs}/{name}", 0o755)
 
     def run(self, *command, **environment):
-        """Runs a command in the copy: its status and its output."""
+        """Runs a command in the copy. Returns its status and its output."""
         return run(command, self.top, seconds=600, PATH=self.programs, **environment)
 
     def make(self, *words):
         return self.run("make", "-s", *words)
 
     def build_crate(self, crate):
-        """Has cargo check a crate, which runs its build.rs."""
+        """Runs cargo check on a crate, which runs its build.rs."""
         variables = {"CARGO_NET_OFFLINE": "true", "CARGO_TARGET_DIR": f"{crate}/target", "CARGO_HOME": f"{self.room}/home", "RUSTC": self.rustc,
                      "CFLAGS": "-O0"}
         return self.run(self.cargo, "check", "--no-default-features", "--manifest-path", f"{crate}/Cargo.toml", **variables)
@@ -111,9 +111,10 @@ def sum_of(path):
 def check_scripts(checks, copy, what, works):
     """tools/sha256.sh prints what sha256sum prints, tools/sources.sh the sums of dist/PROVED, or both print nothing and fail."""
     names = ["LICENSE", "dist/calls.c"]
-    wanted = "".join(f"{sum_of(os.path.join(copy.top, name))}  {name}\n" for name in names)
+    expected = "".join(f"{sum_of(os.path.join(copy.top, name))}  {name}\n" for name in names)
     status, said = copy.run("sh", "tools/sha256.sh", *names)
-    checks.check((status, said) == (0, wanted) if works else status == 1 and MISSING in said, f"{what}, tools/sha256.sh: {status}: {said}")
+    checks.check((status, said) == (0, expected) if works else status == 1 and MISSING in said,
+                 f"{what}, tools/sha256.sh: {status}: {said}")
     status, said = copy.run("sh", "-c", "printf abc | sh tools/sha256.sh")
     typed = f"{hashlib.sha256(b'abc').hexdigest()}  -\n"
     checks.check((status, said) == (0, typed) if works else status == 1 and MISSING in said, f"{what}, tools/sha256.sh: {status}: {said}")
@@ -124,7 +125,7 @@ def check_scripts(checks, copy, what, works):
 
 
 def check_make(checks, copy, what, works):
-    """Make builds the library, and an archive with its sum, or says which programs are missing."""
+    """make builds the library, and an archive with its sum, or says which programs are missing."""
     out = f"{copy.room}/out"
     for directory, goal in (("c", "library"), ("c", "archive"), ("bindings", "go")):
         status, said = copy.make("-C", directory, goal, f"OUT={out}", *["C_CALLS="] * (directory == "c"))
@@ -140,7 +141,7 @@ def check_make(checks, copy, what, works):
 
 
 def check_page(checks, copy, what, works):
-    """page/build.py names the sum of the sources in the page, or writes none."""
+    """page/build.py writes the sum of the sources into the page, or writes no page."""
     page = f"{copy.room}/page.html"
     status, said = copy.run(sys.executable, "page/build.py", "--from", "dist/minisign.html", "--key", KEY, page)
     if works:
@@ -153,29 +154,30 @@ def check_page(checks, copy, what, works):
 
 
 def check_crate(checks, copy, what, works, crate):
-    """Cargo builds the crate, or build.rs says which programs are missing."""
+    """cargo builds the crate, or build.rs says which programs are missing."""
     status, said = copy.build_crate(crate)
     checks.check(status == 0 if works else status != 0 and MISSING in said, f"{what}, cargo: {status}: {said[-800:]}")
     if works:
-        # (cargo does not run build.rs again where it ended well)
+        # (cargo would not run build.rs again after it succeeded)
         shutil.rmtree(f"{crate}/target")
 
 
-def check_changed(checks, copy, place, name, what, wanted, makes):
-    """With a file changed, or removed where this is None, the crate is not built, and nothing by make."""
+def check_changed(checks, copy, place, name, change, errors, makes):
+    """If a file is changed (or removed, if `change` is None), cargo does not build the crate, and make builds nothing."""
     crate, data = f"{copy.top}/bindings/rust" if makes else place, read(place, name)
     os.remove(os.path.join(place, name))
-    if what:
-        write(place, name, what(data))
+    if change:
+        write(place, name, change(data))
     status, said = copy.build_crate(crate)
-    checks.check(status != 0 and wanted["cargo"] in said, f"cargo with {name} changed: {status}: {said[-800:]}")
+    checks.check(status != 0 and errors["cargo"] in said,
+                 f"cargo with {name} changed: status {status}, expected {errors['cargo']}: {said[-800:]}")
     if makes:
-        checks.ended(f"make with {name} changed", copy.make("-C", "c", "current"), status=2, says=wanted["make"])
+        checks.ended(f"make with {name} changed", copy.make("-C", "c", "current"), status=2, says=errors["make"])
     write(place, name, data)
 
 
 def check_rejected(checks, copy, packed):
-    """Once it is built, the crate is not taken as it is when a source or an archive has changed, also the packed one."""
+    """A crate that was built before is rejected when a source or an archive has changed. So is the packed one."""
     checks.ended("cargo before a change", copy.build_crate(f"{copy.top}/bindings/rust"))
     check_changed(checks, copy, copy.top, SOURCE, lambda data: data + b"// changed\n", OLDER, True)
     damage = lambda data: turned(data, 5000)
@@ -185,7 +187,7 @@ def check_rejected(checks, copy, packed):
 
 
 def check_incomplete(checks, copy):
-    """tools/sources.sh fails if a crate has no line in crates.txt, and so does what compares its sum."""
+    """tools/sources.sh fails if a crate has no line in crates.txt, and so do the builds that compare its sum."""
     lines = read(copy.top, "crates.txt")
     write(copy.top, "crates.txt", re.sub(rb"(?m)^minisign_page\b.*\n", b"", lines))
     for command in (["sh", "tools/sources.sh", "page"], ["make", "-s", "-C", "bindings", "javascript"], ["make", "-s", "-C", "c", "archive"]):
@@ -195,7 +197,7 @@ def check_incomplete(checks, copy):
 
 
 def packed_crate(copy):
-    """The crate as `cargo package` packs it, unpacked: it has no sources of the proved calls."""
+    """Unpacks the crate as `cargo package` packs it, without the sources of the proved calls, and returns its path."""
     copy.put(PLACES["shasum only"][0])
     variables = {"CARGO_NET_OFFLINE": "true", "CARGO_HOME": f"{copy.room}/home", "RUSTC": copy.rustc, "CFLAGS": "-O0"}
     status, said = copy.run("make", "-s", "-C", "bindings", "rust", f"OUT={copy.room}/packed", f"CARGO={copy.cargo}", **variables)
@@ -210,7 +212,7 @@ def run_all(checks, room):
     copy = Copy(room)
     own, crate = f"{copy.top}/bindings/rust", packed_crate(copy)
     checks.check(not os.path.exists(f"{crate}/library/crates"), "a packed crate has sources of the proved calls")
-    # (the packed crate was built by shasum, as cargo packed it)
+    # (cargo has already built the packed crate with shasum when it packed it)
     built = {"shasum only": [own], "sha256 only": [crate], "a silent sha256sum and shasum": []}
     for what, (programs, works) in PLACES.items():
         copy.put(programs)

@@ -1,15 +1,14 @@
 #!/usr/bin/env python3
-"""Proves that functions of an LLVM module are instructions of WebAssembly, for all arguments and all memory.
+"""Proves that functions of an LLVM module compute WebAssembly instructions, for all arguments and all memory.
 
     tests/c/table_prover.py MODULE.ll ROWS.json
 
-ROWS.json is a list of [FUNCTION, INSTRUCTION, OFFSET, SECOND]. The function takes what the instruction takes from the
-stack, and returns what it leaves there. OFFSET is what a load or store adds to its address. SECOND is null, or the
-second operand if that is a constant, which the function then does not take. For each line of the list this prints the
-name of the function, a tab, and `proved` or what is wrong: arguments for which the two differ, or why there is no
-proof.
+ROWS.json is a list of [FUNCTION, INSTRUCTION, OFFSET, SECOND]. The function takes the operands of the instruction, and
+returns its result. OFFSET is what a load or store adds to its address. SECOND is null, or the second operand if that is
+a constant, which is then no parameter of the function. For each item this prints the name of the function, a tab, and
+`proved` or the problem: arguments for which the results differ, or why there is no proof.
 
-`table_proofs.py` runs it. Needs z3 for Python (Debian's python3-z3), so Debian's own Python.
+table_proofs.py runs it. Needs z3 for Python (Debian's python3-z3), so Debian's own Python.
 """
 
 import json
@@ -35,9 +34,9 @@ def signed(x, from_bits, bits):
     return z3.SignExt(bits - from_bits, z3.Extract(from_bits - 1, 0, x))
 
 
-# What the WebAssembly specification says of the instructions on numbers (Core Specification, "Numerics"), by the part of
-# the name after the dot. A shift and a rotation take their distance modulo the number of bits.
-ONE = {
+# The numeric instructions of the WebAssembly specification (Core Specification, "Numerics"), by the part of the name
+# after the dot. Shifts and rotations take their distance modulo the number of bits.
+UNARY = {
     "eqz": lambda a: bit(a == 0), "clz": leading_zeros, "ctz": trailing_zeros, "popcnt": count_ones,
     "wrap_i64": lambda a: z3.Extract(31, 0, a),
     "extend_i32_u": lambda a: z3.ZeroExt(32, a), "extend_i32_s": lambda a: z3.SignExt(32, a),
@@ -45,7 +44,7 @@ ONE = {
     "extend32_s": lambda a: signed(a, 32, a.size()),
 }
 distance = lambda b: b & (b.size() - 1)
-TWO = {
+BINARY = {
     "eq": lambda a, b: bit(a == b), "ne": lambda a, b: bit(a != b),
     "lt_s": lambda a, b: bit(a < b), "lt_u": lambda a, b: bit(z3.ULT(a, b)),
     "gt_s": lambda a, b: bit(a > b), "gt_u": lambda a, b: bit(z3.UGT(a, b)),
@@ -62,20 +61,21 @@ TWO = {
 
 
 def trap(operation, a, b):
-    """The condition under which an instruction on numbers traps."""
+    """Returns the condition under which a numeric instruction traps."""
     if not operation.startswith(("div_", "rem_")):
         return NEVER
     smallest = z3.BitVecVal(1 << a.size() - 1, a.size())
     return z3.Or(b == 0, z3.And(a == smallest, b == -1)) if operation == "div_s" else b == 0
 
 
-def facts(operation, a, b):
-    """What is used of division by another number than 0. A quotient is at most the dividend, which it is only for the divisor 1 or the
-    dividend 0, and otherwise at most half of it; a remainder is below the divisor. (Every row traps before it divides by 0, so what such a
-    division gives may be taken to be 0.)"""
+def division_facts(operation, a, b):
+    """Yields the facts about division that the proofs use, for divisors other than 0. A quotient is at most the
+    dividend; it equals the dividend only if the divisor is 1 or the dividend is 0, and is at most half of it otherwise.
+    A remainder is below the divisor. (Every row traps before it divides by 0, so the result of such a division may be
+    taken as 0.)"""
     if operation not in ("div_s", "rem_s"):
         return
-    # (of 32 bits it is made with 32 or with 64)
+    # (clang divides 32-bit numbers with 32 or with 64 bits)
     wide, more = [z3.SignExt(64 - x.size(), x) if x.size() < 64 else x for x in (a, b)], 64 - a.size()
     narrow = [z3.ZeroExt(more, absolute(x)) if more else absolute(x) for x in (a, b)]
     for x, y in ([*map(absolute, wide)], narrow):
@@ -83,8 +83,8 @@ def facts(operation, a, b):
         yield z3.If(y == 0, z3.And(QUOTIENT(x, y) == 0, REMAINDER(x, y) == 0), z3.And(most, z3.ULT(REMAINDER(x, y), y)))
 
 
-def is_proved(claim, *given):
-    """Whether z3 proves a claim of what is given; otherwise why not."""
+def proof_of(claim, *given):
+    """Returns "proved" if z3 proves the claim under the assumptions, otherwise the reason."""
     solver = z3.Solver()
     solver.set("timeout", MILLISECONDS)
     solver.add(*given, z3.Not(claim))
@@ -98,37 +98,37 @@ def is_proved(claim, *given):
 
 
 def number_verdict(function, kind, operation, second):
-    """An instruction on numbers."""
-    taken = re.search(r"i(\d\d)(?:_[us])?$", operation)
-    bits = int(taken[1]) if taken else int(kind[1:])
+    """Returns the verdict on a numeric instruction."""
+    operand_bits = re.search(r"i(\d\d)(?:_[us])?$", operation)
+    bits = int(operand_bits[1]) if operand_bits else int(kind[1:])
     a, b = z3.BitVecs("a b", bits)
     b = b if second is None else z3.BitVecVal(second, bits)
-    given = [a] if operation in ONE else [a, b]
+    given = [a] if operation in UNARY else [a, b]
     contents = memory()
     outcome = execute(function, given if second is None else [a], contents)
-    wanted = (ONE if operation in ONE else TWO)[operation](*given)
+    expected = (UNARY if operation in UNARY else BINARY)[operation](*given)
     traps = trap(operation, a, b)
-    is_same = z3.And(z3.Not(outcome.undefined), outcome.memory == contents, outcome.result == wanted)
-    return is_proved(z3.And(outcome.ends == traps, z3.Implies(z3.Not(traps), is_same)), *facts(operation, a, b))
+    is_same = z3.And(z3.Not(outcome.undefined), outcome.memory == contents, outcome.result == expected)
+    return proof_of(z3.And(outcome.ends == traps, z3.Implies(z3.Not(traps), is_same)), *division_facts(operation, a, b))
 
 
 def memory_verdict(function, kind, operation, offset):
-    """A load or a store, at an address to which the instruction adds a number."""
+    """Returns the verdict on a load or a store, at an address plus an offset."""
     what, size, sign = re.fullmatch(r"(load|store)(\d*)_?([us]?)", operation).groups()
     bits, contents, address = int(kind[1:]), memory(), z3.BitVec("a", ADDRESS_BITS)
     narrow, value, extra = int(size or bits), z3.BitVec("b", bits), z3.BitVec("other", ADDRESS_BITS)
-    # (the function of a load takes one number more)
+    # (the function of a load has an extra parameter)
     outcome = execute(function, [address, value if what == "store" else extra], contents)
     ends = z3.And(z3.Not(outcome.ends), z3.Not(outcome.undefined))
     if what == "store":
-        return is_proved(z3.And(ends, outcome.memory == store(contents, address + offset, z3.Extract(narrow - 1, 0, value))))
+        return proof_of(z3.And(ends, outcome.memory == store(contents, address + offset, z3.Extract(narrow - 1, 0, value))))
     found = load(contents, address + offset, narrow // 8)
-    wanted = found if narrow == bits else (z3.SignExt if sign == "s" else z3.ZeroExt)(bits - narrow, found)
-    return is_proved(z3.And(ends, outcome.result == wanted, outcome.memory == contents))
+    expected = found if narrow == bits else (z3.SignExt if sign == "s" else z3.ZeroExt)(bits - narrow, found)
+    return proof_of(z3.And(ends, outcome.result == expected, outcome.memory == contents))
 
 
 def verdict(function, instruction, offset, second):
-    """What is to be said of a function that is to be an instruction."""
+    """Returns the verdict on a function that has to compute an instruction."""
     kind, operation = instruction.split(".")
     try:
         if operation.startswith(("load", "store")):

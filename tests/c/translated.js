@@ -1,6 +1,6 @@
-// Makes the calls of translated.py in Node: `node translated.js MODULE TOLD < CALLS`. TOLD says what functions the module has,
-// and where the end of the stack and the buffer of a call stand. An answer is whether the program ended, what the function gave,
-// and the buffer.
+// Makes the calls of translated.py in Node: `node translated.js MODULE DESCRIPTION < CALLS`. DESCRIPTION has the functions of the
+// module, the end of the stack, and the address and length of the buffer of a call. A result is whether the program
+// trapped, the returned number, and the buffer.
 'use strict';
 const fs = require('fs');
 const [functions, stack, stackEnd, base, length] = JSON.parse(fs.readFileSync(process.argv[3]));
@@ -9,7 +9,7 @@ const compiled = new WebAssembly.Module(fs.readFileSync(process.argv[2]));
 const translated = new WebAssembly.Instance(compiled, { env }).exports;
 const calls = fs.readFileSync(0), size = 32 + length, out = [];
 
-// A number of a call as a parameter of this kind.
+// Converts a number of a call to a parameter of this kind.
 function parameter(kind, given) {
   if (kind === 'base') { return BigInt(base); }
   return kind === 'i32' ? Number(BigInt.asIntN(32, given)) : given;

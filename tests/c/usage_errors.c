@@ -1,8 +1,8 @@
 /*
- * Wrong uses of calls: a signature with another text than its own, keys that were not read or opened, short buffers,
- * comments that Minisign would not read back, and more work than is allowed. Each is an error number, and changes
- * nothing. Right calls stand beside them, which shows that it is the use that is rejected. random_calls.c has calls
- * in the wrong order. And for each pointer of each call, NULL with length 0 acts as a pointer to no bytes.
+ * Checks API misuse: a signature with another text than its own, keys that were not read or opened, small buffers,
+ * comments that Minisign would not read back, and more work than is allowed. Each returns an error and changes nothing;
+ * the same calls with valid arguments succeed. (random_calls.c makes calls in the wrong order.) For each pointer of
+ * each call, NULL with length 0 acts as a pointer to no bytes.
  */
 #include <minisign_install.h>
 
@@ -11,7 +11,7 @@
 static minisign_questions questions;
 static uint8_t message[1024];
 
-/* Asks about a signature with this text, whether it was read from that or not. */
+/* Asks about a signature with this text, which may be another one than it was read from. */
 static enum minisign_error ask_with(minisign_state *state, const minisign_signature *signature, const char *sig_text,
                                     size_t sig_text_len, uint32_t allow_legacy, size_t room)
 {
@@ -20,8 +20,8 @@ static enum minisign_error ask_with(minisign_state *state, const minisign_signat
     return minisign_ask(state, &key, signature, bytes_of(sig_text), sig_text_len, allow_legacy, &questions, message, room);
 }
 
-/* Asks, which is rejected as a usage error: state, questions and message stay as they were. */
-static enum minisign_error ask_in_vain(const minisign_signature *signature, const char *sig_text, size_t sig_text_len,
+/* Asks, and checks that the error leaves state, questions and message unchanged. */
+static enum minisign_error ask_and_fail(const minisign_signature *signature, const char *sig_text, size_t sig_text_len,
                                        uint32_t allow_legacy, size_t room)
 {
     minisign_state state = fed_with("abc"), before = state;
@@ -37,21 +37,21 @@ static enum minisign_error ask_in_vain(const minisign_signature *signature, cons
     return error;
 }
 
-/* The least room there is for what is asked. */
-static void least_room(void)
+/* The message buffer has to be large enough. */
+static void rejects_small_message_buffer(void)
 {
     const minisign_signature signature = signature_of(SIGNATURE);
     minisign_state state = fed_with("abc");
 
     for (size_t room = 0; room < MESSAGE_LEN; room++) {
-        CHECK(ask_in_vain(&signature, SIGNATURE, sizeof SIGNATURE - 1, 0, room) == MINISIGN_NO_ROOM);
+        CHECK(ask_and_fail(&signature, SIGNATURE, sizeof SIGNATURE - 1, 0, room) == MINISIGN_NO_ROOM);
     }
     CHECK(ask_with(&state, &signature, SIGNATURE, sizeof SIGNATURE - 1, 0, MESSAGE_LEN) == MINISIGN_OK);
     CHECK(minisign_digest(&state, questions.digest) == MINISIGN_OK && is_hex(questions.digest, HEX_OF_ABC));
 }
 
-/* Nothing is asked about a signature with another text than that which it was read from. */
-static void other_texts(void)
+/* A signature with another text than the one it was read from is rejected. */
+static void rejects_another_text(void)
 {
     static const char longer[] = "untrusted comment: x";
     static char text[sizeof SIGNATURE + 1];
@@ -63,29 +63,29 @@ static void other_texts(void)
     for (size_t at = 0; at < len; at++) {
         for (int bit = 0; bit < 8; bit += 5) {
             text[at] = (char) (text[at] ^ 1 << bit);
-            CHECK(ask_in_vain(&signature, text, len, 0, sizeof message) == MINISIGN_OTHER_SIGNATURE_TEXT);
+            CHECK(ask_and_fail(&signature, text, len, 0, sizeof message) == MINISIGN_OTHER_SIGNATURE_TEXT);
             text[at] = SIGNATURE[at];
         }
     }
     for (size_t shorter = 0; shorter < len; shorter++) {
-        CHECK(ask_in_vain(&signature, SIGNATURE, shorter, 0, sizeof message) == MINISIGN_OTHER_SIGNATURE_TEXT);
+        CHECK(ask_and_fail(&signature, SIGNATURE, shorter, 0, sizeof message) == MINISIGN_OTHER_SIGNATURE_TEXT);
     }
-    CHECK(ask_in_vain(&signature, SIGNATURE, len + 1, 0, sizeof message) == MINISIGN_OTHER_SIGNATURE_TEXT);
+    CHECK(ask_and_fail(&signature, SIGNATURE, len + 1, 0, sizeof message) == MINISIGN_OTHER_SIGNATURE_TEXT);
     text[len] = '\n';
-    CHECK(ask_in_vain(&signature, text, len + 1, 0, sizeof message) == MINISIGN_OTHER_SIGNATURE_TEXT);
-    CHECK(ask_in_vain(&signature, longer, sizeof longer - 1, 0, sizeof message) == MINISIGN_OTHER_SIGNATURE_TEXT);
-    CHECK(ask_in_vain(&signature, NULL, 0, 0, sizeof message) == MINISIGN_OTHER_SIGNATURE_TEXT);
-    CHECK(ask_in_vain(&signature, LEGACY_SIGNATURE, sizeof LEGACY_SIGNATURE - 1, 1, sizeof message) == MINISIGN_OTHER_SIGNATURE_TEXT);
-    /* That comes before what is said of the key, of a legacy signature, and of the room. */
-    CHECK(ask_in_vain(&legacy, SIGNATURE, len, 0, 0) == MINISIGN_OTHER_SIGNATURE_TEXT);
-    CHECK(ask_in_vain(&other_key, SIGNATURE, len, 0, 0) == MINISIGN_OTHER_SIGNATURE_TEXT);
-    CHECK(ask_in_vain(&other_key, OTHER_SIGNATURE, sizeof OTHER_SIGNATURE - 1, 0, 0) == MINISIGN_DIFFERENT_KEY_IDS);
-    CHECK(ask_in_vain(&legacy, LEGACY_SIGNATURE, sizeof LEGACY_SIGNATURE - 1, 0, 0) == MINISIGN_LEGACY_NOT_ACCEPTED);
-    CHECK(ask_in_vain(&signature, SIGNATURE, len, 0, MESSAGE_LEN - 1) == MINISIGN_NO_ROOM);
+    CHECK(ask_and_fail(&signature, text, len + 1, 0, sizeof message) == MINISIGN_OTHER_SIGNATURE_TEXT);
+    CHECK(ask_and_fail(&signature, longer, sizeof longer - 1, 0, sizeof message) == MINISIGN_OTHER_SIGNATURE_TEXT);
+    CHECK(ask_and_fail(&signature, NULL, 0, 0, sizeof message) == MINISIGN_OTHER_SIGNATURE_TEXT);
+    CHECK(ask_and_fail(&signature, LEGACY_SIGNATURE, sizeof LEGACY_SIGNATURE - 1, 1, sizeof message) == MINISIGN_OTHER_SIGNATURE_TEXT);
+    /* This error comes before those of the key ID, of a legacy signature, and of the buffer. */
+    CHECK(ask_and_fail(&legacy, SIGNATURE, len, 0, 0) == MINISIGN_OTHER_SIGNATURE_TEXT);
+    CHECK(ask_and_fail(&other_key, SIGNATURE, len, 0, 0) == MINISIGN_OTHER_SIGNATURE_TEXT);
+    CHECK(ask_and_fail(&other_key, OTHER_SIGNATURE, sizeof OTHER_SIGNATURE - 1, 0, 0) == MINISIGN_DIFFERENT_KEY_IDS);
+    CHECK(ask_and_fail(&legacy, LEGACY_SIGNATURE, sizeof LEGACY_SIGNATURE - 1, 0, 0) == MINISIGN_LEGACY_NOT_ACCEPTED);
+    CHECK(ask_and_fail(&signature, SIGNATURE, len, 0, MESSAGE_LEN - 1) == MINISIGN_NO_ROOM);
 }
 
-/* Nor where the place of its comment is not within the text. */
-static void other_places(void)
+/* A signature whose comment lies outside the text is rejected. */
+static void rejects_comment_outside_text(void)
 {
     static const uint64_t far[] = { 1, 63, 64, 1 << 20, UINT32_MAX, (uint64_t) INT64_MAX };
     const size_t len = sizeof SIGNATURE - 1;
@@ -95,24 +95,24 @@ static void other_places(void)
         minisign_signature other = signature;
 
         other.comment_offset = len - other.comment_len + far[i];
-        CHECK(ask_in_vain(&other, SIGNATURE, len, 0, sizeof message) == MINISIGN_OTHER_SIGNATURE_TEXT);
+        CHECK(ask_and_fail(&other, SIGNATURE, len, 0, sizeof message) == MINISIGN_OTHER_SIGNATURE_TEXT);
         other = signature;
         other.comment_len = len - other.comment_offset + far[i];
-        CHECK(ask_in_vain(&other, SIGNATURE, len, 0, sizeof message) == MINISIGN_OTHER_SIGNATURE_TEXT);
+        CHECK(ask_and_fail(&other, SIGNATURE, len, 0, sizeof message) == MINISIGN_OTHER_SIGNATURE_TEXT);
         other.comment_offset = UINT64_MAX - far[i];
-        CHECK(ask_in_vain(&other, SIGNATURE, len, 0, sizeof message) == MINISIGN_OTHER_SIGNATURE_TEXT);
+        CHECK(ask_and_fail(&other, SIGNATURE, len, 0, sizeof message) == MINISIGN_OTHER_SIGNATURE_TEXT);
     }
 }
 
 static minisign_unopened_key unopened;
 static minisign_secret_key key;
 
-/* The greatest p of a key, and every how manieth row is kept where few are, and where the fewest are. */
+/* The greatest p of a key. One row of this many is kept with few rows, and with the fewest. */
 #define MOST_PARTS (IS_EMULATED ? 2 : 32)
 #define FEW_KEPT (IS_EMULATED ? 3 : MINISIGN_KEEP_FEW_ROWS)
 #define FEWEST_KEPT (IS_EMULATED ? 5 : UINT64_MAX)
 
-/* Memory to open keys in, enough for all rows of one whose N is 1024 and whose p is the greatest. */
+/* Memory for opening keys in place, enough for all rows of a key with N = 1024 and the greatest p. */
 static uint32_t words[256 * (1024 + 3)];
 static uint8_t parts[1024 * MOST_PARTS];
 
@@ -121,7 +121,7 @@ static size_t length_of(const char *password)
     return password == NULL ? 0 : strlen(password);
 }
 
-/* Opens in so much of that memory, which holds something: all of it is zeros then. */
+/* Opens in this much of the memory, which is filled before and has to be zero afterwards. */
 static enum minisign_error open_in_place(const minisign_unopened_key *from, const char *password, uint64_t keep_every,
                                          uint64_t most_rows, uint64_t words_len, uint64_t bytes_len, minisign_secret_key *to)
 {
@@ -151,7 +151,7 @@ static enum minisign_error make_short_text(const char *trusted, const char *untr
     return make_text(trusted, strlen(trusted), untrusted, strlen(untrusted), room);
 }
 
-static void before_opening(void)
+static void rejects_unopened_keys(void)
 {
     static const minisign_secret_key nothing;
 
@@ -169,8 +169,8 @@ static void before_opening(void)
     text_len = 0;
 }
 
-/* No key is opened that was not read, whatever it holds, and a text that is rejected is not read. */
-static void keys_of_no_text(void)
+/* A key that was not read is not opened, whatever its bytes are. A rejected text does not count as read. */
+static void rejects_unread_secret_keys(void)
 {
     minisign_unopened_key other, before;
     minisign_secret_key none, opened;
@@ -190,7 +190,7 @@ static void keys_of_no_text(void)
         CHECK(minisign_read_secret_key(bytes_of(SIGNATURE), strlen(SIGNATURE), &other) == MINISIGN_RECORD_TOO_SHORT);
         CHECK(memcmp(&other, &before, sizeof other) == 0);
     }
-    /* Nor where a bit of its mark is another. */
+    /* Neither is a key with one changed bit in its mark. */
     for (int bit = 0; bit < 64; bit++) {
         other = unopened;
         other.mark ^= UINT64_C(1) << bit;
@@ -198,8 +198,8 @@ static void keys_of_no_text(void)
     }
 }
 
-/* A key that is taken in is the one that its text opens to. */
-static void taken_in(void)
+/* A key that was taken equals the one that its key file is opened to. */
+static void takes_key(void)
 {
     static const minisign_sealing none;
     minisign_secret_key taken, opened;
@@ -217,10 +217,10 @@ static void taken_in(void)
     text_len = 0;
 }
 
-/* A key of zeros. */
+/* A secret key of zeros. */
 static minisign_secret_key of_zeros;
 
-/* Makes its text, sealed with little work where there is a password: N is 1024, and p is 4. */
+/* Writes its key file, encrypted with little work (N = 1024 and p = 4) if there is a password. */
 static enum minisign_error make_key(uint32_t with_password, uint64_t memory_limit, const char *comment, size_t room)
 {
     const minisign_sealing sealing = { .operations_limit = 4 * 32768, .memory_limit = memory_limit };
@@ -230,10 +230,10 @@ static enum minisign_error make_key(uint32_t with_password, uint64_t memory_limi
                                                     &text_len);
 }
 
-/* Opens the sealed key, with memory of malloc or in so many words and bytes: it is that of zeros, or an error, which leaves
- * what was there. */
-static void opens(const char *password, uint64_t keep_every, uint64_t most_rows, uint64_t words_len, uint64_t bytes_len,
-                  enum minisign_error wanted)
+/* Opens the encrypted key, with memory of malloc, or in place in this many words and bytes if there are any. Checks
+ * the error, and that the result is the key of zeros or is unchanged. */
+static void check_opening(const char *password, uint64_t keep_every, uint64_t most_rows, uint64_t words_len, uint64_t bytes_len,
+                  enum minisign_error expected)
 {
     minisign_secret_key opened, before;
 
@@ -241,12 +241,12 @@ static void opens(const char *password, uint64_t keep_every, uint64_t most_rows,
     opened = before;
     CHECK((words_len != 0 ? open_in_place(&unopened, password, keep_every, most_rows, words_len, bytes_len, &opened)
                           : minisign_open_sealed_key(&unopened, bytes_of(password), length_of(password), keep_every,
-                                                     most_rows, &opened)) == wanted);
-    CHECK(memcmp(&opened, wanted == MINISIGN_OK ? &of_zeros : &before, sizeof opened) == 0);
+                                                     most_rows, &opened)) == expected);
+    CHECK(memcmp(&opened, expected == MINISIGN_OK ? &of_zeros : &before, sizeof opened) == 0);
 }
 
-/* Keys that are made, and how opening them is bounded. */
-static void keys_made(void)
+/* Key files that are written, their comments, and limits of opening them. */
+static void writes_and_opens_keys(void)
 {
     static char too_long[1005];
     static const struct {
@@ -291,51 +291,51 @@ static void keys_made(void)
     CHECK(minisign_read_secret_key(text, text_len, &unopened) == MINISIGN_OK);
     CHECK(unopened.is_sealed == 1 && unopened.log2_rows == 10 && unopened.work == 4 && unopened.reserved == 0);
     CHECK(minisign_open_unsealed_key(&unopened, &opened) == MINISIGN_KEY_SEALED && is_zeros(&opened, sizeof opened));
-    opens("\xff", 0, 0, 0, 0, MINISIGN_NOT_UTF8);
-    opens("abc", 0, 4 * 1024 - 1, 0, 0, MINISIGN_WORK_TOO_HIGH);
-    opens("ab", 1, 4 * 1024, 0, 0, MINISIGN_WRONG_PASSWORD);
-    opens("ab", FEW_KEPT, MINISIGN_ANY_ROWS, 0, 0, MINISIGN_WRONG_PASSWORD);
+    check_opening("\xff", 0, 0, 0, 0, MINISIGN_NOT_UTF8);
+    check_opening("abc", 0, 4 * 1024 - 1, 0, 0, MINISIGN_WORK_TOO_HIGH);
+    check_opening("ab", 1, 4 * 1024, 0, 0, MINISIGN_WRONG_PASSWORD);
+    check_opening("ab", FEW_KEPT, MINISIGN_ANY_ROWS, 0, 0, MINISIGN_WRONG_PASSWORD);
     unopened.is_sealed = unopened.log2_rows = 0;
     unopened.work = 1;
-    opens("abc", FEWEST_KEPT, 4 * 1024, 0, 0, MINISIGN_OK);
+    check_opening("abc", FEWEST_KEPT, 4 * 1024, 0, 0, MINISIGN_OK);
 }
 
-/* How the rows of a key are bounded, and what opening in place takes and answers. What it holds of rows is 1 KiB each. */
-static void rows_bounded(uint64_t p)
+/* The limit of rows, and the memory and errors of opening in place. A row takes 1 KiB. */
+static void limits_rows(uint64_t p)
 {
     static const uint64_t kept[] = { FEW_KEPT, 0, 1, FEWEST_KEPT };
     const uint64_t rows = 1024 * p;
 
     CHECK(seal(&of_zeros, "abc", 1 << 20, p, text, sizeof text, &text_len) == MINISIGN_OK);
     CHECK(minisign_read_secret_key(text, text_len, &unopened) == MINISIGN_OK && unopened.work == p);
-    opens("abc", 1, rows - 1, 0, 0, MINISIGN_WORK_TOO_HIGH);
-    opens("abc", 1, 0, 0, 0, MINISIGN_WORK_TOO_HIGH);
-    opens("abc", 1, rows, 0, 0, MINISIGN_OK);
-    opens("abc", FEW_KEPT, MINISIGN_USUAL_ROWS, 0, 0, MINISIGN_OK);
-    opens("abc", FEW_KEPT, MINISIGN_ANY_ROWS, 0, 0, MINISIGN_OK);
-    /* (few rows of many parts take long) */
+    check_opening("abc", 1, rows - 1, 0, 0, MINISIGN_WORK_TOO_HIGH);
+    check_opening("abc", 1, 0, 0, 0, MINISIGN_WORK_TOO_HIGH);
+    check_opening("abc", 1, rows, 0, 0, MINISIGN_OK);
+    check_opening("abc", FEW_KEPT, MINISIGN_USUAL_ROWS, 0, 0, MINISIGN_OK);
+    check_opening("abc", FEW_KEPT, MINISIGN_ANY_ROWS, 0, 0, MINISIGN_OK);
+    /* (few rows with a large p take long) */
     for (size_t i = 0; i < (p == 1 ? LENGTH(kept) : 1); i++) {
         const uint64_t every = kept[i] > 1 ? kept[i] : 1, held = 1024 / every + (1024 % every != 0);
         uint64_t words_len = 5, bytes_len = 6;
 
-        /* A key that would make too many rows takes no memory, and is rejected without any. */
+        /* A key with too many rows needs no memory, and is rejected without any. */
         minisign_opening_memory(&unopened, kept[i], rows - 1, &words_len, &bytes_len);
         CHECK(words_len == 0 && bytes_len == 0);
-        opens("abc", kept[i], rows - 1, 1, 0, MINISIGN_WORK_TOO_HIGH);
+        check_opening("abc", kept[i], rows - 1, 1, 0, MINISIGN_WORK_TOO_HIGH);
         minisign_opening_memory(&unopened, kept[i], rows, &words_len, &bytes_len);
         CHECK(256 * held <= words_len && words_len <= 256 * (held + 3) && bytes_len == 1024 * p);
-        opens("abc", kept[i], rows, words_len - 1, bytes_len, MINISIGN_NO_ROOM);
-        opens("\xff", kept[i], rows, words_len, bytes_len - 1, MINISIGN_NO_ROOM);
-        opens("\xff", kept[i], 0, words_len, bytes_len, MINISIGN_NOT_UTF8);
-        opens("abc", kept[i], rows - 1, words_len, bytes_len, MINISIGN_WORK_TOO_HIGH);
-        opens("ab", kept[i], rows, words_len, bytes_len, MINISIGN_WRONG_PASSWORD);
-        opens("abc", kept[i], rows, words_len, bytes_len, MINISIGN_OK);
+        check_opening("abc", kept[i], rows, words_len - 1, bytes_len, MINISIGN_NO_ROOM);
+        check_opening("\xff", kept[i], rows, words_len, bytes_len - 1, MINISIGN_NO_ROOM);
+        check_opening("\xff", kept[i], 0, words_len, bytes_len, MINISIGN_NOT_UTF8);
+        check_opening("abc", kept[i], rows - 1, words_len, bytes_len, MINISIGN_WORK_TOO_HIGH);
+        check_opening("ab", kept[i], rows, words_len, bytes_len, MINISIGN_WRONG_PASSWORD);
+        check_opening("abc", kept[i], rows, words_len, bytes_len, MINISIGN_OK);
     }
-    opens("abc", 1, MINISIGN_USUAL_ROWS, LENGTH(words), sizeof parts, MINISIGN_OK);
+    check_opening("abc", 1, MINISIGN_USUAL_ROWS, LENGTH(words), sizeof parts, MINISIGN_OK);
 }
 
-/* A key that wants no password takes no memory, and none is needed to reject it. */
-static void no_memory_wanted(void)
+/* An unencrypted key needs no memory. */
+static void needs_no_memory_without_password(void)
 {
     uint64_t words_len = 5, bytes_len = 6;
 
@@ -344,9 +344,9 @@ static void no_memory_wanted(void)
     CHECK(words_len == 0 && bytes_len == 0);
 }
 
-/* The signatures of a text make that text again under the key ID of the key, where it has room. The base64 of its second line is
- * that of Python. And no text is made that minisign -V would not read back. */
-static void texts_of_signatures(void)
+/* The signatures of a signature file make the file again, with the key ID of the secret key, if the buffer is large
+ * enough. (Python encoded the expected second line.) No file is written that minisign -V would not read back. */
+static void writes_signatures(void)
 {
     static const char untrusted[] = "signature from minisign secret key";
     static const char expected[] =
@@ -393,8 +393,8 @@ static void texts_of_signatures(void)
     CHECK(memcmp(text, message, MESSAGE_LEN) == 0);
 }
 
-/* NULL of no bytes where data is fed and asked about. */
-static void nothing_fed(void)
+/* NULL for no bytes in calls that verify. */
+static void verifies_with_null(void)
 {
     minisign_state empty = fed_with(""), fed = fed_with("abc"), state, never;
     minisign_public_key public_key = key_of(KEY);
@@ -416,8 +416,8 @@ static void nothing_fed(void)
     CHECK(minisign_error_text(MINISIGN_OK, NULL, 0) == strlen("no error"));
 }
 
-/* And where a key is read, opened and signed with, also under the password of no bytes, where that is meant. */
-static void nothing_signed(void)
+/* NULL for no bytes in calls that read, open and sign with keys, also as the empty password if the caller allows it. */
+static void signs_with_null(void)
 {
     static const uint8_t first[64], second[64];
     static uint8_t empty[1024];
@@ -441,21 +441,21 @@ static void nothing_signed(void)
                                                    &text_len)
           == MINISIGN_OK);
     CHECK(minisign_read_secret_key(text, text_len, &unopened) == MINISIGN_OK);
-    opens(NULL, 16, MINISIGN_USUAL_ROWS, 0, 0, MINISIGN_OK);
-    opens(NULL, 16, MINISIGN_USUAL_ROWS, LENGTH(words), sizeof parts, MINISIGN_OK);
+    check_opening(NULL, 16, MINISIGN_USUAL_ROWS, 0, 0, MINISIGN_OK);
+    check_opening(NULL, 16, MINISIGN_USUAL_ROWS, LENGTH(words), sizeof parts, MINISIGN_OK);
     CHECK(minisign_open_sealed_key_in_place(&unopened, NULL, 0, 16, MINISIGN_USUAL_ROWS, NULL, 0, NULL, 0, &key)
           == MINISIGN_NO_ROOM);
 }
 
-/* Seals the key of zeros, by the call that rejects a weak sealing. */
+/* Encrypts the key of zeros with the call that rejects a weak sealing. */
 static enum minisign_error seal_well(uint32_t with_password, const char *password, const minisign_sealing *sealing)
 {
     return minisign_secret_key_text(&of_zeros, with_password, bytes_of(password), strlen(password), sealing, MINISIGN_KEEP_FEW_ROWS,
                                     bytes_of("c"), 1, text, sizeof text, &text_len);
 }
 
-/* A salt of zeros, a limit below the least one and an empty password are errors, unless the caller says that they are meant. */
-static void weak_sealings(void)
+/* A salt of zeros, a limit below the minimum and an empty password are errors, unless the caller allows them. */
+static void rejects_weak_sealings(void)
 {
     static const uint8_t salt[32] = { [31] = 1 };
     const minisign_sealing usual = minisign_usual_sealing(salt);
@@ -489,13 +489,13 @@ static void weak_sealings(void)
         CHECK(seal_well(MINISIGN_PASSWORD, "abc", &least) == MINISIGN_OK);
         CHECK(minisign_read_secret_key(text, text_len, &unopened) == MINISIGN_OK);
         CHECK(unopened.log2_rows == MINISIGN_LEAST_LOG2_ROWS);
-        opens("abc", 1, MINISIGN_USUAL_ROWS, 0, 0, MINISIGN_OK);
+        check_opening("abc", 1, MINISIGN_USUAL_ROWS, 0, 0, MINISIGN_OK);
     }
 }
 
-/* A public key that was not read is an error of each call that takes one, after the errors of the state and before those of the
- * signature and of the comments. */
-static void public_keys_of_no_text(void)
+/* Each call rejects a public key that was not read, after errors of the state and before errors of the signature and
+ * the comments. */
+static void rejects_unread_public_keys(void)
 {
     static const minisign_install_options options;
     static const minisign_signature nothing;
@@ -533,8 +533,8 @@ static void public_keys_of_no_text(void)
     CHECK(minisign_install_init(&installation, &good, &good, &options) == MINISIGN_OK);
 }
 
-/* The numbers themselves, which other languages write out. */
-static void numbers(void)
+/* Values that bindings in other languages repeat. */
+static void keeps_numbers(void)
 {
     CHECK(YES == 7955827 && NO == 28271);
     CHECK(minisign_version() == MINISIGN_VERSION);
@@ -543,21 +543,21 @@ static void numbers(void)
 int main(void)
 {
     take((const uint8_t[8]) { 0 }, (const uint8_t[64]) { 0 }, &of_zeros);
-    least_room();
-    other_texts();
-    other_places();
-    before_opening();
-    keys_of_no_text();
-    taken_in();
-    texts_of_signatures();
-    keys_made();
-    rows_bounded(1);
-    rows_bounded(MOST_PARTS);
-    no_memory_wanted();
-    weak_sealings();
-    public_keys_of_no_text();
-    nothing_fed();
-    nothing_signed();
-    numbers();
+    rejects_small_message_buffer();
+    rejects_another_text();
+    rejects_comment_outside_text();
+    rejects_unopened_keys();
+    rejects_unread_secret_keys();
+    takes_key();
+    writes_signatures();
+    writes_and_opens_keys();
+    limits_rows(1);
+    limits_rows(MOST_PARTS);
+    needs_no_memory_without_password();
+    rejects_weak_sealings();
+    rejects_unread_public_keys();
+    verifies_with_null();
+    signs_with_null();
+    keeps_numbers();
     return ended();
 }

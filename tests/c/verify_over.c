@@ -1,11 +1,11 @@
 /*
- * Verifies legacy signatures over the Ed25519 of OpenSSL or of libsodium, for ed25519_inputs.py:
+ * Verifies legacy signatures with the Ed25519 of OpenSSL or of libsodium, for ed25519_inputs.py:
  *
  *     verify_over openssl|libsodium
  *
- * Each line of the standard input is a case: the public key file, the data and the signature file, in hexadecimal digits,
- * "-" if empty. For each case it prints the error number of minisign.h, and 1 if the Ed25519 function by itself accepts the
- * signature of the data, otherwise 0.
+ * Each line of standard input is a case: the public key file, the data and the signature file, in hexadecimal, "-" if
+ * empty. For each case it prints the error number of minisign.h, and 1 if the Ed25519 function by itself accepts the
+ * data signature, otherwise 0.
  */
 #include <stdint.h>
 #include <stdio.h>
@@ -39,7 +39,7 @@ static int verify_by_openssl(const unsigned char *sig, const unsigned char *m, u
     return is_valid ? 0 : -1;
 }
 
-/* Decodes a word of hexadecimal digits. Returns 0 if it is none, or too long. */
+/* Decodes a word of hexadecimal digits. Returns 0 if it is invalid or too long. */
 static int decode(const char *digits, struct part *part)
 {
     const size_t len = digits == NULL ? 0 : strlen(digits);
@@ -57,7 +57,7 @@ static enum minisign_answer answer_of(int status)
     return status == 0 ? MINISIGN_ANSWER_YES : MINISIGN_ANSWER_NO;
 }
 
-/* Verifies the files as a host does. The signature is over the data itself. */
+/* Verifies the files as an application does. The legacy signature is over the data itself. */
 static enum minisign_error judge(const minisign_public_key *key, const minisign_signature *signature, verify_detached *verify)
 {
     uint8_t message[ROOM];
@@ -80,7 +80,7 @@ static enum minisign_error judge(const minisign_public_key *key, const minisign_
                             answer_of(verify(q.comment_signature, message, q.message_len, q.public_key)));
 }
 
-/* Answers one case. Returns 0 if it is not a case of a legacy signature. */
+/* Prints the result of a case. Returns 0 if it is not a case of a legacy signature. */
 static int answer_line(char *line, verify_detached *verify)
 {
     minisign_public_key key;

@@ -1,15 +1,14 @@
 /*
- * minisign_ask rejects what strict Ed25519 rejects for its bytes alone: points of small order or with an encoding that
- * is not canonical, as the public key and as the first half of either signature, and second halves that are not below
- * the order of the group. Such a rejection comes after all others, and changes nothing. The points are those that
- * libsodium 1.0.18 rejects.
+ * Checks that minisign_ask rejects what strict Ed25519 rejects by its encoding: points of small order or that are not
+ * canonically encoded, as the public key or as R of either signature, and S that is not below the group order. This
+ * error comes after all others, and changes nothing. The points are those that libsodium 1.0.18 rejects.
  */
 #include "texts_for_tests.h"
 
 static minisign_questions questions;
 static uint8_t message[MESSAGE_LEN];
 
-/* What is asked about, which cases change: the published key and its signature. */
+/* The arguments of minisign_ask. The cases change those of the published key and its signature. */
 struct asked {
     minisign_public_key key;
     minisign_signature signature;
@@ -23,7 +22,7 @@ static struct asked published(void)
     return (struct asked) { key_of(KEY), signature_of(SIGNATURE), SIGNATURE, 0, sizeof message };
 }
 
-/* Asks a new state, which stays as it was if anything is rejected, as do the questions and the message. */
+/* Asks with a new state. After an error, the state, the questions and the message are unchanged. */
 static enum minisign_error ask(const struct asked *asked)
 {
     minisign_state state = fed_with("test"), before = state;
@@ -42,7 +41,7 @@ static enum minisign_error ask(const struct asked *asked)
     return error;
 }
 
-/* 32 bytes from their hexadecimal digits. */
+/* Decodes 32 bytes in hexadecimal. */
 static void put(uint8_t *to, const char *digits)
 {
     for (size_t i = 0; i < 32; i++) {
@@ -53,8 +52,8 @@ static void put(uint8_t *to, const char *digits)
     }
 }
 
-/* Points as a public key, and as the first half of each signature. */
-static void points(void)
+/* Points as the public key, and as R of each signature. */
+static void rejects_weak_points(void)
 {
     static const struct {
         const char *digits;
@@ -87,15 +86,15 @@ static void points(void)
         put(second.signature.comment_signature, rows[i].digits);
         put(cut.signature.comment_signature, rows[i].digits);
         cut.signature.whole = 0;
-        check(ask(&key) == rows[i].error, "row %zu: the key", i);
-        check(ask(&first) == rows[i].error, "row %zu: the signature", i);
-        check(ask(&second) == rows[i].error, "row %zu: the comment signature", i);
-        check(ask(&cut) == MINISIGN_OK, "row %zu: a comment signature of fewer than 64 bytes", i);
+        check(ask(&key) == rows[i].error, "%s as the key: expected error %u", rows[i].digits, rows[i].error);
+        check(ask(&first) == rows[i].error, "%s in the signature: expected error %u", rows[i].digits, rows[i].error);
+        check(ask(&second) == rows[i].error, "%s in the comment signature: expected error %u", rows[i].digits, rows[i].error);
+        check(ask(&cut) == MINISIGN_OK, "%s: a comment signature of fewer than 64 bytes", rows[i].digits);
     }
 }
 
-/* Second halves of each signature. */
-static void second_halves(void)
+/* S of each signature. */
+static void rejects_large_s(void)
 {
     static const struct {
         const char *digits;
@@ -115,13 +114,13 @@ static void second_halves(void)
 
         put(first.signature.signature + 32, rows[i].digits);
         put(second.signature.comment_signature + 32, rows[i].digits);
-        check(ask(&first) == rows[i].error, "row %zu: the signature", i);
-        check(ask(&second) == rows[i].error, "row %zu: the comment signature", i);
+        check(ask(&first) == rows[i].error, "%s in the signature: expected error %u", rows[i].digits, rows[i].error);
+        check(ask(&second) == rows[i].error, "%s in the comment signature: expected error %u", rows[i].digits, rows[i].error);
     }
 }
 
-/* Each other error comes before. */
-static void order(void)
+/* All other errors come first. */
+static void reports_other_errors_first(void)
 {
     struct asked weak = published(), changed;
     minisign_state state;
@@ -150,8 +149,8 @@ static void order(void)
                        sizeof message) == MINISIGN_ALREADY_ASKED);
 }
 
-/* A comment signature of fewer than 64 bytes is left to the verdict. */
-static void cut_comment_signature(void)
+/* A comment signature of fewer than 64 bytes is rejected by the verdict. */
+static void leaves_short_comment_signature_to_verdict(void)
 {
     static const char cut[] = SIGNATURE_COMMENT RECORD "\ntrusted comment: " COMMENT "\nAAAA\n";
     const minisign_public_key key = key_of(KEY);
@@ -167,9 +166,9 @@ static void cut_comment_signature(void)
 
 int main(void)
 {
-    points();
-    second_halves();
-    order();
-    cut_comment_signature();
+    rejects_weak_points();
+    rejects_large_s();
+    reports_other_errors_first();
+    leaves_short_comment_signature_to_verdict();
     return ended();
 }

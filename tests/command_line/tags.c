@@ -1,4 +1,5 @@
-/* Prints the tag of a piece of data, as `c/minisign/piece_tags.c` makes it, of standard input: the key of the tags, and then the piece. */
+/* Prints the tag of a piece of data, which c/minisign/piece_tags.c makes. Reads the key of the tags and then the
+ * piece from standard input. command_safety.py runs it. */
 #include <inttypes.h>
 #include <stdio.h>
 #include <stdlib.h>
@@ -7,7 +8,7 @@
 
 #include "minisign/piece_tags.h"
 
-/* In the place of libsodium's. */
+/* Replaces libsodium's function, so that the key of the tags is known. */
 void randombytes_buf(void *const bytes, const size_t len)
 {
     if (fread(bytes, 1, len, stdin) != len)
@@ -20,7 +21,7 @@ int main(void)
     struct tag tag;
     size_t len;
 
-    draw_tag_key();
+    generate_tag_key();
     len = fread(piece, 1, sizeof piece, stdin);
     tag = tag_of(piece, len);
     printf("%016" PRIx64 "%016" PRIx64 "\n", tag.high, tag.low);

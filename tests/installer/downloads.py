@@ -1,5 +1,6 @@
-"""Runs the updater script of docs/INSTALLING.md, as the document shows it, with the real curl against a good server and against
-servers that send too much, too slowly or nothing. All servers listen on the loopback interface."""
+"""The cases of the updater script of docs/INSTALLING.md, as the document shows it, with the real curl: against a good
+server, and against servers that send too much, too slowly or nothing. All servers listen on the loopback interface.
+"""
 
 import concurrent.futures
 import contextlib
@@ -20,11 +21,11 @@ from runs import Cases, Directory
 
 download_cases = Cases()
 
-# The exit status of the script if it could not fetch the signature.
+# The exit status of the script if it cannot fetch the signature.
 NOT_FETCHED = 20
 # The script gives up after 30 seconds. The tests kill it after this time.
 SECONDS = 90
-# Bytes that may be on their way in buffers when the receiver stops: those of two sockets and of a pipe.
+# Bytes that may still be in buffers when the receiver stops: those of two sockets and a pipe.
 BUFFERED = 32 << 20
 # The limits of the script.
 MAX_DATA, MAX_SIGNATURE = 100 << 20, 1 << 20
@@ -57,7 +58,7 @@ class Handler(http.server.BaseHTTPRequestHandler):
         """Logs nothing."""
 
     def do_GET(self):
-        held = self.server.directory.holds("url" + self.path)
+        held = self.server.directory.content("url" + self.path)
         self.server.bad.get(self.path, Handler.send_file)(self, held)
 
     def begin(self, status=200, **headers):
@@ -154,50 +155,50 @@ def prepare(directory):
     return environment
 
 
-def ends(directory, ran, status, left):
+def expect_script(directory, ran, status, installed):
     """The script ended with this status and printed nothing on its output, and this program is installed, with no temporary file."""
-    held = directory.holds("there/app")
-    expect((ran.status, ran.output, held) == (status, b"", left), ran, f"expected {status}; the program begins with {held[:9]}")
-    names = sorted(os.listdir(directory.at("there")))
+    held = directory.content("there/app")
+    expect((ran.status, ran.output, held) == (status, b"", installed), ran, f"expected status {status}; the program begins with {held[:9]}")
+    names = sorted(os.listdir(directory.path_of("there")))
     expect(names == [".app.lock", ".app.number", "app"], f"the directory of the program has {names}")
 
 
-@download_cases.table("the updater script: a good server")
+@download_cases.table("the updater script installs newer versions")
 def installs_newer_versions(directory):
-    """It ends with status 0 whether there is a newer version or not, and otherwise with the status of the rejected update."""
+    """It exits with status 0 whether there is a newer version or not, and otherwise with the status of the rejected
+    update."""
     environment = prepare(directory)
     with serving(directory, {}) as server:
-        for data, number, signed, status, left in ((OLD, 1, None, 0, OLD), (NEW, 2, None, 0, NEW), (NEW, 2, None, 0, NEW),
+        for data, number, signed, status, installed in ((OLD, 1, None, 0, OLD), (NEW, 2, None, 0, NEW), (NEW, 2, None, 0, NEW),
                                                    (OLD, 1, None, OLDER, NEW), (LATER, 3, OLD, REJECTED, NEW)):
             offer_app(directory, "url/app", data, number, signed)
-            ends(directory, run_script(directory, environment, server.url), status, left)
+            expect_script(directory, run_script(directory, environment, server.url), status, installed)
 
 
-@download_cases.table("the updater script: another installation at the same time")
+@download_cases.table("the updater script waits for another installation")
 def waits_for_another_installation(directory):
-    """It waits until the other one has ended."""
     environment = prepare(directory)
     with serving(directory, {}) as server, concurrent.futures.ThreadPoolExecutor(1) as pool:
-        with open(directory.at("there/.app.lock"), "ab") as lock:
+        with open(directory.path_of("there/.app.lock"), "ab") as lock:
             fcntl.flock(lock, fcntl.LOCK_EX)
             run = pool.submit(run_script, directory, environment, server.url)
             with contextlib.suppress(concurrent.futures.TimeoutError):
                 expect(False, "it did not wait", run.result(timeout=2))
-        ends(directory, run.result(), 0, NEW)
+        expect_script(directory, run.result(), 0, NEW)
 
 
-@download_cases.table("the updater script: the program is executable")
+@download_cases.table("the updater script makes the program executable")
 def makes_program_executable(directory):
-    """A program that was removed is installed again, and everybody may run it."""
+    """A program that was removed is installed again, and all users may run it."""
     environment = prepare(directory)
-    os.remove(directory.at("there/app"))
+    os.remove(directory.path_of("there/app"))
     with serving(directory, {}) as server:
-        ends(directory, run_script(directory, environment, server.url), 0, NEW)
-    directory.has_mode(0o755, "there/app")
+        expect_script(directory, run_script(directory, environment, server.url), 0, NEW)
+    directory.expect_mode(0o755, "there/app")
 
 
-# What is wrong with the server: what it does with the signature or the data, a field of the signed comment, the exit status, and the
-# number of bytes between which it stops sending, or None.
+# What is wrong with the server, what it does with the signature or the data, a field of the trusted comment, the exit
+# status of the script, and the least and the most bytes that it sends before it stops, or None.
 BAD_SERVERS = (
     ("endless data of a signed size", {DATA: Handler.send_without_end}, f"\tsize:{len(NEW)}", REJECTED, (len(NEW), len(NEW))),
     ("endless data", {DATA: Handler.send_without_end}, "", REJECTED, (MAX_DATA, MAX_DATA)),
@@ -216,45 +217,45 @@ BAD_SERVERS = (
 )
 
 
-def meets_bad_server(directory, environment, bad, status, sent):
-    """The script ends with this status, and the server stops sending in time. The old program stays, and if the signature could
-    not be fetched also the old signature."""
-    kept = directory.holds("app.minisig")
+def survives_bad_server(directory, environment, bad, status, sent):
+    """The script exits with this status, and the server stops sending in time. The installed program is old_signature, and so is
+    the old signature if the new one could not be fetched."""
+    old_signature = directory.content("app.minisig")
     with serving(directory, bad) as server:
         ran = run_script(directory, environment, server.url)
-        ends(directory, ran, status, OLD)
+        expect_script(directory, ran, status, OLD)
         expect(Handler.find_nothing not in bad.values() or b"curl: (22)" in ran.said, ran)
         if sent:
             least, most = sent
             expect(least <= server.sent <= most + BUFFERED, f"the server has sent {server.sent} bytes")
-    expect(status != NOT_FETCHED or directory.holds("app.minisig") == kept, "the signature was replaced")
+    expect(status != NOT_FETCHED or directory.content("app.minisig") == old_signature, "the signature was replaced")
 
 
-@download_cases.table("the updater script: bad servers")
-def meets_bad_servers(directory):
-    """Each bad server is met by a script in a directory of its own, all at once, as some take half a minute."""
+@download_cases.table("the updater script survives bad servers")
+def survives_bad_servers(directory):
+    """Runs the script against all bad servers at once, each in its own directory, because some take half a minute."""
     with concurrent.futures.ThreadPoolExecutor(len(BAD_SERVERS)) as pool:
         runs = {}
         for number, (name, bad, field, *expected) in enumerate(BAD_SERVERS):
-            place = directory.at(f"bad-{number}")
-            os.mkdir(place)
-            one = Directory(place, directory.installing).begin()
-            environment = prepare(one)
-            offer_app(one, "url/app", NEW, 2, more=field)
-            runs[name] = pool.submit(meets_bad_server, one, environment, bad, *expected)
+            path = directory.path_of(f"bad-{number}")
+            os.mkdir(path)
+            fresh = Directory(path, directory.installing).reset()
+            environment = prepare(fresh)
+            offer_app(fresh, "url/app", NEW, 2, more=field)
+            runs[name] = pool.submit(survives_bad_server, fresh, environment, bad, *expected)
     failures = [f"{name}: {run.exception()}" for name, run in runs.items() if run.exception()]
     expect(not failures, *failures)
 
 
-@download_cases.table("the updater script: no server")
-def meets_no_server(directory):
-    """The exit statuses of curl for an unknown host (6) and a refused connection (7) are not those of the script: these numbers
-    are statuses of minisign-install too."""
+@download_cases.table("the updater script reports that there is no server")
+def reports_missing_server(directory):
+    """The script does not pass on curl's exit statuses for an unknown host (6) and a refused connection (7), because
+    minisign-install has statuses of the same numbers."""
     environment = prepare(directory)
     with serving(directory, {}) as server:
         refused = server.url
-    # (no name has a part of 64 letters, so that no name server is asked)
+    # (a label of 64 letters is invalid, so no name server is asked)
     for url in (refused, f"http://{'x' * 64}.invalid"):
         begun = time.monotonic()
-        ends(directory, run_script(directory, environment, url), NOT_FETCHED, OLD)
+        expect_script(directory, run_script(directory, environment, url), NOT_FETCHED, OLD)
         expect(time.monotonic() - begun < SECONDS / 2, f"it took {time.monotonic() - begun:.0f} seconds to fail")

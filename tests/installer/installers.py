@@ -1,5 +1,5 @@
-"""The program that installs updates, as its tests see it: its exit statuses, some messages and calls, and the texts of
-keys and signatures that it takes.
+"""Names and texts that the tests of `minisign-install` share: its exit statuses, some of its messages, and keys and
+signatures that Minisign makes.
 """
 
 import hashlib
@@ -9,21 +9,21 @@ import needs
 from running import SECONDS, read, write
 from texts import record_of
 
-# What an older update holds, a newer one, and one after that.
+# The data of an older update, of a newer one, and of one after that.
 OLD, NEW, LATER = b"old" * 1000, b"new" * 50000, b"later" * 40000
-PK, PLACE, RECORD, LOCK, STAGE = "key.pub", "place", ".place.number", ".place.lock", ".place.stage-"
+PK, TARGET, RECORD, LOCK, TEMPORARY = "key.pub", "target", ".target.number", ".target.lock", ".target.stage-"
 NAME = "minisign-install"
 
 # The exit statuses of `minisign-install`.
-FAILED, MISUSED, REJECTED, OLDER, IN_USE, NOT_ON_DISK, UNRECORDED, SAME, EXPIRED, THERE = range(1, 11)
+FAILED, MISUSED, REJECTED, OLDER, IN_USE, NOT_ON_DISK, UNRECORDED, SAME_VERSION, EXPIRED, ALREADY = range(1, 11)
 
-CHECK, FIRST = ("--check", PK, "new.sig", PLACE), ("--first",)
-# What says in a signed comment that an update has expired.
+CHECK, FIRST = ("--check", PK, "new.sig", TARGET), ("--first",)
+# A field of the trusted comment of an update that has expired.
 PAST = "\texpires:1700000000"
 
 
 def error(name, text, *more):
-    """The error about a file, and the hints after it."""
+    """Returns the output of an error about a file, with hints."""
     return "".join(f"{line}\n" for line in (f"error: {name}: {text}", *(f"hint: {hint}" for hint in more))).encode()
 
 
@@ -31,12 +31,12 @@ AGAIN, ORDER = "download the file and its signature again", "give PK DATA SIG TA
 NO_DIRECTORY = error("none", "this directory does not exist", "create it first")
 OTHER_SIGNED = error("new", "Signature verification failed", AGAIN)
 
-# What the C library calls the calls that `disturbed_calls.c` tells.
-CALLED = {"write": "write", "read-back": "pread", "permissions": "fchmod", "sync": "fsync", "rename": "renameat"}
+# The C library's names of the calls that `disturbed_calls.c` traces.
+LIBC_CALLS = {"write": "write", "read-back": "pread", "permissions": "fchmod", "sync": "fsync", "rename": "renameat"}
 
 
 class RealInstaller:
-    """What an installer is given, with a key that Minisign's own program makes in this directory."""
+    """Makes keys and signatures for an installer with Minisign's own program, in a directory."""
 
     def __init__(self, room):
         self.minisign, self.room, self.made = needs.minisign(), room, {}
@@ -50,15 +50,15 @@ class RealInstaller:
         return read(self.room, PK)
 
     def public_record(self):
-        """The algorithm, the key ID and the key."""
+        """Returns the decoded public key: algorithm, key ID and key."""
         return record_of(self.public_text())
 
     def record(self, data, number, label="timestamp"):
-        """What is kept of an update: its field and its number, the key that vouched, and the digest of its data."""
+        """Returns the version record of an update: field and number, the key that signed, and the digest of the data."""
         return f"{label}:{number}\n{self.public_record()[10:].hex()}\n{hashlib.blake2b(data).hexdigest()}".encode()
 
     def signature_text(self, data, trusted, legacy=False):
-        """Each is made once."""
+        """Returns a signature file. Signatures are cached."""
         if (data, trusted, legacy) not in self.made:
             write(self.room, "data", data)
             self.call("-S", *(["-l"] if legacy else []), "-s", "key.key", "-m", "data", "-x", "sig", "-t", trusted)

@@ -1,10 +1,10 @@
-"""The owners of files after an installation by root: the owner of the target, or of the directory, may go on, and
-nobody gets a file that was not made for that. Each case needs root.
+"""The owners of files after runs by root: the owner of the target, or of the directory, can install the next update,
+and no user gets a file that was not made for them. Each case needs root.
 """
 
 import os
 
-from installers import FAILED, LATER, LOCK, NEW, OLD, OLDER, PLACE, RECORD, THERE, error
+from installers import ALREADY, FAILED, LATER, LOCK, NEW, OLD, OLDER, RECORD, TARGET, error
 from permissions import OTHER_GROUP, OTHER_USER
 from running import AS_NOBODY, NOBODY, expect
 from runs import Cases
@@ -16,115 +16,117 @@ SECRET = b"secret:what root alone may read"
 NOT_OWN = "only the owner of this file can open it", "give it the same owner as the installed file"
 
 
-def expect_nobodys(directory):
-    for name in (PLACE, RECORD, LOCK):
-        found = os.stat(directory.at(name))
-        expect((found.st_uid, found.st_gid) == (NOBODY, NOBODY), f"{name} is of {found.st_uid}:{found.st_gid}")
+def expect_owned_by_nobody(directory):
+    for name in (TARGET, RECORD, LOCK):
+        found = os.stat(directory.path_of(name))
+        expect((found.st_uid, found.st_gid) == (NOBODY, NOBODY), f"{name} belongs to {found.st_uid}:{found.st_gid}, and not to nobody")
 
 
 def nobody_installs(directory, name, data, number):
-    """Nobody, whose file stands at the target, may go on."""
+    """The user nobody, who owns the installed file, can install an update."""
     directory.offer(name, data, number)
-    directory.ends(directory.install(name, **AS_NOBODY), 0, b"")
-    directory.expect(data, str(number).encode())
+    directory.expect_end(directory.install(name, **AS_NOBODY), 0, b"")
+    directory.expect_installed(data, str(number).encode())
 
 
-@owner_cases.table("the owner after an update by root")
-def after_root(directory):
-    directory.give(".", PLACE)
-    directory.check("new", 0)
-    expect_nobodys(directory)
-    directory.has_mode(0o600, RECORD)
+@owner_cases.table("an update by root keeps the owner")
+def update_by_root(directory):
+    directory.give_away(".", TARGET)
+    directory.expect_install("new", 0)
+    expect_owned_by_nobody(directory)
+    directory.expect_mode(0o600, RECORD)
     nobody_installs(directory, "later", LATER, 7)
 
 
-@owner_cases.table("the owner after a first installation by root")
-def after_first_by_root(directory):
-    """And after an update, in a directory of nobody's, the place becomes nobody's."""
-    directory.put_older(None, None)
-    directory.give(".")
-    directory.check("new", 0, "--first")
+@owner_cases.table("a first installation by root gives files to the owner of the directory")
+def first_installation_by_root(directory):
+    """The directory belongs to nobody. After a second update by root, nobody gets the target and can install the next one."""
+    directory.put_installed(None, None)
+    directory.give_away(".")
+    directory.expect_install("new", 0, "--first")
     directory.offer("later", LATER, 7)
-    directory.check("later", 0)
-    directory.give(PLACE)
+    directory.expect_install("later", 0)
+    directory.give_away(TARGET)
     nobody_installs(directory, "last", LAST, 8)
 
 
 @owner_cases.table(
-    ("the owner of a directory that was root's", LATER, 7, 0),
-    ("the owner after a run by root that finds the update there", NEW, 6, THERE),
-    ("the owner after a run by root of an older update", OLD, 5, OLDER),
+    ("a newer update by root renews lock and record for a new owner", LATER, 7, 0),
+    ("the same update by root renews lock and record for a new owner", NEW, 6, ALREADY),
+    ("an older update by root renews lock and record for a new owner", OLD, 5, OLDER),
 )
-def after_next_by_root(directory, data, number, status):
-    """Where place and directory become nobody's after a run by root, the lock file is named, and what may be done about it; and after
-    one more run by root, also where that installs nothing, nobody may go on: lock and record are renewed."""
-    directory.put_older(None, None)
-    directory.check("new", 0, "--first")
-    directory.give(".", PLACE)
+def next_run_by_root(directory, data, number, status):
+    """After a run by root, target and directory are given to nobody. A run by nobody then fails, and its error names
+    the lock or the record, with a hint. After one more run by root, even if that installs nothing, lock and record
+    belong to nobody, who can install the next update."""
+    directory.put_installed(None, None)
+    directory.expect_install("new", 0, "--first")
+    directory.give_away(".", TARGET)
     directory.offer("other", data, number)
     for name in (LOCK, RECORD):
-        directory.ends(directory.install("other", **AS_NOBODY), FAILED, error(f"./{name}", *NOT_OWN))
-        directory.give(LOCK)
-    directory.give(LOCK, to=(0, 0))
-    directory.check("other", status)
-    expect_nobodys(directory)
+        directory.expect_end(directory.install("other", **AS_NOBODY), FAILED, error(f"./{name}", *NOT_OWN))
+        directory.give_away(LOCK)
+    directory.give_away(LOCK, to=(0, 0))
+    directory.expect_install("other", status)
+    expect_owned_by_nobody(directory)
     installed = (NEW, 6) if status else (data, number)
-    directory.is_kept(installed[0], directory.kind.record(*installed))
+    directory.expect_recorded(installed[0], directory.kind.record(*installed))
     nobody_installs(directory, "last", LAST, 8)
 
 
-# == Files of root's ==
+# == Files of root ==
 
 def put_secret(directory):
-    """Puts a file there that root alone may read, in a directory of nobody's."""
+    """Makes a file that only root may read, in a directory of nobody."""
     directory.put("secret", SECRET)
-    os.chmod(directory.at("secret"), 0o600)
-    directory.give(".", PLACE)
+    os.chmod(directory.path_of("secret"), 0o600)
+    directory.give_away(".", TARGET)
 
 
-def expect_roots(directory, name):
-    expect(os.stat(directory.at(name)).st_uid == 0 and directory.holds(name) == SECRET, "the file has another owner or other data now")
+def expect_secret_of_root(directory, name):
+    is_unchanged = os.stat(directory.path_of(name)).st_uid == 0 and directory.content(name) == SECRET
+    expect(is_unchanged, "root's file has another owner or content now")
 
 
 @owner_cases.table(
-    ("a file of root's with the name of the record", os.rename, RECORD, "bad"),
-    ("a file of root's with the name of the record, at a first installation", os.rename, RECORD, "bad", "--first"),
-    ("a file of root's, renamed to the lock's name", os.rename, LOCK, "new"),
-    ("a file of root's, linked to the lock's name", os.link, LOCK, "new"),
+    ("root's file in place of the record keeps its owner", os.rename, RECORD, "bad"),
+    ("root's file in place of the record keeps its owner with --first", os.rename, RECORD, "bad", "--first"),
+    ("root's file renamed to the name of the lock keeps its owner", os.rename, LOCK, "new"),
+    ("root's file linked to the name of the lock keeps its owner", os.link, LOCK, "new"),
 )
-def gives_nothing_found(directory, make, name, *arguments):
-    """A run by root gives away no file of root's that has the name of the record or of the lock, as nobody may rename or link it in the
-    directory, and nothing that holds the same; and it changes nothing in it."""
+def keeps_owner_of_found_file(directory, make, name, *arguments):
+    """Nobody can rename or link a file of root to the name of the record or of the lock. A run by root does not give
+    away or change that file, and no file with its content."""
     put_secret(directory)
     directory.offer("bad", OLD, signed=NEW)
-    with open(directory.at("secret"), "rb") as secret:
-        make(directory.at("secret"), directory.at(name))
+    with open(directory.path_of("secret"), "rb") as secret:
+        make(directory.path_of("secret"), directory.path_of(name))
         for _ in range(2):
             directory.install(*arguments)
-            expect_roots(directory, name)
-            expect(os.fstat(secret.fileno()).st_uid == 0, "the file has another owner now")
+            expect_secret_of_root(directory, name)
+            expect(os.fstat(secret.fileno()).st_uid == 0, "root's file has another owner now")
 
 
-@owner_cases.table("data of root's, whose stage is renamed")
-def gives_no_data(directory):
-    """Data that root alone may read, to which a link leads, is given to nobody: not by its stage either, which is renamed in
-    time, and to the lock's name later."""
+@owner_cases.table("root's data keeps its owner if its temporary file is renamed")
+def keeps_owner_of_data(directory):
+    """Root installs data that only root may read. Nobody does not get it through the temporary file, which is renamed
+    during the run and later gets the name of the lock."""
     put_secret(directory)
     directory.replace("new", os.symlink, "secret")
-    ran = directory.while_staged(lambda at: os.rename(directory.at(at.stages()[0]), directory.at("kept")))
+    ran = directory.run_stopped_when_staged(lambda at: os.rename(directory.path_of(at.temporary_files()[0]), directory.path_of("kept")))
     expect(ran.status != 0, ran)
-    os.rename(directory.at("kept"), directory.at(LOCK))
+    os.rename(directory.path_of("kept"), directory.path_of(LOCK))
     for _ in range(2):
         directory.install()
-        expect_roots(directory, LOCK)
+        expect_secret_of_root(directory, LOCK)
 
 
-@owner_cases.table("the group alone")
-def is_of_group(directory):
-    """Who is a member of the group of the file at the place, and not its owner, gives the new file that group."""
-    directory.give(".", RECORD)
-    directory.give(PLACE, to=(OTHER_USER, OTHER_GROUP))
-    os.chmod(directory.at(PLACE), 0o775)
-    directory.ends(directory.install(**{**AS_NOBODY, "extra_groups": [OTHER_GROUP]}), 0, b"")
-    found = os.stat(directory.at(PLACE))
+@owner_cases.table("keeps the group if only the owner cannot be kept")
+def keeps_group(directory):
+    """A member of the target's group who does not own the target gives the new file that group."""
+    directory.give_away(".", RECORD)
+    directory.give_away(TARGET, to=(OTHER_USER, OTHER_GROUP))
+    os.chmod(directory.path_of(TARGET), 0o775)
+    directory.expect_end(directory.install(**{**AS_NOBODY, "extra_groups": [OTHER_GROUP]}), 0, b"")
+    found = os.stat(directory.path_of(TARGET))
     expect((found.st_uid, found.st_gid, directory.mode()) == (NOBODY, OTHER_GROUP, 0o775), f"the file is {found}")

@@ -1,19 +1,26 @@
 #!/usr/bin/env python3
-"""The cases of `minisign-install` on real files, with keys and signatures of Minisign's own program: good, bad and older
-updates, each option, and wrong command lines; files that cannot be used; kills, failures and interruptions at each call
-of the system; four runs at once with a reader beside them; others who change stage, target and lock file; runs by root
-over files of others, links, access control lists, a directory that may not be written, a full disk, a disk that crashes;
-data from a pipe that stands still, a failing allocation. Whatever comes, the old or a new update stands at the target,
-whole, and after a run that was cut off the next one ends with the update there. tests/bindings runs the package for
-Python through most of them.
+"""Checks that `minisign-install` leaves the old or the new update at the target, complete and verified, whatever
+happens.
 
     tests/installer/real_installing.py [PROGRAM] [WORD ..]
 
-WORD selects the cases whose name contains it. By default the program is built over the static library of `dist/` (`static_library.py`). It prints a line for each
-case that failed or was skipped; the last line is `N passed, M failed`.
+PROGRAM is a build of minisign-install; by default it is built over the static library of `dist/`. WORD selects the
+cases whose name contains it. Keys and signatures are made by Minisign's own program.
+
+- updates.py: newer, older and bad updates, and each option;
+- words.py: command lines and messages;
+- checking.py: --check, and the systemd unit of docs/INSTALLING.md;
+- downloads.py: the updater script of docs/INSTALLING.md;
+- owners.py and permissions.py: runs by root, links and access control lists;
+- meanwhile.py: concurrent runs, stalled pipes, and files that others change during a run;
+- cut_off.py: kills, failures and interruptions of each system call, failing allocations, a full disk, and a disk that
+crashes. After each the next run has to finish the update.
+
+tests/bindings/python_installing.py runs most of the cases with the Python package. Prints a line for each case that
+failed or was skipped; the last line is `N passed, M failed`.
 
 Needs Python 3.9 or later, make, a C compiler, libsodium with its header, minisign and setfacl. It installs what is
-missing if it may. The disk that crashes is a file system in a file, which root mounts: where that is not allowed, those
+missing if it may. The disk that crashes is a file system in a file, which root mounts; where that is not allowed, those
 cases are skipped.
 """
 
@@ -31,7 +38,7 @@ import static_library
 from checking import check_cases
 from cut_off import cut_off_cases
 from downloads import download_cases
-from installers import NAME, PK, PLACE, RealInstaller
+from installers import NAME, PK, TARGET, RealInstaller
 from meanwhile import meanwhile_cases
 from owners import owner_cases
 from permissions import ASKED, KEPT, permission_cases
@@ -42,16 +49,16 @@ from words import word_cases
 
 
 def cases_of(installing):
-    """The names of all cases, and what runs each."""
+    """Yields the names of all cases, with their functions and arguments."""
     for some in (update_cases, owner_cases, meanwhile_cases, cut_off_cases, check_cases, download_cases, word_cases):
         for name, case, *given in some:
             yield name, installing.run_case, case, *given
-    yield from permission_cases(installing, lambda path: installing.offered(path).at(PLACE),
-                                lambda asked: [*(["--mode", asked] if asked else []), PK, "new", "new.sig", PLACE], KEPT + ASKED)
+    yield from permission_cases(installing, lambda path: installing.offered(path).path_of(TARGET),
+                                lambda asked: [*(["--mode", asked] if asked else []), PK, "new", "new.sig", TARGET], KEPT + ASKED)
 
 
 def run_all(room):
-    """Runs all cases: the failures, and how many there were."""
+    """Runs all cases and returns the failures and the number of cases."""
     os.chmod(room, 0o711)
     program = selected.file() or os.path.join(room, "out", NAME)
     if not selected.file():

@@ -1,4 +1,4 @@
-"""Runs an installer in fresh directories, each with a target and an offered update, and compares what comes of it."""
+"""Runs an installer in fresh directories, each with a target and an offered update, and checks the results."""
 
 import concurrent.futures
 import contextlib
@@ -12,16 +12,17 @@ import tempfile
 import threading
 
 from disturbed import Disturbing, content
-from installers import CALLED, LOCK, NEW, OLD, PK, PLACE, RECORD, STAGE, THERE
+from installers import ALREADY, LIBC_CALLS, LOCK, NEW, OLD, PK, RECORD, TARGET, TEMPORARY
 from process import Ran, told
 from running import NOBODY, SECONDS, expect, only_root, read, write
 
 
 class Cases(list):
-    """The cases of a file: of each its name, its function, and what that is given beside a directory, at the end by names."""
+    """The cases of a file: their names, functions, and arguments after the directory, of which a last dict holds
+    keyword arguments."""
 
     def table(self, *rows):
-        """Makes a function a case for each row, which is a name, or one with what is given."""
+        """Decorates a function as the cases of these rows: each is a name, or a name with arguments."""
 
         def add(function):
             for name, *given in ([row] if isinstance(row, str) else row for row in rows):
@@ -33,7 +34,7 @@ class Cases(list):
 
 @contextlib.contextmanager
 def unfed_pipe():
-    """A pipe that nobody feeds."""
+    """Opens a pipe that nobody writes to."""
     reader, writer = map(os.fdopen, os.pipe(), "rw")
     with reader, writer:
         yield reader
@@ -41,7 +42,7 @@ def unfed_pipe():
 
 @contextlib.contextmanager
 def repeating(act, pause=0.0):
-    """Does something again and again meanwhile, which is given a number that counts up; what it raises is a `Failure`."""
+    """Calls a function repeatedly in another thread, with a number that counts up. Its exceptions become a `Failure`."""
     is_over = threading.Event()
 
     def go_on():
@@ -56,174 +57,175 @@ def repeating(act, pause=0.0):
             yield
         finally:
             is_over.set()
-    expect(not repeated.exception(), "what is done meanwhile ended", repeated.exception())
+    expect(not repeated.exception(), "the repeated function failed", repeated.exception())
 
 
 class Directory:
-    """A directory with a target, and the runs of an installer in it."""
+    """A directory with a target, and runs of an installer in it."""
 
     def __init__(self, path, installing):
         self.path, self.installing, self.kind = path, installing, installing.kind
 
     # == Files ==
 
-    def begin(self, **offered):
-        """Puts the key there, an update of the number 5 at the target, and what is offered, in the place of all else."""
+    def reset(self, **offered):
+        """Replaces all files by the key, an installed update of number 5, and the offered update."""
         for each in os.scandir(self.path):
             if not each.is_dir(follow_symlinks=False):
                 os.remove(each.path)
         self.put(PK, self.kind.public_text())
-        self.put_older()
-        os.chmod(self.at(PLACE), 0o751)
+        self.put_installed()
+        os.chmod(self.path_of(TARGET), 0o751)
         self.offer(**offered)
         return self
 
-    def at(self, name):
+    def path_of(self, name):
         return os.path.join(self.path, name)
 
     def put(self, name, data):
         write(self.path, name, data)
 
-    def put_older(self, data=OLD, record=b"5"):
-        """What stands at the target before, and its record, or nothing."""
-        for name, held in ((PLACE, data), (RECORD, record)):
+    def put_installed(self, data=OLD, record=b"5"):
+        """Puts the installed file and its record there, or removes them if they are None."""
+        for name, held in ((TARGET, data), (RECORD, record)):
             if held is not None:
                 self.put(name, held)
-            elif os.path.exists(self.at(name)):
-                os.remove(self.at(name))
+            elif os.path.exists(self.path_of(name)):
+                os.remove(self.path_of(name))
 
     def replace(self, name, make, *given):
-        """Puts something else, which is made, in the place of a file."""
-        if os.path.lexists(self.at(name)):
-            os.remove(self.at(name))
-        make(*given, self.at(name))
+        """Replaces a file by what `make` makes at its path."""
+        if os.path.lexists(self.path_of(name)):
+            os.remove(self.path_of(name))
+        make(*given, self.path_of(name))
 
-    def offer(self, name="new", data=NEW, number=6, signed=None, legacy=False, names=PLACE, label="timestamp", more=""):
-        """The data of an update and its signature, which is over `signed` where that is given."""
+    def offer(self, name="new", data=NEW, number=6, signed=None, legacy=False, names=TARGET, label="timestamp", more=""):
+        """Offers an update: its data, and its signature, which is of `signed` if that is given."""
         self.put(name, data)
         comment = f"{label}:{number}\tfile:{names}{more}\tprehashed"
         self.put(name + ".sig", self.kind.signature_text(data if signed is None else signed, comment, legacy))
 
-    def give(self, *names, to=(NOBODY, NOBODY)):
-        """Gives files another owner and group, or skips the case."""
+    def give_away(self, *names, to=(NOBODY, NOBODY)):
+        """Changes the owner and group of files. Skips the case without root."""
         only_root("give files another owner")
         for name in names:
-            os.chown(self.at(name), *to)
+            os.chown(self.path_of(name), *to)
 
     @contextlib.contextmanager
     def locked(self):
-        """Another holds the lock meanwhile."""
-        with open(self.at(LOCK), "wb") as lock:
+        """Holds the lock, as another run does."""
+        with open(self.path_of(LOCK), "wb") as lock:
             fcntl.flock(lock, fcntl.LOCK_EX)
             yield lock
 
-    def mode(self, name=PLACE):
-        return stat.S_IMODE(os.stat(self.at(name)).st_mode)
+    def mode(self, name=TARGET):
+        return stat.S_IMODE(os.stat(self.path_of(name)).st_mode)
 
-    def holds(self, name=PLACE):
-        """What the file holds; of a record with a digest whose number is a timestamp the number alone."""
+    def content(self, name=TARGET):
+        """Returns the content of a file. Of a complete record with a timestamp it is the number only."""
         found = content(self.path, name)
         return found and re.sub(rb"\Atimestamp:(\d+)\n[0-9a-f]{64}\n[0-9a-f]{128}\Z", rb"\1", found)
 
-    def state(self):
-        """What the target holds, and what the record does."""
-        return self.holds(), self.holds(RECORD)
+    def installed_state(self):
+        """Returns the contents of the target and of the record."""
+        return self.content(), self.content(RECORD)
 
-    def stages(self):
-        return [name for name in os.listdir(self.path) if name.startswith(STAGE)]
+    def temporary_files(self):
+        return [name for name in os.listdir(self.path) if name.startswith(TEMPORARY)]
 
-    def everything(self):
-        """What the directory has, and when each file was changed."""
+    def snapshot(self):
+        """Returns the names, contents, times and inodes of all files, and the time of the directory."""
         return os.stat(self.path).st_mtime_ns, {
             each.name: (each.is_file() and read(each.path), each.stat().st_mtime_ns, each.stat().st_ino) for each in os.scandir(self.path)}
 
     # == Runs ==
 
     def arguments(self, name, *options):
-        return [*options, PK, name, name + ".sig", PLACE]
+        return [*options, PK, name, name + ".sig", TARGET]
 
     def run(self, words, environment=None, **how):
-        """A run of the program."""
+        """Runs the program with these arguments."""
         return self.installing.run(self.path, words, environment, **how)
 
     def install(self, name="new", *options, **how):
-        """A run for the update of this name."""
+        """Runs the program for the update of this name."""
         return self.run(self.arguments(name, *options), **how)
 
     def start(self, words, environment=None, **how):
-        """A run that goes on meanwhile, and says its errors into a pipe."""
+        """Starts a run, whose error output goes into a pipe."""
         return subprocess.Popen([self.installing.program, *words], cwd=self.path, env=environment or {},
                                 **{"stdin": subprocess.DEVNULL, "stdout": subprocess.DEVNULL, "stderr": subprocess.PIPE, **how})
 
-    def broken(self, *options, **how):
-        """A run for the update with a call broken, as `disturbed_calls.c` is told."""
+    def install_broken(self, *options, **how):
+        """Runs the program for the update with a broken call, as `disturbed_calls.c` takes it."""
         return self.installing.run_broken(self.path, self.arguments("new", *options), how)
 
-    def preloading(self, **environment):
-        """An environment in which `disturbed_calls.c` does this."""
+    def disturbing(self, **environment):
+        """Returns an environment in which `disturbed_calls.c` does this."""
         return {"LD_PRELOAD": self.installing.preload, **environment}
 
     def run_traced(self, words, how=None, **environment):
-        """A run and the lines of its calls, as `disturbed_calls.c` tells them."""
-        ran, said = told(lambda says: self.run(words, self.preloading(TRACE_TO=str(says), **environment), pass_fds=[says], **(how or {})))
+        """Runs the program and returns its calls, as `disturbed_calls.c` traces them."""
+        ran, said = told(lambda says: self.run(words, self.disturbing(TRACE_TO=str(says), **environment), pass_fds=[says], **(how or {})))
         return ran, said.decode().splitlines()
 
-    def while_stopped(self, number, meanwhile, where=".", **calls):
-        """A run over the target in a directory of this directory: before its call of this number among the CALLS, or all, it stops,
-        something is done, and then it goes on."""
-        return self.installing.run_stopped(self.path, [PK, "new", "new.sig", os.path.join(where, PLACE)],
-                                           lambda: meanwhile(Directory(self.at(where), self.installing)), AT=number, **calls)
+    def run_stopped_before(self, number, meanwhile, where=".", **calls):
+        """Runs the program for the target in a subdirectory. It stops before the call with this number (of the calls
+        CALLS, if given), `meanwhile` runs, and then the program continues."""
+        return self.installing.run_stopped(self.path, [PK, "new", "new.sig", os.path.join(where, TARGET)],
+                                           lambda: meanwhile(Directory(self.path_of(where), self.installing)), AT=number, **calls)
 
-    def while_staged(self, meanwhile, where="."):
-        """The same once it has staged all of its data."""
-        ran = self.while_stopped(1, meanwhile, where, CALLS=CALLED["read-back"])
-        expect(ran.came, "it staged nothing", ran)
+    def run_stopped_when_staged(self, meanwhile, where="."):
+        """Does the same when the program has written all of its data into the temporary file."""
+        ran = self.run_stopped_before(1, meanwhile, where, CALLS=LIBC_CALLS["read-back"])
+        expect(ran.came, "it wrote no temporary file", ran)
         return ran
 
-    # == What has to come of them ==
+    # == Results ==
 
-    def ends(self, ran, status, said=None):
-        """Raises a `Failure` where a run ended otherwise, or does not say this at its end, or says something where this is nothing."""
+    def expect_end(self, ran, status, said=None):
+        """Raises a `Failure` if a run has another exit status, or its error output does not end with `said`, or is not
+        empty if `said` is."""
         is_said = said is None or ran.said.endswith(said) and bool(ran.said) == bool(said)
-        expect(ran.status == status and is_said and b"Success" not in ran.said, ran, f"in place of {status}")
+        expect(ran.status == status and is_said and b"Success" not in ran.said, ran, f"expected status {status} and {said}")
 
-    def leaves(self, ran, status, said=None):
-        """The same; and where it ended well the newer update stands there, and else the older one."""
-        self.ends(ran, status, said)
-        self.expect(*((NEW, b"6") if status in (0, THERE) else (OLD, b"5")))
+    def expect_result(self, ran, status, said=None):
+        """Does the same, and expects the newer update to be installed after success, otherwise the older one."""
+        self.expect_end(ran, status, said)
+        self.expect_installed(*((NEW, b"6") if status in (0, ALREADY) else (OLD, b"5")))
 
-    def check(self, name, status, *options, said=None):
-        """A run for the update of this name ends so."""
-        self.ends(self.install(name, *options), status, said)
+    def expect_install(self, name, status, *options, said=None):
+        """Installs the update of this name, and expects this exit status."""
+        self.expect_end(self.install(name, *options), status, said)
 
-    def check_words(self, words, status, said=b"", **how):
-        """A run by these words ends so, and says this alone."""
+    def expect_run(self, words, status, said=b"", **how):
+        """Runs the program with these arguments, and expects this exit status and exactly this error output."""
         ran = self.run(words, **how)
-        expect(ran.status == status and ran.said == said, ran, f"in place of {status}", said)
+        expect(ran.status == status and ran.said == said, ran, f"expected status {status} and {said}")
 
-    def ends_later(self, process, status, said=None):
-        """A run that went on meanwhile ends so."""
+    def expect_end_of(self, process, status, said=None):
+        """Waits for a started run, and expects this exit status."""
         text = process.communicate(timeout=SECONDS)[1]
-        self.ends(Ran(process.returncode, b"", text), status, said)
+        self.expect_end(Ran(process.returncode, b"", text), status, said)
 
-    def expect(self, data, number):
-        """Raises a `Failure` where the target or the record holds anything else, or a stage is left."""
-        expect(self.holds() == data, f"the place holds {str(self.holds())[:40]}")
-        expect(self.holds(RECORD) == number, f"the record holds {self.holds(RECORD)}")
-        expect(not self.stages(), f"it left {self.stages()}")
+    def expect_installed(self, data, number):
+        """Raises a `Failure` if the target or the record has another content, or a temporary file is left."""
+        expect(self.content() == data, f"the target holds {str(self.content())[:40]}, expected {str(data)[:40]}")
+        expect(self.content(RECORD) == number, f"the record holds {self.content(RECORD)}, expected {number}")
+        expect(not self.temporary_files(), f"it left {self.temporary_files()}")
 
-    def is_kept(self, data, record):
-        """The same of the whole text of the record."""
+    def expect_recorded(self, data, record):
+        """Does the same with the complete content of the record."""
         found = content(self.path, RECORD)
-        self.expect(data, self.holds(RECORD))
-        expect(found == record, f"the record holds {found}")
+        self.expect_installed(data, self.content(RECORD))
+        expect(found == record, f"the record holds {found}, expected {record}")
 
-    def has_mode(self, mode, name=PLACE):
-        expect(self.mode(name) == mode, f"{name} has the mode {self.mode(name):o}")
+    def expect_mode(self, mode, name=TARGET):
+        expect(self.mode(name) == mode, f"{name} has the mode {self.mode(name):o}, expected {mode:o}")
 
 
 class Installing(Disturbing):
-    """An installer that is run in fresh directories, with what `kind` of `installers.py` gives it."""
+    """An installer that runs in fresh directories, with keys and signatures of `kind` (installers.py)."""
 
     seconds = SECONDS
 
@@ -233,11 +235,11 @@ class Installing(Disturbing):
         os.chmod(room, 0o711)
 
     def offered(self, path):
-        """A directory at this path, at whose target an older update stands, and which is offered a newer one."""
-        return Directory(path, self).begin()
+        """Makes a directory in which an older update is installed and a newer one is offered."""
+        return Directory(path, self).reset()
 
     def run_case(self, case, *given):
-        """Runs a case in a fresh directory, with what it is given, at the end by names."""
+        """Runs a case in a fresh directory, with its arguments, of which a last dict holds keyword arguments."""
         *given, named = given if given and isinstance(given[-1], dict) else (*given, {})
         with tempfile.TemporaryDirectory(dir=self.place) as path:
             case(self.offered(path), *given, **named)

@@ -19,16 +19,17 @@ TOP = os.path.dirname(os.path.dirname(os.path.dirname(os.path.realpath(__file__)
 FIRST_UNCHECKED = "d4d9728e0c99ad1ad14d5cc8609071f25454f20f"
 LONGEST = 72
 # One or more areas, such as `tests`, `c/install` or `rust, go`, then a verb in lower case.
-FORM = re.compile(r"[a-z0-9_./-]{2,}(, [a-z0-9_./-]{1,})*: [a-z].{4,}[^.]")
+FORM = re.compile(r"[a-z0-9_./-]+(, [a-z0-9_./-]+)*: [a-z].{4,}[^.]")
 # Words that begin a description of the result and not an instruction.
 NO_IMPERATIVE = re.compile(r": (what|whether|of|who|where|the|a|an|it|its|that|this|these|no|there)\b")
-# Subjects with the reason why each is rejected, and one that is accepted, to check the check.
+# Subjects to check the check with: subject, body, and why the subject is rejected, or nothing if it is accepted.
 EXAMPLES = (
     ("installer: read CLOCK_REALTIME instead of time()", "reason", ""),
     ("A reading that was disturbed is no reading on quiet cores", "reason", "form"),
     ("tests: what settled memory is", "reason", "imperative"),
     ("tests: " + "x" * LONGEST, "reason", "long"),
     ("tests: rename variables", "", "body"),
+    ("c: rewrite messages", "reason", ""),
 )
 
 
@@ -57,10 +58,10 @@ def commits():
 def main():
     passed, failures = 0, []
     for subject, body, expected in EXAMPLES:
-        found = fault_of(subject, body).partition(":")[0]
-        passed += found == expected
-        if found != expected:
-            failures.append(f"the example '{subject}' is {found or 'accepted'}, expected {expected or 'accepted'}")
+        fault = fault_of(subject, body).partition(":")[0]
+        passed += fault == expected
+        if fault != expected:
+            failures.append(f"the example '{subject}': got {fault or 'accepted'}, expected {expected or 'accepted'}")
     if not os.path.exists(os.path.join(TOP, ".git")):
         print("this is not a git clone: no commits to check")
     else:

@@ -1,10 +1,14 @@
 #!/usr/bin/env python3
-"""Compares the names in the documents with the sources: functions and clauses, the calls that a CALLING.md quotes,
-the errors of docs/FORMATS.md, links, paths, and the old texts of the must-fail edits. It does the same with names and
-paths in the comments of all code, of makefiles and of manual pages. No file may name a directory of one machine, and
-no crate the proofs of another one. A script runs each block of commands and each example.
+"""Checks that documents and comments name only what exists.
 
-It prints a line for each name that is missing; the last line is `N passed, M failed`. Needs Python 3.9 or later.
+    tests/library/documents.py
+
+It compares with the sources: functions and clauses that documents name, the calls that a CALLING.md quotes, the error
+texts of docs/FORMATS.md, links, paths, and the old texts of the must-fail edits. It also checks the names and paths in
+the comments of all code, makefiles and manual pages. No file may name a directory of a particular machine, and no crate
+the proofs of another one. Each block of commands or code in a document has to be run by a test script.
+
+It prints a line for each missing name; the last line is `N passed, M failed`. Needs Python 3.9 or later.
 """
 
 import builtins
@@ -25,11 +29,11 @@ from wrong_bodies import WrongBody
 
 FORMATS = "docs/FORMATS.md"
 ARCHITECTURE = "docs/ARCHITECTURE.md"
-# Generated from the sources, and checked by the script that makes it.
-MADE = "docs/TRUSTED.md"
+# Generated from the sources. The script that generates it also checks it.
+GENERATED = "docs/TRUSTED.md"
 CALLS = re.compile(r"crates/([^/]+)/CALLING\.md")
-# The documents with commands and examples, and what runs the blocks of each language. A block without one shows what
-# a program says, or lines of a file.
+# The documents with commands and examples, and the script that runs the blocks of each language. A block without a language
+# shows output, or lines of a file.
 COMMANDS, PACKAGES = "tests/c/commands.py", "tests/bindings/install_commands.py"
 RUN_BY = {
     "README.md": {"sh": COMMANDS, "c": "tests/c/installed.py"},
@@ -43,41 +47,43 @@ RUN_BY = {
     "bindings/python/README.md": {"sh": PACKAGES, "python": "tests/bindings/python.py"},
     "bindings/rust/README.md": {"sh": PACKAGES, "toml": PACKAGES, "rust": "tests/bindings/rust.py"},
 }
-# The first lines of the indented blocks: the usage, the output of a check, the unit that tests/installer/checking.py runs, and
-# the script that tests/installer/downloads.py runs.
-SET_IN = {"docs/INSTALLING.md": ["minisign-install [OPTION ..] PK DATA SIG TARGET", "2", "[Service]", "#!/bin/sh"]}
+# The first lines of the blocks that are indented and not fenced: the usage, the output of a check, the systemd unit that
+# tests/installer/checking.py runs, and the script that tests/installer/downloads.py runs.
+INDENTED = {"docs/INSTALLING.md": ["minisign-install [OPTION ..] PK DATA SIG TARGET", "2", "[Service]", "#!/bin/sh"]}
 IN_COMMANDS = re.compile(r"(?<![\w./-])(?:\.ci|bench|c|crates|docs|examples|tests|tools)/[\w./*-]+")
 QUOTED = re.compile(r"`([^`]+)`")
-# Quoted names of functions, parted by commas.
+# Quoted names of functions, separated by commas.
 NAMES = r"((?:`[\w:]+`(?:, | and )?)+)"
 BLOCK = re.compile(r"^```(\w*)\n(.*?)^```$", re.M | re.S)
 PATH_NAME = re.compile(r"[A-Za-z_]\w*(?:::(?:[A-Za-z_]\w*|\.\.))*$")
-# What has the form of a name, and is a word or a constant of any language, or stands for all of a module.
+# Texts that have the form of a name but are words, constants of any language, or `module::..`.
 NO_NAME = re.compile(r"[a-zA-Z]{1,8}|[A-Z][A-Z0-9]*|.*::\.\.")
 TEXT = re.compile(r'"((?:[^"\\]|\\.)*)"')
 
 
-# Files whose names are those of the repository, and with these the ones whose comments are looked through.
-CODE = (".rt", ".rt.txt", ".antt", ".antt.txt", ".c", ".h", ".js", ".mjs", ".ts", ".go", ".rs", ".py", ".sh", ".html", ".toml", ".json", "Makefile", ".ci/run")
+# Files whose code defines names, and files whose comments are checked.
+CODE = (".rt", ".rt.txt", ".antt", ".antt.txt", ".c", ".h", ".js", ".mjs", ".ts", ".go", ".rs", ".py", ".sh", ".html", ".toml", ".json",
+        "Makefile", ".ci/run")
 COMMENTED = (*CODE, ".css", ".txt", ".1", ".3", ".edit")
-# Comments of other forms than in Rattle. (In Python a text in three quotes is one where it stands by itself.)
+# Comments whose syntax differs from Rattle's. (A Python string in triple quotes is a comment if it is a statement.)
 HASH, ROFF = re.compile(r"(?<!\S)#[^\n]*"), re.compile(r'(?m)^\.\\"[^\n]*')
 PYTHON = re.compile(r'#[^\n]*|"""(?:[^\\]|\\.)*?"""|"(?:[^"\\\n]|\\.)*"|\'(?:[^\'\\\n]|\\.)*\'', re.S)
 OTHER_COMMENTS = {
     ".antt": re.compile(r"(?<!\S)--(?=\s)[^\n]*"), ".html": re.compile(r"<!--.*?-->", re.S), ".css": re.compile(r"/\*.*?\*/", re.S),
     ".1": ROFF, ".3": ROFF, ".edit": re.compile(r"(?m)^why: [^\n]*"), ".sh": HASH, ".toml": HASH, ".txt": HASH, "": HASH,
 }
-# Names by their form: with an underscore, or with a capital letter inside.
+# Words that have the form of a name: with an underscore, or with a capital letter inside.
 NAMES_IN_COMMENTS = re.compile(r"(?<![\w`./:-])(?:[A-Za-z]\w+_\w+|[A-Za-z][a-z0-9]+[A-Z]\w*)(?![\w`])")
 PATHS_IN_COMMENTS = re.compile(r"(?<![\w`./-])(?:\.ci|bench|bindings|c|compare|crates|docs|examples|include|page|tests|tools)/[\w/-]+\.[a-z]+\b")
-# A directory that only some machines have, or one person.
+# A directory that only some machines or users have.
 OF_ONE_MACHINE = re.compile(r"(?<![\w.])/(?:opt|work|root|home|Users)/\S*")
-# What looks like a name, and is one of the world.
+# Words that have the form of a name but come from outside the repository.
 OTHER_NAMES = {"OpenPGP", "WebAssembly", "TypeScript", "macOS", "KiB", "MiB", "GiB", "EdDSAs", "BlockMix", "scryptBlockMix",
-               "scryptROMix", "VerifyError", "crypto_pwhash_scryptsalsa208sha256", "AddressSanitizer", "UndefinedBehaviorSanitizer"}
+               "scryptROMix", "VerifyError", "crypto_pwhash_scryptsalsa208sha256", "AddressSanitizer", "UndefinedBehaviorSanitizer",
+               "DevTools", "WebDriver"}
 
 FILES = [os.path.relpath(file, ROOT) for file in sources.files_below(ROOT)]
-# Files and directories, also those that a build makes beside the sources; and how the documents leave out an ending.
+# Files and directories, including those that a build makes beside the sources. ENDINGS are those that documents may leave out.
 PATHS = dict.fromkeys(os.sep.join(file.split(os.sep)[:last + 1])
                       for file in (*FILES, *(line for line in read(".gitignore").split() if not line.endswith("/")))
                       for last in range(file.count(os.sep) + 1))
@@ -85,11 +91,12 @@ ENDINGS = ("", ".antt", ".rt", ".py", ".md", ".c", ".rs")
 
 
 def comments_in(path, text):
-    """The comments of a file, and the lines `why:` of an edit."""
+    """Returns the comments of a file. Those of an edit are its lines `why:`."""
     ending = ".rt" if path.endswith(".rt.txt") else os.path.splitext(path)[1]
     if ending == ".py":
-        found = [match for match in PYTHON.finditer(text) if match[0].startswith(("#", '"""'))]
-        return [match[0] for match in found if match[0][0] == "#" or not text[text.rfind("\n", 0, match.start()) + 1:match.start()].strip()]
+        matches = [match for match in PYTHON.finditer(text) if match[0].startswith(("#", '"""'))]
+        before = lambda match: text[text.rfind("\n", 0, match.start()) + 1:match.start()]
+        return [match[0] for match in matches if match[0][0] == "#" or not before(match).strip()]
     form = OTHER_COMMENTS.get(ending, sources.OPAQUE)
     return [match[0] for match in form.finditer(text) if form is not sources.OPAQUE or match[0].startswith(("//", "/*"))]
 
@@ -104,8 +111,8 @@ class Index:
         self.types = {item.name for item in self.items if item.what in ("struct", "enum", "trait", "type")}
         specs = [file for directory in self.library.crates.values() for file in sources.files_below(f"{directory}/specs", ".antt")]
         self.definitions = [definition for file in specs for definition in sources.read_module(file).definitions.values()]
-        # All names in code: those of the crates and of C alone, which a comment in a crate may name, and all; comments in Python
-        # name what that has.
+        # The names in code: `of_crates` are those of the crates and of C, the only ones that comments in a crate may use; `known` are
+        # all names, including Python's builtins.
         self.of_crates = {*self.library.crates, *(os.path.basename(file).partition(".")[0] for file in FILES)}
         self.known = {*self.of_crates, *dir(builtins)}
         for file in (file for file in FILES if file.endswith(CODE)):
@@ -117,33 +124,33 @@ class Index:
                 self.of_crates.update(NAME.findall(text))
 
     def functions(self, name):
-        """The functions of this name."""
+        """Returns the functions with this name."""
         return [item for item in self.items if item.what == "fn" and item.name == name]
 
     def clauses_of(self, function):
-        """The clauses of a function, and of the trait's that it stands for."""
+        """Returns the clauses of a function, and those of the trait's function that it implements."""
         others = self.functions(function.name) if function.trait else []
-        traits = [other for other in others if other.owner == function.trait and not other.trait]
+        traits = [candidate for candidate in others if candidate.owner == function.trait and not candidate.trait]
         return [clause for trait in (function, *traits) for clause in trait.clauses]
 
 
 def without_blocks(text):
-    """The text with its blocks of code empty."""
+    """Returns the text with its code blocks replaced by empty lines."""
     return BLOCK.sub(lambda block: "\n" * block[0].count("\n"), text)
 
 
 def places(document, text):
-    """The lines, each with its place."""
+    """Yields each line with its place, `FILE:LINE`."""
     return ((f"{document}:{number}", line) for number, line in enumerate(text.split("\n"), 1))
 
 
 def shortened(text):
-    """A contract as it is quoted: `S` is what `self` points to at the call, and `S'` at the return."""
+    """Returns a contract as a CALLING.md quotes it: `S` is what `self` points to before the call, and `S'` afterwards."""
     return re.sub(r"\bself\.(?:now|old)\b", "S", re.sub(r"\bself\.new\b", "S'", sources.in_one_line(text)))
 
 
 def check_calls(report, index, document, text):
-    """Each call that a page quotes stands so in its file, and has each clause that is quoted, word for word."""
+    """Checks that each call that a CALLING.md quotes is in its file, word for word, and has each quoted clause."""
     directory = f"{ROOT}/crates/{CALLS.match(document)[1]}/"
     file, calls, is_quoted = "", [], False
     for where, line in places(document, text):
@@ -156,12 +163,12 @@ def check_calls(report, index, document, text):
             calls = [each for each in index.functions(path.rpartition("::")[2]) if (each.file, each.path) == (file, path)]
             headers = [re.sub(r"^(?:pub(?:\(crate\))? )?", "", sources.in_one_line(call.header)) for call in calls]
             wanted = line.replace(f"fn {path}", "fn " + path.rpartition("::")[2])
-            report.check(wanted in headers, where, f"{file} has no such call, but {headers}")
+            report.check(wanted in headers, where, f"`{wanted}` is not in {file}, which has {headers}")
         elif is_quoted and line.strip():
-            found = re.fullmatch(r"  (requires|ensures)(?: (\w+))?: (.*)", line)
-            quoted = [shortened(clause.text) for call in calls for clause in index.clauses_of(call)
-                      if found and (clause.kind, clause.name) == (found[1], found[2] or "")]
-            report.check(found and found[3] in quoted, where, f"no such clause, but {quoted}")
+            parts = re.fullmatch(r"  (requires|ensures)(?: (\w+))?: (.*)", line)
+            clauses = [shortened(clause.text) for call in calls for clause in index.clauses_of(call)
+                       if parts and (clause.kind, clause.name) == (parts[1], parts[2] or "")]
+            report.check(parts and parts[3] in clauses, where, f"no clause `{line.strip()}`; the source has {clauses}")
 
 
 def check_links(report, document, text):
@@ -169,17 +176,17 @@ def check_links(report, document, text):
         for link in re.findall(r"\]\((?!\w+:)([^)\s]+)\)", line):
             path, _, anchor = link.partition("#")
             target = os.path.normpath(os.path.join(os.path.dirname(document), path)) if path else document
-            there = os.path.exists(os.path.join(ROOT, target))
-            report.check(there, where, f"the link {link} leads nowhere")
-            if there and anchor:
+            exists = os.path.exists(os.path.join(ROOT, target))
+            report.check(exists, where, f"broken link {link}: no file {target}")
+            if exists and anchor:
                 heads = re.findall(r"^#+ (.*)$", read(target), re.M)
                 anchors = {re.sub(r"[^\w\- ]", "", head.lower()).replace(" ", "-") for head in heads}
-                report.check(anchor in anchors, where, f"{target} has no #{anchor}")
+                report.check(anchor in anchors, where, f"broken link {link}: {target} has no #{anchor}")
 
 
 @functools.lru_cache(maxsize=None)
 def find(path):
-    """The files or directories that a document's path may mean: so `specs/Fed` is found in any crate."""
+    """Returns the files and directories whose path ends with a document's path, such as `specs/Fed` in any crate."""
     path = path.rstrip("/")
     if "*" in path or "NAME" in path:
         return glob.glob(os.path.join(ROOT, path.replace("NAME", "*")))
@@ -188,26 +195,26 @@ def find(path):
 
 
 def is_path(text):
-    """Whether a quoted text names a file or directory of the repository."""
+    """Returns true if a quoted text has the form of a path in the repository."""
     if not re.fullmatch(r"[\w.*][\w.*/-]*", text) or "/out" in text or text.startswith("out/"):
         return False
     return bool("/" in text and not re.fullmatch(r"\d+(?:/\d+)*", text) or re.search(r"\.(?:rt|antt|py|md|c|txt|edit)$", text))
 
 
 def squeezed(text):
-    """The text without lines of comments, and with each white space as one."""
+    """Returns the text without comment lines, with each run of white space replaced by a space."""
     return re.sub(r"\s+", " ", re.sub(r"(?m)^\s*//.*$", "", text)).strip()
 
 
 def check_blocks(report, document, text, index):
-    """Each block of Rust stands in a file, but for comments."""
+    """Checks that each block of Rust is part of a source file, up to comments."""
     for block in (block for language, block in BLOCK.findall(text) if language == "rust"):
-        is_there = any(squeezed(block) in squeezed(source.text) for source in index.sources)
-        report.check(is_there, document, f"this block stands in no file: {block[:100]!r}")
+        is_in_source = any(squeezed(block) in squeezed(source.text) for source in index.sources)
+        report.check(is_in_source, document, f"no source file has this block: {block[:100]!r}")
 
 
 def check_paths(report, document, text):
-    """Each path that is quoted or stands in a command, and names that are said to stand in a file."""
+    """Checks each path that is quoted or used in a command, and names that the text locates, as in "`NAME` of `FILE`"."""
     for path in (path for language, block in BLOCK.findall(text) if language == "sh" for path in IN_COMMANDS.findall(block)):
         report.check(not is_path(path) or find(path), document, f"no file or directory {path}")
     for where, line in places(document, text):
@@ -216,12 +223,12 @@ def check_paths(report, document, text):
                 report.check(not is_path(path) or find(path), where, f"no file or directory {path}")
         for names, path in re.findall(NAMES + r" of `([\w./]+)`", line):
             for name in QUOTED.findall(names) if is_path(path) else ():
-                there = {name for place in find(path) for name in names_of(place)}
-                report.check(name.rpartition("::")[2] in there, where, f"{path} has no {name}")
+                defined = {name for place in find(path) for name in names_of(place)}
+                report.check(name.rpartition("::")[2] in defined, where, f"{path} has no {name}")
 
 
 def names_of(path):
-    """What a file defines."""
+    """Returns the names that a file defines."""
     file = os.path.join(ROOT, path)
     if file.endswith(".antt"):
         return {*sources.read_module(file).definitions}
@@ -231,119 +238,120 @@ def names_of(path):
 
 
 def quoted_names(text):
-    """What a text quotes that is a name, or a path of names, of a source: as it stands, and without its arguments."""
-    quoted = [(found, re.sub(r"\(.*\)$", "", found)) for found in QUOTED.findall(text)]
-    return [(found, name) for found, name in quoted if PATH_NAME.match(name) and not NO_NAME.fullmatch(name)]
+    """Returns the quoted names and paths of names in a text, each as it is quoted and without its arguments."""
+    quoted = [(word, re.sub(r"\(.*\)$", "", word)) for word in QUOTED.findall(text)]
+    return [(word, name) for word, name in quoted if PATH_NAME.match(name) and not NO_NAME.fullmatch(name)]
 
 
 def check_names(report, document, text, index, types):
-    """Each quoted name is one of the sources; a quoted path of names is one of a module, or of one of these types."""
+    """Checks that each quoted name is in some source, and that `TYPE::NAME` names a member of that type."""
     for where, line in places(document, without_blocks(text)):
         if document == "docs/DIFFERENCES.md" and line.startswith("|"):
-            # What stands first is the Rust crate's.
+            # The first column is about the Rust crate minisign, and names its items.
             line = line[line.find(" | "):]
         for quoted, name in quoted_names(line):
             *owners, last = name.split("::")
             report.check({*owners, last} <= index.known | OTHER_NAMES, where, f"no `{quoted}` in any source")
             if owners and owners[-1] in types:
-                there = any(item.owner == owners[-1] and item.name == last or item.name == owners[-1] and
-                            item.what in ("struct", "enum", "trait", "type") and re.search(rf"\b{last}\b", item.text)
-                            for item in index.items)
-                report.check(there, where, f"{owners[-1]} has no {last}")
+                has_member = any(item.owner == owners[-1] and item.name == last or item.name == owners[-1] and
+                                 item.what in ("struct", "enum", "trait", "type") and re.search(rf"\b{last}\b", item.text)
+                                 for item in index.items)
+                report.check(has_member, where, f"{owners[-1]} has no {last}")
 
 
 def check_comments(report, path, index):
-    """Each name in a comment is one of the sources, where it is quoted, or has the form of a name; each path leads somewhere."""
+    """Checks that each word of a comment that is quoted or has the form of a name is in some source, and that each path exists."""
     text = read(path)
     known = index.of_crates if path.startswith("crates/") else index.known
-    # (in a line of use variables have names of their own)
+    # Examples of use in comments, `/// let ..;`, have variables of their own.
     for comment in (comment for comment in comments_in(path, text) if not re.match(r"/// let .*;$", comment)):
         names = [name for _, name in quoted_names(comment)]
         for name in {*names, *NAMES_IN_COMMENTS.findall(comment)} - OTHER_NAMES:
-            # (what ends with an underscore begins a name)
-            holds = all(word in known or word.endswith("_") and any(other.startswith(word) for other in known) for word in name.split("::"))
-            report.check(holds, path, f"a comment names `{name}`, which no source has")
-        # (the paths that an edit quotes are an input)
-        quoted = [re.sub(r"\(.*\)$", "", found) for found in QUOTED.findall(comment) if not path.endswith(".edit")]
+            # A word that ends with an underscore is the beginning of a name.
+            holds = all(word in known or word.endswith("_") and any(known_name.startswith(word) for known_name in known)
+                        for word in name.split("::"))
+            report.check(holds, path, f"a comment names `{name}`, which is in no source")
+        # The paths that an edit quotes are inputs of the function, and not files.
+        quoted = [re.sub(r"\(.*\)$", "", word) for word in QUOTED.findall(comment) if not path.endswith(".edit")]
         for place in {*filter(is_path, quoted), *PATHS_IN_COMMENTS.findall(comment)}:
-            report.check(place.startswith(".") or find(place), path, f"a comment names the file {place}, which is not there")
+            report.check(place.startswith(".") or find(place), path, f"a comment names the file {place}, which does not exist")
 
 
 def check_clauses(report, index, document, text):
-    """The clauses that a sentence names of a function: the clause `x` of `f`."""
+    """Checks the clauses that a sentence names, as in "the clause `x` of `f`"."""
     for where, line in places(document, text):
-        for clause, names in re.findall(r"clauses? `(\w+)` of " + NAMES, line):
-            for name in QUOTED.findall(names):
-                found = index.functions(name.rpartition("::")[2])
-                holds = any(each.name == clause for function in found for each in index.clauses_of(function))
-                report.check(holds, where, f"no clause `{clause}` of `{name}`")
+        for name, functions in re.findall(r"clauses? `(\w+)` of " + NAMES, line):
+            for function in QUOTED.findall(functions):
+                candidates = index.functions(function.rpartition("::")[2])
+                holds = any(clause.name == name for candidate in candidates for clause in index.clauses_of(candidate))
+                report.check(holds, where, f"no clause `{name}` of `{function}`")
 
 
 def check_texts(report, index):
-    """Each quoted text of docs/FORMATS.md that has a space stands in a text of the sources, and each form of the
-    usage that the program shows stands in docs/FORMATS.md."""
-    said = "\n".join({text for source in (*index.sources, *index.definitions) for text in TEXT.findall(source.text)})
+    """Checks that each quoted text of docs/FORMATS.md that contains a space is in a string of the sources, and that
+    docs/FORMATS.md has each form of the usage that the program shows."""
+    strings = "\n".join({text for source in (*index.sources, *index.definitions) for text in TEXT.findall(source.text)})
     formats = read(FORMATS)
-    for usage in set(re.findall(r"usage: minisign_tool ([^\\\n]+)", said)):
+    for usage in set(re.findall(r"usage: minisign_tool ([^\\\n]+)", strings)):
         for form in usage.split(" | "):
-            report.check(f"`{form}`" in formats, FORMATS, f"it does not name the form {form}")
-    # (tools/header.py makes the table)
+            report.check(f"`{form}`" in formats, FORMATS, f"the form `{form}` of the usage is missing")
+    # tools/header.py generates this table.
     table = re.compile(r"^\| Name \| Number \|.*?(?=\n\n|\Z)", re.M | re.S)
-    for where, line in places(FORMATS, table.sub(lambda found: "\n" * found[0].count("\n"), formats)):
+    for where, line in places(FORMATS, table.sub(lambda match: "\n" * match[0].count("\n"), formats)):
         for quoted in QUOTED.findall(line):
-            # A text is said in pieces around a line feed.
             is_text = " " in quoted.strip() and not re.search(r"[*^+=<]", quoted)
-            report.check(not is_text or quoted in said, where, f"no source says {quoted!r}")
+            report.check(not is_text or quoted in strings, where, f"no string of the sources contains {quoted!r}")
 
 
 def check_architecture(report):
-    """docs/ARCHITECTURE.md names each crate, each module of the library and of the program, and each file of the
-    library's definitions."""
+    """Checks that docs/ARCHITECTURE.md names each crate, each module of `minisign` and `minisign_tool`, and each file of definitions
+    of `minisign`."""
     text = read(ARCHITECTURE)
     named = {name for part in QUOTED.findall(without_blocks(text)) for name in NAME.findall(part)}
     for crate in re.findall(r"(?m)^\w+(?=:)", read("crates.txt")):
-        report.check(re.search(rf"\b{crate}\b", text), ARCHITECTURE, f"it does not name the crate {crate}")
+        report.check(re.search(rf"\b{crate}\b", text), ARCHITECTURE, f"the crate {crate} is missing")
     for file in (file for file in FILES if re.match(r"crates/(?:minisign|minisign_tool)/src/|crates/minisign/specs/", file)):
         name = os.path.splitext(os.path.basename(file))[0]
-        report.check(name in {"lib", "main", "Lib", *named}, ARCHITECTURE, f"it does not name {file}")
+        report.check(name in {"lib", "main", "Lib", *named}, ARCHITECTURE, f"{file} is missing")
 
 
 def check_layers(report, index):
-    """No crate names the proofs of another one, but for those that it has for its callers: what it knows of it is its
-    contracts, its definitions and its laws."""
+    """Checks that no crate uses the proofs of another crate, except its Laws, which are made for callers. A crate may rely only on
+    the contracts, definitions and laws of another one."""
     for file in (file for file in FILES if file.startswith("crates/") and file.endswith((".antt", ".rt"))):
         named = {*re.findall(r"\b(\w+)(?:\.|::)proofs\b(?!(?:\.|::)Laws\b)", read(file))}
         others = named & {*index.library.crates} - {file.split("/")[1]}
-        report.check(not others, file, f"it names proofs of {', '.join(others)}")
+        report.check(not others, file, f"it uses proofs of {', '.join(others)}")
 
 
 def check_edit(report, shown):
-    """A must-fail edit says first why it is wrong, and of which function it is; and each of its old texts stands exactly once in
-    its file, which is there."""
+    """Checks that a must-fail edit says why it is wrong and names its function, and that its file exists and has each old text
+    exactly once."""
     why_not = WrongBody(shown.split("/")[1], shown).why_not
     report.check(not why_not, shown, why_not)
 
 
 def check_run(report, document, text, scripts):
-    """Each block of commands or code has a fence and a language that a script looks for, and none is set in instead."""
+    """Checks that each block of commands or code is fenced, and has a language whose blocks a script runs."""
     fences = {*re.findall(r"(?m)^[ \t>]*(?:```|~~~).*$", text)[::2]} - {"```"}
     wanted = {f"```{language}" for language in scripts}
-    report.check(fences == wanted, document, f"its blocks begin by {fences}, and scripts run {wanted}")
+    report.check(fences == wanted, document, f"the blocks begin with {fences}, but scripts run {wanted}")
     for script in scripts.values():
-        report.check(os.path.basename(document) in read(script), document, f"{script} does not name it")
-    begun = re.findall(r"\n\n(?:    |\t)(.*)", without_blocks(text))
-    report.check(begun == SET_IN.get(document, []), document, f"set in are blocks that begin by {begun}")
+        report.check(os.path.basename(document) in read(script), document, f"{script} does not name this document")
+    indented, expected = re.findall(r"\n\n(?:    |\t)(.*)", without_blocks(text)), INDENTED.get(document, [])
+    report.check(indented == expected, document, f"indented blocks begin with {indented}, expected {expected}")
 
 
 def check_kit(report, readme):
-    """README names the kit that dist/PROVED names, and no other."""
+    """Checks that README names the kit of dist/PROVED, and no other."""
     proved_by = re.findall(r"(?m)^kit: (.*)$", read("dist/PROVED"))
     named = re.findall(r"`(rattle-kit-[^`]+)`", readme)
     report.check(named == proved_by, "README.md", f"it names the kits {named}, and dist/PROVED names {proved_by}")
 
 
 def check_version(report, documents):
-    """Each logic that a document names with a kit is that of the kit that is here: a kit is replaced more often than it."""
+    """Checks that each version of the logic that a document names with a kit is the installed kit's. The kit's name is not compared,
+    because a kit is replaced more often than its logic."""
     if sources.find_kit():
         ran = subprocess.run(["rt", "version"], stdout=subprocess.PIPE, stderr=subprocess.STDOUT, timeout=60)
         for document, text in documents.items():
@@ -356,10 +364,10 @@ def main():
     documents = {path: read(path) for path in FILES if path.endswith(".md")}
     for document, text in documents.items():
         check_links(report, document, text)
-        if document != MADE:
+        if document != GENERATED:
             check_paths(report, document, text)
             check_clauses(report, index, document, text)
-            # (the packages, and what is a repository of its own, have types and examples of their own)
+            # The packages and examples/rattle, which is a separate repository, have their own types and examples.
             is_apart = document.startswith(("bindings/", "examples/rattle/"))
             check_names(report, document, text, index, set() if is_apart else index.types)
             if not is_apart and not CALLS.match(document):
@@ -368,7 +376,7 @@ def main():
             check_calls(report, index, document, text)
     for path in (file for file in FILES if file.endswith((*COMMENTED, ".md")) and not file.startswith("dist/")):
         place = OF_ONE_MACHINE.search(read(path))
-        report.check(place is None, path, f"it names a directory of one machine: {place and place[0]}")
+        report.check(place is None, path, f"it names a directory of a particular machine: {place and place[0]}")
         if not path.endswith(".md"):
             check_comments(report, path, index)
         if re.match(r"crates/[^/]+/(?:must-fail|wrong-bodies)/", path):

@@ -32,9 +32,9 @@ from sources import read
 
 SECONDS = 60
 COMMAND = "make -C c check"
-# Debian's packages, one a line.
+# The Debian packages that tests need, one per line.
 PACKAGES = "tests/packages.txt"
-# Made-up scripts.
+# Scripts made for this test.
 SCRIPTS = {
     "good.py": "print('3 passed, 0 failed')",
     "more.py": "print('a line')\nprint('4 passed, 0 failed')",
@@ -47,7 +47,7 @@ SCRIPTS = {
     "proved.py": "import os\nsaid = open(os.environ['MINISIGN_RT_CI']).read().split('\\n')\n"
                  "print(f'{said.count(\"16 passed, 0 failed\")} passed, 0 failed')",
 }
-# The target, the scripts of WITHOUT_KIT, those of OVER_PROOFS, the last line, and whether all passed.
+# The target of make, the scripts in WITHOUT_KIT and in OVER_PROOFS, the expected last line, and true if make must succeed.
 RUNS = [
     ("check", "good more", "", "7 passed, 0 failed", True),
     ("check", "good failing more", "", "9 passed, 1 failed", False),
@@ -67,25 +67,27 @@ MAKE = ("--no-print-directory", "--output-sync=target", "-s", "-k", "-j3", "-f",
 
 
 def check_list(checks):
-    """What is listed exists, and what exists is listed."""
+    """Checks that every listed script exists, and that every script is listed."""
     status, said, _ = run_apart([needs.program("make", "make"), *MAKE, "list"], TOP)
     names = said.split()
-    checks.check(status == 0 and len(names) > 30, f"tests/Makefile lists {names}")
+    checks.check(status == 0 and len(names) > 30,
+                 f"`make list`: exit status {status}, {len(names)} scripts, expected more than 30: {names}")
     for name in names:
-        checks.check(os.path.isfile(name) and names.count(name) == 1, f"{name} is listed, and does not exist or is listed twice")
+        checks.check(os.path.isfile(name) and names.count(name) == 1,
+                     f"tests/Makefile lists {name}, which does not exist or is listed twice")
     steps = {f"tools/{step.script}" for step in regenerate.STEPS}
-    # (what another generator imports is run by it)
+    # A generator that another one imports is run by that one.
     imported = {f"tools/{module}.py" for step in steps for module in re.findall(r"(?m)^import (\w+)$", read(step))}
     made = {name for name in names if name.startswith("tools/")} - (imported - steps)
-    checks.check(steps == made, f"tools/regenerate.py does not run the generators that tests/Makefile lists: {sorted(steps ^ made)}")
+    checks.check(steps == made, f"only one of tools/regenerate.py and tests/Makefile has these generators: {sorted(steps ^ made)}")
     for name in sorted(glob.glob("tests/*.py") + glob.glob("tests/*/*.py") + glob.glob("tools/*.py")):
-        # A script that is started by itself and counts what it checked.
+        # A test script, as opposed to a module: it can be started, and prints the number of its checks.
         if re.search(r"(?m)^if __name__ == \"__main__\":$", read(name)) and " passed, " in read(name):
             checks.check(name in names, f"{name} is not listed in tests/Makefile")
 
 
 def check_adding(checks, room):
-    """Runs the makefile over made-up scripts, and looks at the totals."""
+    """Checks the totals that make prints for the scripts of SCRIPTS."""
     os.makedirs(os.path.join(room, "tests"))
     for name in ("Makefile", "counted.sh"):
         shutil.copy(os.path.join(TOP, "tests", name), os.path.join(room, "tests", name))
@@ -104,18 +106,19 @@ def check_adding(checks, room):
         took = [line for line in lines if re.fullmatch(r"== .*: \d+ s, \d+ of the processor", line)]
         begun = sum(line.startswith("== ") for line in lines) / 2
         what = f"make {target}, {without_kit!r}, {over_proofs!r}"
-        checks.check(len(took) == begun, f"{what}: a script does not say what it took: {lines}")
+        checks.check(len(took) == begun, f"{what}: {begun} scripts began, but the time of {len(took)} is printed: {lines}")
         counts = [line for line in lines if re.fullmatch(r"\d+ passed, \d+ failed", line)]
-        checks.check(counts[-1:] == [last] and (status == 0) == is_well, f"{what}: status {status}, it ends with {lines[-2:]}")
+        checks.check(counts[-1:] == [last] and (status == 0) == is_well,
+                     f"{what}: exit status {status}, last lines {lines[-2:]}, expected {last!r} and {'success' if is_well else 'failure'}")
 
 
 def packages_asked_for(path):
-    """The packages that a script asks for, as expressions: a name, or one with a part that is known when it runs."""
+    """Yields the packages that a script needs, as regular expressions, since some parts of names are known only when it runs."""
     nodes = [*ast.walk(ast.parse(read(path)))]
     for loop in (node for node in nodes if isinstance(node, ast.For) and ast.unparse(node.target) == "(name, package)"):
         yield from (re.escape(package) for _, package in ast.literal_eval(loop.iter))
     for call in (node for node in nodes if isinstance(node, ast.Call)):
-        # (what is not here is looked for by `needs.need`, and programs by `needs.program`)
+        # Packages are the arguments of `needs.need` after the second one, and of `needs.program` after the first one.
         name = ast.unparse(call.func).removeprefix("" if path == "tests/shared/needs.py" else "needs.")
         for word in call.args[{"need": 2, "program": 1}.get(name, len(call.args)):]:
             parts = word.values if isinstance(word, ast.JoinedStr) else [word]
@@ -124,22 +127,22 @@ def packages_asked_for(path):
 
 
 def check_packages(checks):
-    """README names the command behind how to get this, and PACKAGES the packages that the scripts ask for."""
+    """Checks that README has the command in the section after "Get it", and that PACKAGES lists the packages of all scripts."""
     section = re.search(r"(?m)^## Get it$(.*?)^## (.*?)$(.*?)^## ", read("README.md"), re.S)
-    checks.check(section and COMMAND in section[3], f"README does not name `{COMMAND}` right behind how to get it")
-    lines = re.findall(r"(?m)^apt(?:-get)? install .*$", read("README.md"))
-    checks.check(lines == [f"apt install $(cat {PACKAGES})"], f"README has the lines {lines} to copy that install packages")
+    checks.check(section and COMMAND in section[3], f"README.md: the section after `Get it` does not have `{COMMAND}`")
+    lines, expected = re.findall(r"(?m)^apt(?:-get)? install .*$", read("README.md")), [f"apt install $(cat {PACKAGES})"]
+    checks.check(lines == expected, f"README.md installs packages by {lines}, expected {expected}")
     packages = read(PACKAGES).split()
-    checks.check(read(PACKAGES) == "".join(f"{name}\n" for name in sorted({*packages})), f"{PACKAGES} has not one name a line, sorted")
+    checks.check(read(PACKAGES) == "".join(f"{name}\n" for name in sorted({*packages})), f"{PACKAGES} must have one name per line, sorted")
     asked = {package for script in glob.glob("tests/*/*.py") for package in packages_asked_for(script)}
-    checks.check(len(asked) > 20, f"only {len(asked)} packages are found in the scripts")
-    # (the compiler and its C library come along)
+    checks.check(len(asked) > 20, f"the scripts need {len(asked)} packages, expected more than 20")
+    # gcc installs libc6-dev.
     for package in asked - {re.escape("libc6-dev")}:
         checks.check(any(re.fullmatch(package, name) for name in packages), f"{PACKAGES} does not name the package {package}")
 
 
-def check_gate(checks, room):
-    """The gate without the kit ends at once, with a sentence."""
+def check_ci(checks, room):
+    """Checks that CI without the kit prints one line and starts nothing."""
     place = os.path.join(room, "bin")
     os.mkdir(place)
     for name in ("bash", "dirname"):
@@ -149,8 +152,9 @@ def check_gate(checks, room):
     ran = run_program(["bash", os.path.join(TOP, ".ci", "run")], None, env={"PATH": place, "CI": "1"}, stderr=subprocess.STDOUT)
     said = ran.output.decode().splitlines()
     checks.check(ran.status != 0 and len(said) == 1 and "there is no rt" in said[0] and f"`{COMMAND}`" in said[0],
-                 f"the gate without the kit: status {ran.status}: {said}")
-    checks.check(not os.path.exists(f"{room}/begun"), "the gate without the kit begins something")
+                 f".ci/run without the kit: exit status {ran.status}, output {said}, expected one line with `there is no rt` and `{COMMAND}`")
+    begun = os.path.join(room, "begun")
+    checks.check(not os.path.exists(begun), f".ci/run without the kit started {read(begun).split() if os.path.exists(begun) else []}")
 
 
 def check_all(checks, room):
@@ -158,7 +162,7 @@ def check_all(checks, room):
     check_list(checks)
     check_adding(checks, room)
     check_packages(checks)
-    check_gate(checks, room)
+    check_ci(checks, room)
 
 
 if __name__ == "__main__":

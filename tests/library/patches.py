@@ -28,19 +28,20 @@ HUNK = re.compile(r"(?m)^@@ -\d+((?:,\d+)?) \+\d+((?:,\d+)?) @@")
 
 
 def moved(room, mutant):
-    """Returns the mutant with other line numbers: every hunk says that it belongs to the first line."""
+    """Returns the mutant with changed line numbers: each hunk claims to be at the first line."""
     patch = write(room, "moved.patch", HUNK.sub(r"@@ -1\1 +1\2 @@", read(mutant.patch).decode()).encode())
     return mutant._replace(patch=patch)
 
 
 def check_mutant(checks, room, mutant):
-    """The mutant changes the sources, at one place."""
+    """Checks that a mutant changes the sources, and only at one place."""
     try:
         text = read(proved.ROOT, mutant.file).decode()
         changed = mutants.applied_to(text, mutant)
         checks.check(changed != text, f"{mutant.patch} changes nothing")
         if read(mutant.patch).count(b"\n@@ ") == 1:
-            checks.check(mutants.applied_to(text, moved(room, mutant)) == changed, f"{mutant.patch} fits several places: add a line of context")
+            checks.check(mutants.applied_to(text, moved(room, mutant)) == changed,
+                         f"{mutant.patch} fits several places: add a line of context")
     except (Failure, OSError) as why:
         checks.check(False, f"{os.path.relpath(mutant.patch, proved.ROOT)}: {why}")
 
@@ -49,10 +50,11 @@ def run_all(checks, room):
     tests = os.path.join(proved.ROOT, "tests")
     directories = sorted({os.path.dirname(os.path.relpath(path, tests)) for path in glob.glob(f"{tests}/**/*.patch", recursive=True)})
     scripts = "".join(read(path).decode() for path in glob.glob(f"{tests}/*/*.py"))
-    checks.check(len(directories) > 9, f"there are patches only in {directories}")
+    checks.check(len(directories) > 9, f"expected patches in more than 9 directories, found them in {directories}")
     for directory in directories:
         words = directory.split("/")
-        checks.check("mutants_of({})".format(", ".join(f'"{word}"' for word in words)) in scripts, f"no script tries the mutants of tests/{directory}")
+        checks.check("mutants_of({})".format(", ".join(f'"{word}"' for word in words)) in scripts,
+                     f"no script tries the mutants of tests/{directory}")
         for mutant in mutants.mutants_of(*words):
             check_mutant(checks, room, mutant)
 

@@ -1,10 +1,13 @@
 #!/usr/bin/env python3
-"""Runs built tests again and again, each time with one more of their requests for memory refused, until a run meets
-no refusal; and those that promise to take little memory, within a bound on it.
+"""Checks that tests of the crates pass when any one of their allocations fails, and that others need little memory.
 
-The tests are those whose names hold `refused_allocations`, of the programs that `rt test` and `rt ci` leave. A test
-passes where its call is right or is refused with `out of memory`. A missing test or program counts as failed. The last
-line is `N passed, M failed`.
+    tests/library/refused_memory.py
+
+The first kind are the tests with `refused_allocations` in their names. Each runs again and again, with its first, second,
+.. allocation failing, until a run makes no further allocation. Such a test passes if its call succeeds or returns
+`out of memory`. The others run within a limit on their memory, and again within one that is too small. The script uses the
+test programs that `rt test` and `rt ci` leave. A missing test or program counts as failed. The last line is
+`N passed, M failed`.
 
 Needs Python 3.9 or later and a C compiler, which it installs as root on Debian.
 """
@@ -26,21 +29,20 @@ from running import Failure, expect, read, run_cases
 CRATES = os.path.join(HERE, "..", "..", "crates")
 WORD = "refused_allocations"
 
-# Tests, by the names of their functions, that pass within so many MiB for all of the program, and that fail within so
-# many: a key with the usual limits opens with all its rows of 32 MiB, and those once, one with the limits of
-# Minisign's own program with every 16th of its rows of 1 GiB, and what the limits reject allocates no rows.
+# Tests, by the names of their functions, with the address space in MiB within which the program must pass, and the one within which it
+# must fail (0: not checked). A key with the usual limits is decrypted with all scrypt rows, 32 MiB, in memory once. A key with
+# Minisign's limits is decrypted with every 16th row of 1 GiB. Limits that are rejected allocate no rows.
 WITHIN = [
     ("a_key_with_the_usual_limits_opens_within_one_part", 40, 32),
     ("a_key_of_the_c_program_opens_in_less_memory", 80, 64),
     ("limits_are_refused_behind_a_typed_password", 8, 0),
 ]
-# A test that allocates so many times: the rows of scrypt are reserved in one request, and what they are mixed in is a
-# second one.
+# A test that makes exactly this many allocations: one for all rows of scrypt, and one for the buffer in which they are mixed.
 RESERVES, REQUESTS = "rows_are_reserved_in_one_request", 2
 
 
 def listed_tests():
-    """Each test, by its program and its name, of the crates that name one of those that are wanted in their sources."""
+    """Yields the program and the name of each test, of the crates whose sources name one of the tests that this script runs."""
     wanted, crates = [WORD, *(function for function, *_ in WITHIN)], set()
     for path in glob.glob(os.path.join(CRATES, "*", "src", "**", "*.rt"), recursive=True):
         text = read(path).decode()
@@ -48,19 +50,19 @@ def listed_tests():
             crates.add(os.path.relpath(path, CRATES).split(os.sep)[0])
     for tests in [os.path.join(CRATES, crate, "out", f"{crate}_tests") for crate in sorted(crates)]:
         ran = run_program([tests, "--list"], None)
-        expect(ran.status == 0, f"{tests} does not list its tests: {ran}")
+        expect(ran.status == 0, f"{tests} --list: {ran}")
         yield from ((tests, name) for name in re.findall(r"(?m)^(.*): test$", ran.output.decode()))
 
 
 def named(listed, function):
-    """The test whose function has this name."""
-    found = [test for test in listed if test[1].split("::")[-1] == function]
-    expect(len(found) == 1, f"{len(found)} tests have this name")
-    return found[0]
+    """Returns the test whose function has this name."""
+    matching = [test for test in listed if test[1].split("::")[-1] == function]
+    expect(len(matching) == 1, f"{len(matching)} tests have the name {function}, expected one")
+    return matching[0]
 
 
 def refuse_each(room, tests, name):
-    """Refuses each request of a test in turn, until it makes no more."""
+    """Makes each allocation of a test fail in turn, until it makes no more."""
     program = Disturbing(tests, room)
 
     def attempt(number, directory):
@@ -69,21 +71,23 @@ def refuse_each(room, tests, name):
         return ran.came
 
     count = in_turn(program.place, attempt)
-    expect(count == REQUESTS if name.split("::")[-1] == RESERVES else count, f"it makes {count} requests")
+    expected = REQUESTS if name.split("::")[-1] == RESERVES else "at least one"
+    expect(count == expected if name.split("::")[-1] == RESERVES else count, f"the test makes {count} allocations, expected {expected}")
 
 
 def bound(room, listed, function, enough, too_little):
-    """Runs a test that promises to take little memory within its bound, and with less than its rows take."""
+    """Checks that a test passes within its bound on memory, and fails within one that is too small."""
     for mebibytes in filter(None, (enough, too_little)):
         limits = (mebibytes * 1024 * 1024,) * 2
         ran = run_program([*named(listed, function)], room, preexec_fn=lambda: resource.setrlimit(resource.RLIMIT_AS, limits))
-        expect((ran.status == 0) == (mebibytes == enough), f"within {mebibytes} MiB: {ran}")
+        expected = "pass" if mebibytes == enough else "fail"
+        expect((ran.status == 0) == (mebibytes == enough), f"within {mebibytes} MiB: {ran}, expected to {expected}")
 
 
 def run_all(room):
     listed = [*listed_tests()]
-    expect(any(WORD in name for _, name in listed), f"no test has a name that holds {WORD}")
-    return run_cases([("a test reserves its rows", named, listed, RESERVES),
+    expect(any(WORD in name for _, name in listed), f"no test has a name with {WORD}")
+    return run_cases([(f"{RESERVES} exists", named, listed, RESERVES),
                       *((name, refuse_each, room, tests, name) for tests, name in listed if WORD in name),
                       *((function, bound, room, listed, function, *bounds) for function, *bounds in WITHIN)])
 

@@ -1,8 +1,10 @@
 #!/usr/bin/env python3
-"""Seals key A by Python's hashlib alone, and compares with the constants of `minisign_fixtures` in `src/texts.rt`,
-which were made so. The last line is `N passed, M failed`.
+"""Checks that the encrypted secret keys in `minisign_fixtures` are what Python's hashlib makes of key A.
 
-The one with the greatest limits takes a gibibyte and some seconds.
+    tests/library/sealed_keys.py
+
+The constants are in `src/texts.rt` of that crate. The key with the highest limits takes 1 GiB of memory and some seconds.
+The last line is `N passed, M failed`.
 """
 
 import base64
@@ -19,8 +21,8 @@ from toy import KEY_A, SMALL, USUAL, Limits
 
 TEXTS = "crates/minisign_fixtures/src/texts.rt"
 SALT = bytes(range(0x20, 0x40))
-# Each text: the password, and the limits, with N and p of scrypt that they lead to. The last ones are those of Minisign's own
-# program, with which scrypt takes a gibibyte.
+# The password and the limits of each constant, with the N and p of scrypt that follow from them. The last limits are Minisign's,
+# with which scrypt takes 1 GiB.
 SEALED = {
     "SEALED": (b"password", SMALL),
     "SEALED_WITH_NOTHING": (b"", SMALL),
@@ -30,8 +32,8 @@ SEALED = {
 
 if __name__ == "__main__":
     checks = Checks()
-    kept = dict(re.findall(r'pub const (\w+): &str =\s*"((?:[^"\\]|\\.)*)";', read(TEXTS)))
+    constants = dict(re.findall(r'pub const (\w+): &str =\s*"((?:[^"\\]|\\.)*)";', read(TEXTS)))
     for name, sealed in SEALED.items():
         text = f"c\\n{base64.b64encode(KEY_A.sealed(*sealed, SALT)).decode()}\\n"
-        checks.check(kept.get(name) == text, name, f"the text is {text}")
+        checks.check(constants.get(name) == text, f"{TEXTS}: {name} is {constants.get(name)}, expected {text}")
     sys.exit(checks.end())

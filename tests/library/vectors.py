@@ -3,9 +3,10 @@
 
     tests/library/vectors.py
 
-A vector has a name, the values that are expected, and the tests that cover it. Each of these tests has to exist and to have one of the
-values, and each value has to occur in one of them. Comments and docstrings do not count. The script also checks that CI runs the tests, and the number of vectors, so
-that none disappears unnoticed. The first lines of the list describe its form. The last line is `N passed, M failed`.
+A vector has a name, the expected values, and the tests that cover it. Each of these tests has to exist and to contain one of
+the values, and each value has to occur in one of the tests. Comments and docstrings do not count. The script also checks that
+CI runs the tests, and the number of vectors, so that none disappears unnoticed. The first lines of the list describe its
+format. The last line is `N passed, M failed`.
 
 Needs Python 3.9 or later and make.
 """
@@ -20,7 +21,7 @@ import sys
 HERE = os.path.dirname(os.path.realpath(__file__))
 TOP = os.path.dirname(os.path.dirname(HERE))
 TESTS = os.path.join(TOP, "tests")
-# (the modules of tests/rows come first, as this directory too has one of the name sealed_keys)
+# The modules of tests/rows come first, because this directory also has a module sealed_keys.
 sys.path[:0] = [os.path.join(TESTS, name) for name in ("rows", "tool", "shared", "")] + [os.path.join(TOP, "tools")]
 
 import ending
@@ -33,10 +34,10 @@ from process import run
 from sources import read
 
 LIST = "tests/library/vectors.txt"
-# The number of vectors in the list. Whoever removes one has to say so here too.
+# The number of vectors in the list, so that removing one also means changing this.
 COUNT = 372
-# Made-up vectors, each of which is faulty: no such test, a wrong value, a value that only a comment has, a function that is no test, a
-# test without one, a row out of a range, no value, and no test.
+# Made-up vectors, each with a fault: no such test, a wrong value, a value that only a comment has, a function that is not a test, a
+# test without any of the values, a row outside of a range, no value, and no test.
 FAULTY = (
     "no row | 255\n    row hashing: number stored: -255",
     "no module | 255\n    row hash: number stored: 255",
@@ -59,10 +60,10 @@ FAULTY = (
 # The crate of the tests in Rattle, and the crates whose items these tests use.
 VECTORS = "minisign_vectors"
 USED = (VECTORS, "minisign_fixtures", "minisign_examples")
-# The scripts that run the tests of each kind, beside `rt ci`, which runs the tests and the facts of all crates.
+# The script that runs the tests of each kind. `rt ci` runs the tests and the facts of all crates.
 RUN_BY = {"row": "tests/rows/rows.py", "error": "tests/rows/rows.py", "case": "tests/tool/real_runs.py",
           "edit": "tests/proofs/wrong_bodies.py", "fact": "tests/proofs/wrong_facts.py", "memory": "tests/library/refused_memory.py"}
-# Longer values may occur inside of longer words.
+# Values of at least this length may occur inside of words.
 LONG = 12
 
 RATTLE = re.compile(r'//[^\n]*|b?"(?:[^"\\]|\\.)*"|b?\'(?:[^\'\\]|\\.)\'', re.S)
@@ -73,7 +74,7 @@ BYTES = re.compile(r"(?:0x[0-9a-f]{2},?\s*)+")
 # == The list ==
 
 class Vector:
-    """A test vector: its name, its values, and what covers it, as pairs of a kind and a name."""
+    """A test vector: its name, its values, and the tests that cover it, as pairs of a kind and a name."""
 
     def __init__(self, block):
         head, *lines = block.splitlines()
@@ -83,16 +84,17 @@ class Vector:
 
 
 def expanded(name):
-    """The names that a name with ranges such as {1..6} or, of every fourth number, {2..14..4} stands for."""
-    found = re.search(r"\{(\d+)\.\.(\d+)(?:\.\.(\d+))?\}", name)
-    if not found:
+    """Expands the ranges of a name, such as {1..6} or {2..14..4}, which means every fourth number. Returns all names."""
+    range_of_names = re.search(r"\{(\d+)\.\.(\d+)(?:\.\.(\d+))?\}", name)
+    if not range_of_names:
         return [name]
-    first, last, step = int(found[1]), int(found[2]), int(found[3] or 1)
-    return [each for number in range(first, last + 1, step) for each in expanded(name[:found.start()] + str(number) + name[found.end():])]
+    first, last, step = int(range_of_names[1]), int(range_of_names[2]), int(range_of_names[3] or 1)
+    before, after = name[:range_of_names.start()], name[range_of_names.end():]
+    return [each for number in range(first, last + 1, step) for each in expanded(f"{before}{number}{after}")]
 
 
 def read_list(text):
-    """The vectors of a list. Lines with a hash and the titles of sections are left out."""
+    """Returns the vectors of a list. Lines that begin with a hash and the titles of sections are ignored."""
     lines = [line for line in text.splitlines() if not line.startswith(("#", "=="))]
     return [Vector(block) for block in re.split(r"\n(?=\S)", "\n".join(filter(None, lines)))]
 
@@ -100,7 +102,7 @@ def read_list(text):
 # == Rows and errors ==
 
 def decoded(word):
-    """A word of a request or an answer, and the text that it spells in hexadecimal."""
+    """Returns a word of a request or response, followed by the text that it encodes if it is in hexadecimal."""
     name, is_value, value = word.rpartition("=")
     if not re.fullmatch(r"x(?:[0-9a-f]{2})*", value):
         return word
@@ -109,11 +111,12 @@ def decoded(word):
 
 @functools.lru_cache(maxsize=None)
 def rows_of(module):
-    """The rows of a module of tests/rows by their names, as texts."""
+    """Returns the test cases of a module of tests/rows by name, each as a text."""
     named, texts = {text: name for name, (_, text) in BY_NAME.items()}, {}
     for row in importlib.import_module(module).ROWS if module in rows.MODULES else []:
         answer = rejected(row.answer) if isinstance(row.answer, str) else row.answer
-        words = [*row.request.split(" "), "->", *answer.head.split(" "), *(f"{name}={spelled(value)}" for name, value in answer.values.items())]
+        words = [*row.request.split(" "), "->", *answer.head.split(" "),
+                 *(f"{name}={spelled(value)}" for name, value in answer.values.items())]
         text = " ".join(map(decoded, words))
         errors = [named[said] for said in re.findall(r" '(.*?)'|\"(.*?)\"", text) for said in said if said in named]
         texts[row.name] = " ".join([texts.get(row.name, ""), text, *errors, *([row.answer] if isinstance(row.answer, str) else [])])
@@ -121,63 +124,63 @@ def rows_of(module):
 
 
 def text_of_row(name):
-    """A row by its module and its name; rows that have the same name count as one."""
+    """Returns the text of a test case, given as `MODULE: NAME`. Cases with the same name count as one."""
     module, _, row = name.partition(": ")
     return rows_of(module).get(row)
 
 
 def text_of_error(name):
-    """A named error: its kind and its text."""
-    found = next((error for error in named_errors.ERRORS if error["name"] == name), None)
-    return found and f"{found['name']} {found['kind']} `{found['text']}`"
+    """Returns the name, kind and text of a named error."""
+    named = next((error for error in named_errors.ERRORS if error["name"] == name), None)
+    return named and f"{named['name']} {named['kind']} `{named['text']}`"
 
 
 # == Runs of the program ==
 
 def text_of_case(name):
-    """A run of tests/tool, by its command and its name, with the files that it leaves."""
-    command, _, case = name.partition(": ")
-    found = [each for each in real_runs.CASES.get(command, ()) if each.name == case]
-    return " ".join(f"{each!r} {vars(each.left) if each.left else ''}" for each in found) or None
+    """Returns the text of a run of tests/tool, given as `COMMAND: NAME`, with the files that it leaves."""
+    command, _, case_name = name.partition(": ")
+    cases = [case for case in real_runs.CASES.get(command, ()) if case.name == case_name]
+    return " ".join(f"{case!r} {vars(case.left) if case.left else ''}" for case in cases) or None
 
 
 def text_of_run(crate):
-    """The stored run of a program: its arguments, its input, its files, and the status if one is stored."""
+    """Returns the stored run of a program: its arguments, its input, its files, and its exit status if that is stored."""
     if not os.path.exists(f"crates/{crate}/args"):
         return None
     with_files = [f"crates/{crate}/{name}" for name in ("args", "stdin", "stdout", "status")]
     with_files += [f"crates/{crate}/data/{name}" for name in sorted(os.listdir(f"crates/{crate}/data"))]
-    held = []
+    contents = []
     for path in filter(os.path.exists, with_files):
         with open(path, "rb") as file:
             data = file.read()
-        held += [os.path.basename(path), data.hex(), data.decode(errors="replace")]
-    return " ".join(held)
+        contents += [os.path.basename(path), data.hex(), data.decode(errors="replace")]
+    return " ".join(contents)
 
 
 # == Tests in Rattle ==
 
 def without_comments(text):
-    return RATTLE.sub(lambda found: " " if found[0].startswith("//") else found[0], text)
+    return RATTLE.sub(lambda match: " " if match[0].startswith("//") else match[0], text)
 
 
 def items_of(text):
-    """The items of a source by their names, and the paths of what it imports by the names."""
+    """Returns the items of a source by name, and the paths of its imports by name."""
     text = without_comments(text)
-    places = [found.start() for found in ITEM.finditer(text)]
+    places = [match.start() for match in ITEM.finditer(text)]
     items, imports = {}, {}
     for begin, end in zip(places, [*places[1:], len(text)]):
         item = text[begin:end]
-        found = re.match(r"(?:#\[[^\n]*\]\n)*(?:pub )?(?:const fn|fn|const|static|type|struct|enum|trait) (\w+)", item)
-        if found:
-            items[found[1]] = item
+        named = re.match(r"(?:#\[[^\n]*\]\n)*(?:pub )?(?:const fn|fn|const|static|type|struct|enum|trait) (\w+)", item)
+        if named:
+            items[named[1]] = item
         elif re.match(r"(?:pub )?use ", item):
             imports.update(imported(item[item.index("use ") + 4:].partition(";")[0]))
     return items, imports
 
 
 def imported(tree, before=""):
-    """The names of a `use`, and their paths."""
+    """Returns the names that a `use` imports, with their paths. `before` is the path in front of the tree."""
     tree = " ".join(tree.split())
     head, brace, inner = tree.partition("{")
     if not brace:
@@ -185,49 +188,49 @@ def imported(tree, before=""):
         if path.strip() == "self":
             return {before.rstrip(":").rpartition("::")[2]: before[:-2]}
         return {(name or path).rpartition("::")[2].strip(): before + path.strip()}
-    found, depth, part = {}, 0, ""
+    paths, depth, part = {}, 0, ""
     for letter in inner[:inner.rindex("}")] + ",":
         depth += {"{": 1, "}": -1}.get(letter, 0)
         if letter == "," and depth == 0:
-            found.update(imported(part, before + head.strip()) if part.strip() else {})
+            paths.update(imported(part, before + head.strip()) if part.strip() else {})
             part = ""
         else:
             part += letter
-    return found
+    return paths
 
 
 @functools.lru_cache(maxsize=None)
 def modules_of(crate):
-    """The modules of a crate that it declares, by their paths."""
-    found, waiting = {}, [("", f"crates/{crate}/src/lib.rt")]
+    """Returns the items and imports of each module that a crate declares, by path."""
+    modules, waiting = {}, [("", f"crates/{crate}/src/lib.rt")]
     while waiting:
         path, file = waiting.pop()
         if not os.path.exists(file):
             continue
         text = without_comments(read(file))
-        found[path] = items_of(text)
+        modules[path] = items_of(text)
         directory = os.path.dirname(file) if path == "" else file[:-3]
         waiting += [(f"{path}::{name}".strip(":"), f"{directory}/{name}.rt") for name in re.findall(r"(?m)^(?:pub )?mod (\w+);", text)]
-    return found
+    return modules
 
 
 def resolved(crate, module, name):
-    """Where an item of this name stands that a module uses."""
+    """Returns the crate, module and name of the item that a name in a module refers to, or None."""
     items, imports = modules_of(crate)[module]
     if name in items:
         return crate, module, name
     parts = imports.get(name, "").split("::")
     if parts[0] == "super":
         parts = ["crate", *module.split("::")[:-1], *parts[1:]]
-    other = crate if parts[0] == "crate" else parts[0]
-    if other not in USED or "::".join(parts[1:-1]) not in modules_of(other):
+    target = crate if parts[0] == "crate" else parts[0]
+    if target not in USED or "::".join(parts[1:-1]) not in modules_of(target):
         return None
     at = "::".join(parts[1:-1])
-    return (other, at, parts[-1]) if parts[-1] in modules_of(other)[at][0] else None
+    return (target, at, parts[-1]) if parts[-1] in modules_of(target)[at][0] else None
 
 
 def text_of_test(path):
-    """A test of the crate of tests, with all items that it uses; bytes in hexadecimal are joined too."""
+    """Returns the text of a test in Rattle and of all items that it uses. Its lists of bytes follow as hexadecimal digits."""
     module, _, name = path.rpartition("::")
     item = modules_of(VECTORS).get(module, ({}, {}))[0].get(name)
     if item is None or not item.startswith("#[test]\n"):
@@ -239,32 +242,33 @@ def text_of_test(path):
             seen[place] = modules_of(place[0])[place[1]][0][place[2]]
             waiting += filter(None, (resolved(*place[:2], used) for used in set(re.findall(r"\w+", seen[place])) - {place[2]}))
     text = "\n".join(seen.values())
-    return " ".join([" ".join(text.split()), *("".join(re.findall("0x([0-9a-f]{2})", found)) for found in BYTES.findall(text))])
+    return " ".join([" ".join(text.split()), *("".join(re.findall("0x([0-9a-f]{2})", listed)) for listed in BYTES.findall(text))])
 
 
 # == Facts and edits ==
 
 def text_of_fact(name):
-    """A fact by its crate and its name; bytes that are printed in two digits each are joined."""
+    """Returns the text of a fact, given as `CRATE: NAME`. Its strings of spaced hexadecimal bytes follow without the spaces."""
     crate, _, fact = name.partition(": ")
     path = f"crates/{crate}/proofs/Facts.antt"
     text = re.sub(r"(?m)(?<!\S)--(?=\s).*$", "", read(path)) if os.path.exists(path) else ""
-    found = re.search(rf"(?ms)^pub {re.escape(fact)} :(.*?)^{re.escape(fact)} =\s", text)
-    joined = re.findall(r'"([0-9A-Fa-f]{2}(?: [0-9A-Fa-f]{2})*)"', found[1]) if found else []
-    return found and " ".join(found[1].split()) + " " + "".join(joined).replace(" ", "").lower()
+    statement = re.search(rf"(?ms)^pub {re.escape(fact)} :(.*?)^{re.escape(fact)} =\s", text)
+    joined = re.findall(r'"([0-9A-Fa-f]{2}(?: [0-9A-Fa-f]{2})*)"', statement[1]) if statement else []
+    return statement and " ".join(statement[1].split()) + " " + "".join(joined).replace(" ", "").lower()
 
 
 def text_of_edit(name):
-    """A wrong body, which CI has to reject, without the line that explains it."""
+    """Returns the text of a must-fail edit, given by crate and name, without the line that explains it."""
     crate, _, edit = name.partition("/")
     path = next(filter(os.path.exists, (f"crates/{crate}/{kind}/{edit}.edit" for kind in ("wrong-bodies", "must-fail"))), None)
     return path and " ".join(line for line in read(path).splitlines() if not line.startswith("why:"))
 
 
 def text_of_memory(path):
-    """A test of the crate of tests that is run with each of its allocations failing, as those are whose names hold a certain word."""
+    """Returns the text of a test in Rattle whose allocations `refused_memory.py` lets fail: its name has the word of that script."""
     tree = ast.parse(read(RUN_BY["memory"]))
-    word = next((ast.literal_eval(node.value) for node in tree.body if isinstance(node, ast.Assign) and ast.unparse(node.targets[0]) == "WORD"), None)
+    word = next((ast.literal_eval(node.value) for node in tree.body
+                 if isinstance(node, ast.Assign) and ast.unparse(node.targets[0]) == "WORD"), None)
     return text_of_test(path) if word and word in path else None
 
 
@@ -272,43 +276,43 @@ TEXT_OF = {"row": text_of_row, "error": text_of_error, "case": text_of_case, "ru
            "fact": text_of_fact, "edit": text_of_edit, "memory": text_of_memory}
 
 
-# == What is checked ==
+# == The checks ==
 
 def occurs(value, text):
-    """A long value may stand anywhere, a short one as a word of its own."""
+    """Returns true if a text contains a value: a long one anywhere, a short one as a separate word."""
     if len(value) >= LONG:
         return value in text
     return re.search(rf"(?<!\w){re.escape(value)}(?!\w)", text) is not None
 
 
 def faults_of(vector):
-    """Yields what is wrong with a vector. Each value has to occur in one of the tests, and in all tests of a range, and each test has
-    to have one of the values."""
+    """Yields the faults of a vector. Each value has to occur in one of the tests, or in all tests of one range, and each test has to
+    contain one of the values."""
     if not vector.covers:
         yield "no test covers it"
     if not vector.values and any(kind != "edit" for kind, _ in vector.covers):
         yield "it has no value"
-    found = []
+    texts_by_test = []
     for kind, name in vector.covers:
         texts = {each: TEXT_OF[kind](each) if kind in TEXT_OF else None for each in expanded(name)}
         missing = [each for each, text in texts.items() if text is None]
         if missing or not texts:
             yield f"there is no {kind} {(missing or [name])[0]}"
         else:
-            found.append(list(texts.values()))
+            texts_by_test.append(list(texts.values()))
             if vector.values and not any(occurs(value, text) for value in vector.values for text in texts.values()):
-                yield f"the {kind} {name} has none of its values"
+                yield f"the {kind} {name} contains none of its values {vector.values}"
     for value in vector.values:
-        if not any(all(occurs(value, text) for text in texts) for texts in found):
-            yield f"none of its tests has the value {value}"
+        if not any(all(occurs(value, text) for text in texts) for texts in texts_by_test):
+            yield f"none of its tests contains the value {value}"
 
 
-def run_by_ci(kinds):
-    """Yields what CI does not run of the kinds of tests."""
+def missing_in_ci(kinds):
+    """Yields a text for each of these kinds of tests that CI does not run."""
     listed = run([needs.program("make", "make"), "-s", "-f", "tests/Makefile", "list"])[1].split()
     for kind in kinds:
         if kind in RUN_BY and RUN_BY[kind] not in listed:
-            yield f"tests/Makefile does not list {RUN_BY[kind]}, which runs what is called {kind}"
+            yield f"tests/Makefile does not list {RUN_BY[kind]}, which runs the tests of the kind `{kind}`"
     crates = {line.split()[0].rstrip(":") for line in read("crates.txt").splitlines() if line.strip() and not line.startswith("#")}
     for crate in (VECTORS, "minisign_tool"):
         if crate not in crates:
@@ -321,16 +325,16 @@ def check_all(checks, _):
     os.chdir(TOP)
     vectors = read_list(read(LIST))
     names = [vector.name for vector in vectors]
-    checks.check(len(vectors) == COUNT, f"{LIST} has {len(vectors)} vectors, and {COUNT} are expected")
+    checks.check(len(vectors) == COUNT, f"{LIST} has {len(vectors)} vectors, expected {COUNT}")
     for name in sorted({name for name in names if names.count(name) > 1}):
         checks.check(False, f"two vectors have the name {name}")
-    missing = [*run_by_ci({kind for vector in vectors for kind, _ in vector.covers})]
+    missing = [*missing_in_ci({kind for vector in vectors for kind, _ in vector.covers})]
     checks.check(not missing, *missing)
     for vector in vectors:
         faults = [*faults_of(vector)]
         checks.check(not faults, vector.name, "; ".join(faults))
     for vector in map(Vector, FAULTY):
-        checks.check([*faults_of(vector)], f"the made-up vector `{vector.name}` is taken")
+        checks.check([*faults_of(vector)], f"the faulty vector `{vector.name}` is accepted")
     covers = {(kind, each) for vector in vectors for kind, name in vector.covers for each in expanded(name)}
     print(f"{len(vectors)} vectors, covered by {len(covers)} tests")
 

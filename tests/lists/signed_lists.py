@@ -1,13 +1,13 @@
 #!/usr/bin/env python3
-"""Checks which files a list accepts, beside the programs that write and read such lists.
-
-  * Lists that sha256sum, sha512sum, b2sum, cksum -a, openssl dgst -r and shasum write, of files whose names have spaces,
-    parentheses, `#`, stars, UTF-8 and directories. Each file has to be found with its digest, and no other data.
-  * Names with a line feed or a backslash, which the tools write with escapes: no name matches such a line.
-  * Thousands of random lists, beside the rules as regular expressions, and beside `sha256sum -c --strict
-    --ignore-missing` and `signify -C`. A difference without a known reason is a failure.
+"""Checks that checksum lists are read as the programs that write and check such lists read them.
 
     tests/lists/signed_lists.py [--seed N] [--lists N]
+
+  * Lists written by sha256sum, sha512sum, b2sum, cksum -a, openssl dgst -r and shasum, for files whose names have
+    spaces, parentheses, `#`, stars, UTF-8 and directories: each file is accepted with its data and with no other data.
+  * Names with a line feed or a backslash, which the tools write with escapes: no name matches such a line.
+  * Thousands of random lists, compared with the rules as regular expressions, with `sha256sum -c --strict
+    --ignore-missing`, and with `signify -C`. A difference without a known reason is a failure.
 
 It needs the program `list_reader`, as `rt ci` or `rt run` built it, and GNU coreutils, openssl, shasum and
 signify-openbsd. The last line is `N passed, M failed`.
@@ -37,7 +37,7 @@ NAMES = ["a", "a b", " a", "*a", "a) = b", "SHA256 (a", "#a", "-", "a ", "é", "
 # Names that the tools write with escapes.
 ESCAPED = ["x\ny", "x\\y", "x\\ny\n"]
 
-# Each tool, how its plain lines are to be read, and if it writes `./` before names as they are given.
+# Each tool, and the function to which untagged lines with 128 digits belong, or `-` if its lists have none.
 TOOLS = [
     (["sha256sum"], "-"), (["sha256sum", "-b"], "-"), (["sha256sum", "--tag"], "-"),
     (["sha512sum"], "sha512"), (["sha512sum", "-b"], "sha512"), (["sha512sum", "--tag"], "-"),
@@ -49,7 +49,7 @@ TOOLS = [
     (["shasum", "-a", "256"], "-"), (["shasum", "-b", "-a", "512"], "sha512"),
     (["shasum", "--tag", "-a", "256"], "-"),
 ]
-# These write lines of other functions, which reject the whole list.
+# Tools that write lines for other hash functions, for which the whole list is rejected.
 OTHER_TOOLS = [["md5sum", "--tag"], ["sha1sum"], ["sha384sum"], ["b2sum", "--tag", "-l", "256"], ["openssl", "dgst", "-sha256"]]
 
 
@@ -58,17 +58,17 @@ def word(octets):
 
 
 def answers(requests):
-    """What the program answers to requests: how to read 128 digits, a list, a name and data."""
+    """Returns the program's responses to requests. A request is the function for 128 digits, a list, a name and data."""
     lines = "".join(f"{long} {word(text)} {word(name)} {word(data)}\n" for long, text, name, data in requests)
     ran = subprocess.run([PROGRAM], input=lines, stdout=subprocess.PIPE, text=True, timeout=SECONDS)
-    found = ran.stdout.splitlines()
-    if ran.returncode or len(found) != len(requests):
-        raise SystemExit(f"{PROGRAM} ended with {ran.returncode} after {len(found)} of {len(requests)} answers")
-    return found
+    responses = ran.stdout.splitlines()
+    if ran.returncode or len(responses) != len(requests):
+        raise SystemExit(f"{PROGRAM}: exit status {ran.returncode} after {len(responses)} of {len(requests)} responses")
+    return responses
 
 
 def written(tool, names, directory):
-    """The list that a tool writes of these files."""
+    """Returns the list that a tool writes for these files."""
     ran = subprocess.run([*tool, "--", *names] if tool[0] != "openssl" else [*tool, *names], cwd=directory,
                          stdout=subprocess.PIPE, check=True, env={**os.environ, "LC_ALL": "C.UTF-8"})
     return ran.stdout
@@ -82,9 +82,9 @@ def make(directory, name, data=DATA):
 
 
 def check_tools(checks):
-    """The lists of each tool."""
+    """Checks the lists that each tool writes."""
     with tempfile.TemporaryDirectory(prefix="minisign-lists-") as directory:
-        # (each file has its own bytes, so that no line passes for another)
+        # Each file has different data, so that no line is mistaken for another.
         files = {name: name.encode() * 3 for name in NAMES}
         for name, data in files.items():
             make(directory, name, data)
@@ -93,11 +93,11 @@ def check_tools(checks):
         for tool, long in TOOLS:
             given = [f"./{name}" for name in NAMES]
             text = written(tool, given, directory)
-            found = answers([(long, text, name.encode(), data) for name, data in files.items()])
-            for at, (name, answer) in enumerate(zip(files, found), 1):
+            accepted = answers([(long, text, name.encode(), data) for name, data in files.items()])
+            for at, (name, answer) in enumerate(zip(files, accepted), 1):
                 checks.same(answer, f"ok {at}", f"{' '.join(tool)}: {name!r}")
-            found = answers([(long, text, name.encode(), data + b"!") for name, data in files.items()])
-            for at, (name, answer) in enumerate(zip(files, found), 1):
+            rejected = answers([(long, text, name.encode(), data + b"!") for name, data in files.items()])
+            for at, (name, answer) in enumerate(zip(files, rejected), 1):
                 checks.same(answer, f"mismatch {at}", f"{' '.join(tool)}: other data of {name!r}")
         for tool, long in TOOLS:
             if tool[0] in ("openssl", "shasum"):
@@ -158,16 +158,16 @@ def random_list(rng):
 
 
 def can_be_made(name):
-    """Whether a test can have a file of this name."""
+    """Returns true if a file with this name can be created in the directory of a test. L is the list itself."""
     return name and b"\0" not in name and not name.startswith(b"/") and b".." not in name.split(b"/") and name != b"L"
 
 
 def looked_up(rng, text):
-    """A name to look up, and the data of its file."""
+    """Returns a name to look up."""
     return rng.choice([name for name in RANDOM_NAMES if can_be_made(name)]) if rng.random() < 0.3 else b"a"
 
 
-# == The same rules again, as regular expressions ==
+# == The rules as regular expressions ==
 
 PATH = re.compile(rb"(?!\.{0,2}(?:/|$))[^/]+(?:/(?!\.{0,2}(?:/|$))[^/]+)*", re.S)
 FORMS = [(hashlib.sha256, re.compile(rb"SHA256 \((?P<name>.*)\) = (?P<hex>[0-9a-fA-F]{64})", re.S)),
@@ -183,32 +183,32 @@ def without_dot(name):
 
 
 def fault_of(line, long):
-    """Why a line is malformed, or the function, the name and the digest that it has, or nothing."""
+    """Returns why a line is malformed, or its hash function, name and digest, or None if the line is empty or a comment."""
     if re.search(rb"[\x00-\x1f\x7f]", line):
         return "a control character"
     if not line or line.startswith(b"#"):
         return None
     body = line[1:] if line.startswith(b"\\") else line
     for function, form in [*FORMS, *((function, LONG_FORM) for function in LONG[long])]:
-        found = form.fullmatch(body)
-        if found:
-            name = without_dot(found["name"])
+        entry = form.fullmatch(body)
+        if entry:
+            name = without_dot(entry["name"])
             if not PATH.fullmatch(name):
-                return "a name that is no relative path"
+                return "a name that is not a relative path"
             if body is not line and b"\\" not in name:
                 return "a backslash before a name without escapes"
-            return function, name, bytes.fromhex(found["hex"].decode())
+            return function, name, bytes.fromhex(entry["hex"].decode())
     if re.fullmatch(rb" +.*", body, re.S):
         return "a space before the entry"
     if re.fullmatch(rb"[0-9a-fA-F]{64}[ \t].*", body, re.S):
-        return "one space between digits and name"
+        return "one space or tab between digits and name"
     if re.match(rb"SHA256 ?\(", body):
         return "other spaces in a tagged line"
     return "no entry"
 
 
 def expected(long, text, name, data):
-    """What we have to answer, and the reason in words where a line is malformed."""
+    """Returns the expected response, and if a line is malformed the reason in words."""
     try:
         text.decode(), name.decode()
     except UnicodeDecodeError:
@@ -216,37 +216,37 @@ def expected(long, text, name, data):
     if re.search(rb"[\x00-\x1f\x7f\\]", name) or not PATH.fullmatch(without_dot(name)):
         return "bad_name", ""
     *lines, last = re.split(rb"\r?\n", text)
-    found = []
+    entries = []
     for number, line in enumerate([*lines, *([last] if last else [])], 1):
-        fault = fault_of(line, long)
-        if isinstance(fault, str):
-            return f"malformed {number}", fault
-        if fault and fault[1] == without_dot(name):
-            found.append((number, fault))
-    if len(found) != 1:
-        return (f"twice {found[1][0]}" if found else "not_listed"), ""
-    (number, (function, _, digest)), = found
+        entry = fault_of(line, long)
+        if isinstance(entry, str):
+            return f"malformed {number}", entry
+        if entry and entry[1] == without_dot(name):
+            entries.append((number, entry))
+    if len(entries) != 1:
+        return (f"twice {entries[1][0]}" if entries else "not_listed"), ""
+    (number, (function, _, digest)), = entries
     return (f"ok {number}" if function(data).digest() == digest else f"mismatch {number}"), ""
 
 
-# Why sha256sum accepts lists that we reject. Other answers of ours, and other faults, would be failures.
+# The reasons for which we reject lists that sha256sum accepts, by our response. Any other reason is a failure.
 TAKEN_BY_COREUTILS = {
-    "malformed": ("a control character", "a name that is no relative path", "a space before the entry",
-                  "one space between digits and name", "other spaces in a tagged line",
+    "malformed": ("a control character", "a name that is not a relative path", "a space before the entry",
+                  "one space or tab between digits and name", "other spaces in a tagged line",
                   "a backslash before a name without escapes"),
-    "twice": ("",),  # it compares each of the lines
-    "not_utf8": ("",),  # it takes names of any bytes
-    "bad_name": ("",),  # it opens names with . parts, backslashes and control characters
+    "twice": ("",),  # sha256sum checks each of the lines
+    "not_utf8": ("",),  # sha256sum accepts names of any bytes
+    "bad_name": ("",),  # sha256sum opens names with `.` parts, backslashes and control characters
 }
 
 
 def has_unknown_escape(line):
-    """Returns True for a line with escapes of which one is not that of a backslash, a line feed or a carriage return."""
+    """Returns true for a line with an escape other than those for a backslash, a line feed and a carriage return."""
     return line.startswith(b"\\") and b"\\" in re.sub(rb"\\[\\nr]", b"", line[1:])
 
 
 def beside_coreutils(checks, rng, count):
-    """Random lists, beside sha256sum."""
+    """Compares the results for random lists with those of sha256sum. Returns how often each pair of results occurs."""
     kinds, differences, requests, theirs = Counter(), Counter(), [], []
     with tempfile.TemporaryDirectory(prefix="minisign-lists-") as directory:
         for _ in range(count):
@@ -264,26 +264,26 @@ def beside_coreutils(checks, rng, count):
             ours = answer.split()[0]
             kinds[ours, accepts] += 1
             if ours == "ok" and not accepts:
-                # The line that we found has the digest, so another line is the reason.
+                # Our line has the right digest, so sha256sum must have rejected another line.
                 lines = [line for line in text.replace(b"\r\n", b"\n").split(b"\n") if line]
                 reason = b"-: FAILED" in said or b"'standard input'" in said or b"-: " in said
                 reason = reason or len(lines) > 1 and b"FAILED" in said
-                # A line with escapes matches nothing here, whatever they are. sha256sum knows three of them.
+                # We skip lines with any escapes. sha256sum rejects escapes other than the three that it knows.
                 reason = reason or any(has_unknown_escape(line) for line in lines) and b"improperly formatted" in said
-                checks.check(reason, f"we alone accept {name!r} in {text!r}: {said!r}")
+                checks.check(reason, f"only we accept {name!r} in {text!r}; sha256sum: {said!r}")
             elif accepts and ours != "ok":
                 why = expected("-", text, name, DATA)[1]
-                checks.check(why in TAKEN_BY_COREUTILS.get(ours, ()), f"sha256sum accepts {text!r}, we answer {answer}: {why}")
+                checks.check(why in TAKEN_BY_COREUTILS.get(ours, ()), f"sha256sum accepts {text!r}, our response is {answer}: {why}")
                 differences[ours, why] += 1
             wanted = expected("-", text, name, DATA)[0]
-            checks.check(answer == wanted, f"{name!r} in {text!r}: {answer}, and not {wanted}")
-    checks.check(kinds["ok", True] > count // 50, f"few lists are accepted by both: {kinds}")
-    print("accepted by sha256sum alone:", {" ".join(filter(None, kind)): found for kind, found in differences.items()})
+            checks.check(answer == wanted, f"{name!r} in {text!r}: got {answer}, expected {wanted}")
+    checks.check(kinds["ok", True] > count // 50, f"too few lists are accepted by both to compare: {kinds}")
+    print("accepted by sha256sum only:", {" ".join(filter(None, kind)): times for kind, times in differences.items()})
     return kinds
 
 
 def beside_signify(checks, rng, count):
-    """Random lists of BSD lines, beside `signify -C`."""
+    """Compares the results for random BSD lists with those of `signify -C`. Returns how often each pair of results occurs."""
     kinds = Counter()
     with tempfile.TemporaryDirectory(prefix="minisign-lists-") as directory:
         signify = program("signify-openbsd", "signify-openbsd")
@@ -303,8 +303,8 @@ def beside_signify(checks, rng, count):
                                      stdout=subprocess.DEVNULL, stderr=subprocess.DEVNULL).returncode == 0
             ours = answers([("-", text, b"a", DATA)])[0].split()[0]
             kinds[ours, accepts] += 1
-            # signify knows neither plain lines and comments nor upper case. It takes one of two lines, and the
-            # lines before one that it does not know.
+            # signify accepts neither untagged lines, nor comments, nor upper-case digits. It accepts a list in which the name
+            # occurs twice, and the lines before one that it cannot parse.
             if ours == "ok" and not accepts:
                 reason = H.upper() in text or any(not line.startswith(b"SHA256 (") for line in lines)
                 reason = reason or any(len(line) < len(b"SHA256 (a) = ") + 64 for line in lines)
@@ -312,8 +312,8 @@ def beside_signify(checks, rng, count):
                 reason = ours in ("twice", "malformed")
             else:
                 reason = True
-            checks.check(reason, f"signify {'accepts' if accepts else 'rejects'} {text!r}, and we answer {ours}")
-    checks.check(kinds["ok", True] > count // 20, f"few lists are accepted by both: {kinds}")
+            checks.check(reason, f"signify {'accepts' if accepts else 'rejects'} {text!r}, our response is {ours}")
+    checks.check(kinds["ok", True] > count // 20, f"too few lists are accepted by both to compare: {kinds}")
     return kinds
 
 
@@ -327,8 +327,8 @@ def main():
         for name, package in (("openssl", "openssl"), ("shasum", "perl"), ("signify-openbsd", "signify-openbsd")):
             program(name, package)
         check_tools(checks)
-        print("beside sha256sum:", dict(beside_coreutils(checks, random.Random(given.seed), given.lists)))
-        print("beside signify:", dict(beside_signify(checks, random.Random(given.seed), given.lists // 10)))
+        print("our response, and whether sha256sum accepts:", dict(beside_coreutils(checks, random.Random(given.seed), given.lists)))
+        print("our response, and whether signify accepts:", dict(beside_signify(checks, random.Random(given.seed), given.lists // 10)))
     except Missing as missing:
         checks.check(False, missing)
     return checks.end()

@@ -1,6 +1,6 @@
-// What a module of the page answers: each number, all that a signature and the questions hold and the state, for texts that are
-// passed in, and for a signature with another text or another place in it. tests/page/wide_module.py runs it, with the calls of
-// bindings/javascript/calls.js, in Chromium, which takes the module with a memory of 64 bits, too.
+// Collects the results of the page's module for keys, signatures and data: all error numbers, output structs and states, also for
+// signatures that were tampered with after parsing. tests/page/wide_module.py runs it with bindings/javascript/calls.js in Chromium,
+// which can load the module with 64-bit memory too.
 
 function bytesOf(base64) {
   return Uint8Array.from(atob(base64), letter => letter.charCodeAt(0));
@@ -14,37 +14,37 @@ function textOf(answer) {
   return JSON.stringify(answer, (_, value) => value instanceof Uint8Array ? hexOf(value) : value);
 }
 
-// What it answers about one text, in a list: about the signature where one of the readings of the key is good, and about the
-// key and what was fed in any case.
+// Returns the results for one case in a list. If the key cannot be parsed, neither as a file nor as a line, the signature is checked with
+// a key of zeros.
 function answersAbout(library, {pk, sig, data}) {
   const [keyText, signatureText, bytes] = [pk, sig, data].map(bytesOf);
-  const found = [library.readKey(keyText, false), library.readKey(keyText, true)];
-  const read = found.find(one => one.number === 0)?.key ?? new Uint8Array(40), signatureRead = library.readSignature(signatureText);
-  found.push(signatureRead);
-  for (const change of [{text: signatureText.subarray(1)}, {value: signatureRead.value.map((byte, at) => at === 147 ? 9 : byte)}]) {
+  const results = [library.readKey(keyText, false), library.readKey(keyText, true)];
+  const key = results.find(result => result.number === 0)?.key ?? new Uint8Array(40), signature = library.readSignature(signatureText);
+  results.push(signature);
+  for (const change of [{text: signatureText.subarray(1)}, {value: signature.value.map((byte, at) => at === 147 ? 9 : byte)}]) {
     const state = library.begin();
-    found.push({asked: library.ask(state, read, {...signatureRead, ...change}, true), state});
+    results.push({asked: library.ask(state, key, {...signature, ...change}, true), state});
   }
   for (const allowsLegacy of [false, true]) {
     for (const [first, second] of [[true, true], [true, false], [false, true], [false, false]]) {
       const state = library.begin();
-      const asked = library.ask(state, read, signatureRead, allowsLegacy);
+      const asked = library.ask(state, key, signature, allowsLegacy);
       const fed = library.feed(state, bytes);
       if (asked.number !== 0) {
-        found.push({asked, fed, state});
+        results.push({asked, fed, state});
         break;
       }
       const digest = library.digest(state, asked);
       const before = state.slice();
-      found.push({asked, fed, digest, before, verdict: library.verdict(state, first, second), state});
+      results.push({asked, fed, digest, before, verdict: library.verdict(state, first, second), state});
     }
   }
-  return found;
+  return results;
 }
 
-// What it answers about all of them, after the texts of its numbers.
+// Returns the module's error texts, followed by the results for all cases.
 async function answersOf(Library, module, cases) {
   const library = await Library.load(bytesOf(module));
-  const numbers = Array.from({length: 256}, (_, number) => library.errorText(number));
-  return [textOf(numbers), ...cases.map(one => textOf(answersAbout(library, one)))];
+  const texts = Array.from({length: 256}, (_, number) => library.errorText(number));
+  return [textOf(texts), ...cases.map(each => textOf(answersAbout(library, each)))];
 }

@@ -1,4 +1,4 @@
-"""Debian's Chromium without a window, and its driver. (firefox.py has Firefox.)"""
+"""Drives Debian's Chromium without a window, by its driver. (firefox.py drives Firefox.)"""
 
 import contextlib
 import http.client
@@ -10,10 +10,10 @@ from person import ELSEWHERE, MIN_CONTRAST, SECONDS, Person
 
 FLAGS = ("--headless=new", "--no-sandbox", "--disable-gpu", "--disable-dev-shm-usage", "--disable-background-networking",
          "--disable-component-update", "--no-first-run", "--force-prefers-reduced-motion", "--window-size=800,1000",
-         # (one process shows each page, where another one would be begun for each that is opened)
+         # All pages share one process. By default each new page would start another one.
          "--renderer-process-limit=1",
          f"--host-resolver-rules=MAP {ELSEWHERE} 127.0.0.1")
-# Where the driver takes each command.
+# The paths of the driver's commands.
 PATHS = {"Navigate": "url", "PerformActions": "actions", "SetTimeouts": "timeouts", "Log": "se/log", "Protocol": "goog/cdp/execute"}
 
 
@@ -43,7 +43,7 @@ class Chromium(Person):
         self.process.terminate()
 
     def ask(self, method, path, **arguments):
-        """Sends a request to the driver, and answers what that gives."""
+        """Sends a request to the driver and returns the result."""
         with contextlib.closing(http.client.HTTPConnection("127.0.0.1", self.port, timeout=10 * SECONDS)) as connection:
             connection.request(method, path, json.dumps(arguments).encode(), {"Content-Type": "application/json"})
             answer = connection.getresponse()
@@ -56,11 +56,12 @@ class Chromium(Person):
         return self.ask("POST", f"{self.path}/{PATHS[name]}", **arguments)
 
     def command(self, name, **arguments):
-        """A command of the browser's own protocol."""
+        """Sends a command of Chromium's DevTools protocol and returns the result."""
         return self.order("Protocol", cmd=name, params=arguments)
 
     def evaluate(self, expression, **how):
-        """What an expression comes to in the page, as the protocol has it. (The driver's own way takes twice as long.)"""
+        """Evaluates an expression in the page, and returns the protocol's description of the result. (The driver's own command takes twice
+        as long.)"""
         answer = self.command("Runtime.evaluate", expression=expression, awaitPromise=True, **how)
         if "exceptionDetails" in answer:
             raise RuntimeError(f"{expression[-200:]}: {answer['exceptionDetails']}")
@@ -81,11 +82,11 @@ class Chromium(Person):
             self.command("Emulation.setDeviceMetricsOverride", width=width, height=height, deviceScaleFactor=1, mobile=False)
 
     def set_media(self, feature=None, value=None):
-        """Has the page think so of the system, by the name of a media feature, or nothing of it."""
+        """Emulates a value of a media feature, such as `prefers-color-scheme`, or none."""
         self.command("Emulation.setEmulatedMedia", features=[{"name": feature, "value": value}] if feature else [])
 
     def print_out(self, is_printed):
-        """Shows the page as it is printed, on a system whose colours are dark, or as it is."""
+        """Shows the page as it would be printed on a system with a dark colour scheme, or returns to the normal view."""
         dark = [{"name": "prefers-color-scheme", "value": "dark"}]
         self.command("Emulation.setEmulatedMedia", media="print" if is_printed else "", features=dark if is_printed else [])
 
@@ -105,22 +106,22 @@ class Chromium(Person):
         self.taken()
 
     def said(self):
-        """What the browser's console has: errors, and what the policy rejected."""
+        """Returns the messages of the browser's console: errors, and violations of the content security policy."""
         return [entry["message"] for entry in self.order("Log", type="browser")]
 
     def requests(self):
-        """The addresses that were asked for since this was last called."""
+        """Returns the addresses that were requested since the last call."""
         messages = [json.loads(entry["message"])["message"] for entry in self.order("Log", type="performance")]
         return [message["params"]["request"]["url"] for message in messages if message["method"] == "Network.requestWillBeSent"]
 
     def nodes(self):
-        """What a screen reader is told: the role and the name of each node, and its properties."""
+        """Returns the nodes of the accessibility tree, which screen readers use: role, name and properties."""
         return [(node["role"]["value"], node.get("name", {}).get("value", ""),
-                 {one["name"]: one["value"].get("value") for one in node.get("properties", [])})
+                 {each["name"]: each["value"].get("value") for each in node.get("properties", [])})
                 for node in self.command("Accessibility.getFullAXTree")["nodes"] if not node.get("ignored")]
 
     def wrong_looks(self):
-        """The texts that are hard to read, in light, in dark and in colours that the system forces on the page, and what has no border."""
+        """Returns the texts with low contrast and the missing borders, in light and dark colours and in forced colours."""
         wrong = []
         for *asked, wants_white in (
                 ("prefers-color-scheme", "light", True), ("prefers-color-scheme", "dark", False), ("forced-colors", "active", None)):
@@ -129,6 +130,6 @@ class Chromium(Person):
             wrong += [f"{asked}: {text!r} has contrast {contrast:.1f}" for contrast, text in texts if contrast < MIN_CONTRAST]
             wrong += [f"{asked}: a border is {width} wide" for width in borders if width == "0px"]
             if not texts or not is_asked or wants_white not in (None, is_white):
-                wrong.append(f"{asked}: it is asked for: {is_asked}, the ground is white: {is_white}, and there are {len(texts)} texts")
+                wrong.append(f"{asked}: emulated: {is_asked}, white background: {is_white}, expected {wants_white}, {len(texts)} texts")
         self.set_media()
         return wrong

@@ -1,4 +1,5 @@
-"""The kept corpus, and texts with one error each, which tests of the packages and of the library for C take, too."""
+"""Test cases that are also used by the tests of the packages and of the library for C: the corpus, and key and signature
+files with one error each."""
 
 import base64
 from collections import namedtuple
@@ -8,18 +9,18 @@ from minisign_cases import Case
 from running import read
 from texts import CORPUS, joined, kept_rows, lines, record_of, turned, with_line, with_record
 
-# A number, words of what the page has to say, and the text that is rejected so.
+# An error number, words of the page's message, and a key or signature file that has this error.
 Error = namedtuple("Error", "number words text")
 
 
 def kept_cases():
-    """The corpus with its bytes."""
+    """Returns the cases of the corpus, with the contents of their files."""
     parts = ("key", "signature", "data")
     return [Case("{signature} of {data} with {key}".format(**row), *(read(CORPUS, row[part]) for part in parts)) for row in kept_rows()]
 
 
 def key_errors(pk):
-    """Each error of a public key's file."""
+    """Returns a case for each error of a public key file."""
     comment, line = lines(pk)
     return [
         Error(8, "public key is not text in UTF-8", b"untrusted comment: \xff\n" + line + b"\n"),
@@ -32,7 +33,7 @@ def key_errors(pk):
 
 
 def typed_key_errors(pk):
-    """Each error of a public key that is typed as one line."""
+    """Returns a case for each error of a public key that is typed as one line."""
     line = lines(pk)[1]
     return [
         Error(44, "does not have the 56 letters and digits of a public key", line[:-1]),
@@ -42,7 +43,7 @@ def typed_key_errors(pk):
 
 
 def signature_errors(sig, other_sig):
-    """Each error of a signature's file, but for that of legacy data; `other_sig` is of another key."""
+    """Returns a case for each error of a signature file, except the one for large legacy files. `other_sig` was made with another key."""
     (first, second, third, fourth), record = lines(sig), record_of(sig)
     return [
         Error(8, "signature is not text in UTF-8", joined([first + b"\xff", second, third, fourth])),
@@ -52,7 +53,8 @@ def signature_errors(sig, other_sig):
         Error(23, "signature has no third line", joined([first, second])),
         Error(24, "signature has no fourth line", joined([first, second, third])),
         Error(25, "first line of the signature does not begin with \u201cuntrusted comment:\u201d", with_line(sig, 0, b"comment: x")),
-        Error(26, "second or fourth line of the signature has a character that a signature cannot have", with_line(sig, 1, b"-" + second[1:])),
+        Error(26, "second or fourth line of the signature has a character that a signature cannot have",
+              with_line(sig, 1, b"-" + second[1:])),
         Error(27, "third line of the signature does not begin with \u201ctrusted comment:\u201d", with_line(sig, 2, b"comment: x")),
         Error(28, "algorithm that Minisign does not know", with_record(sig, 1, b"XX" + record[2:])),
         Error(29, "made with another key", other_sig),

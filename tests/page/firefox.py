@@ -1,5 +1,5 @@
-"""Debian's Firefox without a window. Debian has no driver for it, so this speaks its own protocol, Marionette: lists in
-JSON, each after its length and a colon.
+"""Drives Debian's Firefox without a window. Debian has no driver for Firefox, so this uses Firefox's protocol Marionette:
+JSON lists, each after its length and a colon.
 """
 
 import json
@@ -26,7 +26,7 @@ class Firefox(Person):
                          HOME=profile, MOZ_HEADLESS_WIDTH=WIDTH, MOZ_HEADLESS_HEIGHT=HEIGHT)
 
     def begin_session(self):
-        # (it writes at which port it listens)
+        # Firefox writes the port on which it listens into this file.
         try:
             with open(self.port_file, encoding="ascii") as file:
                 self.socket = socket.create_connection(("127.0.0.1", int(file.read())), 10 * SECONDS)
@@ -40,14 +40,14 @@ class Firefox(Person):
         self.order("Marionette:Quit", flags=["eForceQuit"])
 
     def read(self):
-        """The next message."""
+        """Returns the next message."""
         length = b""
         while (digit := self.answers.read(1)) not in (b":", b""):
             length += digit
         return json.loads(self.answers.read(int(length)))
 
     def order(self, name, **arguments):
-        """Has the browser do something, and answers what that gives."""
+        """Sends a command and returns the result."""
         self.count += 1
         name = name if ":" in name else f"WebDriver:{name}"
         message = json.dumps([0, self.count, name, arguments]).encode()
@@ -58,15 +58,15 @@ class Firefox(Person):
         return result["value"] if isinstance(result, dict) and list(result) == ["value"] else result
 
     def run(self, script, *arguments):
-        # (among the page's own scripts)
+        # Without a sandbox the script has access to the page's own variables and functions.
         return self.order("ExecuteScript", script=script, args=arguments, sandbox=None)
 
     def send(self, name, *paths):
-        found = self.order("FindElement", using="css selector", value=f"#{name}")
-        self.order("ElementSendKeys", id=next(iter(found.values())), text="\n".join(map(os.path.realpath, paths)))
+        element = self.order("FindElement", using="css selector", value=f"#{name}")
+        self.order("ElementSendKeys", id=next(iter(element.values())), text="\n".join(map(os.path.realpath, paths)))
 
     def see_in_window(self, what, *arguments):
-        """What a function of in_page.js answers in the browser's own window, around the page."""
+        """Calls a function of in_page.js in the browser's window, outside of the page, and returns its result."""
         self.order("Marionette:SetContext", value="chrome")
         try:
             return self.see(what, *arguments)
@@ -74,7 +74,7 @@ class Firefox(Person):
             self.order("Marionette:SetContext", value="content")
 
     def resize(self, width=None, height=None):
-        # (the window itself is 500 wide at least)
+        # The page is resized within the window, because the window cannot be narrower than 500 pixels.
         self.see_in_window("resizeIn", width, height)
         self.wait(lambda: (self.run("return [innerWidth, innerHeight]") == [width, height]) == (width is not None))
 
@@ -87,7 +87,7 @@ class Firefox(Person):
         self.wait(lambda: self.run("return matchMedia('print').matches") == is_printed)
 
     def drop(self, place, *paths):
-        # (an event with files that another place was given)
+        # Creates a drop event with files that were chosen in a temporary file field.
         self.see("addPlace", "dropped")
         self.send("dropped", *paths)
         self.act("dropFrom", place, "dropped")

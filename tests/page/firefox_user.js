@@ -1,5 +1,5 @@
-// What keeps Firefox from asking for anything from outside, and from showing anything but the page. (`page.test`: ELSEWHERE of person.py)
-// Nobody looks: eight pictures a second do.
+// Settings that keep Firefox from network requests of its own, and from showing anything but the page. `page.test` is ELSEWHERE of
+// person.py. The frame rate is low because nobody watches.
 user_pref("layout.frame_rate", 8);
 user_pref("marionette.port", 0);
 user_pref("browser.shell.checkDefaultBrowser", false);

@@ -1,15 +1,15 @@
-"""Checks that the page's module rejects a flag that only another caller than the page can pass."""
+"""Checks that the page's module rejects invalid values of `allow_legacy`, which the page itself never passes."""
 
 from running import read
 from texts import CORPUS
 
-# The errors of the header: none, a state that was never begun, and a number that is no flag.
+# The error numbers of the header: none, a state that was not begun, and an invalid flag.
 OK, NOT_BEGUN, BAD_LEGACY_FLAG = 0, 1, 6
 
 
-def check_flags(person):
-    """A number that is no flag is rejected, and before the state is looked at, which stays. (tests/c/random_calls.c has the same of
-    the library for C.)"""
+def check_allow_legacy_flag(person):
+    """Flags other than 0 and 1 are rejected before the state is checked, and the state is unchanged. (tests/c/random_calls.c has the
+    same test of the library for C.)"""
     person.open()
     key, sig = (list(read(CORPUS, name)) for name in ("first.pub", "hello.minisig"))
     for flag in (0, 1, 2, 3, 2**31, 2**32 - 1):

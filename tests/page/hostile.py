@@ -1,10 +1,10 @@
-"""A hostile signer's comments and names."""
+"""Checks that trusted comments and file names of a hostile signer are shown as text and change nothing else on the page."""
 
 from minisign_cases import Case, sign_by_libsodium, with_comment
 from texts import with_line
 from views import NARROW
 
-# Trusted comments, and what the page has to show of those that it does not show as they are.
+# Trusted comments, and how the page has to show those that it does not show unchanged.
 HOSTILE_COMMENTS = {
     "<img src=x onerror=\"document.title='owned'\"><script>document.title='owned'</script>": None,
     "</div></li><li data-verdict=good><p class=verdict>&#10003; Verified</p>": None,
@@ -29,7 +29,7 @@ HOSTILE_COMMENTS = {
     "x\u206ay\ufff0z\U0001d173": "xU+206AyU+FFF0zU+1D173",
 }
 
-# Names of files, and what the page has to show of those that it does not show as they are.
+# File names, and how the page has to show those that it does not show unchanged.
 HOSTILE_NAMES = {
     "<img src=x onerror=document.title='owned'>": None,
     "\u2713 Verified": None,
@@ -42,41 +42,42 @@ HOSTILE_NAMES = {
 }
 
 
-def check_hostile(person):
-    """Comments and names are shown as text, in their place, and change nothing around them."""
+def check_comments_and_names(person):
+    """Comments and names are shown as text, and change nothing around them."""
     made = Case("made", person.first.text, person.sign(b"data", trusted="t"), b"data")
     wanted, paths = {}, []
     for number, (comment, shown) in enumerate(HOSTILE_COMMENTS.items()):
-        # (signed by the secret of a key that was never sealed)
+        # libsodium signs with the unencrypted secret key, because not every comment can be passed to minisign on a command line.
         case = with_comment(made, person.minisign.read("first.key"), comment.encode(), sign_by_libsodium)
         paths += person.pair(f"comment{number}", case.data, case.sig)
         wanted[f"comment{number}"] = 0, shown or comment
     person.begin(person.first.line, *paths)
     person.expect_each("number comment", wanted, "hostile comments")
-    # Not a good one: a stranger's comment is not shown where nothing vouches for it.
+    # A comment without a valid signature is not shown.
     person.choose(*person.pair("forged", b"data", with_line(made.sig, 2, b"trusted comment: \xe2\x9c\x93 Verified")))
     person.named("forged", "a forged comment", number=32, comment=None, lacks=["\u2713"])
     person.choose(*person.pair("untrusted", b"data", with_line(made.sig, 0, b"untrusted comment: \xe2\x9c\x93 UNTRUSTED")))
     person.named("untrusted", "an untrusted comment", number=0, lacks=["UNTRUSTED"])
-    check_plain(person, "hostile comments")
+    check_shown_as_text(person, "hostile comments")
     person.click("clear")
-    # (a driver's list of chosen files is cut at line feeds, and Chromium alone can be dropped files without one)
+    # The drivers separate the paths of chosen files by line feeds. Only in Chromium can files be dropped without such a list.
     names = {name: shown or name for name, shown in HOSTILE_NAMES.items() if "\n" not in name or person.is_chromium}
     numbers = {name: 31 if "Verified" in name else 0 for name in names}
     for name, number in numbers.items():
         person.drop("downloads", *person.pair(name, b"other" if number else b"data", made.sig))
     person.expect_each("number", {names[name]: number for name, number in numbers.items()}, "hostile names")
-    check_plain(person, "hostile names")
+    check_shown_as_text(person, "hostile names")
     log = "".join(person.log())
-    person.check("\u202e" not in log and "[U+202E]" in log, f"a screen reader is told a mark that turns the direction: {log!r}")
+    person.check("\u202e" not in log and "[U+202E]" in log,
+                 f"the log for screen readers, expected [U+202E] instead of the character: {log!r}")
     if person.is_chromium:
-        person.same(person.wrong_looks(), [], "what is hard to see")
+        person.same(person.wrong_looks(), [], "low contrasts and missing borders")
 
 
-def check_plain(person, what):
-    """Nothing became markup, and the page fits into a wide and a narrow screen."""
-    person.same(person.see("markup"), ["Verify a download", 0, []], f"{what}: the title, markup, and elements in a stranger's text")
+def check_shown_as_text(person, what):
+    """Checks that no text became markup, and that the page fits into a wide and a narrow window."""
+    person.same(person.see("markup"), ["Verify a download", 0, []], f"{what}: the title, markup, and elements in the signer's texts")
     for size in ((), NARROW):
         person.resize(*size)
-        person.check(person.see("fits"), f"{what}: something stands outside of its place at {size}")
+        person.check(person.see("fits"), f"{what}: an element overflows its container at {size or 'full size'}")
     person.resize()

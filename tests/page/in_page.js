@@ -1,10 +1,11 @@
-// What the tests do and see in the page, break in it, and ask of its script: `Person.see` of person.py runs one of these functions in it.
+// Functions that the tests run in the page, to act on it, to read what it shows, to break it, and to call its script. `Person.see` and
+// `Person.act` of person.py call them.
 
 const all = (parts, of = document) => Array.from(of.querySelectorAll(parts));
 const allRows = () => all("#verdicts > li");
 const boxOf = part => part.getBoundingClientRect();
 
-// Each row as it stands: its verdict, its number, if it has one, and its parts.
+// Returns the rows: verdict, error number or null, and texts.
 function rows() {
   const isBold = part => getComputedStyle(part).fontWeight >= 600 && !part.parentElement.closest(".verdict, .caution");
   return allRows().map(row => ({
@@ -16,48 +17,48 @@ function rows() {
   }));
 }
 
-// The verdict at the top of the window, and what it says; nothing where there is none.
+// Returns the verdict and the lines of the band at the top of the window, or null if there is no band.
 function band() {
   const band = document.getElementById("band");
   return band?.checkVisibility() ? [band.dataset.verdict, ...Array.from(band.children, line => line.innerText)] : null;
 }
 
-// The rows, the band, and whether the page is a project's own, which has no field for a key.
+// Returns the rows, the band, and true if this is a project's page, which has no field for a key.
 function state() {
   return [rows(), band(), !document.getElementById("key-text").checkVisibility()];
 }
 
-// The number of why what was given as a key is none, which is 0 of a key; nothing where nothing was given.
+// Returns the error number of what was given as a key, 0 for a valid key, or null if nothing was given.
 function numberOfKey() {
   const {number} = document.getElementById("key-said").dataset;
   return number === undefined ? null : Number(number);
 }
 
-// Whether one part of the page stands before another one.
+// Returns true if the first element comes before the second one.
 function isBefore(...names) {
   const [first, second] = names.map(name => document.getElementById(name));
   return (first.compareDocumentPosition(second) & Node.DOCUMENT_POSITION_FOLLOWING) !== 0;
 }
 
-// Has the field of this name hold this text.
+// Sets the text of a field.
 function typeText(name, text) {
   const field = document.getElementById(name);
   field.value = text;
   field.dispatchEvent(new Event("input", {bubbles: true}));
 }
 
-// Whether the page has taken in what a person did.
+// Returns true if the page has processed all actions of the user.
 function isTaken() {
   return !(Number(document.documentElement.dataset.pending) > 0);
 }
 
-// Whether the page of this address, after `?`, can be used, or has said that it cannot. (While it is loaded it has no element for a
-// moment.)
+// Returns true if the page with this query can be used, or has said that it cannot. (While it is being loaded, there may be no root
+// element yet.)
 function isReady(search = location.search) {
   return location.search === search && document.documentElement?.dataset.ready !== undefined && isTaken();
 }
 
-// Whether it has said what it thinks of a key.
+// Returns true if the page shows a message about the key.
 function isKeySaid() {
   return isTaken() && document.getElementById("key-said").innerText !== "";
 }
@@ -66,15 +67,14 @@ function click(name) {
   document.getElementById(name).click();
 }
 
-// Leaves nothing in the fields and in the list.
+// Clears the fields and the list.
 function empty() {
   typeText("key-text", "");
   typeText("signature-text", "");
   click("clear");
 }
 
-// How far the page is, where something that a person did is still taken in, or a row is being verified or waits for others; else
-// true.
+// Returns true if no action is being processed and no row is queued or being read, and otherwise the progress.
 function work() {
   const rows = allRows();
   const waiting = rows.filter(row => row.dataset.verdict === "queued").length;
@@ -82,7 +82,7 @@ function work() {
   return isTaken() && waiting === 0 && !reading || [document.documentElement.dataset.pending, rows.length, waiting, reading?.innerText];
 }
 
-// What a function answers, once that is true, or after a second.
+// Calls a function until it returns true, or for a second, and returns the last result.
 async function until(look) {
   const end = performance.now() + 1000;
   let seen = look();
@@ -93,26 +93,27 @@ async function until(look) {
   return seen;
 }
 
-// Whether the verdict of the row of this name, and all of its warnings, are in the window below the band.
+// Returns true if the verdict of this row, and all of its warnings, are in the window and not hidden by the band.
 function isInView(name) {
-  const row = allRows().find(one => one.querySelector(".name").textContent === name);
+  const row = allRows().find(each => each.querySelector(".name").textContent === name);
   const top = document.getElementById("band")?.getBoundingClientRect().bottom ?? 0;
   return all(".verdict, .caution", row).every(part => boxOf(part).top >= top && boxOf(part).bottom <= innerHeight);
 }
 
-// Whether the place for the download is whole in the window before anything was scrolled.
+// Returns true if the place for the download is completely in the window without scrolling.
 function isPlaceSeen() {
   const {top, bottom} = boxOf(document.querySelector("#files + label"));
   return scrollY === 0 && top >= 0 && bottom <= innerHeight;
 }
 
-// Whether what has the focus, or the place that is shown for it, begins behind the band.
+// Returns true if the element with the focus, or the label that is shown instead of it, begins behind the band.
 function isFocusBehind() {
   const active = document.activeElement, place = active.classList.contains("unseen") ? active.nextElementSibling : active;
   return boxOf(place).top < boxOf(document.getElementById("band")).bottom;
 }
 
-// Where the band stands in the window after it was scrolled to a share of its length, if nothing is before it.
+// Scrolls the page to a share of its length. Returns the band's position, and true if it has the full width, if it is at most a quarter
+// of the window high, and if nothing covers it.
 function bandAt(share) {
   scrollTo(0, share * document.documentElement.scrollHeight);
   const band = document.getElementById("band"), {left, top, width, height} = boxOf(band);
@@ -120,7 +121,7 @@ function bandAt(share) {
     band.contains(document.elementFromPoint(left + width / 2, top + height / 2))];
 }
 
-// Gives each row this verdict, without its details, and shows the band: its share of the window's height, and what is wrong with it.
+// Gives each row this verdict, without details, and shows the band. Returns its share of the window's height, and its faults.
 function bandWith(verdict) {
   for (const row of allRows()) {
     row.dataset.verdict = verdict;
@@ -129,14 +130,14 @@ function bandWith(verdict) {
   const band = document.getElementById("band"), [head, step] = band.children, {top, bottom} = boxOf(band);
   const isWithin = part => boxOf(part).top >= top && boxOf(part).bottom <= bottom, middle = box => (box.top + box.bottom) / 2;
   return [boxOf(band).height / innerHeight, [
-    [band.scrollHeight <= band.clientHeight, "it is cut"],
+    [band.scrollHeight <= band.clientHeight, "the band is cut off"],
     [isWithin(head) && isWithin(step), "the verdict or the next step is out of view"],
     [middle(Array.from(head.querySelector("bdi").getClientRects()).pop()) < boxOf(head).bottom, "the first name is out of view"],
     [document.documentElement.scrollWidth <= document.documentElement.clientWidth, "the page is wider than the window"],
   ].filter(([isRight]) => !isRight).map(([, words]) => words)];
 }
 
-// What of the look of rows, or of the band, tells a verdict, in lists: its colours, the line beside it, and its words.
+// Returns by what verdicts differ in rows or in the band: colours, the style of the border on this side, and words.
 function looks(parts, side) {
   return Object.fromEntries(all(parts).map(row => {
     const style = getComputedStyle(row), head = row.querySelector(".verdict");
@@ -145,7 +146,7 @@ function looks(parts, side) {
   }));
 }
 
-// What makes a button for the eye of the button below the list, and of each place for files.
+// Returns the styles that make elements look like buttons, for the button below the list and for each place for files.
 function buttons() {
   const look = part => {
     const {backgroundColor, borderTopWidth, borderTopStyle, borderTopColor, paddingLeft, display} = getComputedStyle(part);
@@ -154,7 +155,7 @@ function buttons() {
   return [document.getElementById("clear"), ...all(".place .button")].map(look);
 }
 
-// Whether the page is no wider than the window, and nothing of a row stands outside of it.
+// Returns true if the page is not wider than the window, and no part of a row overflows the row.
 function fits() {
   const isWithin = (part, row) => {
     const a = boxOf(part), b = boxOf(row);
@@ -165,40 +166,41 @@ function fits() {
     && allRows().every(row => all(".verdict, .name, .comment, .why, button, progress", row).every(part => isWithin(part, row)));
 }
 
-// What is cut at its right, or goes out of its place there.
-function cut() {
+// Returns the elements whose content is cut off, or overflows, on the right.
+function cutOffParts() {
   return all("main, main *, footer, footer *")
     .filter(part => part.checkVisibility() && !part.closest(".unseen") && part.clientWidth > 0 && part.scrollWidth > part.clientWidth + 1)
     .map(part => `${part.tagName} ${part.className}: ${part.innerText.slice(0, 40)}`);
 }
 
 function textsBelow(part) {
-  const walker = document.createTreeWalker(part, NodeFilter.SHOW_TEXT), found = [];
+  const walker = document.createTreeWalker(part, NodeFilter.SHOW_TEXT), texts = [];
   while (walker.nextNode()) {
-    found.push(walker.currentNode);
+    texts.push(walker.currentNode);
   }
-  return found;
+  return texts;
 }
 
-// The texts in which one of these words stands, and which a browser may translate.
-function translated(words) {
+// Returns the texts that contain one of these words and that a browser may translate.
+function translatableTexts(words) {
   return textsBelow(document.querySelector("main"))
     .filter(text => text.parentElement.translate && words.some(word => text.data.includes(word))).map(text => text.data);
 }
 
-// The title of the window, and the heading of the page.
+// Returns the title of the window and the heading of the page.
 function titles() {
   return [document.title, document.querySelector("h1").innerText];
 }
 
-// The page's title, how much became markup of the rows, and the classes of what stands in a stranger's text.
+// Returns the page's title, the number of elements that a text could have added to the rows, and the classes of unexpected elements
+// inside of names and comments.
 function markup() {
   const classes = all(".comment *, .name *").map(part => part.className);
   return [document.title, all("#verdicts :is(img, script, a, iframe, style, b)").length, classes.filter(name => name !== "unseeable")];
 }
 
-// The contrast of each text that is seen to what is behind it (WCAG 2), with the text; on paper, on which browsers print no grounds, to
-// white.
+// Returns the contrast of each visible text to its background (WCAG 2), and the text. On paper the background is white, because browsers
+// do not print backgrounds.
 function contrasts(isPrinted = false) {
   const channel = value => value <= 0.04045 ? value / 12.92 : ((value + 0.055) / 1.055) ** 2.4;
   const light = color => {
@@ -210,21 +212,22 @@ function contrasts(isPrinted = false) {
     const color = part && !isPrinted ? getComputedStyle(part).backgroundColor : "rgb(255, 255, 255)";
     return isClear(color) ? ground(part.parentElement) : color;
   };
-  const seen = textsBelow(document.body).filter(({data, parentElement: part}) =>
+  const visible = textsBelow(document.body).filter(({data, parentElement: part}) =>
     data.trim() && part.checkVisibility() && !part.closest("script, .unseen"));
-  return seen.map(({data, parentElement: part}) => {
-    const [one, other] = [getComputedStyle(part).color, ground(part)].map(light);
-    return [(Math.max(one, other) + 0.05) / (Math.min(one, other) + 0.05), data.trim().slice(0, 40)];
+  return visible.map(({data, parentElement: part}) => {
+    const [text, behind] = [getComputedStyle(part).color, ground(part)].map(light);
+    return [(Math.max(text, behind) + 0.05) / (Math.min(text, behind) + 0.05), data.trim().slice(0, 40)];
   });
 }
 
-// How wide the borders of rows and warnings are, whether the system asks so for how the page looks, and whether its ground is white.
+// Returns the widths of the borders of rows and warnings, true if the media feature has this value, and true if the page's background is
+// white.
 function ground(feature, value) {
   return [all("#verdicts > li, .caution").map(part => getComputedStyle(part).borderLeftWidth), matchMedia(`(${feature}: ${value})`).matches,
     getComputedStyle(document.body).backgroundColor === "rgb(255, 255, 255)"];
 }
 
-// The middle of a part of the page, as far as it is in the window once it is scrolled there.
+// Scrolls an element into view, and returns the middle of its visible part.
 function middleOf(name) {
   const part = document.getElementById(name);
   part.scrollIntoView();
@@ -232,15 +235,15 @@ function middleOf(name) {
   return [left + width / 2, top + Math.min(height, innerHeight) / 2];
 }
 
-// ---- What Firefox has no command for ----
+// ---- Actions for which Firefox has no command ----
 
-// Gives the page so much room in the browser's window, or all of it where no width is named.
+// Sets the size of the page within the browser's window. Without a width the page fills the window.
 function resizeIn(width, height) {
   gBrowser.selectedBrowser.style.cssText = width === null ? ""
     : `min-width: 0; flex: none; align-self: flex-start; width: ${width}px; height: ${height}px`;
 }
 
-// Shows the page as it is printed, on a system whose colours are dark, or as it is.
+// Shows the page as it would be printed on a system with a dark colour scheme, or returns to the normal view.
 function printIn(isPrinted) {
   const {browsingContext} = gBrowser.selectedBrowser;
   browsingContext.mediumOverride = isPrinted ? "print" : "";
@@ -251,7 +254,7 @@ function forceColours(isForced) {
   Services.prefs.setIntPref("browser.display.document_color_use", isForced ? 2 : 0);
 }
 
-// Adds a place for files, from which they are dropped on another one.
+// Adds a file field. dropFrom drops its files on another element.
 function addPlace(name) {
   document.body.append(Object.assign(document.createElement("input"), {type: "file", multiple: true, id: name}));
 }
@@ -275,9 +278,9 @@ function dropData(place, dataTransfer) {
   document.getElementById(place).dispatchEvent(new DragEvent("drop", {dataTransfer, bubbles: true, cancelable: true}));
 }
 
-// ---- What a test breaks ----
+// ---- Breaking the page ----
 
-// Has the next call of a function of the page hang.
+// Makes the next call of a function of the page hang.
 function hangOnce(name) {
   const real = window[name];
   window[name] = () => {
@@ -287,7 +290,7 @@ function hangOnce(name) {
   };
 }
 
-// Has threads end once they are told something, four times.
+// Makes worker threads end when they get a message, four times.
 function endThreads() {
   const {prototype} = Worker, real = prototype.postMessage;
   let count = 0;
@@ -300,7 +303,7 @@ function endThreads() {
   };
 }
 
-// Has the first text that is read wait until a part of the next file has been read.
+// Delays the first text that is read until a part of the next file has been read.
 function waitOnce() {
   const real = window.textOfFile;
   window.textOfFile = async file => {
@@ -318,7 +321,7 @@ function waitOnce() {
   };
 }
 
-// Has each file that the page reads wait until letFilesGo is called. (A text waits before the time begins after which it is given up.)
+// Delays each file that the page reads until letFilesGo is called. (Texts are delayed before their time limit starts.)
 function holdFiles() {
   const {bytesOfFile, textOfFile} = window;
   const held = new Promise(resolve => {
@@ -337,15 +340,15 @@ function holdFiles() {
   };
 }
 
-// Has files of this name not be read.
+// Makes reading files with this name fail.
 function breakFiles(name) {
   const real = window.bytesOfFile;
   window.bytesOfFile = async (file, ...of) => file.name === name ? null : await real(file, ...of);
 }
 
-// ---- What a test asks of the script ----
+// ---- Calling the page's script ----
 
-// Verifies so many files of the page's own making, and counts how many it has verified.
+// Verifies COUNT generated files, and counts the good verdicts in window.verified.
 function verifyMany(count, text, data) {
   const real = window.showVerdict;
   const files = Array.from({length: count}, (_, at) => [new File([data], `f${at}`), new File([text], `f${at}.minisig`)]).flat();
@@ -357,19 +360,20 @@ function verifyMany(count, text, data) {
   inTurn(() => takeFiles(files));
 }
 
-// Which of two things comes that are fetched from an address.
+// Requests an address by fetch and as a picture, and returns which of the two succeeded.
 async function fetchFrom(address) {
-  const came = [], picture = new Image();
-  await fetch(`${address}?fetched`).then(() => came.push("fetch"), () => {});
+  const succeeded = [], picture = new Image();
+  await fetch(`${address}?fetched`).then(() => succeeded.push("fetch"), () => {});
   await new Promise(resolve => {
-    picture.onload = () => resolve(came.push("picture"));
+    picture.onload = () => resolve(succeeded.push("picture"));
     picture.onerror = resolve;
     picture.src = `${address}?picture`;
   });
-  return came;
+  return succeeded;
 }
 
-// Has the module ask with any number as `allow_legacy`, where the page passes 0 or 1: what it says, and if the state stays.
+// Calls page_ask with any number as `allow_legacy`; the page itself passes 0 or 1. Returns the error number, and true if the state is
+// unchanged.
 function askWithFlag(key, signature, flag, isBegun) {
   const state = isBegun ? library.begin() : new Uint8Array(STATE_BYTES), before = state.slice();
   const read = library.readKey(Uint8Array.from(key), false).key, {text, value} = library.readSignature(Uint8Array.from(signature));

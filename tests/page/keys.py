@@ -1,5 +1,5 @@
-"""Whose key it is: a key that you gave stays, and each verdict says of a key that came with the files or the link that it
-did. What a signed comment says.
+"""Checks that a key that the user gave is kept, that each verdict says if the key came with the files or the link, and what
+the page reads in trusted comments.
 """
 
 from person import Key
@@ -11,22 +11,27 @@ NAMED = "The signature is for a file named "
 OTHER_FILE = "This may be a different file, or an older one."
 
 
-def under_identifier(own, foreign):
-    """The text of a foreign key or signature with the identifier of the own one."""
+def with_key_id_of(own, foreign):
+    """Returns a foreign key or signature file with the key ID of `own`."""
     return with_record(foreign, 1, record_of(own)[:10] + record_of(foreign)[10:])
 
 
-def check_keys(person):
-    """A key that is there is not replaced by files; one of the same identifier is seen to be another."""
-    own, good = person.first, person.sign(b"update", trusted="t")
-    # What somebody else made: another file, a signature of it, and a key, all under the identifier of the project's key.
-    foreign = under_identifier(own.text, person.second.text)
-    harmful = under_identifier(good, person.sign(b"harmful", key="second", trusted="t"))
+def attack(person, good):
+    """Writes an attacker's file, signature and key, all with the key ID of the project's key. Returns their paths and the key."""
+    foreign = with_key_id_of(person.first.text, person.second.text)
+    harmful = with_key_id_of(good, person.sign(b"harmful", key="second", trusted="t"))
     data, sig = person.pair("update.zip", b"harmful", harmful)
-    theirs, my_key = (data, sig, person.put("minisign.pub", foreign, data)), person.put("my.pub", own.text)
+    return (data, sig, person.put("minisign.pub", foreign, data)), Key(foreign, lines(foreign)[1].decode())
+
+
+def check_given_key_is_kept(person):
+    """A key that the user gave is not replaced by a key that comes with files, and a different key with the same key ID is not
+    mistaken for it."""
+    own, good, my_key = person.first, person.sign(b"update", trusted="t"), person.put("my.pub", person.first.text)
+    theirs, _ = attack(person, good)
     person.open()
-    for how, give, given, told in (("typed", person.type_key, own.line, "pasted or typed"),
-                                   ("chosen", person.choose_key, my_key, "chose as the file my.pub")):
+    for how, give, given, words in (("typed", person.type_key, own.line, "pasted or typed"),
+                                    ("chosen", person.choose_key, my_key, "chose as the file my.pub")):
         what = f"a key that was {how}"
         person.begin(anew=False)
         give(given)
@@ -35,42 +40,48 @@ def check_keys(person):
         person.uses(own, what)
         person.says("files-said", what, begins="minisign.pub came with the files and was ignored: the key above is kept")
         person.choose(*person.pair("update.zip", b"update", good))
-        person.only(what, number=0, verdict="good", cautions=[], has=[told, f"\n{OF_PERSON}\n"])
-        person.same(person.text_of("files-said"), "", f"{what}: what is said of new files")
+        person.only(what, number=0, verdict="good", cautions=[], has=[words, f"\n{OF_PERSON}\n"])
+        person.same(person.text_of("files-said"), "", f"{what}: the message about new files")
 
-    # With several files that come together it is taken, and with several keys none is.
-    person.begin(anew=False)
-    person.drop("downloads", *person.signed("a", b"a", trusted="of a"), *person.signed("d.pub", b"d", trusted="of d"), person.put("c", b"c"), my_key)
+
+def check_key_with_files(person):
+    """If the user gave no key, a single key that comes with files is used, and each verdict first says so."""
+    good, my_key = person.sign(b"update", trusted="t"), person.put("my.pub", person.first.text)
+    theirs, foreign = attack(person, good)
+    person.open()
+    person.drop("downloads", *person.signed("a", b"a", trusted="of a"), *person.signed("d.pub", b"d", trusted="of d"),
+                person.put("c", b"c"), my_key)
     person.expect_each("verdict comment", {"a": ("unchecked", "of a"), "d.pub": ("unchecked", "of d"), "c": ("waiting", None)},
                        "several files and the key")
-
-    # No key is there: it is taken, and each verdict says whose it may be before anything else.
     what = "a key with the files"
     person.begin(anew=False)
     person.drop("downloads", *theirs)
     person.only(what, verdict="unchecked", has=[WITH_FILES, "came with the files as minisign.pub"])
-    person.uses(Key(foreign, lines(foreign)[1].decode()), what)
+    person.uses(foreign, what)
     log = person.log()
-    person.check(WITH_FILES in log[0] and log[0].startswith("Signed, by a key that you have not checked"), f"a screen reader is told {log}")
+    person.check(WITH_FILES in log[0] and log[0].startswith("Signed, by a key that you have not checked"),
+                 f"{what}: the log for screen readers: {log}")
     person.choose(*person.pair("other.zip", b"other", good))
     person.named("other.zip", "another file", number=31, has=[WITH_FILES])
-    # The project's key instead: what was found with the other one is found no more.
+    # When the project's key is chosen instead, the results with the other key are discarded.
     person.choose_key(my_key)
     person.named("update.zip", "the project's key instead", number=31)
     log = person.log()
-    person.check(all(line.startswith("NOT verified") for line in log) and len(log) == 2, f"a screen reader is told {log}")
+    person.check(all(line.startswith("NOT verified") for line in log) and len(log) == 2,
+                 f"the project's key instead: the log for screen readers, expected two lines `NOT verified ..`: {log}")
     person.click("key-remove")
     person.expect_each("verdict", {"update.zip": "waiting", "other.zip": "waiting"}, "a key that was removed")
     person.same((person.text_of("key-said"), person.is_shown("key-whole"), person.log()), ("", False, []),
-                "a key that was removed: what is said")
-    # Of several keys none is taken.
+                "a key that was removed: the messages")
+    # If several keys come together, none is used.
     person.drop("downloads", my_key, theirs[-1])
     person.says("key-said", "two keys at once", "several keys")
     person.same((person.is_shown("key-whole"), {row.verdict for row in person.rows()}), (False, {"waiting"}), "two keys at once")
 
 
-def check_field(person):
-    """What stands in the key's field stays, and while it does no key is taken that came with the files, which is said."""
+def check_key_field(person):
+    """The text in the key's field is kept, even if it is not a key. As long as it is there, no key that comes with files is used, and the
+    page says so."""
     own, paths = person.first, person.signed("update.zip", b"update", trusted="t")
     keys = [person.put(name, own.text) for name in ("minisign.pub", "other.pub")]
     person.open()
@@ -83,19 +94,19 @@ def check_field(person):
             person.only(what, verdict="waiting", number=None)
             seen = person.text_of("key-text", "value"), person.text_of("key-said"), person.is_shown("key-whole")
             person.same(seen, (text, said, False), f"{what}: the field")
-            told = "{} came with the files and was ignored: the text in the field above is kept, but it is not a key."
-            person.says("files-said", what, *(told.format(name) for name in ("minisign.pub", "other.pub")[:len(given)]))
-    # An empty field, of which a person sees nothing, holds no text.
+            ignored = "{} came with the files and was ignored: the text in the field above is kept, but it is not a key."
+            person.says("files-said", what, *(ignored.format(name) for name in ("minisign.pub", "other.pub")[:len(given)]))
+    # White space counts as an empty field, because the user cannot see it.
     person.type_key(" \n")
     person.drop("downloads", keys[0])
     person.only("an empty field", verdict="unchecked", has=[WITH_FILES])
-    # The same key, once a person has pasted it.
+    # The user pastes the key that came with the files.
     person.type_key(own.line)
     person.only("a key with the files that is pasted then", verdict="good", cautions=[])
 
 
-def check_links(person):
-    """Of a link the 56 letters are taken and nothing else, and a link that changes later begins all anew. (only_download.py has links
+def check_keys_in_links(person):
+    """Only the 56 letters of a key are read from a link, and a link that changes later resets the page. (project_page.py has links
     with a signature.)"""
     first, second = person.first.line, person.second.line
     escaped = first.replace("+", "%2B").replace("/", "%2F")
@@ -107,7 +118,8 @@ def check_links(person):
                  f"key=Verified%0A{first}", f"{first}%20", f"{first}x", first[:-1], f"key={first}&key={second}",
                  f"{first}&{second}", f"other={first}", "key=", "%", person.sign(b"x").decode().split("\n")[1][:56].replace("+", "%2B")):
         person.open(f"{person.address}#{part}")
-        person.says("key-said", f"#{part}", begins="No public key: in the link to this page, what follows # is not the 56 letters and digits of a key.")
+        person.says("key-said", f"#{part}",
+                    begins="No public key: in the link to this page, what follows # is not the 56 letters and digits of a key.")
         seen = person.is_shown("key-whole"), person.text_of("key-text", "value"), "Verified" in person.run("return document.body.innerText")
         person.same(seen, (False, "", False), f"#{part}: a key, and words of the link, are shown")
     what = "an address that changes"
@@ -121,39 +133,39 @@ def check_links(person):
     person.uses(person.second, what)
 
 
-# Files whose trusted comment has another name than theirs. The name may differ by one suffix of a second download, of at most two digits,
-# and by directories in the signed name. The comment of the last ones has the same name, or none.
-OTHERWISE = {"b.zip": "timestamp:1700000000\tfile:a.zip", "c.zip": "file:\u202ec.zip", "l (1).zip": "file:m.zip", "n.zip": "file:n.zip.exe",
+# File names and trusted comments. In DIFFERENT the signed name is different. In SIMILAR it differs only by directories in the signed
+# name, or by the suffix of a second download, a number of at most two digits, which is allowed. In SAME it is the same, or missing.
+DIFFERENT = {"b.zip": "timestamp:1700000000\tfile:a.zip", "c.zip": "file:\u202ec.zip", "l (1).zip": "file:m.zip", "n.zip": "file:n.zip.exe",
              "o1.zip": "file:o (1).zip", "p.zip": "file:p.zip/q", "App (2025).zip": "file:App (2024).zip", "q (2024).zip": "file:q.zip",
              "r (100).zip": "file:r.zip", "s (1) (2).zip": "file:s.zip", "t(1)(2).tar.gz": "file:t.tar.gz", "u.zip": "file:u (1).zip",
              "v (1).zip": "file:v (2).zip", "J.ZIP": "file:j.zip", "w-1.zip": "file:w.zip", "x.zip": "file:x.zip\tfile:y.zip",
              "y (a).zip": "file:y.zip"}
-MUCH_THE_SAME = {"f (1).zip": "file:f.zip", "g(2).tar.gz": "file:g.tar.gz", "h.zip": "file:./h.zip", "i.zip": "file:dist/i.zip",
+SIMILAR = {"f (1).zip": "file:f.zip", "g(2).tar.gz": "file:g.tar.gz", "h.zip": "file:./h.zip", "i.zip": "file:dist/i.zip",
                  "k (99).zip": "file:C:\\out\\k.zip", "z (1) (2).zip": "file:z (1).zip", "App (2024) (1).zip": "file:App (2024).zip",
                  "no end (3)": "file:no end"}
 SAME = {"a.zip": "timestamp:1700000000\tfile:a.zip\thashed", "caf\u00e9": "file:cafe\u0301", "d.zip": "timestamp:17000000000000",
         "e.zip": "no file:x and timestamp:1", "App (2023).zip": "file:App (2023).zip"}
 
 
-def check_comments(person):
-    """A file with another name than the signed one is not verified, but its signer and the comment are told; and a comment whose ends
-    differ."""
+def check_signed_names(person):
+    """A file with another name than the signed one is not reported as verified, but the page shows its signer and the comment. White
+    space at the ends of a signed comment is rejected."""
     data = b"update"
     person.begin(person.first.line)
-    for name, comment in {**OTHERWISE, **MUCH_THE_SAME, **SAME}.items():
+    for name, comment in {**DIFFERENT, **SIMILAR, **SAME}.items():
         person.choose(*person.signed(name, data, trusted=comment))
     rows = {row.name: row for row in person.settled("comments")}
-    for names, words, lacks in ((OTHERWISE, [NAMED, OTHER_FILE], []), (MUCH_THE_SAME, [NAMED], [OTHER_FILE]), (SAME, [], [NAMED])):
+    for names, words, lacks in ((DIFFERENT, [NAMED, OTHER_FILE], []), (SIMILAR, [NAMED], [OTHER_FILE]), (SAME, [], [NAMED])):
         for name, comment in names.items():
             what = f"{name} with the comment {comment!r}"
-            verdict, cautions = ("renamed", 1) if names is OTHERWISE else ("good", 0)
+            verdict, cautions = ("renamed", 1) if names is DIFFERENT else ("good", 0)
             person.expect(rows[name], what, number=0, verdict=verdict, has=words, lacks=lacks)
             person.same(len(rows[name].cautions), cautions, f"{what}: the warnings")
-            person.same("it was signed on" in rows[name].text, name in ("a.zip", "b.zip"), f"{what}: the time is told")
+            person.same("it was signed on" in rows[name].text, name in ("a.zip", "b.zip"), f"{what}: the time is shown")
     for name, words in (("a.zip", "signed on 2023-11-14, 22:13 UTC."), ("b.zip", f"{NAMED}a.zip."), ("c.zip", "U+202Ec.zip"),
                         ("i.zip", f"{NAMED}dist/i.zip.")):
         person.expect(rows[name], f"the signed name of {name}, or the time", has=[words])
-    # Under a key that nobody gave, that is told first.
+    # If the user did not give the key, this is said first.
     what = "another name, under a key that came with the files"
     person.begin("", *person.signed("b.zip", data, trusted="file:a.zip"), person.put("minisign.pub", person.first.text), anew=False)
     person.only(what, verdict="unchecked", number=0, has=[WITH_FILES, f"{NAMED}a.zip. {OTHER_FILE}"])
@@ -162,11 +174,11 @@ def check_comments(person):
 
     signed = {comment: person.sign(data, trusted=comment) for comment in ("t", "t ", " t", "t\t")}
     ends, other = "white space at its beginning or end", "Do not use the file"
-    for comment, stands, number, why in (
-            *((comment, stands, 32, ends) for comment in ("t ", " t", "t\t") for stands in (comment, "t")),
+    for comment, in_file, number, why in (
+            *((comment, in_file, 32, ends) for comment in ("t ", " t", "t\t") for in_file in (comment, "t")),
             ("t", "u", 32, other), ("t ", "u ", 32, other), ("t", " t ", 0, "")):
-        what = f"signed as {comment!r}, and stands as {stands!r}"
+        what = f"the signed comment {comment!r}, which is {in_file!r} in the file"
         person.click("clear")
-        person.choose(*person.pair("update.zip", data, with_line(signed[comment], 2, f"trusted comment: {stands}".encode())))
+        person.choose(*person.pair("update.zip", data, with_line(signed[comment], 2, f"trusted comment: {in_file}".encode())))
         row = person.only(what, number=number, comment="t" if number == 0 else None)
         person.check(why in row.why and ("Do not use" in row.why) == (why == other), f"{what}: {row.why!r}")

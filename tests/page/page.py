@@ -1,14 +1,14 @@
 #!/usr/bin/env python3
-"""Tries the page that verifies a download in Debian's Firefox and Chromium, without a window.
+"""Checks that the page that verifies downloads works in Debian's Firefox and Chromium, without a window.
 
-    tests/page/page.py [PAGE]
+    tests/page/page.py [PAGE] [WORD ..]
 
 PAGE is by default the one of `dist/`; `tools/dist.py --check` compares that with what `page/build.py` builds, and wide_module.py
-compares its module with the proved one. What is tried stands at the head of each module beside this. It prints a line for each
-failure; the last line is `N passed, M failed`.
+compares its module with the proved one. The modules of this directory contain the tests. With words, only the steps run whose
+names contain one of them. It prints a line for each failure; the last line is `N passed, M failed`.
 
-Needs Python 3.9 or later, chromium, chromium-driver, firefox-esr, binaryen, clang, a C compiler, make, libsodium with its header and minisign
-0.11. It installs what is missing if it may.
+Needs Python 3.9 or later, chromium, chromium-driver, firefox-esr, binaryen, clang, a C compiler, make, libsodium with its header and
+minisign 0.11. It installs what is missing if it may.
 """
 
 import importlib
@@ -32,13 +32,13 @@ from browser import Chromium
 from firefox import Firefox
 from minisign_cases import Minisign
 
-# What is tried in each browser, in this order: what a person sees there. And in Chromium what its own protocol shows besides.
-IN_BOTH = ("verdicts", "keys", "views", "acts", "unverified", "only_download", "helps", "hostile", "standing")
-IN_CHROMIUM = ("surroundings", "flags")
+# The modules with tests, in the order in which they run. Those of IN_CHROMIUM need Chromium's DevTools protocol.
+IN_BOTH = ("verdicts", "keys", "views", "random_actions", "replaced_inputs", "project_page", "help_texts", "hostile", "robustness")
+IN_CHROMIUM = ("environment", "flags")
 
 
 def steps_in(person):
-    """The steps in a browser: what has a name that begins with `check_` and takes a person alone."""
+    """Yields the steps in a browser: the functions whose names begin with `check_` and whose only parameter is a person."""
     for module in IN_BOTH + IN_CHROMIUM if person.is_chromium else IN_BOTH:
         for name, step in vars(importlib.import_module(module)).items():
             if name.startswith("check_") and step.__code__.co_argcount == 1:
@@ -46,15 +46,16 @@ def steps_in(person):
 
 
 def run_step(person, step, begin):
-    """Runs a step in the whole window: who goes on after it. A machine without memory ends the process that shows the page before any
-    other: then the step is run once more, in a new browser. (A page that ends it ends it again.)"""
+    """Runs a step in a full-size window, and returns the person for the next step. If the process that shows the page has died, the step
+    runs once more in a new browser, because a machine without memory kills this process first. (If the page itself causes the end, it
+    does so again.)"""
     try:
         person.resize()
         step(person)
     except Exception:
         if person.shows_page():
             raise
-        print(f"page: {person.name} shows no page any more, and is begun anew", flush=True)
+        print(f"page: {person.name} no longer shows a page, and is restarted", flush=True)
         person.quit()
         person = begin()
         step(person)
@@ -64,7 +65,7 @@ def run_step(person, step, begin):
 
 
 def run_in(begin):
-    """Runs everything in a browser, which this begins."""
+    """Starts a browser by `begin` and runs all selected steps."""
     person = begin()
     try:
         for what, step in steps_in(person):

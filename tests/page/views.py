@@ -1,23 +1,24 @@
-"""How the verdicts show: the first one scrolls into view, and none looks like another, in light, in dark, and where
-the system forces its colours.
+"""Checks how verdicts look: the first one scrolls into view, and verdicts can be told apart in light, dark and forced
+colours, in low windows and on paper.
 """
 
-from person import MIN_CONTRAST, STANDS
+from person import MIN_CONTRAST, HEADINGS
 from texts import lines
 
-# The windows of two telephones, of which the first is small, and of a computer; and a narrow screen.
+# The window sizes of a small phone, a larger phone and a computer; and a narrow screen.
 WINDOWS, NARROW = ((360, 640), (390, 844), (1366, 657)), (320, 640)
-# The rows and the band, and the side of each that has a line of its own.
+# The rows and the band, and the side on which each has a border.
 PLACES = (("#verdicts > li", "Left"), ("#band", "Bottom"))
 
 
-def check_view(person):
-    """The first verdict that an act brings is in view when it comes, on a small screen, and later ones move nothing."""
+def check_verdict_in_view(person):
+    """On a small screen, the first verdict after an action scrolls into view, and later verdicts do not scroll it away."""
     files, later, *others = (person.signed(name, name.encode(), trusted="t") for name in ("a", "later", *map(str, range(12))))
     line, key = person.first.line, person.put("minisign.pub", person.first.text)
     person.resize(*WINDOWS[0])
     for what, link, typed, first, then in (
-            ("the key first", "", line, (), files), ("the files first", "", "", files, ()), ("all at once", "", "", (), (*files, key)),
+            ("the key first", "", line, (), files), ("the files first", "", "", files, ()),
+            ("key and files together", "", "", (), (*files, key)),
             ("by a link", f"#{line}", "", (), files), ("many files", "", line, (), sum(others, files))):
         person.begin(typed, *first, address=person.address + link)
         person.run("scrollTo(0, 0)")
@@ -27,21 +28,21 @@ def check_view(person):
             person.type_key(line)
         person.settled(what)
         person.check(person.see("isInView", "a"), f"{what}: the first verdict is out of view")
-    # A later file, whose row is far below.
+    # A later file, whose row is at the end of the list.
     person.run("scrollTo(0, 0)")
     person.choose(*later)
     person.settled("a later file")
-    person.check(person.see("isInView", "later"), "a later file: its verdict is out of view")
+    person.check(person.see("isInView", "later"), "a later file: the verdict is out of view")
 
 
 def check_band(person):
-    """The worst verdict stands at the top of the window, wherever that is scrolled to. The three verdicts have other colours, and
-    other words, signs and lines where colours are forced on the page."""
+    """The worst verdict is always at the top of the window. The three verdicts differ in colours, words, signs and lines; with forced
+    colours they still differ in words, signs and lines."""
     key, fits = person.first.line, person.signed("fits", b"x", trusted="t")
     fails = person.pair("fails", b"y", person.sign(b"x", trusted="t"))
     seen = {(place, is_forced): {} for place in PLACES for is_forced in (False, True)}
     person.open()
-    person.expect_each("verdict", {}, "the band before there is a file")
+    person.expect_each("verdict", {}, "the band without a file")
     person.choose(*fits)
     person.expect_each("verdict", {"fits": "waiting"}, "the band without a key")
     person.click("clear")
@@ -57,32 +58,36 @@ def check_band(person):
         for size in WINDOWS:
             person.resize(*size)
             for share in (0, 0.5, 1):
-                person.same(person.see("bandAt", share), [0, 0, True, True, True], f"the band that is {verdict} at {size}, {share}")
+                person.same(person.see("bandAt", share), [0, 0, True, True, True],
+                            f"the band with the verdict {verdict} at {size}, scrolled to {share}: left, top, full width, low, uncovered")
     for ((part, _), is_forced), looks in seen.items():
-        what = f"{part}, {'forced colours' if is_forced else 'its own colours'}"
+        what = f"{part}, {'forced colours' if is_forced else 'normal colours'}"
         person.same(set(looks), {"good", "unchecked", "bad"}, f"{what}: the verdicts")
         for sort in ("line", "words") if is_forced else ("line", "words", "colours"):
-            person.same(len({value for look in looks.values() for value in look[sort]}), 3, f"{what}: the {sort} of the verdicts: {looks}")
-        person.same(len({look["words"][0][0] for look in looks.values()}), 3, f"{what}: the signs")
+            person.same(len({value for look in looks.values() for value in look[sort]}), 3,
+                        f"{what}: the number of different {sort}: {looks}")
+        person.same(len({look["words"][0][0] for look in looks.values()}), 3, f"{what}: the number of different signs")
 
 
 def check_low_window(person):
-    """With any verdict the band takes at most a quarter of a window, and shows in it the verdict, the first of the files that it names, and
-    the next step. On a page of 1280 by 1024 that is magnified four times the window has 320 by 256."""
-    person.begin(person.first.line, *person.signed("Example-1.0-x86_64.tar.gz", b"x", trusted="t"), *person.signed("b.zip", b"x", trusted="t"))
+    """With every verdict the band takes at most a quarter of the window, and shows the verdict, the first file and the next step. A
+    window of 320 by 256 is one of 1280 by 1024 with a zoom of 400 %."""
+    person.begin(person.first.line, *person.signed("Example-1.0-x86_64.tar.gz", b"x", trusted="t"),
+                 *person.signed("b.zip", b"x", trusted="t"))
     person.settled("a low window")
     for size in ((320, 256), (640, 360), *WINDOWS):
         person.resize(*size)
-        for verdict in STANDS:
+        for verdict in HEADINGS:
             share, wrong = person.see("bandWith", verdict)
-            person.check(share <= 0.25 and not wrong, f"the band that is {verdict} at {size} takes {share:.3f} of the window: {wrong}")
+            person.check(share <= 0.25 and not wrong,
+                         f"the band with the verdict {verdict} at {size} takes {share:.3f} of the window: {wrong}")
 
 
 def check_printed(person):
-    """On paper, where browsers print no grounds, the words of each verdict can be read, and the band covers nothing."""
+    """On paper, where browsers print no backgrounds, the texts of each verdict have enough contrast, and the band covers nothing."""
     person.begin(person.first.line, *person.signed("fits", b"x", trusted="t"))
     person.settled("on paper")
-    for verdict in STANDS:
+    for verdict in HEADINGS:
         person.see("bandWith", verdict)
         person.print_out(True)
         try:
@@ -90,11 +95,12 @@ def check_printed(person):
             faint = [text for contrast, text in person.see("contrasts", True) if contrast < MIN_CONTRAST]
         finally:
             person.print_out(False)
-        person.same((position, faint), ("static", []), f"the band that is {verdict}, on paper, and the texts that are hard to read")
+        person.same((position, faint), ("static", []),
+                    f"on paper, with the verdict {verdict}: the band's position, and texts with low contrast")
 
 
 def check_focus(person):
-    """What has the focus stands below the band, also where the keyboard goes backwards."""
+    """The element with the focus is not hidden by the band, also when the user moves backwards by keyboard."""
     paths = [path for name in "abcd" for path in person.signed(name, b"x")]
     for size in WINDOWS:
         person.resize(*size)
@@ -102,24 +108,24 @@ def check_focus(person):
         person.settled("the focus")
         person.run("document.getElementById('clear').focus()")
         for name in ("comment",) * 4 + ("signature-text", "files", "key-remove", "key-file", "key-text"):
-            found = person.tab(held=person.SHIFT), person.see("isFocusBehind")
-            person.same(found, (name, False), f"the keyboard backwards at {size}: what has the focus, and that the band hides it")
+            seen = person.tab(held=person.SHIFT), person.see("isFocusBehind")
+            person.same(seen, (name, False), f"Shift+Tab at {size}: the element with the focus, and if the band hides it")
 
 
-def check_words(person):
-    """Names, keys and comments are not to be translated, one byte is one byte, and what is a button looks like one."""
+def check_labels(person):
+    """Names, keys and comments are excluded from translation, sizes have the right plural, and all buttons look the same."""
     key_id, other_id = (lines(key.text)[0].rpartition(b" ")[2].decode() for key in (person.first, person.second))
     person.begin(person.first.line, *person.signed("namewise", b"x", trusted="commentwise"), person.put("otherwise.pub", person.first.text))
     person.choose(*person.signed("badwise", b"xy", key="second"))
     person.choose(person.put("alonewise", b""))
     rows = {row.name: row for row in person.settled("words")}
-    person.same(rows["badwise"].text.count(other_id), 1, "the row names the signature's key")
+    person.same(rows["badwise"].text.count(other_id), 1, "how often the row has the signature's key ID")
     words = ["namewise", "badwise", "alonewise", "otherwise", "commentwise", "minisign.pub", ".minisig", key_id, other_id]
-    person.same(person.see("translated", [*words, person.first.line]), [], "what a browser may translate")
+    person.same(person.see("translatableTexts", [*words, person.first.line]), [], "texts that a browser may translate")
     for name, length in (("namewise", "1 byte"), ("badwise", "2 bytes"), ("alonewise", "0 bytes")):
-        person.expect(rows[name], "the lengths of files", has=[f"\n{length}\n"])
+        person.expect(rows[name], "the sizes of files", has=[f"\n{length}\n"])
     buttons = person.see("buttons")
-    person.check(len(buttons) == 3 and len({*buttons}) == 1, f"the looks of buttons: {buttons}")
+    person.check(len(buttons) == 3 and len({*buttons}) == 1, f"expected three buttons with the same style, got {buttons}")
     shown = person.run("return document.body.innerText")
     person.check("56 letters and digits" in shown and "56 letters " not in shown.replace("56 letters and digits", ""),
-                 "letters that are letters and digits")
+                 "the page has to say `56 letters and digits` everywhere, and nowhere `56 letters`")

@@ -5,19 +5,19 @@
 
 A field mutant resets one field of a struct behind a `&mut` parameter: numbers and bytes to 0, a bool to false, an Option to
 None. It resets the field when the function begins, at its end, or before one of its early returns; fields of nested structs
-are reset one by one. A success mutant returns success where the function returns an error: in place of one `Err(..)`, or of
+are reset one by one. A success mutant returns success where the function returns an error: instead of one `Err(..)`, or of
 the error that a `?` at the end of a statement passes on.
 
-The prover tries the mutants in groups, as wrong_bodies.py describes. A mutant fails the run if it is proved, because then the
-contract also allows the wrong function. A proved field mutant is left out of the failures if the prover also proves that the
-field of the unchanged function already has this value at that place: it is the same function. A rejection says nothing about
-the contract if the search gave up at a limit, or if only the function's written proof does not fit. These are counted apart.
-So are mutants that do not compile. These have no mutants: methods of traits, functions without `ensures`, and errors of
+The prover tries the mutants in groups, as wrong_bodies.py describes. A proved mutant is a failure, because then the contract
+also allows the wrong function. It is not a failure if the prover also proves that the field of the unchanged function already
+has this value at that place, because then the mutant is the same function. A rejection says nothing about the contract if the
+search gave up at a limit, or if only the function's written proof does not fit. These rejections are counted separately, and so
+are mutants that do not compile. There are no mutants of methods of traits, of functions without `ensures`, and for errors of
 functions whose successful result is a struct.
 
---list prints the mutants and tries none. --unchanged keeps the form of each mutant and leaves the reset or the success out, so
-that all have to be proved: then a rejection comes from the change and not from the form. The run takes hours for all crates, so
-it is made before a release and not in CI. Needs Python 3.9 or later and the kit.
+--list prints the mutants and tries none. --unchanged keeps the form of each mutant but omits the reset or the success. All of
+these have to be proved, which shows that rejections come from the change and not from the form. A run over all crates takes
+hours, so it is made before a release and not in CI. Needs Python 3.9 or later and the kit.
 """
 
 import os
@@ -36,7 +36,7 @@ from wrong_bodies import APART, FAILED, GAVE_UP, REJECTED, WELL, Places, Trial, 
 
 # The outcomes that wrong_bodies.py does not have.
 PROVED, SAME, UNFIT = "PROVED", "the same function", "does not compile"
-# How many mutants share a check at most.
+# The largest number of mutants that share a check.
 GROUP = 40
 INTEGER = re.compile(r"[iu](?:8|16|32|64|128|size)")
 FIELD = re.compile(r"(?m)^[ \t]*(?P<public>pub(?:\([^)]*\))?\s+)?(?P<name>\w+): (?P<type>[^\n]+?),?$")
@@ -48,12 +48,12 @@ AT = re.compile(r"(?m)^(?:\./)?(src/[\w/]+\.rt):(\d+)(?::\d+)?: error")
 
 
 class Mutant(WrongBody):
-    """A mutant of one function: the pieces of text that change it, and what it does."""
+    """A mutant of one function: the pieces of text that change it, and a description of the change."""
 
     def __init__(self, crate, path, item, function, places, does, field=""):
         self.crate, self.path, self.copied, self.function, self.places = crate, path, item, function, places
         self.label, self.suffix = f"{crate}/{function}: {does}", ""
-        # The field at the place where it is reset, in the language of clauses, and the value it gets there.
+        # The equation, in the language of clauses, that the field has its new value where it is reset.
         self.field = field
         self.clause = self.named = self.by = self.why_not = ""
         self.is_for_kit = self.is_unchanged = False
@@ -61,16 +61,16 @@ class Mutant(WrongBody):
     def probe(self):
         """Returns the unchanged function with one clause: the field has the value that the mutant gives it."""
         clause = f"ensures probe {{ {self.field} }}\n"
-        found = Mutant(self.crate, self.path, self.copied, self.function, [(self.copied.body, self.copied.body, clause)], "probe")
-        found.clause = "probe"
-        return found
+        probe = Mutant(self.crate, self.path, self.copied, self.function, [(self.copied.body, self.copied.body, clause)], "probe")
+        probe.clause = "probe"
+        return probe
 
 
 class Structs:
-    """The structs that a crate's functions can see: its own, and those of the crates below it."""
+    """The structs that a crate's functions can use: those of the crate, and of the crates that it depends on."""
 
     def __init__(self, crate):
-        self.crate, self.found, self.files = crate, {}, {}
+        self.crate, self.by_name, self.files = crate, {}, {}
         for each in (crate, *proved.crates()[crate].below):
             for file in files_below(f"{ROOT}/crates/{each}/src", ".rt"):
                 path = os.path.relpath(file, f"{ROOT}/crates/{each}")
@@ -80,18 +80,19 @@ class Structs:
                     self.files[path] = (reader, source)
                 for item in source.items:
                     if item.what in ("struct", "enum"):
-                        self.found.setdefault(item.name, (each, module_of(path), item))
+                        self.by_name.setdefault(item.name, (each, module_of(path), item))
 
     def fields(self, name, module, before=""):
-        """Yields the fields of a struct that a module may set, nested ones too, with the expressions that reset them."""
-        crate, home, item = self.found.get(name, ("", "", None))
+        """Yields the fields of a struct that a module may set, including nested ones: the path, the expression that resets the field,
+        and its type."""
+        crate, home, item = self.by_name.get(name, ("", "", None))
         if not item or item.what != "struct" or "{" not in item.text or before.count(".") > 3:
             return
-        for found in FIELD.finditer(item.text[item.text.index("{"):]):
-            public = (found["public"] or "").strip()
+        for declared in FIELD.finditer(item.text[item.text.index("{"):]):
+            public = (declared["public"] or "").strip()
             if public != "pub" and crate != self.crate or not public and f"{module}::".find(f"{home}::") != 0 and home:
                 continue
-            field, kind = f"{before}.{found['name']}", found["type"]
+            field, kind = f"{before}.{declared['name']}", declared["type"]
             value = reset_value(kind)
             if value:
                 yield field, value, kind
@@ -106,7 +107,7 @@ def module_of(path):
 
 
 def reset_value(kind):
-    """Returns the value that resets a field of this type, or nothing if its own fields are reset, or it is left alone."""
+    """Returns the value that resets a field of this type, or an empty text if its nested fields are reset instead, or none is."""
     array = re.fullmatch(r"\[(\w+); (.+)\]", kind)
     if INTEGER.fullmatch(kind):
         return "0"
@@ -121,15 +122,15 @@ def result_of(header):
 
 
 def success_values(kind):
-    """Returns expressions of the successful result, if the type is a Result whose value is plain."""
-    found = re.fullmatch(r"(?:std::result::|io::)?Result<(.+)>", kind)
-    if not found:
+    """Returns expressions for the value of a Result, if its type is one for which this script knows a value."""
+    result = re.fullmatch(r"(?:std::result::|io::)?Result<(.+)>", kind)
+    if not result:
         return []
-    depth, value = 0, found[1]
-    for at, sign in enumerate(found[1]):
+    depth, value = 0, result[1]
+    for at, sign in enumerate(result[1]):
         depth += (sign in "<([") - (sign in ">)]")
         if sign == "," and depth == 0:
-            value = found[1][:at]
+            value = result[1][:at]
             break
     value = re.sub(r"&'\w+ ", "&", value)
     return VALUES.get(value) or [each for each in [reset_value(value)] if each]
@@ -142,7 +143,7 @@ class Generator:
         self.structs, self.path, self.item, self.is_unchanged = structs, path, item, is_unchanged
         self.reader, _ = structs.files[path]
         self.module, self.result = module_of(path), result_of(item.header)
-        owner = structs.found.get(item.owner)
+        owner = structs.by_name.get(item.owner)
         home = owner[1] if item.owner and owner and owner[0] == structs.crate else self.module
         self.function = "::".join(filter(None, (home, item.owner, item.name)))
         self.bare = self.reader.bare
@@ -151,24 +152,25 @@ class Generator:
         return Mutant(self.structs.crate, self.path, self.item, self.function, places, does, field)
 
     def all(self):
+        """Yields all mutants of the function."""
         if self.item.trait or not any(clause.kind == "ensures" for clause in self.item.clauses):
             return
-        for found in BORROWED.finditer(self.item.header[self.item.header.index("("):]):
-            is_self = found["type"] == "self"
-            name = "self" if is_self else found["name"]
-            kind = self.item.owner if is_self or found["type"] == "Self" else found["type"]
+        for parameter in BORROWED.finditer(self.item.header[self.item.header.index("("):]):
+            is_self = parameter["type"] == "self"
+            name = "self" if is_self else parameter["name"]
+            kind = self.item.owner if is_self or parameter["type"] == "Self" else parameter["type"]
             for field, value, type_ in self.structs.fields(kind, self.module) if name else ():
                 yield from self.resets(name, field, value, type_)
         yield from self.successes()
 
     def resets(self, name, field, value, kind):
-        """The mutants that reset one field."""
+        """Yields the mutants that reset one field."""
         body, end, does = self.item.body + 1, self.item.end - 1, f"{name}{field} = {value}"
         sets = "" if self.is_unchanged else f"{does};"
-        told = {"0": "0", "false": "false", "None": "None"}.get(value) or f"replicate {kind[1:-1].rpartition('; ')[2]} 0"
+        in_clause = {"0": "0", "false": "false", "None": "None"}.get(value) or f"replicate {kind[1:-1].rpartition('; ')[2]} 0"
         if not self.sets_first(name, field):
-            yield self.mutant([(body, body, f" {sets}")], f"{does} at entry", f"{name}.old{field} ≡ {told}")
-        after = f"{name}.new{field} ≡ {told}"
+            yield self.mutant([(body, body, f" {sets}")], f"{does} at entry", f"{name}.old{field} ≡ {in_clause}")
+        after = f"{name}.new{field} ≡ {in_clause}"
         if self.result == "()":
             last = self.bare[body:end].rstrip()[-1:]
             between = "" if last in ("", ";", "}", "{") else ";"
@@ -182,8 +184,7 @@ class Generator:
             yield self.mutant([(begin, stop, early)], f"{does} before early return {number}", after)
 
     def sets_first(self, name, field):
-        """Returns true if the function first uses the parameter to set this field, or all of it: then a reset at entry changes
-        nothing."""
+        """Returns true if the first use of the parameter sets this field or the whole struct, so that a reset at entry has no effect."""
         text = self.bare[self.item.body + 1:self.item.end - 1]
         first = re.search(rf"(?<![\w.]){name}\b", text)
         if not first:
@@ -191,37 +192,37 @@ class Generator:
         wholes = [field[:at] for at in range(1, len(field) + 1) if field[at:at + 1] in (".", "")]
         sets = re.match(rf"{name}(?:{'|'.join(map(re.escape, wholes))}) = ([^;]*);", text[first.start():])
         whole = re.match(rf"{name} = ([^;]*);", text[first.start():]) if text[:first.start()].endswith("*") else None
-        found = sets or whole
-        # (an assignment in a branch is not made on every path)
-        return bool(found) and not re.search(rf"\b{name}\b", found[1]) and "{" not in text[:first.start()]
+        assignment = sets or whole
+        # An assignment in a branch is not made on every path.
+        return bool(assignment) and not re.search(rf"\b{name}\b", assignment[1]) and "{" not in text[:first.start()]
 
     def returns(self):
-        """Yields where each early return begins and its expression ends."""
-        for found in re.finditer(r"\breturn\b", self.bare[self.item.body:self.item.end]):
-            begin = self.item.body + found.start()
+        """Yields the offsets at which each early return begins and its expression ends."""
+        for match in re.finditer(r"\breturn\b", self.bare[self.item.body:self.item.end]):
+            begin = self.item.body + match.start()
             yield begin, self.reader.after(re.compile(r"[(\[{]|(?P<end>[;,})\]])"), begin)
 
     def successes(self):
-        """The mutants that return success in place of one error."""
+        """Yields the mutants that return success instead of one error."""
         for value in success_values(self.result):
             body, end = self.item.body, self.item.end
-            for number, found in enumerate(re.finditer(r"\bErr\(", self.bare[body:end]), 1):
-                begin, stop = body + found.start(), self.reader.closed[body + found.end() - 1]
-                # (followed by one of these it is a pattern)
+            for number, match in enumerate(re.finditer(r"\bErr\(", self.bare[body:end]), 1):
+                begin, stop = body + match.start(), self.reader.closed[body + match.end() - 1]
+                # An `Err(..)` that is followed by one of these is a pattern.
                 if not re.match(r"\s*(?:=|\||if\b)", self.bare[stop:stop + 80]):
-                    kept = self.reader.text[begin:stop] if self.is_unchanged else f"Ok({value})"
-                    yield self.mutant([(begin, stop, kept)], f"Ok({value}) in place of Err {number}")
-            for number, found in enumerate(re.finditer(r"\?;", self.bare[body:end]), 1):
-                stop = body + found.start()
+                    result = self.reader.text[begin:stop] if self.is_unchanged else f"Ok({value})"
+                    yield self.mutant([(begin, stop, result)], f"Ok({value}) instead of Err {number}")
+            for number, match in enumerate(re.finditer(r"\?;", self.bare[body:end]), 1):
+                stop = body + match.start()
                 begin = self.statement(stop)
                 let = re.match(r"\s*(let [^=]+= )?", self.reader.text[begin:stop])
                 begin += let.end()
                 tried = self.reader.text[begin:stop]
                 changed = f"{tried}?" if self.is_unchanged else f"match {tried} {{ Ok(given) => given, Err(_) => return Ok({value}) }}"
-                yield self.mutant([(begin, stop + 1, changed)], f"Ok({value}) in place of the error of ? {number}")
+                yield self.mutant([(begin, stop + 1, changed)], f"Ok({value}) instead of the error of ? {number}")
 
     def statement(self, stop):
-        """Returns where the statement begins that goes on to this place."""
+        """Returns the offset at which the statement around this offset begins."""
         depth, at = 0, stop - 1
         while at > self.item.body:
             sign = self.bare[at]
@@ -234,29 +235,30 @@ class Generator:
 
 
 class FieldTrial(Trial):
-    """The trial of a crate's mutants, in copies of the crate."""
+    """Tries the mutants of a crate, in copies of the crate."""
 
     def try_mutants(self, group):
-        """Tries a group, without those that do not compile and again while it calls what was not known to be proved: what there
-        is to say of each."""
-        said = []
+        """Tries a group, and returns the verdicts. Mutants that do not compile are taken out of the group. Those that call functions not
+        known to be proved are tried again, once these functions are assumed."""
+        settled = []
         while group:
             known, (text, verdicts, lines) = len(self.proved), self.try_once(group)
             if "\nonly=" not in f"\n{text}":
                 unfit = {body for path, line in AT.findall(text) for body in lines(path, int(line))}
                 why = proved.first_of(text)
                 if not unfit:
-                    return said + [Verdict(body, FAILED, f"the group did not reach the prover: {why}") for body in group]
-                said += [Verdict(body, UNFIT, why) for body in unfit]
+                    return settled + [Verdict(body, FAILED, f"the group did not reach the prover: {why}") for body in group]
+                settled += [Verdict(body, UNFIT, why) for body in unfit]
                 group = [body for body in group if body not in unfit]
                 continue
             again = [verdict.body for verdict in verdicts if verdict.outcome == FAILED and len(self.proved) > known]
-            said += [verdict for verdict in verdicts if verdict.body not in again]
+            settled += [verdict for verdict in verdicts if verdict.body not in again]
             group = again
-        return said
+        return settled
 
     def try_once(self, group):
-        """Checks a copy of the crate with a group: what was said, the verdicts, and which mutants stand at a line of it."""
+        """Checks a copy of the crate with a group. Returns the output, the verdicts, and a function that gives the mutants at a line of a
+        file."""
         checked = {body.checked for body in group}
         with tempfile.TemporaryDirectory(prefix="field-mutants-") as room:
             self.copy_into(room, group)
@@ -271,7 +273,7 @@ class FieldTrial(Trial):
         return text, [self.verdict(body, text) for body in group], lines
 
     def learn(self, text):
-        """Takes the functions of the crate that the mutants call as proved: they are in the unchanged crate."""
+        """Adds functions of the crate that mutants call to those taken as proved: they are proved in the unchanged crate."""
         named = re.findall(r"a call of `(\w+)::([^`]+)`, which has no proof", text)
         self.proved += {name for crate, name in named if crate == self.crate} - {*self.proved}
 
@@ -281,44 +283,44 @@ class FieldTrial(Trial):
 
 
 def copies_in(file):
-    """The functions of a file with their first and last lines."""
+    """Returns the name, the first and the last line of each function in a file."""
     reader = Reader(file)
     return [(item.name, item.line, reader.text.count("\n", 0, item.end) + 1) for item in functions_in(reader.read())]
 
 
 def mutants_of(crate, is_unchanged=False):
-    """The mutants of a crate, or their unchanged forms."""
-    structs, found = Structs(crate), []
+    """Returns the mutants of a crate, or their unchanged forms."""
+    structs, mutants = Structs(crate), []
     for path, (_, source) in structs.files.items():
         for item in functions_in(source):
-            found += Generator(structs, path, item, is_unchanged).all()
-    return found
+            mutants += Generator(structs, path, item, is_unchanged).all()
+    return mutants
 
 
 def try_crate(crate, mutants, places, pool, is_unchanged):
-    """Tries the mutants of a crate, and yields what there is to say of each."""
+    """Tries the mutants of a crate, and yields their verdicts."""
     trial = FieldTrial(crate, places)
     why = proved.supply(proved.crates()[crate].below) or trial.lacks_proof(mutants)
     while unknown := re.search(r"has no function `([^`]+)`", why):
-        # (of a type with parameters, which the prover names otherwise)
+        # The prover uses other names for functions of generic types.
         yield from (Verdict(body, UNFIT, why) for body in mutants if body.function == unknown[1])
         mutants = [body for body in mutants if body.function != unknown[1]]
         why = trial.lacks_proof(mutants)
     if why:
         yield from (Verdict(body, FAILED, f"not tried: {why}") for body in mutants)
         return
-    said = in_groups(trial, mutants, pool)
-    doubtful = [verdict for verdict in said if verdict.outcome == PROVED and verdict.body.field and not is_unchanged]
+    verdicts = in_groups(trial, mutants, pool)
+    doubtful = [verdict for verdict in verdicts if verdict.outcome == PROVED and verdict.body.field and not is_unchanged]
     probes = {verdict.body: verdict.body.probe() for verdict in doubtful}
     same = {verdict.body for verdict in in_groups(trial, [*probes.values()], pool) if verdict.outcome == PROVED}
-    for verdict in said:
+    for verdict in verdicts:
         if probes.get(verdict.body) in same:
             verdict = Verdict(verdict.body, SAME, "the field has this value there in the unchanged function")
         yield verdict
 
 
 def in_groups(trial, bodies, pool):
-    """Tries bodies in groups, side by side."""
+    """Tries mutants in groups, several groups at once, and returns the verdicts."""
     for number, body in enumerate(bodies):
         body.suffix = f"_with_mutant_{number}"
     groups = [bodies[at::-(-len(bodies) // GROUP)] for at in range(-(-len(bodies) // GROUP))]

@@ -1,6 +1,8 @@
 #!/usr/bin/env python3
 """Checks the layout of contracts, definitions and proofs.
 
+    tests/proofs/layout.py
+
   * Lines have at most 110 columns. String literals and attributes do not count.
   * Only Lib.antt may consist of re-exports. Other files of specs/ import names where they use them.
   * Files have the layout of `rt fmt`, if the kit is here. It keeps the line breaks of clauses and comments, so these
@@ -27,25 +29,27 @@ from checks import Checks
 
 COLUMNS, LINES, LETTERS, FUNCTION_LINES = 110, 3, 300, 50
 PARTS = ("src", "specs", "proofs")
-CRATES = ("minisign_hash", "minisign_kdf", "minisign_base", "minisign", "minisign_lists", "minisign_external", "minisign_install", "minisign_c",
-          "minisign_page", "minisign_tool", "minisign_examples", "minisign_vectors")
-# Clauses that are longer: the function, the clause, and why.
-DEVICES = "it names each device of the call, as it was and as it is"
-LAW = "a law over all that its premises name, stated once"
+CRATES = ("minisign_hash", "minisign_kdf", "minisign_base", "minisign", "minisign_lists", "minisign_external", "minisign_install",
+          "minisign_c", "minisign_page", "minisign_tool", "minisign_examples", "minisign_vectors")
+# The longer clauses: the crate, the function and the clause, with the reason.
+DEVICES = "it names each device of the call, before and after it"
+LAW = "one law about everything that its premises name"
 CLAUSES = {
     ("minisign", "KeyPair::generate_and_write_encrypted_keypair", "refused"): DEVICES,
     ("minisign", "sign_texts", "signed"): DEVICES,
     ("minisign", "verify_texts", "headline"): DEVICES,
-    ("minisign", "judge", ""): "it names both questions of the scheme",
+    ("minisign", "judge", ""): "it names both Ed25519 checks of the scheme",
     ("minisign_base", "SliceSource::read", "read"): "an impl names each ghost member of its trait by the type",
     ("minisign_base", "SliceSource::mark", "mark"): "an impl names each ghost member of its trait by the type",
     ("minisign_external", "answers_decide", "given"): LAW,
     ("minisign_external", "answers_decide", "own"): LAW,
-    ("minisign_external", "KeyText::open_read", ""): "what opens is said for both answers at once",
+    ("minisign_external", "KeyText::open_read", ""): "it describes success and failure at once",
 }
-# Functions that are longer, without their contract, and why.
+# The functions that are longer, not counting the contract: the crate and the function, with the reason.
 FUNCTIONS = {("minisign_base", "NamedFault::row"): "the table of all errors",
              ("minisign_install", "InstallFault::row"): "the table of the errors of installing"}
+WIDE_HINT = ("break clauses and comments, whose line breaks `rt fmt` keeps, and split imports into several, because `rt fmt` puts each "
+             "name of a broken import on a separate line")
 TEXT = re.compile(r'"(?:[^"\\]|\\.)*"')
 ATTRIBUTE = re.compile(r"\s*#!?\[.*\]$")
 PASSED_ON = re.compile(r"(?:(?:unfoldable )?pub use .*|--.*|)$")
@@ -56,24 +60,25 @@ def folded(text):
 
 
 def is_wide(line):
-    """Whether a line is too wide, without its texts and unless it is an attribute."""
+    """Returns true if a line is too wide. String literals do not count, and attributes may be wide."""
     return len(line) > COLUMNS and not ATTRIBUTE.match(line) and len(TEXT.sub('""', line)) > COLUMNS
 
 
 def check_format(checks):
-    """Each crate has the layout of `rt fmt`, if the kit is here. (`rt ci` checks that of each crate as well.)"""
+    """Checks that each crate has the layout of `rt fmt`, if the kit is installed. (`rt ci` checks the layout too.)"""
     if sources.find_kit() is None:
         print("left out: the layout of `rt fmt`, because the Rattle kit is not installed")
         return
     for crate in CRATES:
-        files = [file for part in PARTS for file in sources.files_below(os.path.join(sources.ROOT, "crates", crate, part), (".rt", ".antt"))]
+        directories = [os.path.join(sources.ROOT, "crates", crate, part) for part in PARTS]
+        files = [file for directory in directories for file in sources.files_below(directory, (".rt", ".antt"))]
         ran = subprocess.run([os.path.join(os.path.dirname(sources.find_kit()), "bin", "rattle"), "fmt", "--check", *files],
                              stdin=subprocess.DEVNULL, stdout=subprocess.PIPE, stderr=subprocess.STDOUT, errors="replace")
-        checks.check(ran.returncode == 0, f"crates/{crate}", f"run `rt fmt` there: {ran.stdout.strip()}")
+        checks.check(ran.returncode == 0, f"crates/{crate}", f"run `rt fmt` in this directory: {ran.stdout.strip()}")
 
 
 def warn_of(crate, place, item, text):
-    """Warns of a function's clauses that are long, and of a long function."""
+    """Prints a warning for each long clause of a function, and one if the function is long."""
     for clause in item.clauses:
         height, letters = clause.whole.strip().count("\n") + 1, len(folded(clause.whole).strip())
         if (height > LINES or letters > LETTERS) and (crate, item.path, clause.name) not in CLAUSES:
@@ -90,11 +95,10 @@ def main():
             text = sources.read(file)
             lines, place = text.split("\n"), os.path.relpath(file, sources.ROOT)
             wide = [number for number, line in enumerate(lines, 1) if is_wide(line)]
-            checks.check(not wide, place, f"more than {COLUMNS} columns in line {', '.join(map(str, wide))}: break clauses and comments, which "
-                                          "`rt fmt` leaves as they are, and split imports, of which it gives each name a line if they are broken")
+            checks.check(not wide, place, f"more than {COLUMNS} columns in line {', '.join(map(str, wide))}: {WIDE_HINT}")
             if part == "specs":
                 is_list = not file.endswith("/Lib.antt") and all(PASSED_ON.match(line) for line in lines)
-                checks.check(not is_list, place, "it passes on names alone: import them where they are used")
+                checks.check(not is_list, place, "the file has only re-exports: import these names where they are used")
             for item in sources.read_source(file).items if part == "src" else ():
                 warn_of(crate, place, item, text)
     check_format(checks)

@@ -1,11 +1,11 @@
-"""scrypt, and the parameters that limits lead to. Keys are those of RFC 7914, section 12, and of Python's hashlib
-(OpenSSL)."""
+"""Test cases for scrypt, and for the scrypt parameters of a key's limits. The expected keys are those of RFC 7914, section 12,
+and of Python's hashlib (OpenSSL)."""
 
 import hashlib
 
 from asking import gives, rows
 
-# Password, salt, the logarithm of N, r, p, and the key. (The fourth vector takes a gigabyte.)
+# The first three vectors of the RFC: password, salt, the logarithm of N, r, p, and the key. (The fourth one takes 1 GB of memory.)
 VECTORS = (
     (b"", b"", 4, 1, 1, "77d6576238657b203b19ca42c18a0497f16b4844e3074ae8dfdffa3fede21442"
                         "fcd0069ded0948f8326a753a0fc81f17e8d3e0fb2e0d3628cf35e20c38d18906"),
@@ -15,7 +15,7 @@ VECTORS = (
      "7023bdcb3afd7348461c06cd81fd38ebfda8fbba904f8e3ea9b543f6545da1f2"
      "d5432955613f0fcf62d49705242a9af9e61e85dc0d651e40dfcf017b45575887"),
 )
-# Parameters that scrypt does not take, whatever memory there is.
+# Parameters that scrypt rejects, whatever memory there is.
 NO_PARAMETERS = (
     (0, 8, 1), (1, 0, 1), (1, 1, 0), (16, 1, 1), (32, 2, 1), (1, 32768, 32768), (1, 8, 134217728), (1, 1 << 30, 1),
     (1, 1, 1 << 30), (54, 8, 1), (55, 4, 1), (63, 4, 1), (63, 8, 1), (64, 8, 1), (255, 16, 1),
@@ -24,7 +24,7 @@ NO_PARAMETERS = (
 
 
 def derived(password, salt, n_log2, r, p, length=64, key=None):
-    """The words of a request, and a key of so many bytes."""
+    """Returns the name, the words of a request and the expected response, for a key of this many bytes."""
     key = key or hashlib.scrypt(password, salt=salt, n=1 << n_log2, r=r, p=p, dklen=length, maxmem=1 << 26)
     name = f"{n_log2}, {r}, {p}, {length} bytes of {password[:12]} and {salt[:12]}"
     return name, n_log2, r, p, length, password, salt, gives(out=key)
@@ -33,8 +33,8 @@ def derived(password, salt, n_log2, r, p, length=64, key=None):
 ROWS = [
     *rows("scrypt", "scrypt",
           *(derived(*numbers, key=bytes.fromhex(key)) for *numbers, key in VECTORS),
-          # Each r and p with small N, each length of a key about the ends of its blocks, and passwords and salts about the
-          # length of a block of SHA-256.
+          # Each r and p with small N; keys with lengths around multiples of SHA-256's output; passwords and salts with lengths around
+          # SHA-256's block size.
           *(derived(b"password", b"some salt", n_log2, r, p, 104)
             for n_log2 in range(1, 7) for r in (1, 2, 3, 8) for p in (1, 2, 3)),
           *(derived(b"password", b"some salt", 3, r, 1, 104) for r in range(1, 33)),
@@ -42,19 +42,19 @@ ROWS = [
           *(derived(*words, 2, 1, 1) for length in (0, 1, 63, 64, 65, 128, 200)
             for words in ((b"k" * length, b"some salt"), (b"pw", b"s" * length))),
           derived(b"", b"", 15, 8, 1),
-          # A key of no bytes, and rows that no memory holds; from 2 to the 64th bytes of them on, that is no parameter.
+          # A key of no bytes, and more rows than any memory holds. Rows of 2 to the 64th bytes or more are invalid parameters.
           *((f"{length} bytes by {numbers}", *numbers, length, b"pw", b"salt", error) for numbers, length, error in (
               ((4, 1, 1), 0, "InvalidOutputLength"), ((53, 8, 1), 0, "InvalidOutputLength"),
               ((53, 8, 1), 32, "OutOfMemory"), ((54, 7, 1), 32, "OutOfMemory"),
               *((numbers, 32, "InvalidParameters") for numbers in NO_PARAMETERS)))),
-    # What limits of memory and of operations lead to, worked out by hand; in the first that is rejected no parallelization is
-    # left of 32 bits.
+    # The parameters that follow from limits of memory and operations, worked out by hand. The number of parts is computed from the low
+    # 32 bits of a quotient, as in the Rust crate; in the first rejected case these are all zero.
     *rows("limits", "raw_scrypt_params",
           *((f"{memory} and {operations}", memory, operations, 20, gives(n_log2=n_log2, r=8, p=p))
             for memory, operations, n_log2, p in (
                 (33554432, 1048576, 15, 1), (1073741824, 33554432, 20, 1), (2147483648, 0, 10, 1), (0, 0, 1, 512),
                 (33554432, 1048575, 14, 1), (0, (1 << 64) - 1, 1, 134217727))),
-          ("no parts are left", 0, 1 << 40, 20, "InvalidParameters"),
+          ("no parts, because the low 32 bits are zero", 0, 1 << 40, 20, "InvalidParameters"),
           ("too much memory", 1 << 31, 1 << 40, 20, "ParametersTooHigh"),
           ("too many rows", 33554432, 1048576, 14, "ParametersTooHigh")),
 ]

@@ -1,5 +1,5 @@
-"""The named errors of `named_errors.txt`, which are from outside, beside docs/FORMATS.md, which is made from the proved
-definition.
+"""Reads the named errors of `named_errors.txt`, which come from outside, and compares them with docs/FORMATS.md, which is
+generated from the proved definition.
 """
 
 import os
@@ -10,17 +10,17 @@ HERE = os.path.dirname(os.path.realpath(__file__))
 
 
 def rows_of(file, form):
-    """The rows of a table of errors: the name, the number, the kind and the text of each."""
+    """Returns the rows of a table of errors, each with a name, a number, a kind and a text."""
     with open(os.path.join(HERE, file), encoding="utf-8") as table:
-        return [found.groupdict() for found in re.finditer(form, table.read())]
+        return [match.groupdict() for match in re.finditer(form, table.read())]
 
 
 ERRORS = rows_of("named_errors.txt", r"(?m)^ ?(?P<number>\d+) (?P<name>\w+) (?P<kind>\w+) `(?P<text>[^`]*)`$")
 
 
 def compare(checks):
-    """Compares each row of docs/FORMATS.md with the one here."""
-    said = rows_of("../../docs/FORMATS.md", r"(?m)^\| `(?P<name>\w+)` \| (?P<number>\d+) \|(?: `\w+`)? \| (?P<kind>\w+) "
-                                            r"\| `(?P<text>[^`]*)` \|")
-    for wanted, found in zip_longest(ERRORS, said):
-        checks.check(found == wanted, "docs/FORMATS.md", f"it has {found} and not {wanted}")
+    """Checks that docs/FORMATS.md has the same errors, in the same order."""
+    documented = rows_of("../../docs/FORMATS.md", r"(?m)^\| `(?P<name>\w+)` \| (?P<number>\d+) \|(?: `\w+`)? \| (?P<kind>\w+) "
+                                                  r"\| `(?P<text>[^`]*)` \|")
+    for expected, actual in zip_longest(ERRORS, documented):
+        checks.check(actual == expected, "docs/FORMATS.md", f"it has {actual}, expected {expected}")

@@ -1,21 +1,21 @@
-"""Typed passwords: one line without its end, of at most 1024 bytes."""
+"""Test cases for typed passwords: one line without its line feed, of at most 1024 bytes."""
 
 from asking import NOTHING_TYPED, gives, rejected, rows, typed
 
 ASKED = b"Password: "
 EMPTY = ASKED + b"<empty>\n"
 
-# What is typed, and the password that it gives, the lines that are left and the prompt; or the error in its place. Of a
-# line that is too long the 1026th byte and what follows are left.
+# What is typed, and the resulting password or error, the prompt, and the number of lines left unread. If a line is too long, its
+# 1026th byte and everything after it are left unread.
 ROWS = rows(
     "a password", "get_password",
     ("a line", typed("password"), gives(out="password", stdout=ASKED)),
     ("a line, and one more", typed("pppppppp", "more"), gives(out="pppppppp", stdout=ASKED, typed_left=1)),
-    ("a blank at the end, and a carriage return", typed("pass word \r"), gives(out="pass word ", stdout=ASKED)),
+    ("a space at the end, and a carriage return", typed("pass word \r"), gives(out="pass word ", stdout=ASKED)),
     ("two carriage returns", typed("a\r\r"), gives(out="a\r", stdout=ASKED)),
     ("a carriage return inside", typed("a\rb"), gives(out="a\rb", stdout=ASKED)),
     ("an empty line", typed(""), gives(out="", stdout=EMPTY)),
-    ("a carriage return alone", typed("\r"), gives(out="", stdout=EMPTY)),
+    ("only a carriage return", typed("\r"), gives(out="", stdout=EMPTY)),
     ("an empty line, and one more", typed("", "password"), gives(out="", stdout=EMPTY, typed_left=1)),
     ("1024 bytes", typed("a" * 1024), gives(out="a" * 1024, stdout=ASKED)),
     ("1024 bytes and a carriage return", typed("a" * 1024 + "\r"), gives(out="a" * 1024, stdout=ASKED)),

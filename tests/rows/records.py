@@ -1,4 +1,4 @@
-"""The records of keys: how they are read and compared, and when a secret key counts as sealed."""
+"""Test cases for the records of keys: reading and comparing them, and when a secret key counts as encrypted."""
 
 import public_keys
 import secret_keys
@@ -7,13 +7,13 @@ from asking import gives, rows, secret_key
 
 
 def read_and_compared(name, kind, record, answer, begin, end):
-    """A record is read from its bytes and from more of them, and not from fewer. Of two these bytes are compared, and no other
-    field."""
+    """Yields cases for a record. It is read from its bytes or more, and not from fewer. A comparison of two records compares only the
+    bytes from `begin` to `end`."""
     renamed = bytes([7]) * begin + record[begin:end] + bytes([7]) * (len(record) - end)
     changed = record[:end - 1] + b"\x5b" + record[end:]
     yield from rows(f"record of {name}", f"{kind}_from_bytes", ("its bytes", record, answer),
                     ("one byte more", record + b"!", answer), ("one byte less", record[:-1], "RecordTooShort"))
-    yield from rows(f"equal: {name}", f"{kind}_eq", ("itself", record, record, gives(eq=True)),
+    yield from rows(f"equal: {name}", f"{kind}_eq", ("with the same record", record, record, gives(eq=True)),
                     ("with other fields", record, renamed, gives(eq=True)),
                     ("with another last byte of the key", record, changed, gives(eq=False)))
 
@@ -21,8 +21,8 @@ def read_and_compared(name, kind, record, answer, begin, end):
 ROWS = [
     *read_and_compared("a public key", "pk", public_keys.RECORD, public_keys.KEY_A, 10, 42),
     *read_and_compared("a secret key", "sk", secret_keys.RECORD, secret_keys.KEY_A, 62, 126),
-    # A key is sealed where it names a key derivation and its checksum does not match.
-    *rows("sealed", "sk_from_bytes", *(
+    # A key counts as encrypted if it has a key derivation and its checksum does not match.
+    *rows("encrypted", "sk_from_bytes", *(
         (name, record, secret_key(record, is_sealed)) for name, derivation, checksum, is_sealed in (
             ("no key derivation, another checksum", bytes(2), bytes(32), False),
             ("scrypt", b"Sc", None, False),

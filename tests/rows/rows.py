@@ -1,12 +1,15 @@
 #!/usr/bin/env python3
-"""Has `minisign_compare`, as `rt ci` or `rt run` built it, answer the rows of this directory's modules, and compares.
+"""Checks that the library gives the expected results for the test cases of this directory's modules.
 
     tests/rows/rows.py [MODULE..]
 
-Each expected value comes from outside: from a standard, from Python's hashlib and base64, from the upstream tool, or
-worked out by hand from a definition. None is what a crate of this repository answered. A module has `ROWS`, and where
-they name files `FILES`, which are made in a directory of the module's own. The named errors of docs/FORMATS.md are
-compared too. The last line is `N passed, M failed`.
+The program `minisign_compare`, which `rt ci` or `rt run` has built, makes the calls. Each expected value comes from
+outside: from a standard, from Python's hashlib and base64, from the upstream tool, or worked out by hand from a
+definition. None was computed by a crate of this repository. A module has its test cases in `ROWS`, and the files that
+they name in `FILES`; these are created in a separate directory for each module. The script also compares the named
+errors of docs/FORMATS.md. The last line is `N passed, M failed`.
+
+Needs Python 3.9 or later.
 """
 
 import importlib
@@ -29,24 +32,24 @@ MODULES = sorted({name[:-3] for name in os.listdir(HERE) if name.endswith(".py")
 
 
 def answers_of(requests, directory):
-    """The program's answers, a line for each request. Paths are taken from the directory."""
+    """Returns the program's responses, one line for each request. Paths in requests are relative to the directory."""
     ran = subprocess.run([PROGRAM], input="\n".join(requests) + "\n", cwd=directory, stdout=subprocess.PIPE,
                          stderr=subprocess.STDOUT, text=True, timeout=SECONDS)
     lines = ran.stdout.splitlines()
     if ran.returncode or len(lines) != len(requests):
-        raise SystemExit(f"{PROGRAM} ended with {ran.returncode} after {len(lines)} answers to {len(requests)} "
-                         f"requests: {lines[-1] if lines else 'it said nothing'}")
+        raise SystemExit(f"{PROGRAM}: exit status {ran.returncode} after {len(lines)} responses to {len(requests)} "
+                         f"requests, last response: {lines[-1] if lines else 'none'}")
     return lines
 
 
 def difference(answer, line):
-    """What is different in a line that was answered, or nothing."""
-    head, _, tail = line.partition(" | ")
-    has, *words = [head] if head.startswith("err ") else head.split(" ")
-    said = dict(word.partition("=")[::2] for word in [*words, *tail.split()])
-    wrong = [] if has == answer.head else [f"it is `{has}` and not `{answer.head}`"]
-    wrong += [f"{name} is {said.get(name)} and not {spelled(value)}" for name, value in answer.values.items()
-              if said.get(name) != spelled(value)]
+    """Returns the differences between a response and the expected one, or an empty text."""
+    before_bar, _, tail = line.partition(" | ")
+    head, *words = [before_bar] if before_bar.startswith("err ") else before_bar.split(" ")
+    values = dict(word.partition("=")[::2] for word in [*words, *tail.split()])
+    wrong = [] if head == answer.head else [f"got `{head}`, expected `{answer.head}`"]
+    wrong += [f"{name} is {values.get(name)}, expected {spelled(value)}" for name, value in answer.values.items()
+              if values.get(name) != spelled(value)]
     return "; ".join(wrong)
 
 
@@ -59,8 +62,8 @@ def main(names):
             make_files(directory, getattr(module, "FILES", {}))
             for row, line in zip(module.ROWS, answers_of([row.request for row in module.ROWS], directory)):
                 wrong = difference(rejected(row.answer) if isinstance(row.answer, str) else row.answer, line)
-                checks.check(not wrong, name, row.name, wrong)
-        print(f"{name}: {len(module.ROWS)} rows")
+                checks.check(not wrong, name, row.name, wrong, row.request[:300])
+        print(f"{name}: {len(module.ROWS)} cases")
     return checks.end()
 
 

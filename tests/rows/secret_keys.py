@@ -1,4 +1,4 @@
-"""Secret keys that were never sealed, from texts, and the texts that are written of them."""
+"""Test cases for parsing unencrypted secret keys from files (a "box"), and for writing them."""
 
 import base64
 
@@ -10,7 +10,7 @@ from toy import secret_text
 RECORD = toy.SECRET_RECORD
 LINE = base64.b64encode(RECORD)
 TEXT = secret_text()
-# The same of the first 157 bytes, a text of as many characters.
+# The encoding of the first 157 bytes, which has the same number of characters.
 SHORT_LINE = base64.b64encode(RECORD[:157])
 
 KEY_A = secret_key(RECORD)
@@ -18,14 +18,14 @@ NO_KEY, NOT_BASE64, TOO_SHORT = "MissingEncodedSecretKey", "SecretKeyNotBase64",
 
 
 def of_prefix(length):
-    """What comes of so many bytes of key A's text: the first line has 46 bytes, and the base64 is in groups of 4 up to
-    the 258th."""
+    """Returns the response for this many bytes of key A's file. Its first line has 46 bytes; the base64 letters, in groups of 4, end
+    with the 258th byte."""
     of_line = TOO_SHORT if (length - 46) % 4 == 0 else NOT_BASE64
     return "MissingSecretKeyComment" if length == 0 else NO_KEY if length <= 46 else of_line if length <= 257 else KEY_A
 
 
-# Records that are written with a comment or the usual one, their texts, and what comes of reading these as a key that was never
-# sealed.
+# A name, a record, a comment or None for the default one, the file that is written, and the response if this is parsed as an
+# unencrypted key.
 WRITTEN = [
     *((name, record, None, secret_text(record), answer) for name, record, answer in (
         ("no key derivation", RECORD, KEY_A),
@@ -37,9 +37,8 @@ WRITTEN = [
 ]
 
 ROWS = [
-    *rows("secret key", "sk_to_box", *((name, record, said, gives(text=text)) for name, record, said, text, _ in WRITTEN)),
-    # Where a text ends decides what is missing. The first line may be anything; of the second only the end of the line is cut
-    # off.
+    *rows("secret key", "sk_to_box", *((name, record, comment, gives(text=text)) for name, record, comment, text, _ in WRITTEN)),
+    # The length of a text decides which error it has. The first line may be anything. Only the line ending is removed from the second.
     *rows("secret box", "sk_plain",
           *((name, text, answer) for name, _, _, text, answer in WRITTEN),
           *((f"the first {length} bytes", TEXT[:length], of_prefix(length)) for length in range(len(TEXT))),
@@ -49,8 +48,8 @@ ROWS = [
           ("more lines", b"c\n" + LINE + b"\nmore\nlines", KEY_A),
           ("two carriage returns", b"c\n" + LINE + b"\r\r\n", NOT_BASE64),
           ("a carriage return at the end", b"c\n" + LINE + b"\r", NOT_BASE64),
-          ("a blank after the key", b"c\n" + LINE + b" \n", NOT_BASE64),
-          ("a blank before the key", b"c\n " + LINE + b"\n", NOT_BASE64),
+          ("a space after the key", b"c\n" + LINE + b" \n", NOT_BASE64),
+          ("a space before the key", b"c\n " + LINE + b"\n", NOT_BASE64),
           ("an empty line before the key", b"c\n\n" + LINE + b"\n", TOO_SHORT),
           ("two line feeds before the key", b"\n\n" + LINE, TOO_SHORT),
           ("a shorter key", b"c\n" + SHORT_LINE + b"\n", TOO_SHORT)),

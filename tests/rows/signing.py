@@ -1,7 +1,7 @@
-"""Signing with the record of a secret key, and verifying what was signed.
+"""Test cases for signing with the record of a secret key, and for verifying the signatures.
 
-The signer is key A of `toy`. Random bytes are zeros where a row says nothing else, and data is read at once and one
-byte a read.
+The signer is key A of `toy`. Random bytes are zeros unless a case says otherwise. Data is read at once, and in another
+case one byte per read.
 """
 
 import toy
@@ -10,14 +10,13 @@ from toy import DEFAULT_COMMENT, KEY_A, OTHER_RECORD, RECORD, SCRYPT, SECRET_REC
 from verifying import ACCEPTED, BOTH, BY_BYTES, in_pieces, judged, reads_of
 
 MOMENT = 1555779966
-# Key A, whose checksum does not match: without a key derivation, and with one.
+# Key A with a checksum that does not match: without a key derivation, and with one, so that it counts as encrypted.
 UNCHECKED, SEALED = KEY_A.record(other=bytes(32)), KEY_A.record(SCRYPT, other=bytes(32))
 OTHER_GIVEN_SAYS = "Could not verify signature with the provided public key ID: E7620F1842B4E81F"
 
 
 def made(content, trusted=b"t", untrusted=b"c", random=bytes(128), signer=KEY_A):
-    """The record and the text of what signing the data with these random bytes gives. Those of the comment signature are
-    the second 64."""
+    """Returns the record and the signature file that these random bytes give. The second 64 bytes are for the comment signature."""
     record = toy.signature_record(content, signer.keynum, half=random[:32], key=signer.public)
     return record, toy.signature_text(content, record, trusted, untrusted,
                                       toy.signature_of(record[10:] + trusted, random[64:96], signer.public))
@@ -25,10 +24,10 @@ def made(content, trusted=b"t", untrusted=b"c", random=bytes(128), signer=KEY_A)
 
 def signed(name, content=b"abc", trusted=b"t", untrusted=b"c", error=None, random=bytes(128), key=SECRET_RECORD,
            public=None, moment=MOMENT, chunks=BOTH, fail=None):
-    """Rows that sign data, or are rejected by an error; one for each number of bytes that a read gives at the most.
+    """Yields test cases that sign data, or fail with this error; one for each size of a read in `chunks`.
 
-    A sealed key is rejected first. Then the data is read to its end, and 64 bytes are drawn twice, or none if there are
-    too few. A public key that is passed in is tested last."""
+    An encrypted key is rejected first. Then the data is read to its end, and 64 random bytes are generated twice; a request takes
+    none if there are too few. A public key that is passed in is checked last."""
     says = b"timestamp:%d" % moment if trusted is None else trusted
     below = DEFAULT_COMMENT if untrusted is None else untrusted
     for chunk in chunks:
@@ -48,7 +47,7 @@ SEVENS = bytes([7]) * 128
 OTHER_95 = bytes(95) + b"\xf2" + bytes(32)
 
 ROWS = [row for rows in (
-    # Comments are kept as they are given, also empty ones, or made.
+    # Comments that are passed in, empty ones too, and default comments.
     *(signed(f"comments {trusted} and {untrusted}", b"abc", trusted, untrusted)
       for trusted, untrusted in ((b"t", b"c"), (b"", b""), (None, None), (b"t", None), (None, b"c"))),
     signed("nothing, with empty comments: signed", b"", b"", b""),
@@ -56,18 +55,19 @@ ROWS = [row for rows in (
       for content, outcome in ((b"", ACCEPTED), (b"x", "SignatureRefused"))),
     signed("random byte 95: signed", random=OTHER_95),
     judged("random byte 95: judged", ACCEPTED, made(b"abc", random=OTHER_95)[1], key=RECORD),
-    # A key that is not sealed signs whatever its checksum is; a sealed one comes before all devices. (`failing_devices` has the
-    # order of those.)
+    # An unencrypted key signs whatever its checksum is. An encrypted one is rejected before any device is used. (`failing_devices` has
+    # the order of the devices.)
     *(signed(f"key: {name}", b"abc", None, None, error, SEVENS[:length], key, chunks=BY_BYTES, fail=fail)
       for name, key, length, fail, error in (
-          ("never sealed, with another checksum", UNCHECKED, 128, 5, None),
-          ("opened", KEY_A.record(SCRYPT), 128, 5, None),
-          ("sealed", SEALED, 128, 5, "EncryptedKeyRefused"),
-          ("sealed, no device works", SEALED, 0, 1, "EncryptedKeyRefused"))),
-    signed("source: left by a sealed key", b"abc", None, None, "EncryptedKeyRefused", b"", SEALED),
+          ("not encrypted, with another checksum", UNCHECKED, 128, 5, None),
+          ("decrypted", KEY_A.record(SCRYPT), 128, 5, None),
+          ("encrypted", SEALED, 128, 5, "EncryptedKeyRefused"),
+          ("encrypted, no device works", SEALED, 0, 1, "EncryptedKeyRefused"))),
+    signed("source: not read for an encrypted key", b"abc", None, None, "EncryptedKeyRefused", b"", SEALED),
     signed("source: read to its end without random bytes", b"abc", None, None, "RandomSourceFailed", b"", UNCHECKED),
-    # The 32 bytes of a public key that is passed in are tested, never its identifier. The last one is of 32 times 01.
+    # Only the 32 bytes of a public key that is passed in are compared, and not its key ID. The last key belongs to a seed of 32 bytes
+    # of 01.
     *(signed(f"given public key: {name}", error=error, public=public) for name, public, error in (
-        ("its own", RECORD, None), ("with another identifier", OTHER_RECORD, None),
+        ("of the signer", RECORD, None), ("of the signer, with another key ID", OTHER_RECORD, None),
         ("another key", OTHER_RECORD[:10] + bytes([0x5B]) * 32, "RefusedByGivenKey"))),
 ) for row in rows]

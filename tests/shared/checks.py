@@ -1,13 +1,14 @@
-"""Counts what a script checks."""
+"""Counts the checks of a test script and collects its failures."""
 
 
 class Checks:
-    """The count of what holds, and a line for each that does not."""
+    """The number of checks that passed, and a line for each one that failed."""
 
     def __init__(self):
         self.passed, self.failures = 0, []
 
     def check(self, holds, *what):
+        """Counts a check. If it failed, `what`, joined by colons, is the failure's line."""
         if holds:
             self.passed += 1
         else:
@@ -15,17 +16,18 @@ class Checks:
         return bool(holds)
 
     def ended(self, what, ran, status=0, says=""):
-        """A command ended with this status, and said this, of which `process.run` answered `ran`: what it said."""
-        came, said = ran
-        self.check(came == status and says in said, f"{what}: status {came}: {said[-800:]}")
+        """Checks the exit status and the output of a command, given as `process.run` returns them. Returns the output."""
+        actual, said = ran
+        holds = actual == status and says in said
+        self.check(holds, f"{what}: exit status {actual}, expected {status}{f' and {says!r}' if says else ''}: {said[-800:]}")
         return said
 
     def same(self, found, wanted, what):
-        """Checks that two values are the same, of each of which it says the beginning where they are not."""
-        return self.check(found == wanted, f"{what}: {found!r:.300}, and not {wanted!r:.300}")
+        """Checks that two values are equal. The failure shows the beginning of each."""
+        return self.check(found == wanted, f"{what}: got {found!r:.300}, expected {wanted!r:.300}")
 
     def end(self):
-        """Prints the failures and the last line: the exit status."""
+        """Prints the failures and the last line, and returns the exit status of the script."""
         for failure in self.failures:
             print(f"FAILED: {failure}")
         print(f"{self.passed} passed, {len(self.failures)} failed")

@@ -1,5 +1,5 @@
-"""Disturbs programs: breaks each of their calls of the system in turn, runs them on a disk without room, and several
-at once.
+"""Runs programs under faults: makes each of their system calls fail in turn, fills the disk, and runs several
+instances at once.
 """
 
 import contextlib
@@ -17,9 +17,10 @@ from running import IN_MEMORY, SECONDS, Failure, Program, Skip, expect, files_in
 
 
 class Disturbing(Program):
-    """A program that is run in fresh directories. It stands elsewhere, as what is in memory may not be run everywhere."""
+    """A program that runs in fresh directories in memory. The program itself is on disk, because a file system in memory may be
+    mounted noexec."""
 
-    # After so many seconds a run has failed.
+    # The time limit of a run, in seconds.
     seconds = 4 * SECONDS
 
     def __init__(self, program, room):
@@ -31,12 +32,13 @@ class Disturbing(Program):
                            **{"seconds": self.seconds, "env": environment or {}, **how})
 
     def run_broken(self, directory, arguments, how, **more):
-        """A run with a call broken: also whether it came to that."""
+        """Runs the program with a broken call. `came` of the result is true if the program made that call."""
         ran, said = told(lambda says: self.run(directory, arguments, self.breaking(**how, SAYS=says), pass_fds=[says], **more))
         return replace(ran, came=bool(said))
 
     def run_stopped(self, directory, arguments, meanwhile, **how):
-        """A run that stops before a call, goes on once something was done, and then ends soon: also whether it came to that."""
+        """Stops the program before a call, calls `meanwhile`, and continues the program. `came` of the result is true if the program
+        stopped there."""
         stopping = self.breaking(SIGNAL=int(signal.SIGSTOP), GOES_ON=1, **how)
         process = subprocess.Popen([self.program, *arguments], cwd=directory, env=stopping, stdin=subprocess.DEVNULL,
                                    stdout=subprocess.DEVNULL, stderr=subprocess.PIPE)
@@ -50,16 +52,16 @@ class Disturbing(Program):
                 said = process.communicate(timeout=SECONDS)[1]
             except subprocess.TimeoutExpired as why:
                 process.kill()
-                raise Failure(f"it goes on for more than {SECONDS} seconds") from why
+                raise Failure(f"still running {SECONDS} seconds after SIGCONT") from why
         return Ran(process.returncode, b"", said, came)
 
     def run_refused(self, directory, arguments, number):
-        """A run whose request for memory of this number is refused."""
+        """Runs the program with its allocation of this number failing."""
         return self.run_broken(directory, arguments, {"AT": number, "CALLS": "memory", "ERRNO": errno.ENOMEM})
 
     def break_each(self, prepare, judge, **how):
-        """Breaks each of the calls of a run in turn, in a fresh directory, which is prepared by what answers the run's arguments, and hands
-        to `judge` how each ended and its directory: how many calls there were."""
+        """Breaks each call of a run in turn, in a fresh directory each. `prepare` fills the directory and returns the arguments;
+        `judge` gets the result and the directory. Returns the number of calls."""
         def attempt(number, directory):
             ran = self.run_broken(directory, prepare(directory), {"AT": number, **how})
             judge(ran, directory)
@@ -70,8 +72,12 @@ class Disturbing(Program):
 
 @dataclass(frozen=True)
 class Task:
-    """A run that replaces files: what stands in its directory before it; a judge of each file that it writes, in the order in which
-    they are replaced; and how many may be new where a write fails. A kind of tasks has `make`, `may_have`, and `stage`, how stages begin."""
+    """A run that replaces files.
+
+    `files` is the content of its directory before the run. `targets` maps each file that the run writes, in the order in which they
+    are replaced, to a function that checks the new content. `before_failing` is how many files may be new if a write fails. Subclasses
+    define `make`, which fills a directory and returns the arguments, `may_have`, which checks a mode, and `stage`, the prefix of the
+    names of temporary files."""
 
     name: str
     arguments: list
@@ -80,38 +86,41 @@ class Task:
     before_failing: int = 0
 
     def check(self, directory, killed=False):
-        """Whether each target is new. Raises a `Failure` where one is neither the older nor a new one, where anything else was changed,
-        where a file has a mode that it may not have, and where one stands beside them that is no stage which a killed run left."""
-        found = {name: held for name, held in files_in(directory).items() if held[1] is not None}
-        expect(found.keys() >= self.files.keys(), f"{sorted(self.files.keys() - found.keys())} are gone")
-        new = {name for name in self.targets if name in found and found[name][1] != self.files.get(name)}
-        for name, (mode, data) in found.items():
+        """Returns, for each target, true if it is new. Raises a `Failure` if a target is neither the old nor a valid new file, if any
+        other file changed, if a file has a mode that it may not have, or if there is another file, except for a temporary file that a
+        killed run left."""
+        files = {name: held for name, held in files_in(directory).items() if held[1] is not None}
+        expect(files.keys() >= self.files.keys(), f"{sorted(self.files.keys() - files.keys())} are gone")
+        new = {name for name in self.targets if name in files and files[name][1] != self.files.get(name)}
+        for name, (mode, data) in files.items():
             is_stage = killed and os.path.basename(name).startswith(self.stage)
-            expect(name in new or is_stage or data == self.files.get(name), f"it left or changed {name}")
-            expect(self.may_have(name, mode, data, found), f"{name} has the mode {mode:o}")
+            expect(name in new or is_stage or data == self.files.get(name), f"{name} was left behind or changed")
+            expect(self.may_have(name, mode, data, files), f"{name} has the mode {mode:o}")
         for name in new:
-            self.targets[name](found[name][1])
+            self.targets[name](files[name][1])
         return [name in new for name in self.targets]
 
 
 class OverTasks(Disturbing):
-    """A program that does tasks, and says by `expect_unwritten` how it ends by a failed write."""
+    """A program that does tasks. Subclasses define `expect_unwritten`, which checks how a run ends after a failed write."""
 
     def killed(self, task):
-        """A run that is killed before each of its calls leaves each number of new files, those first that are replaced first."""
+        """Kills a run before each of its calls. Checks that new files appear in the order of the targets, and that every number of new
+        files occurs."""
         seen = set()
 
         def judge(ran, directory):
             expect(ran.status == (-signal.SIGKILL if ran.came else 0), ran)
             new = task.check(directory, killed=ran.came)
-            expect(new == sorted(new, reverse=True), "a later file is new, and an earlier one is not")
+            expect(new == sorted(new, reverse=True), f"a later file is new, but an earlier one is not: {[*zip(task.targets, new)]}")
             seen.add(sum(new))
 
         self.break_each(task.make, judge)
-        expect(seen == {*range(len(task.targets) + 1)}, f"the kills left {sorted(seen)} new files alone")
+        expected = {*range(len(task.targets) + 1)}
+        expect(seen == expected, f"the kills left {sorted(seen)} new files, expected each of {sorted(expected)}")
 
     def failing_writes(self, task, number, **how):
-        """A run in which a write fails: nothing is new but what was written before."""
+        """Makes each write fail in turn, with this errno. Checks that at most `before_failing` files are new."""
 
         def judge(ran, directory):
             new = sum(task.check(directory))
@@ -119,10 +128,10 @@ class OverTasks(Disturbing):
                 self.expect_unwritten(ran, number)
             expect(new <= task.before_failing if ran.came else (ran.status, new) == (0, len(task.targets)), ran, f"{new} files are new")
 
-        expect(self.break_each(task.make, judge, CALLS="write", ERRNO=number, **how), "it writes nothing")
+        expect(self.break_each(task.make, judge, CALLS="write", ERRNO=number, **how), "the run made no write")
 
     def on_full_disk(self, task):
-        """A run on a small file system without room."""
+        """Checks a run on a full file system: it fails, and no file is new."""
         with tempfile.TemporaryDirectory(dir=self.place) as directory, small_disk(directory):
             arguments = task.make(directory)
             with without_room(directory):
@@ -131,7 +140,8 @@ class OverTasks(Disturbing):
             expect(not any(task.check(directory)), "a file is new")
 
     def within_file_size(self, task, handler=signal.SIG_DFL, is_ended=False):
-        """A run with a limit on the size of files, whose signal ends it; or which handles that or is started to ignore it."""
+        """Checks a run with a file size limit of 50 bytes: no file is new. With `is_ended`, SIGXFSZ has to end the run; otherwise the
+        program handles or ignores the signal, and its write has to fail with EFBIG."""
 
         def prepare():
             resource.setrlimit(resource.RLIMIT_FSIZE, (50, 50))
@@ -146,17 +156,17 @@ class OverTasks(Disturbing):
             self.expect_unwritten(ran, errno.EFBIG)
 
     def at_once(self, task, environment=None, times=1, runs=8):
-        """Runs that write the same files at once: all end well, and each file is whole."""
+        """Starts several runs that write the same files. Checks that all succeed and that each file is complete."""
         with tempfile.TemporaryDirectory(dir=self.place) as directory:
             command = [self.program, *task.make(directory)]
             for _ in range(times):
                 ended = run_at_once(command, directory, environment, runs)
-                expect(not any(status for status, _ in ended), f"they ended with {ended}")
+                expect(not any(status for status, _ in ended), f"expected exit status 0 of each run, got {ended}")
             expect(all(task.check(directory)), "not all files are new")
 
 
 def content(directory, name):
-    """What a file holds, or None where it is not there."""
+    """Returns the content of a file, or None if it does not exist."""
     try:
         return read(directory, name)
     except FileNotFoundError:
@@ -165,21 +175,22 @@ def content(directory, name):
 
 @contextlib.contextmanager
 def mounted(place, *words, lazily=False):
-    """What words of `mount` name is mounted on a file or a directory meanwhile; with `lazily` what is open in it stays."""
+    """Mounts on a file or directory, by these arguments of `mount`, and unmounts at the end. With `lazily` it detaches the mount, so
+    that files in it may still be open. Raises Skip if this process may not mount."""
 
-    def goes(*command):
+    def succeeds(*command):
         return shutil.which(command[0]) is not None and subprocess.run([*command, place], stderr=subprocess.DEVNULL).returncode == 0
 
-    if os.geteuid() != 0 or not goes("mount", *words):
-        raise Skip(f"nothing may be mounted by {' '.join(words)} here")
+    if os.geteuid() != 0 or not succeeds("mount", *words):
+        raise Skip(f"mount {' '.join(words)} {place} failed, or needs root")
     try:
         yield
     finally:
-        expect(not lazily and goes("umount") or goes("umount", "-l"), f"{place} stays mounted")
+        expect(not lazily and succeeds("umount") or succeeds("umount", "-l"), f"{place} is still mounted")
 
 
 def in_memory(directory, options, **how):
-    """A file system in memory in a directory, while it is entered."""
+    """Mounts a file system in memory on a directory."""
     return mounted(directory, "-t", "tmpfs", "-o", options, "tmpfs", **how)
 
 
@@ -189,7 +200,7 @@ def small_disk(directory):
 
 @contextlib.contextmanager
 def without_room(directory):
-    """The file system of a directory is full meanwhile."""
+    """Fills the file system of a directory, and frees it at the end."""
     path = os.path.join(directory, "fill")
     try:
         with open(path, "wb", buffering=0) as fill:
@@ -205,7 +216,7 @@ def without_room(directory):
 
 
 def run_at_once(command, directory, environment=None, runs=8):
-    """Runs a command several times at once: the status of each, and what it said."""
+    """Runs a command several times at once. Returns the exit status and the standard error of each."""
     started = [subprocess.Popen(command, cwd=directory, env=environment, stdin=subprocess.DEVNULL, stdout=subprocess.DEVNULL,
                                 stderr=subprocess.PIPE, umask=0o022) for _ in range(runs)]
     said = [process.communicate(timeout=SECONDS)[1] for process in started]

@@ -1,23 +1,34 @@
-/* Preloaded into a program, reports, breaks and slows its calls of the system, as its environment says.
+/* A preloaded library that reports, breaks and slows the system calls of a program. Environment variables control it.
 
-   With TRACE_TO a line goes to that descriptor for each call that opens, writes, reads back, locks, syncs, renames or removes a file
-   below the working directory: what was really done, with the last part of the file's path. With TAKE_AWAY a step is left out or done
-   wrongly, as if it had succeeded: `sync` of files, `directory` for syncs of directories, `new` for O_EXCL, `mode`, `permissions`,
-   `owner`, `lock`, `rename`, or `digit` for the last digit of a record that is written. With SLOW each of these calls waits first, for
-   up to as many microseconds.
+   Reporting and changing calls:
+     TRACE_TO=FD     Write a line to this descriptor for each call that opens, writes, reads back, locks, syncs, renames or removes a
+                     file: the call as it was made, and the last part of the file's path.
+     TAKE_AWAY=STEP  Leave a step out or do it wrongly, but report success: `sync` (fsync of files), `directory` (fsync of directories),
+                     `new` (O_EXCL), `mode`, `permissions`, `owner`, `lock`, `rename`, or `digit` (write a version record without its
+                     last byte).
+     SLOW=MAX        Wait up to this many microseconds before each of these calls.
 
-   With BREAK_AT the call of this number among those that are named in BREAK_CALLS (all below, where nothing is named) is broken: the
-   program is killed before it, or gets the signal BREAK_SIGNAL, or, where BREAK_ERRNO is set, the call fails so. With BREAK_SHORT a
-   write takes half of its bytes first, and the next one fails; and a read brings two bytes at most. With BREAK_GOES_ON a call is made
-   after the signal, as one that stops the program, and the next write too. Calls of `write` count where they go to a regular file that
-   the program has opened itself; those that only look, and getrandom, where they are named. One byte on the descriptor BREAK_SAYS says
-   that it came to the call, and with BREAK_REST each call after it is broken too. Requests for memory count where `memory` is named.
-   So does the start of libsodium, where `sodium_init` is named. With BREAK_UNNAMED no file without a name can be made, as on file
-   systems that have none; with DRAW_ZEROS all that is drawn is zeros; with RANDOM_BYTES the device of random bytes has so many, which
-   count up from 0; and with SHOWN_TIME the clock shows that time.
+   Breaking a call:
+     BREAK_CALLS     The names of the calls that count, separated by spaces. Without it, all calls count except those that only
+                     inspect, getrandom, `memory` (allocations) and `sodium_init` (libsodium's), which count only if they are named.
+                     `write` counts only for regular files that the program has opened itself.
+     BREAK_AT=N      Break the call with this number, counted from 1: kill the program before the call, unless one of the next three
+                     variables is set.
+     BREAK_SIGNAL    Send this signal instead of SIGKILL, and then wait, unless BREAK_GOES_ON is set.
+     BREAK_ERRNO     Let the call fail with this errno.
+     BREAK_SHORT     Let a write take half of its bytes, and fail the next one. Let a read return at most two bytes.
+     BREAK_GOES_ON   Make the call after the signal, for signals such as SIGSTOP. Do not fail the write after a short one.
+     BREAK_REST      Break each call after this one too.
+     BREAK_SAYS=FD   Write a byte to this descriptor when the program makes a call that is broken.
 
-   Compiled with ONLY_IN, the name of a library, it leaves alone what others call, but for requests for memory: these are not to be
-   named then. */
+   Changing the environment:
+     BREAK_UNNAMED   Fail O_TMPFILE with EOPNOTSUPP, as file systems without it do.
+     DRAW_ZEROS      Let getentropy return zeros.
+     RANDOM_BYTES=N  Let /dev/urandom have this many bytes, which count up from 0.
+     SHOWN_TIME      The time that the clock shows, in seconds since 1970.
+
+   If compiled with ONLY_IN, the name of a library, it changes only calls that come from this library. Allocations are changed
+   whoever makes them, so `memory` must not be named then. */
 #include "preload.h"
 
 #include <dirent.h>
@@ -27,15 +38,15 @@
 #include <sys/xattr.h>
 #include <time.h>
 
-/* Whether somebody else makes the call. */
+/* True if the current call comes from outside the library ONLY_IN. */
 #ifdef ONLY_IN
 static __thread int is_others;
 
 static void look_at(const void *caller)
 {
-    Dl_info found;
+    Dl_info library;
 
-    is_others = dladdr(caller, &found) == 0 || strstr(found.dli_fname, ONLY_IN) == NULL;
+    is_others = dladdr(caller, &library) == 0 || strstr(library.dli_fname, ONLY_IN) == NULL;
 }
 
 #define LOOK look_at(__builtin_return_address(0))
@@ -44,7 +55,7 @@ enum { is_others };
 #define LOOK (void)is_others
 #endif
 
-/* == What is broken == */
+/* == Breaking calls == */
 
 static long calls;
 
@@ -62,7 +73,7 @@ static int is_named(const char *name)
     return 0;
 }
 
-/* Whether this call is to fail; `errno` is set then. */
+/* Counts a call. Returns true if it has to fail, and sets `errno` then. */
 static int is_broken(const char *name)
 {
     const char *at = getenv("BREAK_AT");
@@ -88,19 +99,20 @@ static int is_broken(const char *name)
 
 static int is_opened_file(int fd)
 {
-    struct stat found;
+    struct stat status;
 
-    return fd > 2 && REAL(fstat)(fd, &found) == 0 && S_ISREG(found.st_mode);
+    return fd > 2 && REAL(fstat)(fd, &status) == 0 && S_ISREG(status.st_mode);
 }
 
-/* Whether this call is to fail, which is to be named. */
+/* Like is_broken, for calls that count only if BREAK_CALLS names them. */
 static int is_broken_if_named(const char *name)
 {
     return getenv("BREAK_CALLS") && is_broken(name);
 }
 
-/* == What is told == */
+/* == Reporting and changing calls == */
 
+/* Returns true if TAKE_AWAY leaves out this step. */
 static int is_taken(const char *step)
 {
     const char *away = getenv("TAKE_AWAY");
@@ -108,7 +120,7 @@ static int is_taken(const char *step)
     return !is_others && away && strcmp(away, step) == 0;
 }
 
-/* Waits for a while that differs from call to call and from process to process. */
+/* Waits for a pseudorandom time up to SLOW, which differs between calls and processes. */
 static void wait_first(void)
 {
     static unsigned long seed;
@@ -127,21 +139,21 @@ static const char *last_part(const char *path)
     return slash ? slash + 1 : path;
 }
 
-/* The last part of the path that a descriptor was opened by, where it is a regular file or a directory. */
-static const char *name_of(int fd, char *room, size_t size)
+/* Returns the last part of the path of a regular file, "." for a directory, or NULL for anything else. */
+static const char *name_of(int fd, char *path, size_t size)
 {
     char link[64];
-    struct stat found;
+    struct stat status;
     ssize_t length;
 
-    if (REAL(fstat)(fd, &found) != 0 || !(S_ISREG(found.st_mode) || S_ISDIR(found.st_mode)))
+    if (REAL(fstat)(fd, &status) != 0 || !(S_ISREG(status.st_mode) || S_ISDIR(status.st_mode)))
         return NULL;
     snprintf(link, sizeof link, "/proc/self/fd/%d", fd);
-    length = REAL(readlink)(link, room, size - 1);
+    length = REAL(readlink)(link, path, size - 1);
     if (length < 0)
         return NULL;
-    room[length] = 0;
-    return S_ISDIR(found.st_mode) ? "." : last_part(room);
+    path[length] = 0;
+    return S_ISDIR(status.st_mode) ? "." : last_part(path);
 }
 
 static void say(const char *call, const char *name, const char *more)
@@ -154,9 +166,9 @@ static void say(const char *call, const char *name, const char *more)
         abort();
 }
 
-/* == Calls that are told as well == */
+/* == Calls that are reported and can be broken == */
 
-/* A pipe with so many bytes, at most 256, that count up from 0, and nothing after them. */
+/* Returns the read end of a pipe with this many bytes, at most 256, that count up from 0. */
 static int count_to(size_t length)
 {
     unsigned char bytes[256];
@@ -206,11 +218,11 @@ static int open_in(const char *call, int directory, const char *path, int flags,
 
 OPENS(open, "open", AT_FDCWD, MODE_BEHIND(flags), (const char *path, int flags, ...))
 OPENS(openat, "openat", directory, MODE_BEHIND(flags), (int directory, const char *path, int flags, ...))
-/* The same where a program was built with _FORTIFY_SOURCE. */
+/* Programs built with _FORTIFY_SOURCE call these. */
 OPENS(__open_2, "open", AT_FDCWD, 0, (const char *path, int flags))
 OPENS(__openat_2, "openat", directory, 0, (int directory, const char *path, int flags))
 
-/* Whether a record is written: the label of a field, a number, and two lines of hexadecimal digits. */
+/* Returns true if the bytes are a version record: the label of a field, a number, and two lines of hexadecimal digits. */
 static int is_record(const char *bytes, size_t length)
 {
     const char *labels[] = {"timestamp:", "version:"};
@@ -222,7 +234,7 @@ static int is_record(const char *bytes, size_t length)
     return 0;
 }
 
-/* A write that may be broken: half of it, or none. */
+/* Makes a write, or breaks it: writes half of the bytes, or none. */
 static ssize_t put(int fd, const void *bytes, size_t length)
 {
     static int breaks_next;
@@ -241,8 +253,8 @@ static ssize_t put(int fd, const void *bytes, size_t length)
 ssize_t write(int fd, const void *bytes, size_t length)
 {
     LOOK;
-    char room[4096];
-    const char *name = fd > 2 ? name_of(fd, room, sizeof room) : NULL;
+    char path[4096];
+    const char *name = fd > 2 ? name_of(fd, path, sizeof path) : NULL;
     int is_cut = name && is_taken("digit") && is_record(bytes, length);
     ssize_t n;
 
@@ -257,8 +269,8 @@ ssize_t write(int fd, const void *bytes, size_t length)
 int fsync(int fd)
 {
     LOOK;
-    char room[4096];
-    const char *name = name_of(fd, room, sizeof room);
+    char path[4096];
+    const char *name = name_of(fd, path, sizeof path);
 
     if (name && is_taken(strcmp(name, ".") == 0 ? "directory" : "sync"))
         return 0;
@@ -268,7 +280,7 @@ int fsync(int fd)
     return is_broken("fsync") ? -1 : REAL(fsync)(fd);
 }
 
-/* A renaming is told where it was done. */
+/* A rename is reported only if it succeeded, or was left out. */
 #define RENAMES(name, parameters, arguments)                                              \
     int name parameters                                                                   \
     {                                                                                     \
@@ -286,16 +298,16 @@ RENAMES(rename, (const char *from, const char *to), (from, to))
 RENAMES(renameat, (int from_directory, const char *from, int to_directory, const char *to),
         (from_directory, from, to_directory, to))
 
-/* Tells a call on a descriptor, with what is told behind the file's name. */
+/* Reports a call on a descriptor. `more` follows the file's name. */
 static void tell(int fd, const char *call, const char *more)
 {
-    char room[4096];
-    const char *name = name_of(fd, room, sizeof room);
+    char path[4096];
+    const char *name = name_of(fd, path, sizeof path);
 
     say(call, name ? name : "?", more);
 }
 
-/* Whether it is taken away, where it is a step of a name; or else it is told before it is made. */
+/* Returns true if TAKE_AWAY leaves out this step. Otherwise reports the call, which has yet to be made. */
 static int is_left_out(int fd, const char *step, const char *call, const char *more)
 {
     if (!is_taken(step))
@@ -329,7 +341,7 @@ TELLS(if (is_left_out(fd, "owner", "owner", "")) return 0, int, fchown, (int fd,
 TELLS(say("remove", last_part(path), ""), int, unlink, (const char *path), (path))
 TELLS(say("remove", last_part(path), ""), int, unlinkat, (int directory, const char *path, int flags), (directory, path, flags))
 
-/* == Calls that are broken alone == */
+/* == Calls that can be broken, but are not reported == */
 
 ssize_t read(int fd, void *bytes, size_t length)
 {
@@ -342,7 +354,7 @@ ssize_t read(int fd, void *bytes, size_t length)
 time_t time(time_t *found)
 {
     LOOK;
-    /* (since Linux 6.13 it is behind the times of files when a second begins) */
+    /* One second less than the clock: since Linux 6.13, time() may be behind the timestamps of files at the start of a second. */
     time_t shown = getenv("SHOWN_TIME") ? atol(getenv("SHOWN_TIME")) - 1 : REAL(time)(NULL);
 
     if (found)
@@ -358,7 +370,7 @@ int clock_gettime(clockid_t clock, struct timespec *found)
     return 0;
 }
 
-/* Closes also where it then fails, as the system does. */
+/* Closes the descriptor even if the call is broken, as Linux does. */
 int close(int fd)
 {
     LOOK;
@@ -369,7 +381,6 @@ int close(int fd)
     return broken ? -1 : answer;
 }
 
-/* With DRAW_ZEROS all that is drawn is zeros. */
 int getentropy(void *bytes, size_t length)
 {
     LOOK;
@@ -378,7 +389,7 @@ int getentropy(void *bytes, size_t length)
     return getenv("DRAW_ZEROS") ? (memset(bytes, 0, length), 0) : REAL(getentropy)(bytes, length);
 }
 
-/* (a request may come from anywhere: who makes it is not looked at) */
+/* Allocations fail whoever makes them, so ONLY_IN is not checked. */
 #define REFUSES(name, parameters, arguments)                                              \
     void *name parameters                                                                 \
     {                                                                                     \
@@ -391,7 +402,7 @@ int getentropy(void *bytes, size_t length)
 REFUSES(malloc, (size_t size), (size))
 REFUSES(realloc, (void *old, size_t size), (old, size))
 
-/* (of libsodium, in programs that are linked to it) */
+/* Used by programs that are linked to libsodium. */
 int sodium_init(void)
 {
     LOOK;

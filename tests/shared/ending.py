@@ -1,4 +1,4 @@
-"""Begins a script of tests in a directory of its own, and ends it with a last line `N passed, M failed`."""
+"""Runs a test script in a temporary directory, and ends its output with the line `N passed, M failed`."""
 
 import subprocess
 import sys
@@ -12,8 +12,8 @@ from running import Failure
 
 
 def check(name, run, *stops):
-    """Has a function, which is given the `Checks`, check things in an empty directory, prints what failed, and returns the exit
-    status. What is not here, was not built or could not be run is a failure, and so are these exceptions."""
+    """Calls `run` with `Checks` and an empty directory, prints the failures, and returns the exit status. A missing package, a failed
+    build, an error of the system and the exceptions in `stops` end the script and count as a failure."""
     checks = Checks()
     selected.choose_among(sys.modules["__main__"])
     with tempfile.TemporaryDirectory(prefix=f"{name}-") as room:
@@ -27,8 +27,8 @@ def check(name, run, *stops):
 
 
 def main(name, run, *stops):
-    """The same of a function that is given the directory alone: it returns the failures, how many cases there were, and where
-    it has them how many differ by intent, by their names."""
+    """Like `check`, for a function that gets only the directory. It returns the failures, the number of cases, and optionally how
+    many cases show each intended difference, by the difference's name."""
 
     def run_cases(checks, room):
         checks.failures, count, *shown = run(room)

@@ -1,6 +1,6 @@
-"""The calls from C as the crates have them, beside `minisign.h`: each function that the header declares is an export
-of the crate `minisign_c` with the same name and types, and each export is declared. The layout of its structs is that
-of the crates, as assertions in a file that is compiled as C or as C++, and not run.
+"""Compares `minisign.h` and `minisign_install.h` with the exports of the crate `minisign_c`: each function that a header
+declares has to be an export with the same name and types, and each export has to be declared. It also writes assertions
+that the structs have the layout of the crates, in a file that is only compiled, as C or as C++.
 
 A slice of Rattle is a pointer and a length in C. Needs Python 3.9 or later.
 """
@@ -17,12 +17,12 @@ import c_header
 import sources
 from running import write
 
-# The numbers and the structs by their names in Rattle.
+# The C type for each number and struct type of Rattle.
 KINDS = {"u32": "uint32_t", "u64": "uint64_t", "usize": "size_t", "State": "minisign_state",
          "PublicKeyValue": "minisign_public_key", "SignatureValue": "minisign_signature", "Questions": "minisign_questions",
          "UnopenedKeyValue": "minisign_unopened_key", "SecretKeyValue": "minisign_secret_key", "Sealing": "minisign_sealing",
          "NewKey": "minisign_new_key", "Installation": "minisign_installation", "InstallOptions": "minisign_install_options"}
-# The structs whose fields are the library's alone.
+# The opaque structs, whose fields are private to the library.
 CLOSED = ("minisign_state", "minisign_installation")
 NUMBERS = {"u8": ctypes.c_uint8, "u32": ctypes.c_uint32, "u64": ctypes.c_uint64}
 
@@ -45,7 +45,7 @@ HEAD = """\
 
 
 def kinds_in_c(kind):
-    """The types in C of what Rattle calls this; one that is not known is said."""
+    """Returns the C types of a Rattle type. For an unknown one it returns a text that says so, which then matches no declaration."""
     if kind == "Global":
         return []
     lent, is_mut, to = re.fullmatch(r"(&?)(mut )?(.*)", kind).groups()
@@ -57,29 +57,30 @@ def kinds_in_c(kind):
 
 
 def parameters_of(parameters):
-    """The parameters of an export, each with its type."""
+    """Returns the parameters of an export, each as `name: type`."""
     return [parameter for parameter in re.split(r",\s*(?![^\[]*\])", parameters.strip().rstrip(",")) if parameter]
 
 
 def exported(crate):
-    """The types in C of the exports of the crate, by their names: those of the parameters, and of the result."""
+    """Returns the C types of the parameters and of the result of each export of the crate, by name."""
     return {name: ([kind for parameter in parameters_of(parameters) for kind in kinds_in_c(parameter.partition(":")[2].strip())],
                    kinds_in_c(result)[0] if result else "void")
             for name, parameters, result in EXPORT.findall(crate)}
 
 
 def unfit_declarations():
-    """A line for each declaration and each export that have not the same types."""
+    """Returns a line for each function whose declaration and export differ, or of which one is missing."""
     exports = exported(sources.read("crates/minisign_c/src/lib.rt"))
     headers = c_header.both()
-    declared = {call.name: ([boundary.plain_parameter(one) for one in headers.taken(call)], boundary.plain(call.answer))
+    declared = {call.name: ([boundary.plain_parameter(parameter) for parameter in headers.taken(call)], boundary.plain(call.answer))
                 for call in boundary.proved_calls(headers)}
-    return [f"{c_header.FILE} declares {name} with {declared.get(name)}, and the crate has {exports.get(name)}"
+    return [f"{name}: the header declares {declared.get(name)}, and minisign_c exports {exports.get(name)}"
             for name in sorted({*declared, *exports}) if declared.get(name) != exports.get(name)]
 
 
 def laid_out(kind, structs, lengths):
-    """A type as ctypes has it, of these structs, whose arrays may be as long as constants say."""
+    """Returns a Rattle type as a ctypes type. `structs` has the texts of structs and `lengths` the constants for lengths of arrays,
+    by name."""
     array = re.fullmatch(r"\[(.+); (\w+)\]", kind)
     if array:
         return laid_out(array[1], structs, lengths) * int(lengths.get(array[2], array[2]))
@@ -90,7 +91,7 @@ def laid_out(kind, structs, lengths):
 
 
 def write_layout(room):
-    """Writes the assertions, on each struct of the header as the crates have it, into a directory: the path."""
+    """Writes a C file with assertions about the layout of each struct of the headers into a directory, and returns its path."""
     structs, lengths, lines, headers = {}, {}, [HEAD], c_header.both()
     for file in sources.files_below(os.path.join(sources.ROOT, "crates"), ".rt"):
         text = sources.read(file)

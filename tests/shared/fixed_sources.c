@@ -1,5 +1,5 @@
-/* Preloaded into a program, makes its random bytes count up from 0, from one draw to the next, and the time one moment:
-   so two programs that draw the same bytes in the same order write the same files. */
+/* A preloaded library that makes random bytes count up from 0, across calls, and fixes the time. Two programs that
+   request the same random bytes in the same order then write the same files. */
 #include "preload.h"
 
 #include <sys/types.h>

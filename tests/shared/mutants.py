@@ -19,20 +19,20 @@ import proved
 from process import run
 from running import expect, read, write
 
-# What the patch breaks, its path, the path of the changed file from the top of the repository, and the case that must fail.
+# The name of the patch, its path, the path of the changed file from the top of the repository, and the test case that must fail.
 Mutant = namedtuple("Mutant", "name patch file case")
 
 
 def mutants_of(*directory):
     """Returns the mutants of a directory below tests/, by name."""
-    found = []
+    mutants = []
     for patch in sorted(glob.glob(os.path.join(proved.ROOT, "tests", *directory, "*.patch"))):
         text = read(patch).decode()
         case, file = re.match(r"Must fail: (.+)\n\n", text), re.search(r"(?m)^\+\+\+ b/(.+)$", text)
         expect(file, f"{patch} changes no file")
-        found.append(Mutant(os.path.basename(patch).removesuffix(".patch"), patch, file[1], case and case[1]))
-    expect(found, f"tests/{'/'.join(directory)} has no patches")
-    return found
+        mutants.append(Mutant(os.path.basename(patch).removesuffix(".patch"), patch, file[1], case and case[1]))
+    expect(mutants, f"tests/{'/'.join(directory)} has no patches")
+    return mutants
 
 
 def apply(mutant, top, inside=""):

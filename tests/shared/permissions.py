@@ -1,8 +1,8 @@
-"""The permissions of a file that a program has replaced: owner, group, mode and access control list. The tests of
-each program that replaces files run these cases.
+"""Test cases for the owner, group, mode and access control list of a file that a program replaced. The tests of each
+program that replaces files run them.
 
-Needs Python 3.9 or later, and setfacl, which it installs if it may. Some cases need root, to make files of others and
-to run programs as nobody.
+Needs Python 3.9 or later, and setfacl, which it installs if it may. Some cases need root, to create files of other users
+and to run programs as nobody.
 """
 
 import errno
@@ -17,14 +17,20 @@ import needs
 from running import AS_NOBODY, NOBODY, SECONDS, expect, only_root
 
 ACCESS_LIST = "system.posix_acl_access"
-# A group of which nobody is no member, and a user who is nobody else.
+# A group that the user nobody is not a member of, and a user who is neither root nor nobody.
 OTHER_GROUP, OTHER_USER = 54321, 54322
 
-# A run over an older file: the mode of that, and the one that the new file has to have; which entries of an access control list
-# the older file has, and which list each new file of its directory inherits; whether the new one has to have the older one's list.
-# It runs as nobody, whose the directory is with all that is in it; or as whoever runs the test. The older file may have another owner
-# and group than the rest: it keeps these where root replaces it, and else gets nobody's. A mode may be asked for. A call may fail, by
-# its name.
+# A run that replaces a file.
+#   older, mode: the mode of the old file, and the one that the new file must have.
+#   entries: the entries of the old file's access control list.
+#   inherited: the entries of the list that the directory gives to each new file.
+#   has_list: true if the new file must have the old file's list.
+#   as_nobody: true if the program runs as nobody, who then owns the directory and everything in it. Otherwise it runs as the
+#     user who runs the test.
+#   whose: the owner and group of the old file, if they differ from those of the directory. Root keeps them; if nobody replaces the
+#     file, it becomes nobody's.
+#   asked: the mode that the program is asked to set.
+#   broken: the name of a system call that fails.
 Replaced = namedtuple("Replaced", "older mode entries inherited has_list as_nobody whose asked broken",
                       defaults=("", "", False, False, None, "", ""))
 by_nobody = functools.partial(Replaced, as_nobody=True)
@@ -33,13 +39,12 @@ uncopied = functools.partial(Replaced, broken="fsetxattr")
 
 
 def list_of(path):
-    """The access control list of a file, or none."""
+    """Returns the access control list of a file, or None."""
     return os.getxattr(path, ACCESS_LIST) if ACCESS_LIST in os.listxattr(path) else None
 
 
 def make_older(directory, path, mode, entries="", inherited=""):
-    """Makes a file what an older one is: its mode, which entries of an access control list it has, and which list each new file of its
-    directory inherits."""
+    """Sets the mode and access control list of a file, and the list that new files of its directory inherit."""
     os.chmod(path, mode)
     for words, changed in ((["-m", entries], path), (["-d", "-m", inherited], directory)):
         if words[-1]:
@@ -47,7 +52,7 @@ def make_older(directory, path, mode, entries="", inherited=""):
 
 
 def run_case(disturbing, prepare, arguments, case):
-    """Makes one run."""
+    """Replaces a file as a `Replaced` says, and checks the owner, mode and list of the new file."""
     with tempfile.TemporaryDirectory(dir=disturbing.place) as directory:
         path = prepare(directory)
         if case.as_nobody:
@@ -59,16 +64,17 @@ def run_case(disturbing, prepare, arguments, case):
             os.chown(path, *case.whose)
         make_older(directory, path, case.older, case.entries, case.inherited)
         before, older = os.stat(path), list_of(path)
-        expect((older is None) == (not case.entries), f"the older file has the list {older}")
+        expect((older is None) == (not case.entries), f"the old file has the list {older}, expected the entries {case.entries!r}")
         how = {"CALLS": case.broken, "AT": 1, "ERRNO": errno.ENOSPC}
         run = functools.partial(disturbing.run_broken, how=how) if case.broken else disturbing.run
         ran = run(directory, arguments(case.asked), **(AS_NOBODY if case.as_nobody else {}))
         after, newer = os.stat(path), list_of(path)
         mode, owner = stat.S_IMODE(after.st_mode), (NOBODY, NOBODY) if case.as_nobody else (before.st_uid, before.st_gid)
         expect(ran.status == 0 and after.st_ino != before.st_ino, ran, f"the file was{' not' * (after.st_ino == before.st_ino)} replaced")
-        expect(mode == case.mode, f"the file has the mode {mode:o} in place of {case.mode:o}")
-        expect((after.st_uid, after.st_gid) == owner, f"the file belongs to {after.st_uid}:{after.st_gid}, and not {owner}")
-        expect(newer == (older if case.has_list else None), f"the file has the list {newer}, where the older one had {older}")
+        expect(mode == case.mode, f"the new file has the mode {mode:o}, expected {case.mode:o}")
+        expect((after.st_uid, after.st_gid) == owner, f"the new file belongs to {(after.st_uid, after.st_gid)}, expected {owner}")
+        wanted = older if case.has_list else None
+        expect(newer == wanted, f"the new file has the list {newer}, expected {wanted}")
 
 
 MORE = f"g::rwx,u:{OTHER_USER}:rwx"
@@ -76,47 +82,49 @@ LESS = f"g::rwx,u:{OTHER_USER}:r--,m::rwx"
 NONE = f"g::rwx,g:{OTHER_GROUP}:---,m::rwx"
 INHERITED = f"u:{OTHER_USER}:rwx,g:{OTHER_GROUP}:rwx"
 
-# What holds of each program. Where the group cannot be given, all others get no more than it had.
+# The cases for every program. If the new file cannot get the old group, then neither its group nor all others get more than the old
+# group had.
 KEPT = [
     ("permissions that a group and all others have", Replaced(0o755, 0o755)),
     ("permissions that all others and not the group have", Replaced(0o705, 0o705)),
-    ("the bit that changes the user", Replaced(0o4755, 0o755)),
-    ("the bit that changes the group", Replaced(0o2755, 0o755)),
-    ("the bit that keeps others from removing", Replaced(0o1755, 0o755)),
+    ("the set-user-ID bit is cleared", Replaced(0o4755, 0o755)),
+    ("the set-group-ID bit is cleared", Replaced(0o2755, 0o755)),
+    ("the sticky bit is cleared", Replaced(0o1755, 0o755)),
     ("another group that may do all", of_other_group(0o775, 0o705)),
     ("another group that may do nothing", of_other_group(0o705, 0o700)),
     ("another group that may do more than all others", of_other_group(0o754, 0o704)),
     ("another group that may do less than all others", of_other_group(0o757, 0o705)),
-    ("another's, which root replaces", Replaced(0o640, 0o640, whose=(OTHER_USER, OTHER_GROUP))),
-    ("permissions of a group alone", Replaced(0o750, 0o750)),
+    ("another owner and group, which root keeps", Replaced(0o640, 0o640, whose=(OTHER_USER, OTHER_GROUP))),
+    ("permissions of the group only", Replaced(0o750, 0o750)),
     ("more permissions of a group than of all others", Replaced(0o771, 0o771)),
-    ("a list of one who may do more", Replaced(0o700, 0o770, MORE, has_list=True)),
-    ("a list of one who may do less than all others", Replaced(0o755, 0o775, LESS, has_list=True)),
-    ("a list of a group that may do nothing", Replaced(0o755, 0o775, NONE, has_list=True)),
-    ("a list whose mask leaves nothing of it", Replaced(0o700, 0o700, f"u:{OTHER_USER}:rwx,m::---", has_list=True)),
-    ("a list that the directory gives to new files", Replaced(0o770, 0o770, inherited=INHERITED)),
-    ("a list beside one that the directory gives to new files", Replaced(0o755, 0o775, LESS, INHERITED, has_list=True)),
-    ("a list that cannot be copied, of one who may do more", uncopied(0o755, 0o705, MORE)),
-    ("a list that cannot be copied, of one who may do less", uncopied(0o755, 0o704, LESS)),
-    ("a list that cannot be copied, of a group that may do nothing", uncopied(0o755, 0o700, NONE)),
+    ("a list with a user who may do more", Replaced(0o700, 0o770, MORE, has_list=True)),
+    ("a list with a user who may do less than all others", Replaced(0o755, 0o775, LESS, has_list=True)),
+    ("a list with a group that may do nothing", Replaced(0o755, 0o775, NONE, has_list=True)),
+    ("a list whose mask allows nothing", Replaced(0o700, 0o700, f"u:{OTHER_USER}:rwx,m::---", has_list=True)),
+    ("a list that the directory gives to new files is removed", Replaced(0o770, 0o770, inherited=INHERITED)),
+    ("a list in a directory that gives another list to new files", Replaced(0o755, 0o775, LESS, INHERITED, has_list=True)),
+    ("a list that cannot be copied, with a user who may do more", uncopied(0o755, 0o705, MORE)),
+    ("a list that cannot be copied, with a user who may do less", uncopied(0o755, 0o704, LESS)),
+    ("a list that cannot be copied, with a group that may do nothing", uncopied(0o755, 0o700, NONE)),
     ("a list that cannot be copied, whose owning group may do less", uncopied(0o757, 0o704, f"g::r--,u:{OTHER_USER}:rwx")),
     ("a list of a file of another group", of_other_group(0o755, 0o704, LESS)),
-    ("a list in nobody's own file", by_nobody(0o755, 0o775, LESS, has_list=True)),
+    ("a list of a file that nobody owns and replaces", by_nobody(0o755, 0o775, LESS, has_list=True)),
     ("a list of a file that may not be read", by_nobody(0o311, 0o311, f"g::--x,u:{OTHER_USER}:--x", has_list=True)),
 ]
 
-# Of a program that can be asked for a mode: it has just these permissions, and no list.
+# The cases for a program with an option for the mode: the new file has exactly these permissions, and no list.
 ASKED = [
     ("a mode that is asked for", Replaced(0o700, 0o775, asked="775")),
     ("a mode that is asked for over another group", of_other_group(0o700, 0o705, asked="775")),
-    ("a mode without the group's permissions over another group", of_other_group(0o755, 0o700, asked="705")),
+    ("a mode that is asked for, without the group's permissions, over another group", of_other_group(0o755, 0o700, asked="705")),
     ("a mode that is asked for over a list", Replaced(0o755, 0o770, MORE, asked="770")),
     ("a mode that is asked for over a list that the directory gives", Replaced(0o700, 0o770, inherited=INHERITED, asked="770")),
 ]
 
 
 def permission_cases(disturbing, prepare, arguments, cases):
-    """Names of cases of a program of `disturbed.py` that replaces a file, and what runs each. `prepare` makes in a directory the older
-    file, whose path it answers, and what else a run needs; `arguments` answers those of a run, with the mode that is asked for."""
+    """Yields the name, the function and the arguments of each case, for a program that replaces a file. `prepare` creates the old file
+    and everything else that a run needs in a directory, and returns the file's path. `arguments` returns the arguments of a run, for
+    the requested mode."""
     for name, case in cases:
         yield f"the permissions of a replaced file: {name}", run_case, disturbing, prepare, arguments, case

@@ -1,5 +1,5 @@
-/* What the preloaded libraries share: the function behind the one of the same name here, and the mode that a call takes
-   after its flags, where it may make a file. */
+/* Macros for preloaded libraries: REAL is the function that an interposed one replaces, and MODE_BEHIND is the mode
+   argument of open and openat, or 0 if the flags cannot create a file. */
 #ifndef PRELOAD_H
 #define PRELOAD_H
 
@@ -19,12 +19,12 @@
 #define MODE_BEHIND(flags)                                                                                         \
     ({                                                                                                             \
         va_list more;                                                                                              \
-        mode_t told;                                                                                               \
+        mode_t passed;                                                                                             \
                                                                                                                    \
         va_start(more, flags);                                                                                     \
-        told = (flags) & O_CREAT || ((flags) & O_TMPFILE) == O_TMPFILE ? va_arg(more, mode_t) : 0;                 \
+        passed = (flags) & O_CREAT || ((flags) & O_TMPFILE) == O_TMPFILE ? va_arg(more, mode_t) : 0;               \
         va_end(more);                                                                                              \
-        told;                                                                                                      \
+        passed;                                                                                                    \
     })
 
 #endif

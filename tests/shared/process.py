@@ -1,5 +1,4 @@
-"""How scripts run a program: in a directory, with these bytes on its standard input and what is named in its environment; and
-disturbed, by a library that is preloaded."""
+"""Runs programs for test scripts, in a given directory and with given standard input and environment variables."""
 
 import os
 import subprocess
@@ -10,7 +9,8 @@ SECONDS = 1800
 
 @dataclass(frozen=True)
 class Ran:
-    """How a program ended, what it wrote and what it said; and whether it came to the call that was to fail."""
+    """The result of a run: the exit status, standard output and standard error. `came` is true if the program made the call that
+    was to fail."""
 
     status: int
     output: bytes
@@ -18,11 +18,11 @@ class Ran:
     came: bool = False
 
     def __str__(self):
-        return f"it ended with {self.status}, wrote {self.output[-200:]!r}, and said {self.said[-400:]!r}"
+        return f"exit status {self.status}, stdout {self.output[-200:]!r}, stderr {self.said[-400:]!r}"
 
 
 def run_program(command, directory, typed=None, seconds=120, **how):
-    """Runs a program in a directory, with these bytes or nothing on its standard input, and with what else `subprocess` takes."""
+    """Runs a program in a directory, with the bytes `typed` or nothing on its standard input. `how` goes to `subprocess.run`."""
     given = {"stdin": subprocess.DEVNULL} if typed is None or "stdin" in how else {"input": typed}
     ran = subprocess.run(command, cwd=directory, timeout=seconds,
                          **{"stdout": subprocess.PIPE, "stderr": subprocess.PIPE, "umask": 0o022, **given, **how})
@@ -30,18 +30,18 @@ def run_program(command, directory, typed=None, seconds=120, **how):
 
 
 def run_apart(command, directory=None, typed=b"", seconds=SECONDS, stderr=subprocess.PIPE, **environment):
-    """Runs a command: its status, its output, and its errors."""
+    """Runs a command, with these variables added to the environment. Returns its exit status, standard output and standard error."""
     ran = run_program(command, directory, typed, seconds, env=dict(os.environ, **environment), stderr=stderr)
     return ran.status, ran.output.decode(errors="replace"), ran.said.decode(errors="replace")
 
 
 def run(command, directory=None, typed=b"", seconds=SECONDS, **environment):
-    """Runs a command: its status, and all that it said, on both streams."""
+    """Runs a command. Returns its exit status and its output, of both streams together."""
     return run_apart(command, directory, typed, seconds, subprocess.STDOUT, **environment)[:2]
 
 
 def run_measured(command, directory, typed=b"", **how):
-    """Runs a command that reads what is typed: its status, what it wrote, and the most memory that it held, in KiB."""
+    """Runs a command with `typed` on its standard input. Returns its exit status, its output, and its peak memory (RSS) in KiB."""
     process = subprocess.Popen(command, cwd=directory, stdin=subprocess.PIPE, stdout=subprocess.PIPE, **how)
     with process.stdin, process.stdout:
         process.stdin.write(typed)
@@ -53,8 +53,8 @@ def run_measured(command, directory, typed=b"", **how):
 
 
 def told(run):
-    """What `run` answers, and what the program that it runs said, or a library that is preloaded into it, as of a call that is broken:
-    it is given the descriptor for that."""
+    """Calls `run` with the write end of a pipe. Returns its result, and the bytes that the program, or a library preloaded into
+    it, wrote to the pipe: `disturbed_calls.c` reports there that the program made the broken call."""
     reader, says = os.pipe()
     try:
         answer = run(says)

@@ -1,9 +1,9 @@
-"""The repository's libraries as they stand proved and built, and the kit's prover over them.
+"""Calls the kit's prover, `rattle`, on the proved and built libraries of the repository.
 
-CI runs some scripts after `rt ci`, and SAID names the file with the output of that. `rt ci` proves each library from nothing and
-leaves it built for the crates above. No other command of `rt` uses these builds; each would prove the library again. So the prover
-itself, `rattle`, is called over them, with flags of its `--help`. If SAID names no file, or `rt ci` left nothing, `rt lib` builds the
-libraries or finds them built.
+CI runs some scripts after `rt ci`; the environment variable SAID then names the file with the output of `rt ci`. `rt ci` proves
+each library from scratch and leaves it built for the crates that use it. Other commands of `rt` do not use these builds and would
+prove the library again, so these scripts call `rattle` directly, with flags of its `--help`. If SAID is not set, or `rt ci` left
+no builds, `rt lib` builds the libraries unless they are up to date.
 
 Needs Python 3.9 or later and the kit.
 """
@@ -15,22 +15,23 @@ import re
 import subprocess
 
 ROOT = os.path.dirname(os.path.dirname(os.path.dirname(os.path.realpath(__file__))))
-# The environment variable with the path of the output of `rt ci`, after which scripts run.
+# The environment variable with the path of the output of `rt ci`, if the script runs after that.
 SAID = "MINISIGN_RT_CI"
-# What a static library is built for where it is to run in a page.
+# The target of a static library for the page.
 WASM = "wasm64-unknown-unknown"
-# The last verdict line of each static library that was built here.
+# The last verdict line of each static library that this process built.
 verdicts = {}
-# What a finished `rt ci` said whose results are taken.
+# The outputs of finished runs of `rt ci`, given to `take_over`.
 finished = []
 
 
 class NotBuilt(Exception):
-    """Something was not built, and what was said."""
+    """A build failed. The text has the output."""
 
 
 class Crate:
-    """A crate of crates.txt: its words, the crates that it names, and all of the repository below it, lowest first."""
+    """A crate of crates.txt. `words` are those after its name, `near` the crates of the repository that it names, `of_kit` the kit's
+    crates that it uses, and `below` all crates of the repository that it depends on, each after its own dependencies."""
 
     def __init__(self, line, crates):
         (self.name, *self.words), named = line.partition(":")[0].split(), line.partition(":")[2].split()
@@ -41,31 +42,31 @@ class Crate:
 
 @functools.lru_cache(maxsize=None)
 def crates():
-    """The crates of the repository by their names, each after those below it."""
+    """Returns the crates of the repository by name, each after its dependencies."""
     with open(f"{ROOT}/crates.txt", encoding="utf-8") as file:
         lines = {line.partition(":")[0].split()[0]: line for line in file if ":" in line.partition("#")[0]}
     named = {name: [each for each in line.partition(":")[2].split() if each in lines] for name, line in lines.items()}
-    found = {}
+    sorted_crates = {}
     for name in graphlib.TopologicalSorter(named).static_order():
-        found[name] = Crate(lines[name], found)
-    return found
+        sorted_crates[name] = Crate(lines[name], sorted_crates)
+    return sorted_crates
 
 
 @functools.lru_cache(maxsize=None)
 def kit():
-    """The directory of the kit."""
+    """Returns the directory of the kit."""
     ran = subprocess.run(["rt", "doc"], stdout=subprocess.PIPE, check=True)
     return os.path.dirname(os.path.realpath(ran.stdout.decode().strip()))
 
 
 def take_over(path):
-    """Has what a finished `rt ci` left be taken for proved, as it said in this file."""
+    """Uses the results of a finished `rt ci`, whose output is in this file."""
     with open(path, encoding="utf-8", errors="replace") as file:
         finished.append(file.read())
 
 
 def said():
-    """Returns the output of `rt ci`, or an empty text if this does not run after it."""
+    """Returns the output of `rt ci`, or an empty text if this process does not run after `rt ci`."""
     if finished or not os.environ.get(SAID):
         return "".join(finished)
     with open(os.environ[SAID], encoding="utf-8", errors="replace") as file:
@@ -73,31 +74,31 @@ def said():
 
 
 def has(names):
-    """Whether `rt ci` has proved all of these crates, in this run or, by a kit that keeps them, in an earlier one."""
+    """Returns true if `rt ci` proved all of these crates. Some kits report a crate as kept if an earlier run proved it."""
     words = said()
     return all(re.search(rf"(?m)^rt: {name} (proved$|is kept: )", words) for name in names)
 
 
 def functions_of(crate, words):
-    """The functions of a crate that are proved by what a check said."""
+    """Returns the functions of a crate that are proved according to the output of a check."""
     return re.findall(rf"(?m)^fn {crate}::(\S+): proved$", words)
 
 
 def place_of(library):
-    """The directory of a built library."""
+    """Returns the directory of a built library."""
     return f"{ROOT}/crates/{library}/out/rlib/{library}.rlib"
 
 
 def are_left(libraries):
-    """Whether `rt ci` has proved these libraries, and left them built. At its end it puts back what checks before it had built
-    of another state of the sources, maybe: that has a stamp."""
+    """Returns true if `rt ci` proved these libraries and left them built. At its end, `rt ci` may restore builds of earlier checks, which
+    may be of other sources; these have a file `stamp`."""
     places = [os.path.dirname(place_of(library)) for library in libraries]
     return has(libraries) and all(os.path.isdir(place_of(library)) for library in libraries) and not any(
         os.path.exists(f"{place}/stamp") for place in places)
 
 
 def supply(libraries):
-    """Has the libraries built, and returns what is said if one of them is not proved."""
+    """Builds the libraries unless `rt ci` left them built. Returns the error if one is not proved, and otherwise an empty text."""
     for library in [] if are_left(libraries) else libraries:
         ran = run(["rt", "lib"], f"{ROOT}/crates/{library}")
         if ran.returncode:
@@ -106,20 +107,20 @@ def supply(libraries):
 
 
 def run(command, directory):
-    """Runs a command in a directory: its status, and all that it said."""
+    """Runs a command in a directory. Returns the finished process, with both output streams in `stdout`."""
     return subprocess.run(command, cwd=directory, stdin=subprocess.DEVNULL, stdout=subprocess.PIPE, stderr=subprocess.STDOUT,
                           errors="replace")
 
 
 def first_of(words):
-    """The first error of what a check said, or its last line."""
+    """Returns the first error in the output of a check, or the last line if there is none."""
     lines = words.rstrip("\n").split("\n")
     return next((line for line in lines if "error" in line), lines[-1])[:300]
 
 
 def rattle(verb, name, directory, *flags, before=(), crate=None):
-    """Has the prover check or build a crate whose files are in this directory, over the libraries below it. It is one of
-    crates.txt, or another one that is told by its line."""
+    """Runs the prover's command `verb`, check or build, on a crate whose files are in this directory, with the libraries that it
+    depends on. `crate` is given if it is not in crates.txt. `before` goes before the command."""
     crate = crate or crates()[name]
     root = next(name for name in ("src/main.rt", "src/lib.rt") if os.path.exists(f"{directory}/{name}"))
     words = ["--crate-name", name, root, "-L", f"dependency={kit()}/rlibs"]
@@ -136,12 +137,12 @@ def rattle(verb, name, directory, *flags, before=(), crate=None):
 
 
 def toolchain():
-    """The directory of the kit's compilers."""
+    """Returns the directory of the kit's compilers."""
     return f"{kit()}/toolchain"
 
 
 def build_archive(name, archive, *flags, compilers=None):
-    """Proves a static library over those below it, and builds its archive: its verdict line."""
+    """Proves a static library, builds its archive, and returns its verdict line."""
     why = supply(crates()[name].below)
     if why:
         raise NotBuilt(why)
@@ -154,12 +155,12 @@ def build_archive(name, archive, *flags, compilers=None):
 
 
 def link_module(archive, module, memory):
-    """Links a static library that is built for WebAssembly, with so many bytes of memory."""
+    """Links a static library for WebAssembly into a module with `memory` bytes of memory."""
     words = ["--target", WASM, "--toolchain", toolchain(), "--memory", str(memory), "-o", module, archive]
     hold(run([f"{kit()}/bin/rattle-link", *words], ROOT), module)
 
 
 def hold(ran, what):
-    """Stops where a command that was to build something failed."""
+    """Raises `NotBuilt` if a build command failed."""
     if ran.returncode:
         raise NotBuilt(f"{what} was not built: {ran.stdout[-1000:]}")

@@ -1,4 +1,4 @@
-"""How the built program is run on real files, and how all that it says is compared with what it has to say."""
+"""Runs a built program on real files, streams and terminals, and compares everything that it writes with what a `Case` expects."""
 
 import contextlib
 import errno
@@ -26,70 +26,69 @@ from process import told
 SECONDS, MAX_CALLS = 30, 500
 NOBODY = 65534
 AS_NOBODY = {"user": NOBODY, "group": NOBODY, "extra_groups": []}
-# Where directories stand in memory, if that can be had: most runs bring their files to the disk.
+# A file system in memory for the directories of runs, if there is one: most runs sync their files, which takes long on a disk.
 IN_MEMORY = "/dev/shm" if os.access("/dev/shm", os.W_OK) else None
 HERE = os.path.dirname(os.path.realpath(__file__))
 
-# == What stands in the directory of a run: the bytes of a file, or one of these ==
+# == The files of a run: bytes for a regular file, or one of these ==
 
 DIRECTORY = "a directory"
 LOCKED = "a directory in which nothing may be made"
 MISSING = "nothing"
 
-# A file with these permission bits, and these entries of an access control list beside them.
+# A file with these permission bits, and these entries of an access control list.
 WithMode = namedtuple("WithMode", "data mode entries", defaults=("",))
 # A symbolic link to this path.
 Link = namedtuple("Link", "target")
-# A second name of a file that was made before it, a hard link.
+# A hard link to an earlier file of the case.
 SecondName = namedtuple("SecondName", "first")
-# A named pipe that the program has to open, or to leave closed, and the data that comes in it, or none ever.
+# A named pipe that the program has to open, or must not open. `data` is written to it; with None nothing is ever written.
 Pipe = namedtuple("Pipe", "data has_to_open", defaults=(None, True))
 OPENED_PIPE, UNOPENED_PIPE = Pipe(), Pipe(has_to_open=False)
-# A named pipe that somebody reads, and all that has to come in it.
+# A named pipe to which the program has to write exactly this data.
 ReadPipe = namedtuple("ReadPipe", "data")
 
 
 def unreadable(data):
-    """A file that its owner may not read."""
+    """Returns a file that its owner may not read."""
     return WithMode(data, 0)
 
 
-# == What a stream of a run is: bytes come through a pipe ==
+# == The streams of a run: bytes for a pipe, or one of these ==
 
 CLOSED = "a closed stream"
 WRITE_ONLY = "a stream that cannot be read"
 FULL = "a full stream"
 NO_READER = "a pipe that nobody reads"
 
-# A pipe in which the pieces come one by one, each once the one before it was taken.
+# Standard input as a pipe into which the pieces are written with pauses, so that the program reads each one separately.
 Pieces = namedtuple("Pieces", "pieces")
-# A file as the standard input.
+# Standard input as a regular file.
 FromFile = namedtuple("FromFile", "data")
-# A terminal as standard input and output, at which a person types each piece once the program asks for something, that is,
-# once what it wrote ends with a colon and a space. With `shows` the terminal does with letters and line feeds what terminals
-# mostly do; else it shows what the program writes, byte by byte, and not what is typed.
+# A terminal as standard input and output. The next piece is typed whenever the output ends with a colon and a space, that is, when
+# the program asks for something. With `shows` the terminal has its usual settings; otherwise it neither echoes nor processes output,
+# so it shows exactly the bytes that the program writes.
 Typed = namedtuple("Typed", "pieces shows", defaults=(False,))
-# A pipe as standard output that is read only once the program has made so many writes on the error stream and the directory
-# that it runs in was changed. So a program that writes more than a pipe takes cannot be further than that.
+# Standard output as a pipe that is read only after the program has made `writes` writes on standard error and `change` has changed
+# the directory of the run. A program that writes more than a pipe holds cannot get further before that.
 ReadLate = namedtuple("ReadLate", "writes change")
-# A file of the directory as standard output, opened with these flags.
+# Standard output as a file of the directory, opened with these flags.
 IntoFile = namedtuple("IntoFile", "name flags")
-# A file as standard output or for errors, in which there is room for so many bytes. What is said into such a file counts as
-# one write.
+# Standard output or standard error as a file that cannot grow beyond this length. Everything written to such a standard error counts
+# as one write.
 RoomFor = namedtuple("RoomFor", "length")
 
-# == What is wanted of a run ==
+# == Expected results that allow more than one value ==
 
-# Lines on the error stream that may be these or those.
+# Any of these lists of lines on standard error.
 OneOf = namedtuple("OneOf", "choices")
-# A prefix of this output.
+# Any prefix of this output.
 PrefixOf = namedtuple("PrefixOf", "whole")
 
 
 @dataclass(frozen=True)
 class Sources:
-    """A device of so many random bytes, which count up from 0, and a clock that shows this moment, in seconds since
-    1970."""
+    """A device of this many random bytes, which count up from 0, and the time that the clock shows, in seconds since 1970."""
 
     random: int = 256
     moment: int = 1555779966
@@ -97,63 +96,61 @@ class Sources:
 
 @dataclass(frozen=True)
 class Case:
-    """A run of the program: what it is given, and all that it has to answer."""
+    """A run of the program: its input, and everything that it has to write."""
 
     name: str
     arguments: list
     status: int
-    # The lines on the error stream; each has to be one write.
+    # The lines on standard error. The program has to write each with a single write.
     lines: object = field(default_factory=list)
-    # All that is written on the standard output.
+    # The whole standard output.
     output: object = b""
-    # The files of the directory that it runs in, by their names; they replace those of the command.
+    # The files of the directory of the run, by name. They replace the command's usual files.
     files: dict = field(default_factory=dict)
-    # Its streams: bytes come through a pipe.
     stdin: object = b""
     stdout: object = None
     stderr: object = None
-    # Each of its allocations fails in turn; with `all`, all after it too.
+    # If "one", each allocation fails in turn; if "all", each allocation and all after it.
     rejecting: str = ""
-    # Each of its calls of the system of this name fails in turn.
+    # The name of a system call. Each call of it fails in turn, with EIO.
     breaking: str = ""
-    # The `Sources` of what it draws and of what the clock shows, where these are not the system's.
+    # The `Sources` that replace the system's random bytes and clock.
     sources: object = None
-    # What looks at the directory that the run leaves, and raises a `Failure` where something is wrong there.
+    # A function that checks the directory after the run, and raises a `Failure`.
     left: object = None
-    # The permission bits that files that are made do not get.
     umask: int = 0o022
-    # Cases that run after it in the directory that it leaves.
+    # Cases that run afterwards in the same directory.
     then: tuple = ()
 
 
 class Failure(Exception):
-    """A run that did not answer what it had to."""
+    """A run did not give the expected result."""
 
 
 class Skip(Exception):
-    """A run that cannot be made here, and why."""
+    """A run is not possible on this system, for the reason given."""
 
 
 def expect(holds, *said):
-    """Raises a `Failure` that says this, where something does not hold."""
+    """Raises a `Failure` with this text if a condition does not hold."""
     if not holds:
         raise Failure(": ".join(map(str, said)))
 
 
 def only_root(what):
-    """Skips a run where this is not root, who alone may do this."""
+    """Raises `Skip` unless this process is root. `what` is what only root may do."""
     if os.geteuid() != 0:
         raise Skip(f"only root may {what}")
 
 
 def read(*path):
-    """All that a file holds, which is named by the parts of its path."""
+    """Returns the content of a file, whose path is given in parts."""
     with open(os.path.join(*path), "rb") as file:
         return file.read()
 
 
 def write(directory, name, data):
-    """Writes a file: its path."""
+    """Writes a file and returns its path."""
     path = os.path.join(directory, name)
     with open(path, "wb") as file:
         file.write(data)
@@ -161,7 +158,7 @@ def write(directory, name, data):
 
 
 def wait_until(holds, otherwise, seconds=SECONDS):
-    """Waits until something holds, and raises a `Failure` that says what else where it does not."""
+    """Waits until a condition holds. After the time limit it raises a `Failure` with the text `otherwise`."""
     end = time.monotonic() + seconds
     while not holds():
         expect(time.monotonic() <= end, otherwise)
@@ -169,8 +166,8 @@ def wait_until(holds, otherwise, seconds=SECONDS):
 
 
 def run_cases(cases):
-    """Runs the selected cases one after another, each of which has a name, a function, and what that is given: what failed, and how
-    many were not skipped."""
+    """Runs the selected cases, each of which is a name, a function, and its arguments. Returns the failures and the number of cases
+    that were not skipped."""
     failures, count = [], 0
     for name, run, *given in cases:
         if not selected.is_selected(name):
@@ -188,13 +185,13 @@ def run_cases(cases):
 
 def run_one(cases, name):
     """Runs the case of this name."""
-    run, *given = next(rest for found, *rest in cases if found == name)
+    run, *given = next(rest for case_name, *rest in cases if case_name == name)
     run(*given)
 
 
 def in_turn(place, attempt):
-    """Has runs made with the first call broken, the second one and so on, each in a fresh directory there, until one comes to no such
-    call: how many there were. `attempt` is given the number and the directory, judges the run, and answers whether it came to that."""
+    """Calls `attempt` with 1, 2, .. and a fresh directory in `place`. It runs a program with the call of that number broken, checks the
+    result, and returns true if the program made so many calls. Stops at the first run that did not, and returns the number of calls."""
     for number in range(1, MAX_CALLS):
         with tempfile.TemporaryDirectory(dir=place) as directory:
             try:
@@ -203,11 +200,11 @@ def in_turn(place, attempt):
                 raise Failure(f"at call {number}: {why}") from why
         if not came:
             return number - 1
-    raise Failure(f"it made {MAX_CALLS} calls")
+    raise Failure(f"the program made {MAX_CALLS} calls or more")
 
 
 class Program:
-    """A program, and what breaks its calls, which is built in a directory."""
+    """A program, and the library that breaks its calls, which is built in the directory `room`."""
 
     def __init__(self, program, room):
         self.program, self.room = program, room
@@ -217,15 +214,15 @@ class Program:
         return build_preload(self.room, "disturbed_calls")
 
     def breaking(self, **how):
-        """An environment in which `disturbed_calls.c` breaks a call, as it is told."""
+        """Returns an environment in which `disturbed_calls.c` breaks a call; its head lists the variables, here without `BREAK_`."""
         return {"LD_PRELOAD": self.preload, **{f"BREAK_{name}": str(value) for name, value in how.items()}}
 
 
 class Runner(Program):
-    """Runs a program in fresh directories below a temporary one."""
+    """Runs a program in fresh directories below a temporary directory."""
 
     def run(self, case):
-        """Makes the run, or all runs of a case that is disturbed, and raises a `Failure` or a `Skip`."""
+        """Makes the run of a case, or all its runs if calls or allocations fail in turn. Raises a `Failure` or a `Skip`."""
         is_forbidding = any(kind == LOCKED or isinstance(kind, WithMode) for kind in case.files.values())
         if is_forbidding and os.geteuid() == 0:
             raise Skip("root may read and write every file")
@@ -240,7 +237,7 @@ class Runner(Program):
             self.run_once(case, {})
 
     def run_each(self, case, calls, error, **more):
-        """Runs with each of these calls, or requests for memory, failing in turn with the number of this error."""
+        """Runs a case with each of these calls, or allocations, failing in turn with this errno."""
         def failure_of(number, directory, says):
             try:
                 self.run_in(directory, case, self.breaking(CALLS=calls, ERRNO=error, AT=number, SAYS=says, **more), [says])
@@ -253,7 +250,7 @@ class Runner(Program):
             expect(not came or not failure, failure)
             return came
 
-        expect(in_turn(self.room, attempt), f"it came to no {calls}")
+        expect(in_turn(self.room, attempt), f"the program made no call of {calls}")
 
     def run_once(self, case, environment):
         with tempfile.TemporaryDirectory(dir=self.room) as directory:
@@ -264,7 +261,7 @@ class Runner(Program):
                     raise Failure(f"at step {number}: {error}") if case.then else error
 
     def run_in(self, directory, case, environment, passed=()):
-        """Makes the files and the run in a directory, and compares all that it answers."""
+        """Creates the files of a case in a directory, makes the run, and compares the results."""
         with contextlib.ExitStack() as stack:
             pipes, streams = make_files(directory, case.files, stack), Streams(directory, case, stack)
             with subprocess.Popen([self.program, *case.arguments], cwd=directory, env=environment, umask=case.umask, pass_fds=passed,
@@ -280,14 +277,14 @@ class Runner(Program):
 
 
 class NamedPipe:
-    """A named pipe beside the files, and whether the program opened it."""
+    """A named pipe for the program to read, and whether the program opened it."""
 
     def __init__(self, path, kind, stack):
         self.path, self.kind, self.stack, self.opened = path, kind, stack, False
         os.mkfifo(path)
 
     def poll(self, has_ended):
-        """Opens the pipe for writing where the program has it open for reading."""
+        """Opens the pipe for writing, which succeeds once the program has opened it for reading, and writes the data."""
         if not self.opened:
             with contextlib.suppress(OSError):
                 writer = os.open(self.path, os.O_WRONLY | os.O_NONBLOCK)
@@ -298,12 +295,12 @@ class NamedPipe:
                 else:
                     threading.Thread(target=feed, args=(writer, self.kind.data), daemon=True).start()
         name = os.path.basename(self.path)
-        expect(self.kind.has_to_open or not self.opened, f"it opened {name}, which it had to leave closed")
-        expect(self.opened or not (self.kind.has_to_open and has_ended), f"it never opened {name}")
+        expect(self.kind.has_to_open or not self.opened, f"the program opened {name}, which it must not open")
+        expect(self.opened or not (self.kind.has_to_open and has_ended), f"the program never opened {name}")
 
 
 class DrainedPipe:
-    """A named pipe beside the files that is read once the program has ended: it has room for more than a key."""
+    """A named pipe for the program to write to. It is read only after the program has ended, since its buffer holds more than a key."""
 
     def __init__(self, path, kind, stack):
         self.path, self.data = path, kind.data
@@ -313,44 +310,44 @@ class DrainedPipe:
 
     def poll(self, has_ended):
         came = os.read(self.reader, 1 << 16) if has_ended else self.data
-        expect(came == self.data, f"in {os.path.basename(self.path)} came {came[:200]} in place of {self.data[:200]}")
+        expect(came == self.data, f"the program wrote {came[:200]} to {os.path.basename(self.path)}, expected {self.data[:200]}")
 
 
 class Terminal:
-    """A terminal with a person at it."""
+    """A pseudoterminal at which a user types. `user_end` is the test's end, and `program_end` the program's."""
 
     def __init__(self, typed):
         self.pieces, self.shown = list(typed.pieces), b""
-        self.person, self.side = pty.openpty()
+        self.user_end, self.program_end = pty.openpty()
         if not typed.shows:
-            settings = termios.tcgetattr(self.side)
+            settings = termios.tcgetattr(self.program_end)
             settings[1] &= ~termios.OPOST
             settings[3] &= ~termios.ECHO
-            termios.tcsetattr(self.side, termios.TCSANOW, settings)
+            termios.tcsetattr(self.program_end, termios.TCSANOW, settings)
 
     def poll(self, has_ended):
-        """Looks at what the terminal shows, to the end of that once the program has ended, and types."""
-        os.set_blocking(self.person, has_ended)
+        """Reads what the terminal shows, to its end once the program has ended, and types the next piece at a prompt."""
+        os.set_blocking(self.user_end, has_ended)
         with contextlib.suppress(OSError):
-            while shown := os.read(self.person, 4096):
+            while shown := os.read(self.user_end, 4096):
                 self.shown += shown
                 if self.pieces and self.shown.endswith(b": "):
-                    os.write(self.person, self.pieces.pop(0))
+                    os.write(self.user_end, self.pieces.pop(0))
 
 
 def wait(process, watched):
-    """Waits for the end of the program, and looks which pipes it opens, and what it asks at a terminal."""
+    """Waits for the program to end, and polls its named pipes and terminals meanwhile."""
     def has_ended():
         is_over = process.poll() is not None
         for each in watched:
             each.poll(is_over)
         return is_over
 
-    wait_until(has_ended, f"it had not ended after {SECONDS} seconds")
+    wait_until(has_ended, f"the program was still running after {SECONDS} seconds")
 
 
 class Streams:
-    """The three streams of a run, of which the program's ends are closed once it has them, and all else at the end."""
+    """The three standard streams of a run. `serve` closes the program's ends; the stack closes the test's ends after the run."""
 
     def __init__(self, directory, case, stack):
         kinds = (case.stdin, case.stdout, case.stderr)
@@ -359,21 +356,21 @@ class Streams:
         self.room = min((kind.length for kind in kinds if isinstance(kind, RoomFor)), default=None)
         self.terminals = [Terminal(case.stdin)] if isinstance(case.stdin, Typed) else []
         self.written = stack.enter_context(open_shared())
-        self.told = stack.enter_context(open_shared()) if isinstance(case.stderr, RoomFor) else None
-        # Of such a pair of sockets each write is read by itself.
-        self.said, said = socket.socketpair(socket.AF_UNIX, socket.SOCK_SEQPACKET)
-        stack.callback(self.said.close)
+        self.error_file = stack.enter_context(open_shared()) if isinstance(case.stderr, RoomFor) else None
+        # SOCK_SEQPACKET keeps the boundaries between writes.
+        self.error_socket, program_end = socket.socketpair(socket.AF_UNIX, socket.SOCK_SEQPACKET)
+        stack.callback(self.error_socket.close)
         self.ends = {"stdin": self.open_stdin(case.stdin), "stdout": self.open_stdout(case.stdout),
-                     "stderr": open_unwritable(case.stderr) or os.dup((self.told or said).fileno())}
-        self.lent = stack.enter_context(contextlib.ExitStack())
-        for end in (said.detach(), *self.ends.values(), *(terminal.side for terminal in self.terminals)):
-            self.lent.callback(os.close, end)
+                     "stderr": open_unwritable(case.stderr) or os.dup((self.error_file or program_end).fileno())}
+        self.program_ends = stack.enter_context(contextlib.ExitStack())
+        for end in (program_end.detach(), *self.ends.values(), *(terminal.program_end for terminal in self.terminals)):
+            self.program_ends.callback(os.close, end)
         for terminal in self.terminals:
-            stack.callback(os.close, terminal.person)
+            stack.callback(os.close, terminal.user_end)
 
     def open_stdin(self, given):
         if isinstance(given, Typed):
-            return os.dup(self.terminals[0].side)
+            return os.dup(self.terminals[0].program_end)
         if isinstance(given, (bytes, Pieces)):
             reader, writer = os.pipe()
             self.threads.append(threading.Thread(target=feed, args=(writer, given), daemon=True))
@@ -394,23 +391,23 @@ class Streams:
             return writer
         if isinstance(kind, IntoFile):
             return os.open(os.path.join(self.directory, kind.name), kind.flags)
-        return open_unwritable(kind) or os.dup(self.terminals[0].side if self.terminals else self.written.fileno())
+        return open_unwritable(kind) or os.dup(self.terminals[0].program_end if self.terminals else self.written.fileno())
 
-    def heard(self):
-        """Each write on the error stream, until the program has ended."""
-        return (text.decode(errors="backslashreplace") for text in iter(lambda: self.said.recv(1 << 20), b""))
+    def error_writes(self):
+        """Yields each write on standard error, until the program has ended."""
+        return (text.decode(errors="backslashreplace") for text in iter(lambda: self.error_socket.recv(1 << 20), b""))
 
     def read_late(self, reader, kind):
-        """Waits for the writes on the error stream, changes the directory, and reads the output to its end."""
+        """Waits for the writes on standard error, changes the directory, and reads the standard output to its end."""
         with os.fdopen(reader, "rb") as output:
-            self.early += itertools.islice(self.heard(), kind.writes)
+            self.early += itertools.islice(self.error_writes(), kind.writes)
             kind.change(self.directory)
             shutil.copyfileobj(output, self.written)
             self.written.flush()
 
     def prepare_child(self):
-        """What closes the program's closed streams, and limits how long a file may become; or nothing, as most programs start in a tenth
-        of the time where nothing is to be done in a copy of this process first."""
+        """Returns a function that closes streams and limits the size of files in the child process. Returns None if there is nothing to
+        do: without such a function a program starts in a tenth of the time."""
 
         def prepare():
             for number in self.closed:
@@ -422,8 +419,8 @@ class Streams:
         return prepare if self.closed or self.room is not None else None
 
     def serve(self):
-        """Lets go of the program's ends, feeds its standard input, and reads its output where that is read late."""
-        self.lent.close()
+        """Closes the program's ends in this process, and starts the threads that write its standard input and read its output late."""
+        self.program_ends.close()
         for thread in self.threads:
             thread.start()
 
@@ -434,24 +431,24 @@ class Streams:
         return self.written.read()
 
     def writes(self):
-        """All writes on the error stream, once the program has ended."""
-        if self.told:
-            self.told.seek(0)
-            return [self.told.read().decode(errors="backslashreplace")]
+        """Returns all writes on standard error, once the program has ended."""
+        if self.error_file:
+            self.error_file.seek(0)
+            return [self.error_file.read().decode(errors="backslashreplace")]
         for thread in self.threads:
             thread.join(SECONDS)
-        return [*self.early, *self.heard()]
+        return [*self.early, *self.error_writes()]
 
 
 def open_shared():
-    """A file without a name, which the program may open once more, as `/dev/stdout`."""
+    """Returns a file without a name that the program may open again, as `/dev/stdout`."""
     file = tempfile.TemporaryFile()
     os.fchmod(file.fileno(), 0o666)
     return file
 
 
 def open_unwritable(kind):
-    """What takes nothing that is written to it, where that is asked for."""
+    """Returns a descriptor to which every write fails if the kind is FULL or NO_READER, and otherwise None."""
     if kind == NO_READER:
         reader, writer = os.pipe()
         os.close(reader)
@@ -459,11 +456,11 @@ def open_unwritable(kind):
     try:
         return os.open("/dev/full", os.O_WRONLY) if kind == FULL else None
     except OSError as error:
-        raise Skip(f"there is no full device here: {error}") from error
+        raise Skip(f"/dev/full: {error}") from error
 
 
 def feed(pipe, given):
-    """Writes what the program is given on its standard input, and closes it."""
+    """Writes the bytes or `Pieces` to a pipe, and closes it."""
     pieces = given.pieces if isinstance(given, Pieces) else (given,)
     with contextlib.suppress(BrokenPipeError), os.fdopen(pipe, "wb", buffering=0) as writer:
         for piece in pieces:
@@ -475,20 +472,20 @@ def feed(pipe, given):
 
 
 def compare(case, status, streams):
-    """Raises a `Failure` where the run answered anything else than it had to."""
+    """Raises a `Failure` unless the run gave the expected exit status, standard error and standard output."""
     writes, output = streams.writes(), streams.output()
-    ended = f"status {status}" if status >= 0 else signal.Signals(-status).name
-    expect(status == case.status, f"it ended with {ended} in place of status {case.status}, and said {writes}")
+    ended = f"exit status {status}" if status >= 0 else signal.Signals(-status).name
+    expect(status == case.status, f"{ended}, expected exit status {case.status}; stderr: {writes}")
     expect(writes in (case.lines.choices if isinstance(case.lines, OneOf) else (case.lines,)),
-           f"it said {writes} in place of {case.lines}")
+           f"stderr {writes}, expected {case.lines}")
     if isinstance(case.output, PrefixOf):
-        expect(case.output.whole.startswith(output), f"it wrote {output[:200]}, which is no prefix of {case.output.whole[:200]}")
+        expect(case.output.whole.startswith(output), f"stdout {output[:200]}, expected a prefix of {case.output.whole[:200]}")
     else:
-        expect(output == case.output, f"it wrote {output[:200]} in place of {case.output[:200]}")
+        expect(output == case.output, f"stdout {output[:200]}, expected {case.output[:200]}")
 
 
 def make_files(directory, files, stack=None):
-    """Makes the files of a run, and answers its named pipes, which are closed with the stack."""
+    """Creates the files of a run, and returns its named pipes, which the stack closes."""
     pipes = []
     for name, kind in files.items():
         path = os.path.join(directory, name)
@@ -512,29 +509,29 @@ def make_files(directory, files, stack=None):
 
 
 def files_in(directory):
-    """The permissions of all files in a directory, by their names, and their bytes, whatever the permissions; None of a directory, and of
-    others where a link leads."""
-    found = {}
+    """Returns the permissions and the content of everything below a directory, by path. The content of a symbolic link is a `Link`, and
+    that of a directory or special file is None. Unreadable files are made readable."""
+    files = {}
     for at, directories, names in os.walk(directory):
         for path in (os.path.join(at, name) for name in directories + names):
             mode = os.lstat(path).st_mode
             if stat.S_ISREG(mode) and not os.access(path, os.R_OK):
                 os.chmod(path, 0o600)
             data = Link(os.readlink(path)) if stat.S_ISLNK(mode) else read(path) if stat.S_ISREG(mode) else None
-            found[os.path.relpath(path, directory)] = (stat.S_IMODE(mode), data)
-    return found
+            files[os.path.relpath(path, directory)] = (stat.S_IMODE(mode), data)
+    return files
 
 
 def set_list(path, entries):
-    """Gives a file entries of an access control list, whose mask then stands in the group's bits of its mode."""
+    """Sets entries of a file's access control list. Its mask then replaces the group's bits of the mode."""
     before = os.stat(path).st_mode
     subprocess.run([needs.program("setfacl", "acl"), "-m", entries, path], check=True, timeout=SECONDS)
     expect(os.stat(path).st_mode != before, f"the list of {path} has no mask")
 
 
 def build_preload(room, name, only_in=None):
-    """Compiles a library that is preloaded into the program, and answers its path. With the name of a library it leaves alone
-    what others call."""
+    """Compiles a preloaded library from its C file in this directory, and returns its path. With `only_in`, the name of another
+    library, it changes only calls that come from that library."""
     made, source = os.path.join(room, f"{name}.so"), os.path.join(HERE, f"{name}.c")
     only = [f'-DONLY_IN="{only_in}"'] if only_in else []
     command = [needs.c_compiler(), "-shared", "-fPIC", "-O1", "-I", room, "-o", made, *only, source, "-ldl"]

@@ -1,7 +1,8 @@
-/* Preloaded into a program, looks for the needles of needles.h whenever it opens, writes or closes a file, waits for a
- * byte of a terminal or raises a signal against itself, and at its end. What goes into no core file is its own place for
- * secrets. With SEARCH_SAYS a file of that name gets a line each time: what the program does, a needle, and how often it
- * is found in registers, on the stack, elsewhere, and in that place. */
+/* A preloaded library that searches the memory of a program for the needles of needles.h: whenever the program opens,
+ * writes or closes a file, waits for a terminal or raises a signal, and when it ends. Memory that is excluded from core
+ * dumps is the program's memory for secrets. Each search appends a line for each needle to the file that SEARCH_SAYS
+ * names: the event, the needle, and how often it was found in registers, on the stack, elsewhere, and in the memory for
+ * secrets. */
 #include "preload.h"
 
 #include <sys/select.h>
@@ -26,7 +27,7 @@ static void look(void)
     char line[256];
     int to = says;
 
-    /* (its own calls are not looked at) */
+    /* The calls of this function itself must not start another search. */
     says = -1;
     search_all("/proc/self/smaps");
     for (size_t n = 0; n < NEEDLES; n++) {
@@ -91,7 +92,7 @@ int pselect(int count, fd_set *reads, fd_set *writes, fd_set *others, const stru
     return REAL(pselect)(count, reads, writes, others, most, mask);
 }
 
-/* (the program's handlers block all signals, that of TRAP too: so the registers are not searched) */
+/* Registers are not searched here: the program's signal handlers block all signals, so TRAP would kill it. */
 int raise(int number)
 {
     doing = "raise";

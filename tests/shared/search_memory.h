@@ -1,7 +1,7 @@
 /*
- * Searches the registers and all memory that its program may write for the needles of needles.h. At TRAP a signal
- * comes on a stack of its own, so that the system writes all registers into memory and nothing else changes: then
- * `look` is called.
+ * Searches the registers and all writable memory of the process for the needles of needles.h. TRAP raises a signal,
+ * whose handler calls `look`. It runs on its own stack, so the kernel writes all registers to memory there and nothing
+ * else changes.
  */
 #ifndef SEARCH_MEMORY_H
 #define SEARCH_MEMORY_H
@@ -20,22 +20,22 @@
 
 #define MAPS_BYTES (1 << 18)
 
-/* Where something is found. */
+/* The places in which a needle is counted. OWN is the memory in which secrets may be. */
 enum { REGISTERS, STACK, ELSEWHERE, OWN, PLACES };
 
 static size_t counts[NEEDLES][PLACES];
 static uint8_t signal_stack[65536];
 
-/* What printf is given for a line of this needle: what was done, the needle, and how often it is found in each place. */
+/* The format and arguments of printf for the line of a needle: the event, the needle, and its count in each place. */
 #define COUNTS_OF(done, n) \
     "%s\t%s\t%zu\t%zu\t%zu\t%zu\n", done, needles[n].name, counts[n][REGISTERS], counts[n][STACK], \
         counts[n][ELSEWHERE], counts[n][OWN]
 
-/* What is done at TRAP. */
+/* Called at TRAP; the including file defines it. */
 static void look(void);
 
-/* Where this address is: the program's own are those in which secrets stand by right, as all that goes into no core
- * file may be. */
+/* Returns the place of an address; the including file defines it. is_undumped is true for memory that is excluded from
+ * core dumps. */
 static int place_of(const uint8_t *at, bool is_undumped);
 
 static bool is_within(const uint8_t *at, const void *from, size_t len)
@@ -45,14 +45,14 @@ static bool is_within(const uint8_t *at, const void *from, size_t len)
 
 static void search(const uint8_t *from, const uint8_t *to, bool is_undumped)
 {
-    /* Whether a needle begins with this byte, masked. */
+    /* True for the masked first byte of each needle. */
     static bool begins[256];
 
     for (size_t n = 0; n < NEEDLES; n++) {
         begins[needles[n].masked[0]] = true;
     }
     for (const volatile uint8_t *at = from; at < to; at++) {
-        /* (most are zeros, with which no needle begins; a range is of whole pages) */
+        /* Most memory is zeros, with which no needle begins. Ranges are whole pages, so 8 bytes can be read. */
         if ((uintptr_t) at % 8 == 0 && !begins[MASK] && *(const volatile uint64_t *) at == 0) {
             at += 7;
             continue;
@@ -71,7 +71,8 @@ static void search(const uint8_t *from, const uint8_t *to, bool is_undumped)
     }
 }
 
-/* Searches each range of addresses that may be read and written, as a file in /proc/self lists them. */
+/* Searches all readable and writable memory. list is /proc/self/maps, or smaps for the flags that exclude memory from
+ * core dumps. */
 static void search_all(const char *list)
 {
     static char maps[MAPS_BYTES];
@@ -121,7 +122,7 @@ static void trapped(int number, siginfo_t *info, void *context)
 #endif
 }
 
-/* Has to be called before the first TRAP. */
+/* Must be called before the first TRAP. */
 static void watch(void)
 {
     stack_t stack = { .ss_sp = signal_stack, .ss_size = sizeof signal_stack };
@@ -136,7 +137,7 @@ static void watch(void)
 #if defined(__aarch64__)
 #define TRAP() __asm__ __volatile__("brk #0" : : : "memory")
 #elif !defined(__x86_64__)
-/* (a call changes some registers, and a little of the stack) */
+/* A call, unlike a trap instruction, changes some registers and a little of the stack. */
 #define TRAP() raise(SIGTRAP)
 #else
 #define TRAP() __asm__ __volatile__("int3" : : : "memory")

@@ -1,5 +1,5 @@
-"""The cases that the command line of a test script selects: `tests/x/y.py WORD ..` runs those whose name has one of the words.
-Cases are those of tables, and the functions of a script whose names begin with `check_`."""
+"""Selects test cases by the command line: `tests/x/y.py WORD ..` runs the cases whose names contain one of the words. Cases are
+the entries of tables, and the functions of a script whose names begin with `check_`."""
 
 import functools
 import os
@@ -17,14 +17,14 @@ def file():
 
 
 def is_selected(*names):
-    """Returns true if one of the names has one of the words, or there are no words."""
+    """Returns true if one of the names contains one of the words, or if there are no words."""
     return not words() or any(word.lower() in name.lower() for word in words() for name in names)
 
 
 def choose_among(module):
-    """Has the functions `check_..` of a script do nothing unless they are selected, or are called by one that is. They have no value
-    then. Functions that the script lists in ALWAYS, because the others need their values, run in any case. A script that imports this
-    module selects by itself."""
+    """Replaces the functions `check_..` of a script so that they return None at once unless they are selected, or called by a selected
+    one. Functions in the script's list ALWAYS, whose results others need, always run. A script that imports this module itself selects
+    its cases by itself, and is left unchanged."""
     depth, made = [], {}
 
     def chosen(function):
@@ -46,6 +46,6 @@ def choose_among(module):
         if name.startswith("check_") and callable(function) and name not in getattr(module, "ALWAYS", ()):
             made[function] = chosen(function)
             setattr(module, name, made[function])
-    # (functions that are listed in a table)
+    # Tables of the script may hold the same functions.
     for table in (value for value in vars(module).values() if isinstance(value, dict)):
         table.update({key: made[function] for key, function in table.items() if callable(function) and function in made})

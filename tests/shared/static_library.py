@@ -1,5 +1,5 @@
-"""Builds the library and the programs of `c/` as a user does who has no kit: by make over `dist/`, with no `rt` in PATH. That
-`dist/` is what was proved, `tools/dist.py --check` shows.
+"""Builds the library and the programs of `c/` as a user without the kit does: by make, from `dist/`, with no `rt` in PATH.
+`tools/dist.py --check` checks that `dist/` is what was proved.
 """
 
 import contextlib
@@ -17,58 +17,61 @@ from running import read
 
 DIRECTORY = os.path.join(proved.ROOT, "c")
 DIST = os.path.join(proved.ROOT, "dist")
-# Here each warning is an error; a user's compiler may have others.
+# Warnings are errors in tests only, because a user's compiler may have other warnings.
 STRICT = "WARNINGS=-std=c11 -Wall -Wextra -Wpedantic -Werror"
-# What `make test` says at its end.
+# The last line of `make test`.
 VERIFIED = re.compile(r"(?m)^(2[5-9]|[3-9]\d) passed, 0 failed$")
 
 
 def path_without_kit():
-    """The directories of PATH that have no `rt`, with that of Debian's own compilers first."""
-    return os.pathsep.join(directory for directory in needs.directories() if not os.path.exists(os.path.join(directory, "rt"))) or "/usr/bin:/bin"
+    """Returns the directories of PATH that have no `rt`, with Debian's compilers first."""
+    without_rt = (directory for directory in needs.directories() if not os.path.exists(os.path.join(directory, "rt")))
+    return os.pathsep.join(without_rt) or "/usr/bin:/bin"
 
 
-# The object of dist/calls.c, which takes seven seconds to compile, by a sum over all that decides what it is: scripts share it.
+# Compiling dist/calls.c takes seven seconds. Scripts share the object files in this directory; each is named after a digest of
+# everything that determines it.
 KEPT = os.path.join(proved.ROOT, "out", "kept-objects")
-# What decides it beside the compiler and what that compiles: words of make, and what they mean to it.
+# The variables of make that determine the object file, in addition to the compiler and the preprocessed source.
 DECIDING = ("CFLAGS", "HAS_PAGES", "WARNINGS")
 MAKEFILE = f"{DIRECTORY}/Makefile"
 
 
 def sum_of(words):
-    """A sum over the compiler, the words, and the calls as the preprocessor leaves them, where headers may stand anywhere."""
+    """Returns a digest of the compiler, the variables of make, the makefile, and the preprocessed source."""
     compiler, given = words["CC"].split(), words.get("CPPFLAGS", "-D_FORTIFY_SOURCE=2").split()
-    told = [run_apart([*compiler, "--version"])[1], os.path.realpath(shutil.which(compiler[0]) or ""), *map(words.get, DECIDING)]
+    settings = [run_apart([*compiler, "--version"])[1], os.path.realpath(shutil.which(compiler[0]) or ""), *map(words.get, DECIDING)]
     calls = hold([*compiler, "-O2", *given, "-E", "-P", "-I", f"{DIRECTORY}/library/portable", f"{DIST}/calls.c"])
-    return hashlib.sha256(repr(told).encode() + read(MAKEFILE) + calls.encode()).hexdigest()
+    return hashlib.sha256(repr(settings).encode() + read(MAKEFILE) + calls.encode()).hexdigest()
 
 
 @contextlib.contextmanager
 def kept_object(words, is_taken=True):
-    """Puts the object where make builds it, if it was built before and is to be taken; or keeps it, while nobody else builds the same."""
+    """Copies the object file of calls.c to where make would build it, if another script has built it and `is_taken` is true. Otherwise
+    shares the one that make builds. A lock keeps other scripts from building the same file meanwhile."""
     out = os.path.join(DIRECTORY, words.get("OUT", ""))
     made = os.path.join(out, "portable-calls.o")
-    # (another file is compiled, or none)
+    # Without OUT, with C_CALLS, or if the object exists, make does not compile dist/calls.c.
     if "OUT" not in words or "C_CALLS" in words or os.path.exists(made):
         yield
         return
     os.makedirs(KEPT, exist_ok=True)
-    kept = os.path.join(KEPT, f"{sum_of(words)}.o")
-    with open(f"{kept}.lock", "w", encoding="ascii") as lock:
+    stored = os.path.join(KEPT, f"{sum_of(words)}.o")
+    with open(f"{stored}.lock", "w", encoding="ascii") as lock:
         fcntl.flock(lock, fcntl.LOCK_EX)
-        if os.path.exists(kept):
+        if os.path.exists(stored):
             fcntl.flock(lock, fcntl.LOCK_UN)
             if is_taken:
                 os.makedirs(out, exist_ok=True)
-                shutil.copyfile(kept, made)
+                shutil.copyfile(stored, made)
         yield
-        if not os.path.exists(kept) and os.path.exists(made):
-            shutil.copyfile(made, f"{kept}.new")
-            os.replace(f"{kept}.new", kept)
+        if not os.path.exists(stored) and os.path.exists(made):
+            shutil.copyfile(made, f"{stored}.new")
+            os.replace(f"{stored}.new", stored)
 
 
 def hold(command, directory=None, seconds=SECONDS, **environment):
-    """Runs a command that has to go: what it wrote."""
+    """Runs a command, raises `NotBuilt` if it fails, and returns its standard output."""
     status, said, why = run_apart(command, directory, seconds=seconds, **environment)
     if status != 0:
         raise NotBuilt(f"{' '.join(command)[:200]}: status {status}: {said[-600:]}{why[-1000:]}")
@@ -76,12 +79,13 @@ def hold(command, directory=None, seconds=SECONDS, **environment):
 
 
 def run_make(*arguments):
-    told = [STRICT, f"CC={needs.c_compiler()}", *arguments]
-    with kept_object(dict(argument.split("=", 1) for argument in told if "=" in argument)):
-        hold([needs.program("make", "make"), "-s", "-C", DIRECTORY, *told], PATH=path_without_kit())
+    """Runs make in `c/`, with these arguments."""
+    given = [STRICT, f"CC={needs.c_compiler()}", *arguments]
+    with kept_object(dict(argument.split("=", 1) for argument in given if "=" in argument)):
+        hold([needs.program("make", "make"), "-s", "-C", DIRECTORY, *given], PATH=path_without_kit())
 
 
 def library(out, *arguments):
-    """The path of the static library that make builds in this directory."""
+    """Builds the static library in this directory and returns its path."""
     run_make(f"OUT={out}", *arguments, "library")
     return os.path.join(out, "libminisign.a")

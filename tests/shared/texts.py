@@ -1,4 +1,5 @@
-"""Texts of keys and signatures: their lines, the records in these, keys that Python's hashlib seals, and what `tests/corpus` keeps."""
+"""Builds and changes key and signature files: their lines, the bytes that the base64 lines encode ("records"), and secret keys,
+which it encrypts with Python's hashlib. Also reads `tests/corpus`."""
 
 import base64
 import functools
@@ -10,14 +11,14 @@ from collections import namedtuple
 
 from running import read
 
-# What Minisign's own program made once.
+# Files that Minisign made.
 CORPUS = os.path.join(os.path.dirname(os.path.realpath(__file__)), "..", "corpus")
-# The limits of a secret key's record, and N and p of scrypt that they lead to; r is 8.
+# The limits (memlimit, opslimit) of a secret key's record, and the N and p of scrypt that follow from them; r is 8.
 Limits = namedtuple("Limits", "memory operations rows parts", defaults=(0, 0, 2, 512))
 
 
 def kept_rows():
-    """The cases of the corpus: the names of a key, data and a signature, and what Minisign 0.11 answered."""
+    """Returns the cases of the corpus: the file names of a key, data and a signature, and the result of Minisign 0.11."""
     return json.loads(read(CORPUS, "cases.json"))
 
 
@@ -25,7 +26,7 @@ def kept_rows():
 
 
 def lines(text):
-    """The lines of a text, each of which is ended."""
+    """Returns the lines of a text in which each line ends with a line feed."""
     return text.split(b"\n")[:-1]
 
 
@@ -43,7 +44,7 @@ def with_line(text, number, line):
 
 
 def record_of(text, number=1):
-    """The bytes of a line of base64: the second line of each text has its record."""
+    """Decodes a base64 line of a file. The second line of a key or signature file has its record."""
     return base64.b64decode(text.split(b"\n")[number])
 
 
@@ -52,12 +53,12 @@ def with_record(text, number, record):
 
 
 def text_of(record, comment=b"minisign encrypted secret key"):
-    """The text of a key."""
+    """Returns a file of a comment line and a record, as key files have them."""
     return joined([b"untrusted comment: " + comment, base64.b64encode(record)])
 
 
 def turned(data, at=-1):
-    """Bytes of which one has a bit turned."""
+    """Returns the data with the lowest bit of the byte at this index flipped."""
     at %= len(data)
     return data[:at] + bytes([data[at] ^ 1]) + data[at + 1:]
 
@@ -70,19 +71,20 @@ def checksum_of(record):
 
 
 def with_checksum(record):
-    """A record with its checksum, where Minisign's own program has zeros if the key is not sealed."""
+    """Returns a secret key's record with its checksum. Minisign writes zeros instead if the key is not encrypted."""
     return record[:126] + checksum_of(record)
 
 
 @functools.lru_cache(maxsize=None)
 def stream(password, limits, salt):
-    """The bytes that the last 104 of a sealed record are xored with; of no password zeros, so that none opens the key."""
+    """Returns the key stream that encrypts the last 104 bytes of a record. Without a password it is zeros, so that no password
+    decrypts the key."""
     if password is None:
         return bytes(104)
     return hashlib.scrypt(password, salt=salt, n=limits.rows, r=8, p=limits.parts, dklen=104, maxmem=(1 << 31) - 1)
 
 
 def sealed(record, password, limits, salt=bytes(range(32))):
-    """The record of a key that is not sealed, sealed."""
+    """Encrypts the record of an unencrypted secret key."""
     body = zip(with_checksum(record)[54:], stream(password, limits, salt))
-    return b"EdScB2" + salt + struct.pack("<QQ", limits.operations, limits.memory) + bytes(one ^ other for one, other in body)
+    return b"EdScB2" + salt + struct.pack("<QQ", limits.operations, limits.memory) + bytes(byte ^ key for byte, key in body)

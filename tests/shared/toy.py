@@ -1,4 +1,4 @@
-"""Makes texts of keys and signatures of the toy scheme, beside the program."""
+"""Makes keys and signatures of the toy scheme, independently of `minisign_tool`."""
 
 import base64
 import hashlib
@@ -16,7 +16,7 @@ NOT_UTF8 = "error: stream did not contain valid UTF-8\n"
 TOO_SHORT = "error: failed to fill whole buffer\n"
 
 DEFAULT_COMMENT = b"signature from rsign secret key"
-# How allocations fail, and the words for it.
+# How allocations fail, and the words for it in the names of cases.
 REJECTING = (("one", "one allocation"), ("all", "each allocation from one on"))
 
 SEED = bytes(32)
@@ -27,7 +27,7 @@ OTHER_KEYNUM = bytes.fromhex("1fe8b442180f62e7")
 
 
 def fold(message):
-    """The xor of the pieces of 32 bytes of a message."""
+    """Returns the xor of the 32-byte blocks of a message."""
     folded = 0
     for at in range(0, len(message), 32):
         folded ^= int.from_bytes(message[at:at + 32], "little")
@@ -35,7 +35,7 @@ def fold(message):
 
 
 def signature_of(message, half=bytes(32), key=KEY):
-    """The signature of a message, with this first half."""
+    """Returns the toy signature of a message, whose first half may be any 32 bytes."""
     return half + bytes(a ^ b ^ c for a, b, c in zip(half, key, fold(message)))
 
 
@@ -52,7 +52,7 @@ def signature_record(data, keynum=KEYNUM, algorithm=b"ED", half=bytes(32), key=K
 
 
 def signature_text(data, record=None, trusted=b"t", untrusted=b"c", comment_signature=None):
-    """The text of a signature of the data, or of this record."""
+    """Returns a signature file for the data, or with this record."""
     record = record or signature_record(data)
     comment_signature = comment_signature or signature_of(record[10:] + trusted)
     return text_of(record, untrusted) + joined([b"trusted comment: " + trusted, base64.b64encode(comment_signature)])
@@ -60,13 +60,13 @@ def signature_text(data, record=None, trusted=b"t", untrusted=b"c", comment_sign
 
 NEVER_SEALED, SCRYPT = bytes(2), b"Sc"
 NO_LIMITS, SMALL = Limits(), Limits(1048576, 0, 1024, 1)
-# The limits of keys that are made.
+# The limits of generated keys.
 USUAL = Limits(33554432, 1048576, 32768, 1)
 
 
 @dataclass(frozen=True)
 class Key:
-    """A secret key of the toy scheme, and the records that it can have. Without a word it is key A."""
+    """A secret key of the toy scheme, and its records. The default is key A."""
 
     seed: bytes = SEED
     keynum: bytes = KEYNUM
@@ -80,13 +80,13 @@ class Key:
         return b"Ed" + self.keynum + self.public
 
     def record(self, derivation=NEVER_SEALED, limits=NO_LIMITS, salt=bytes(32), other=None):
-        """The record in which the key stands as it is, with its checksum or another one."""
+        """Returns the unencrypted record, with its checksum or another one."""
         packed = struct.pack("<QQ", limits.operations, limits.memory)
         record = b"Ed" + derivation + b"B2" + salt + packed + self.keynum + self.seed + self.public
         return record + (other or texts.checksum_of(record))
 
     def sealed(self, password, limits=USUAL, salt=bytes(range(32))):
-        """The record, sealed under the password."""
+        """Returns the record, encrypted with the password."""
         return texts.sealed(self.record(), password, limits, salt)
 
 
@@ -96,15 +96,15 @@ SECRET_RECORD = KEY_A.record()
 
 
 def secret_text(record=SECRET_RECORD, comment=b"rsign encrypted secret key"):
-    """The text of a secret key's record."""
+    """Returns the secret key file for a record."""
     return text_of(record, comment)
 
 
 def sealed_text(password):
-    """The text of a secret key that is sealed under a password, with the limits of new keys."""
+    """Returns a secret key file that is encrypted with a password, with the limits of generated keys."""
     return secret_text(KEY_A.sealed(password))
 
 
 def some_data(length):
-    """So many bytes, in no block of which the bytes of another come again."""
+    """Returns this many bytes. No block of a power of two repeats an earlier one, because the pattern has 251 bytes."""
     return bytes(range(251)) * (length // 251) + bytes(range(length % 251))

@@ -1,10 +1,11 @@
-"""Runs of `keygen`: the two files that it leaves, its questions, and that the secret text opens again."""
+"""Test cases for `minisign_tool keygen`, which real_runs.py runs: the two files that it leaves, its prompts, and that the
+secret key can be decrypted."""
 
 import toy
 from running import (CLOSED, DIRECTORY, FULL, LOCKED, WRITE_ONLY, FromFile, Link, OneOf, Pieces,
                      PrefixOf, ReadPipe, RoomFor, SecondName, Sources, Typed, WithMode, expect)
 from texts import record_of
-from tool_cases import Leaves, command, refusing, untold
+from tool_cases import Leaves, command, out_of_memory, without_stderr
 from toy import NOT_UTF8, OUT_OF_MEMORY, READING_FAILED, WARNING, WRITING_FAILED
 
 END_OF_INPUT = "error: unexpected end of input\n"
@@ -23,7 +24,7 @@ PK, SK = "key.pk", "key.sk"
 FULL_DEVICE = "/dev/full"
 OLDER = {PK: b"older public", SK: b"older secret"}
 
-# The pair that random bytes make that count up from 0, sealed under `p` by Python's hashlib.
+# The pair that is generated from random bytes that count up from 0, encrypted with the password `p` by Python's hashlib.
 COUNTED_PUBLIC = b"""untrusted comment: minisign public key: 2726252423222120
 RWQgISIjJCUmJ1pbWFleX1xdUlNQUVZXVFVKS0hJTk9MTUJDQEFGR0RF
 """
@@ -31,83 +32,84 @@ COUNTED_SECRET = b"""untrusted comment: rsign encrypted secret key
 RWRTY0IyKCkqKywtLi8wMTIzNDU2Nzg5Ojs8PT4/QEFCQ0RFRkcAABAAAAAAAAAAAAIAAAAAXsrUPdVfRwB5KzWs1gxMpeWRV1NwSl+wvS3yfJHSuB4R/Pz7fjWZ0NuIvbOTYzc06tcjZcma8YW35LizX+hn4HmrLBaZfd3HwOv+fYOu+VKlFvoXb5KyfQcAcM++/0OlXTsF5mCWdJA=
 """
 
-# The identifiers of all keys that were made: each run draws its own.
+# The key IDs of all generated keys, which have to differ.
 MADE_BEFORE = set()
 
 
 def pair(password=b"p", public_mode=0o644, secret_mode=0o600, names=(PK, SK), links=()):
-    """What is left are the two files of a pair that opens under the password, with these modes, and these links."""
+    """Expects the two files of a pair that this password decrypts, with these modes, and these links."""
     files = {**dict(links), **dict.fromkeys(names, bytes)}
     return Leaves(files, dict(zip(names, (public_mode, secret_mode))),
-                  judge=lambda found: check_pair(password, *(found[name][1] for name in names)))
+                  judge=lambda left: check_pair(password, *(left[name][1] for name in names)))
 
 
 def one_file(name, links):
-    """What is left is a secret key for its owner alone in this file, and these links to it."""
+    """Expects a secret key in this file, which only its owner may read, and these links to it."""
     return Leaves({**links, name: check_secret}, {name: 0o600})
 
 
 def check_public(text):
     record = record_of(text)
-    expect(len(record) == 42 and text == toy.public_text(record[2:10], record[10:]), f"a public key's text is {text!r}")
+    expect(len(record) == 42 and text == toy.public_text(record[2:10], record[10:]), f"not a public key file: {text!r}")
 
 
 def check_secret(text):
     record = record_of(text)
-    expect(len(record) == 158 and text == toy.secret_text(record), f"a secret key's text is {text!r}")
+    expect(len(record) == 158 and text == toy.secret_text(record), f"not a secret key file: {text!r}")
 
 
 def check_pair(password, public_text, secret_text):
-    """Opens the secret key, and compares both texts with what a key of the toy scheme has."""
+    """Decrypts the secret key, compares both files with those of this key in the toy scheme, and checks that random bytes differ."""
     sealed = record_of(secret_text)
     salt = sealed[6:38]
     opened = bytes(a ^ b for a, b in zip(sealed[54:], toy.stream(password, toy.USUAL, salt)))
     key = toy.Key(opened[8:40], opened[:8])
-    expect(secret_text == toy.secret_text(key.sealed(password, toy.USUAL, salt)), f"a secret key's text does not open: {secret_text!r}")
-    expect(public_text == toy.public_text(key.keynum, key.public), "the two keys do not belong together")
-    expect(key.keynum not in MADE_BEFORE and salt != key.seed, "random bytes come twice")
+    expect(secret_text == toy.secret_text(key.sealed(password, toy.USUAL, salt)), f"{password!r} does not decrypt {secret_text!r}")
+    public = toy.public_text(key.keynum, key.public)
+    expect(public_text == public, f"the public key is {public_text!r}, that of the secret key is {public!r}")
+    expect(key.keynum not in MADE_BEFORE and salt != key.seed, f"random bytes occur twice: key ID {key.keynum.hex()}, salt {salt.hex()}")
     MADE_BEFORE.add(key.keynum)
 
 
 def keygen(name, *said, typed=b"p\np\n", output=MADE, left=Leaves({}), arguments=(PK, SK), **how):
-    """A case of `keygen`, in which `p` is typed twice and no file is left where it says nothing else."""
+    """Returns a case of `keygen`. By default `p` is typed twice and no file is left."""
     return command(name, ["keygen", *arguments], said, stdin=typed, output=output, left=left, **how)
 
 
 def made(name, password=b"p", said=(), **how):
-    """A case in which a pair is made under the password, which is typed twice where nothing else is said."""
+    """Returns a case in which a pair is generated. By default the password is typed twice."""
     return keygen(name, *said, **{"typed": (password + b"\n") * 2, "left": pair(password), **how})
 
 
 LONGEST, TOO_MUCH = b"x" * 1024, b"x" * 1025
-# What is typed that is no password, and what is said of it.
+# Input that is not a password, and the error.
 NO_PASSWORD = [
-    ("the end of the input at once", b"", END_OF_INPUT),
-    ("the end of the input at once at a terminal", Typed((b"\x04",)), END_OF_INPUT),
+    ("no input", b"", END_OF_INPUT),
+    ("no input at a terminal", Typed((b"\x04",)), END_OF_INPUT),
     ("a password that is too long", TOO_MUCH + b"\n", TOO_LONG),
     ("a password that is too long at a terminal", Typed((TOO_MUCH + b"\n",)), TOO_LONG),
-    ("a password that is too long, and the end", TOO_MUCH, TOO_LONG),
-    ("the longest password, a carriage return and the end", LONGEST + b"\r", TOO_LONG),
+    ("a password that is too long, without a line feed", TOO_MUCH, TOO_LONG),
+    ("the longest password and a carriage return, without a line feed", LONGEST + b"\r", TOO_LONG),
     ("no line feed in 1026 bytes", b"\xff" * 1026, TOO_LONG),
-    ("a password that is no UTF-8", b"\xff\n", NOT_UTF8),
-    ("a password that is too long and no UTF-8", b"\xff" * 1025 + b"\n", NOT_UTF8),
+    ("a password that is not UTF-8", b"\xff\n", NOT_UTF8),
+    ("a password that is too long and not UTF-8", b"\xff" * 1025 + b"\n", NOT_UTF8),
     ("an input that cannot be read", WRITE_ONLY, READING_FAILED),
     ("a directory as input", DIRECTORY, READING_FAILED),
 ]
 DIFFER, TO_OLDER = {"typed": b"a\nb\n", "output": TWICE}, {"files": OLDER, "left": Leaves(OLDER)}
 AT_TERMINAL = Typed((b"p\n", b"p\n"))
 
-LONGER, KEPT, READABLE = b"older\n" * 200, WithMode(b"older", 0o604), WithMode(b"older", 0o644)
+LONGER, OLDER_FILE, READABLE = b"older\n" * 200, WithMode(b"older", 0o604), WithMode(b"older", 0o644)
 LINKS = {PK: Link("kept/public"), SK: Link("kept/secret")}
 CHAIN = {PK: Link("first"), "first": Link("./second"), "second": Link("kept/public"), SK: Link("kept/secret")}
 ACROSS = {PK: Link("kept/link"), "kept/link": Link("public"), SK: Link("kept/secret")}
 PUBLIC_PIPE, SECRET_PIPE, EMPTY_PIPE = {PK: ReadPipe(COUNTED_PUBLIC)}, {SK: ReadPipe(COUNTED_SECRET)}, {SK: ReadPipe(b"")}
 INTO_PIPES = {"sources": Sources(), "left": None}
 
-# Streams that are closed or full. No file gets the number of a closed stream, so that no prompt and no line of an error goes into one, and
-# no password is read from one.
+# Closed or full streams. No file may get the descriptor of a closed stream, because then a prompt or an error would be written into the
+# file, or a password read from it.
 WITH_STREAMS = [
-    keygen(f"input {typed}, output {stdout}", line, typed=typed, output=output, stdout=stdout, **TO_OLDER)
+    keygen(f"stdin {typed}, stdout {stdout}", line, typed=typed, output=output, stdout=stdout, **TO_OLDER)
     for typed, stdout, line, output in (
         (CLOSED, None, READING_FAILED, ONCE), (CLOSED, CLOSED, WRITING_FAILED, b""),
         (b"p\np\n", CLOSED, WRITING_FAILED, b""), (b"p\np\n", FULL, WRITING_FAILED, b""))
@@ -117,11 +119,11 @@ CASES = [
     made("a password"),
     made("an empty password", b"", output=EMPTY),
     made("the longest password", LONGEST),
-    made("the longest password, and the end in place of a line feed", LONGEST, typed=LONGEST + b"\n" + LONGEST),
+    made("the longest password without the last line feed", LONGEST, typed=LONGEST + b"\n" + LONGEST),
     made("lines that end with carriage return and line feed", typed=b"p\r\np\r\n"),
     made("the longest password before carriage return and line feed", LONGEST, typed=(LONGEST + b"\r\n") * 2),
     made("a carriage return before the end of the input", b"\r", typed=b"\r\r\n\r"),
-    made("letters of more than a byte", "\u00e4\U0001f511 \u0000".encode()),
+    made("characters of several bytes", "\u00e4\U0001f511 \u0000".encode()),
     made("spaces at both ends", b" p "),
     made("input byte by byte", typed=Pieces((b"p", b"\n", b"p", b"\n"))),
     made("input from a file", typed=FromFile(b"p\np\nnever read")),
@@ -130,63 +132,63 @@ CASES = [
         ("two passwords that differ", b"a\nb\n", DIFFERENT),
         ("two passwords that differ at a terminal", Typed((b"a\n", b"b\n")), DIFFERENT),
         ("passwords that differ by a space", b"a\na \n", DIFFERENT),
-        ("the end after the first password", b"a\n", END_OF_INPUT),
-        ("the end after the first password at a terminal", Typed((b"a\n", b"\x04")), END_OF_INPUT),
+        ("end of input after the first password", b"a\n", END_OF_INPUT),
+        ("end of input after the first password at a terminal", Typed((b"a\n", b"\x04")), END_OF_INPUT),
         ("a second password that is too long", b"a\n" + TOO_MUCH + b"\n", TOO_LONG),
-        ("a second password that is no UTF-8", b"a\n\xc3\n", NOT_UTF8))),
-    keygen("a password and an empty one", DIFFERENT, typed=b"a\n\n", output=TWICE + b"<empty>\n"),
+        ("a second password that is not UTF-8", b"a\n\xc3\n", NOT_UTF8))),
+    keygen("a password and an empty password", DIFFERENT, typed=b"a\n\n", output=TWICE + b"<empty>\n"),
     keygen("two passwords that differ, and files that exist", DIFFERENT, **DIFFER, **TO_OLDER),
-    # With known random bytes both texts are known. The device of random bytes ends before anything is asked.
+    # Known random bytes determine both files. If there are too few, nothing is asked.
     *(made(f"{random} random bytes, which count up", sources=Sources(random=random), left=Leaves({PK: COUNTED_PUBLIC, SK: COUNTED_SECRET}))
       for random in (256, 72)),
     *(keygen(f"{count} random bytes", RANDOM_FAILED, output=b"", sources=Sources(random=count), **TO_OLDER) for count in (0, 32, 40, 71)),
-    # A person at a terminal types each line once it is asked for; the terminal shows no typed letters where nothing else is said. Control
-    # and D end the input.
+    # At a terminal, each line is typed when the program asks for it, and not echoed unless a case says so. Control-D ends the input.
     made("at a terminal", typed=AT_TERMINAL),
     made("at a terminal that shows what is typed", typed=Typed((b"p\n", b"p\n"), shows=True),
          output=b"".join(part.replace(b"\n", b"\r\n") for part in (ONCE, b"p\n", TWICE[len(ONCE):], b"p\n", TOLD))),
     made("an empty password at a terminal", b"", typed=Typed((b"\n", b"\n")), output=EMPTY),
     made("the longest password at a terminal", LONGEST, typed=Typed((LONGEST + b"\n",) * 2)),
-    made("letters and the end in place of a line feed at a terminal", b"p", typed=Typed((b"p\n", b"p\x04\x04"))),
-    # Files that are there are replaced and keep their modes, but for what their groups have and not all others; new ones get theirs. Links
-    # are followed and stay; what they lead to is replaced.
+    made("the last line without a line feed at a terminal", b"p", typed=Typed((b"p\n", b"p\x04\x04"))),
+    # Existing files are replaced and keep their modes, except for permissions that the group has and all others do not. Links are
+    # followed: the target is replaced, and the link is unchanged.
     *(made(name, files=files, left=pair(b"p", *modes)) for name, files, *modes in (
         ("files that exist", {PK: LONGER, SK: LONGER}, 0o644, 0o644),
         ("a public file that exists", {PK: b""}, 0o644, 0o600),
         ("a secret file that exists", {SK: LONGER}, 0o644, 0o644),
         ("files that exist, with modes", {PK: WithMode(LONGER, 0o640), SK: WithMode(LONGER, 0o620)}, 0o600, 0o600),
-        ("files whose groups have what all others have", {PK: WithMode(LONGER, 0o664), SK: WithMode(LONGER, 0o646)}, 0o644, 0o646),
-        ("a secret file with a list of others' permissions", {SK: WithMode(LONGER, 0o600, "u:65534:r")}, 0o644, 0o600),
-        ("files with lists of others' permissions",
+        ("files whose groups have the permissions that all others have", {PK: WithMode(LONGER, 0o664), SK: WithMode(LONGER, 0o646)}, 0o644,
+         0o646),
+        ("a secret file with an access control list", {SK: WithMode(LONGER, 0o600, "u:65534:r")}, 0o644, 0o600),
+        ("files with access control lists",
          {PK: WithMode(LONGER, 0o644, "g::---,u:65534:rw"), SK: WithMode(LONGER, 0o600, "u:65534:rw")}, 0o644, 0o600),
         ("files that exist and can only be written", {PK: WithMode(LONGER, 0o200), SK: WithMode(LONGER, 0o200)}, 0o200, 0o200))),
-    made("a mask that leaves no permission to write", umask=0o222, left=pair(b"p", 0o444, 0o400)),
-    made("names that lead through the directory itself", arguments=("./" + PK, "././" + SK)),
+    made("a umask without permission to write", umask=0o222, left=pair(b"p", 0o444, 0o400)),
+    made("paths that begin with ./", arguments=("./" + PK, "././" + SK)),
     *(made(name, files={"kept": DIRECTORY, **files, **links}, left=pair(b"p", *modes, ("kept/public", "kept/secret"), links))
       for name, links, files, *modes in (
-          ("links to files", LINKS, {"kept/public": KEPT, "kept/secret": KEPT}, 0o604, 0o604),
-          ("links that lead nowhere", LINKS, {}, 0o644, 0o600),
-          ("links to links", CHAIN, {"kept/public": KEPT}, 0o604, 0o600),
+          ("links to files", LINKS, {"kept/public": OLDER_FILE, "kept/secret": OLDER_FILE}, 0o604, 0o604),
+          ("dangling links", LINKS, {}, 0o644, 0o600),
+          ("links to links", CHAIN, {"kept/public": OLDER_FILE}, 0o604, 0o600),
           ("a link to a link in another directory", ACROSS, {}, 0o644, 0o600))),
-    # Both paths lead to one file: that is the secret key's in the end, which only its owner may read, whatever the older file's mode. Two
-    # names of one file get a file each.
-    *(made(f"{name}, and a mask of {umask:o}", arguments=arguments, files=files, umask=umask,
-           left=one_file(kept, files) if kept else pair(b"p", 0o644 if files else 0o666 & ~umask, 0o600))
+    # If both paths lead to the same file, it is the secret key in the end, and only its owner may read it, whatever the mode of the old
+    # file. If the paths are two hard links of a file, each becomes a separate file.
+    *(made(f"{name}, and a umask of {umask:o}", arguments=arguments, files=files, umask=umask,
+           left=one_file(shared, files) if shared else pair(b"p", 0o644 if files else 0o666 & ~umask, 0o600))
       for umask in (0o000, 0o022, 0o077)
-      for name, arguments, kept, files in (
+      for name, arguments, shared, files in (
           ("one path twice", (SK, SK), SK, {}),
           ("one path twice, and a file that exists", (SK, SK), SK, {SK: READABLE}),
           ("one path in two ways", (SK, "./" + SK), SK, {}),
           ("one path in two ways, and a file that exists", (SK, "./" + SK), SK, {SK: READABLE}),
-          ("the secret key a link to the public one", (PK, SK), PK, {PK: READABLE, SK: Link(PK)}),
-          ("the secret key a link to where the public one is made", (PK, SK), PK, {SK: Link(PK)}),
-          ("the public key a link to the secret one", (PK, SK), SK, {SK: READABLE, PK: Link(SK)}),
-          ("the public key a link to where the secret one is made", (PK, SK), SK, {PK: Link(SK)}),
-          ("both links to one path", (PK, SK), "key", {PK: Link("key"), SK: Link("./key")}),
-          ("both links to one file", (PK, SK), "key", {"key": READABLE, PK: Link("key"), SK: Link("./key")}),
-          ("two names of one file", (PK, SK), None, {PK: READABLE, SK: SecondName(PK)}),
+          ("the secret key's path a link to the public key", (PK, SK), PK, {PK: READABLE, SK: Link(PK)}),
+          ("the secret key's path a link to the new public key", (PK, SK), PK, {SK: Link(PK)}),
+          ("the public key's path a link to the secret key", (PK, SK), SK, {SK: READABLE, PK: Link(SK)}),
+          ("the public key's path a link to the new secret key", (PK, SK), SK, {PK: Link(SK)}),
+          ("both paths links to one missing file", (PK, SK), "key", {PK: Link("key"), SK: Link("./key")}),
+          ("both paths links to one file", (PK, SK), "key", {"key": READABLE, PK: Link("key"), SK: Link("./key")}),
+          ("two hard links of one file", (PK, SK), None, {PK: READABLE, SK: SecondName(PK)}),
           ("new files", (PK, SK), None, {}))),
-    # Files that cannot be written. Nothing is replaced before both new files are whole.
+    # Files that cannot be written. Nothing is replaced before both new files are complete.
     *(keygen(name, WRITING_FAILED, arguments=arguments, files=files,
              left=Leaves({path: held.data if isinstance(held, WithMode) else held for path, held in files.items()}))
       for name, arguments, files in (
@@ -207,22 +209,22 @@ CASES = [
           ("an empty name of the public key", ("", SK), {}),
           ("an empty name of the secret key", (PK, ""), {}),
           ("a name of the public key that is too long", ("k" * 256, SK), {}))),
-    # Named pipes are written as they are, the public key's first. A failed one ends that, and what is said changes nothing.
+    # Named pipes are written directly, the public key's first. The first failed write ends the run; a failed message has no effect.
     made("keys into pipes", files={**PUBLIC_PIPE, **SECRET_PIPE}, **INTO_PIPES),
-    made("keys into pipes, and for errors room for five bytes", said=["warni"], files={**PUBLIC_PIPE, **SECRET_PIPE}, typed=AT_TERMINAL,
+    made("keys into pipes, stderr takes five bytes", said=["warni"], files={**PUBLIC_PIPE, **SECRET_PIPE}, typed=AT_TERMINAL,
          stderr=RoomFor(5), **INTO_PIPES),
     keygen("no room for the public key, and the secret key into a pipe", WRITING_FAILED,
            files=EMPTY_PIPE, arguments=(FULL_DEVICE, SK), **INTO_PIPES),
     keygen("the public key into a pipe, and no room for the secret key", WRITING_FAILED,
            files=PUBLIC_PIPE, arguments=(PK, FULL_DEVICE), **INTO_PIPES),
-    keygen("the public key for errors with room for nine bytes, and the secret key into a pipe", "untrusted", status=1,
+    keygen("the public key into stderr, which takes nine bytes, and the secret key into a pipe", "untrusted", status=1,
            files=EMPTY_PIPE, arguments=("/dev/stderr", SK), typed=AT_TERMINAL, stderr=RoomFor(9), **INTO_PIPES),
-    keygen("the public key into a pipe, and the secret key for errors with room for a byte", "u", status=1,
+    keygen("the public key into a pipe, and the secret key into stderr, which takes one byte", "u", status=1,
            files=PUBLIC_PIPE, arguments=(PK, "/dev/stderr"), typed=AT_TERMINAL, stderr=RoomFor(1), **INTO_PIPES),
     *WITH_STREAMS,
-    *untold([*WITH_STREAMS, made("a password"), keygen("two passwords that differ", DIFFERENT, **DIFFER, **TO_OLDER),
+    *without_stderr([*WITH_STREAMS, made("a password"), keygen("two passwords that differ", DIFFERENT, **DIFFER, **TO_OLDER),
              keygen("no room for the secret key", WRITING_FAILED, arguments=(PK, FULL_DEVICE), files=OLDER, left=Leaves(OLDER))]),
-    # Each allocation fails: where it is for the texts of a pair that was made, that is reported as a failed write. No file is touched.
-    *refusing(OneOf(([WARNING, OUT_OF_MEMORY], [WARNING, WRITING_FAILED])),
+    # Each allocation fails. If it is for the files of a generated pair, the error is a failed write. No file is touched.
+    *out_of_memory(OneOf(([WARNING, OUT_OF_MEMORY], [WARNING, WRITING_FAILED])),
               ("a pair", keygen("", OUT_OF_MEMORY, output=PrefixOf(MADE), **TO_OLDER))),
 ]

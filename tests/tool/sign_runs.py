@@ -1,4 +1,5 @@
-"""Runs of `sign`: the file that it leaves, its questions, and that the signature is accepted."""
+"""Test cases for `minisign_tool sign`, which real_runs.py runs: the file that it leaves, its prompt, and that the signature
+is accepted."""
 
 import base64
 import os
@@ -9,7 +10,7 @@ import toy
 from keygen_runs import FULL_DEVICE, LONGEST, MADE, NO_PASSWORD, PK, RANDOM_FAILED
 from running import (CLOSED, DIRECTORY, FULL, LOCKED, MISSING, WRITE_ONLY, Case, FromFile, IntoFile, OneOf, Pieces, Pipe,
                      PrefixOf, RoomFor, SecondName, Sources, Typed, WithMode, expect)
-from tool_cases import Leaves, command, in_order, opening, refusing, untold
+from tool_cases import Leaves, command, in_order, opening, out_of_memory, without_stderr
 from toy import NOT_UTF8, OUT_OF_MEMORY, READING_FAILED, TOO_SHORT, WARNING, WRITING_FAILED
 from verify_runs import LARGE, LENGTHS, NO_TEXT, REJECTED, VERIFIED_RAW
 
@@ -27,66 +28,66 @@ SEALED_KEY = toy.sealed_text(b"p")
 
 KEY_WITHOUT_LIMITS = toy.secret_text(toy.KEY_A.sealed(b"p", toy.Limits(0, 0, 2, 512)))
 
-# The first random bytes of all signatures that were made: each run draws its own.
+# The random bytes in all signatures of earlier cases, which have to differ.
 DRAWN_BEFORE = set()
 
 
 def signed(data=b"abc", name=SIG, mode=0o644):
-    """What is left is the signature's file, in which the data is signed with the default comments."""
+    """Expects a signature file for the data, with the default comments."""
     return Leaves({name: lambda text: check_signature(data, text)}, {name: mode}, others={SK, FILE} - {name})
 
 
-def kept(signature=MISSING):
-    """What is left is this signature's file, or none."""
+def leaves_signature(signature=MISSING):
+    """Expects this signature file, or none."""
     return Leaves({} if signature == MISSING else {SIG: signature}, others=(SK, FILE, "locked"))
 
 
-def signed_at(moment, data=b"abc", half=bytes(range(32)), comment_half=bytes(range(64, 96))):
-    """What the data is signed as at this moment, where the two signatures have these first halves: of 64 random bytes for each, those
-    that it begins with. Without words they are of random bytes that count up from 0."""
-    record, trusted = toy.signature_record(data, half=half), b"timestamp:%d" % moment
+def signed_at(seconds, data=b"abc", half=bytes(range(32)), comment_half=bytes(range(64, 96))):
+    """Returns the signature file for the data at this time. The two halves are the first 32 of the 64 random bytes for each signature.
+    The default is that of random bytes that count up from 0."""
+    record, trusted = toy.signature_record(data, half=half), b"timestamp:%d" % seconds
     return toy.signature_text(data, record, trusted, toy.DEFAULT_COMMENT, toy.signature_of(record[10:] + trusted, comment_half))
 
 
 def check_signature(data, text):
-    """Compares a text with what signing the data has to give: random bytes, the moment and all else."""
+    """Checks that a text is a signature file for the data, made in the last minute, with new random bytes."""
     _, second, third, fourth, _ = text.split(b"\n")
     halves = base64.b64decode(second)[10:42], base64.b64decode(fourth)[:32]
-    moment = int(third.rpartition(b":")[2])
-    expect(text == signed_at(moment, data, *halves) and abs(moment - time.time()) <= 60, f"a signature is {text!r}")
+    seconds, expected = int(third.rpartition(b":")[2]), signed_at(int(third.rpartition(b":")[2]), data, *halves)
+    expect(text == expected, f"the signature is {text!r}, expected {expected!r}")
+    expect(abs(seconds - time.time()) <= 60, f"the signature's timestamp is {seconds}, and it is {time.time()}")
     drawn = {*halves}
-    expect(len(drawn) == 2 and not drawn & DRAWN_BEFORE and bytes(32) not in drawn, "random bytes come twice")
+    expect(len(drawn) == 2 and not drawn & DRAWN_BEFORE and bytes(32) not in drawn, f"random bytes occur twice, or are zeros: {text!r}")
     DRAWN_BEFORE.update(drawn)
 
 
-# A signature that exists, and is left as it was.
-OVER_OLDER = {"files": {SIG: b"older"}, "left": kept(b"older")}
+# An existing signature that is not changed.
+OVER_OLDER = {"files": {SIG: b"older"}, "left": leaves_signature(b"older")}
 
 
 def sign(name, *said, files=None, arguments=(SK, FILE, SIG), **how):
-    """A case of `sign`, with a key that was never sealed and `abc` where it says nothing else. Where it fails no
-    signature is left."""
-    left = kept() if said and said[-1].startswith("error: ") else signed()
+    """Returns a case of `sign`, by default with an unencrypted key and the data `abc`. If it fails, no signature may be left."""
+    left = leaves_signature() if said and said[-1].startswith("error: ") else signed()
     return command(name, ["sign", *arguments], said, files={SK: OPEN_KEY, FILE: b"abc", **(files or {})}, **{"left": left, **how})
 
 
 def sealed(name, *said, key=SEALED_KEY, typed=b"p\n", output=OPENED, files=None, **how):
-    """A case in which the key is sealed under `p`, which is typed where it says nothing else."""
+    """Returns a case with an encrypted key, by default with the password `p`, which is typed."""
     return sign(name, *said, files={SK: key, **(files or {})}, stdin=typed, output=output, **how)
 
 
 WIDE = "\u00e4\U0001f511 \u0000".encode()
 LONGER = b"older\n" * 200
 
-# The files are opened in the order of the arguments, and nothing is read or asked before both are open. The key's text is read whole and
-# has to be UTF-8; a key that is rejected is rejected before anything is asked or read. The signature's file is opened last.
+# The files are opened in the order of the arguments, and nothing is read or asked before both are open. The key file is read completely
+# and has to be UTF-8. A bad key is rejected before the password is asked for and before data is read. The signature file is opened last.
 ORDER = list(in_order(
     sign,
     opening(SK, "key", OPEN_KEY),
     opening(FILE, "data", b"abc"),
     (SK, [("a directory as key", DIRECTORY, READING_FAILED),
-          ("a key that is no UTF-8", NO_TEXT, NOT_UTF8),
-          ("a key that ends inside a letter", OPEN_KEY + b"\xc3", NOT_UTF8),
+          ("a key that is not UTF-8", NO_TEXT, NOT_UTF8),
+          ("a key that ends inside a character", OPEN_KEY + b"\xc3", NOT_UTF8),
           ("an empty key", b"", "error: Missing comment in secret key\n"),
           ("a key of one line", b"c\n", "error: Missing encoded key in secret key\n"),
           ("a public key", toy.public_text(), TOO_SHORT),
@@ -96,26 +97,25 @@ ORDER = list(in_order(
           ("a key with an unknown key derivation", toy.secret_text(toy.KEY_A.record(b"Xx")), "error: Unsupported encryption algorithm\n")]),
     (FILE, [("a directory as data", DIRECTORY, READING_FAILED)])))
 
-# Streams that are closed or full. No file gets the number of a closed stream, so that no password is read from the key's file and no line
-# is written into the signature's.
+# Closed or full streams. No file may get the descriptor of a closed stream, because then the password would be read from the key file, or
+# a message written into the signature file.
 WITH_STREAMS = [
-    *(sign(f"{what}, input {stdin}, output {stdout}", *said, stdin=stdin, stdout=stdout, **how)
+    *(sign(f"{what}, stdin {stdin or 'empty'}, stdout {stdout or 'open'}", *said, stdin=stdin, stdout=stdout, **how)
       for stdin, stdout in [(b"", None), (CLOSED, None), (b"", CLOSED), (CLOSED, CLOSED), (b"", FULL)]
       for what, how, *said in (
-          ("a key that was never sealed", {}),
-          ("a directory as data", {"files": {FILE: DIRECTORY, SIG: b"older"}, "left": kept(b"older")}, READING_FAILED),
+          ("an unencrypted key", {}),
+          ("a directory as data", {"files": {FILE: DIRECTORY, SIG: b"older"}, "left": leaves_signature(b"older")}, READING_FAILED),
           ("no room for the signature", {"arguments": (SK, FILE, FULL_DEVICE)}, WRITING_FAILED))),
-    *(sealed(f"a sealed key, input {typed}, output {stdout}", line, typed=typed, output=output, stdout=stdout, **OVER_OLDER)
+    *(sealed(f"an encrypted key, stdin {typed}, stdout {stdout or 'open'}", line, typed=typed, output=output, stdout=stdout, **OVER_OLDER)
       for typed, stdout, line, output in (
           (CLOSED, None, READING_FAILED, ASKED), (CLOSED, CLOSED, WRITING_FAILED, b""),
           (b"p\n", CLOSED, WRITING_FAILED, b""), (b"p\n", FULL, WRITING_FAILED, b""))),
 ]
 
-# A pair is made, a file is signed with its secret key, and whoever has the public one verifies it and copies it out; where the file, the
-# signature or the key is another one, it is rejected.
+# Generates a pair, signs a file, verifies it and copies it. After the file was changed, both are rejected until it is signed again.
 SIGNING, SIGNED = ["sign", SK, FILE, SIG], (PK, FILE, SIG)
 GOOD = [WARNING, f"{VERIFIED_RAW}Trusted comment: timestamp:{Sources.moment}\n"]
-WHOLE_WAY = Case("a pair is made, and a file is signed, verified and copied", ["keygen", PK, SK], 0, [WARNING], stdin=b"p\np\n",
+WHOLE_WAY = Case("a pair is generated, and a file is signed, verified and copied", ["keygen", PK, SK], 0, [WARNING], stdin=b"p\np\n",
                  output=MADE, sources=Sources(), then=(
     Case("", SIGNING, 0, [WARNING], files={FILE: b"abc"}, stdin=b"p\n", output=OPENED),
     Case("", ["verify", *SIGNED], 0, GOOD),
@@ -131,55 +131,54 @@ CASES = [
     sign("data from a pipe", files={FILE: Pipe(b"abc")}),
     sign("large data from a pipe", files={FILE: Pipe(LARGE)}, left=signed(LARGE)),
     sign("a key from a pipe", files={SK: Pipe(OPEN_KEY)}),
-    sealed("a directory as data, and a sealed key", READING_FAILED, files={FILE: DIRECTORY}),
+    sealed("a directory as data, and an encrypted key", READING_FAILED, files={FILE: DIRECTORY}),
     sealed("a directory as data, and a wrong password", WRONG_PASSWORD, typed=b"q\n", files={FILE: DIRECTORY}),
     sealed("a password"),
     sealed("an empty password", key=toy.sealed_text(b""), typed=b"\n", output=OPENED_EMPTY),
     sealed("the longest password", key=toy.sealed_text(LONGEST), typed=LONGEST + b"\r\n"),
-    sealed("letters of more than a byte", key=toy.sealed_text(WIDE), typed=WIDE + b"\n"),
+    sealed("characters of several bytes", key=toy.sealed_text(WIDE), typed=WIDE + b"\n"),
     sealed("a password byte by byte", typed=Pieces((b"p", b"\r", b"\n"))),
     sealed("a password from a file", typed=FromFile(b"p\nnever read")),
-    sealed("a password and the end in place of a line feed", typed=b"p"),
+    sealed("a password without a line feed", typed=b"p"),
     sealed("at a terminal", typed=Typed((b"p\n",))),
     sealed("an empty password at a terminal", key=toy.sealed_text(b""), typed=Typed((b"\n",)), output=OPENED_EMPTY),
     sealed("a wrong password", WRONG_PASSWORD, typed=b"q\n"),
     sealed("a wrong password at a terminal", WRONG_PASSWORD, typed=Typed((b"q\n",))),
-    sealed("an empty password in place of one", WRONG_PASSWORD, typed=b"\n", output=OPENED_EMPTY),
+    sealed("an empty password for a key with a password", WRONG_PASSWORD, typed=b"\n", output=OPENED_EMPTY),
     sealed("a wrong password, and a signature that exists", WRONG_PASSWORD, typed=b"q\n", **OVER_OLDER),
     *(sealed(name, line, typed=typed, output=ASKED) for name, typed, line in NO_PASSWORD),
-    sign("a key that was never sealed, and an input that cannot be read", stdin=WRITE_ONLY),
+    sign("an unencrypted key, and an input that cannot be read", stdin=WRITE_ONLY),
     *ORDER,
     *(replace(case, name=f"{case.name}, and a signature that exists", files={**case.files, **OVER_OLDER["files"]}, left=OVER_OLDER["left"])
       for case in ORDER),
     *(sealed(f"missing data before a password is asked for, and {what}", READING_FAILED, typed=b"", output=b"",
-             files={FILE: MISSING, SIG: held}, left=kept(held))
+             files={FILE: MISSING, SIG: held}, left=leaves_signature(held))
       for what, held in (("no signature", MISSING), ("a signature that exists", b"older"))),
     sign("lines that end with carriage return and line feed", files={SK: OPEN_KEY.replace(b"\n", b"\r\n")}),
     sealed("a key whose derivation takes too much memory", "error: scrypt parameters too high\n",
            key=toy.secret_text(toy.KEY_A.record(b"Sc", toy.Limits((1 << 30) + 1))), output=ASKED + DERIVING),
-    sealed("a key whose derivation has too many parts", "error: invalid scrypt parameters\n",
+    sealed("a key whose derivation has no parts, because the low 32 bits are zero", "error: invalid scrypt parameters\n",
            key=toy.secret_text(toy.KEY_A.record(b"Sc", toy.Limits(0, 1 << 40))), output=ASKED + DERIVING),
-    # With known random bytes at a known moment the whole text is known. The device of random bytes ends, and the clock shows a moment
-    # before 1970.
-    *(make(f"{name} at the moment {moment}", sources=Sources(moment=moment), left=kept(signed_at(moment)), **how)
-      for moment in (0, 1555779966)
-      for make, name, how in ((sign, "a key that was never sealed", {}), (sealed, "a sealed key", {}),
-                              (sealed, "a key that is sealed without limits", {"key": KEY_WITHOUT_LIMITS}))),
-    sign("128 random bytes", sources=Sources(random=128), left=kept(signed_at(Sources.moment))),
+    # Known random bytes and a known time determine the whole file. There may be too few random bytes, or a time before 1970.
+    *(make(f"{name} at time {seconds}", sources=Sources(moment=seconds), left=leaves_signature(signed_at(seconds)), **how)
+      for seconds in (0, 1555779966)
+      for make, name, how in ((sign, "an unencrypted key", {}), (sealed, "an encrypted key", {}),
+                              (sealed, "an encrypted key with limits of zero", {"key": KEY_WITHOUT_LIMITS}))),
+    sign("128 random bytes", sources=Sources(random=128), left=leaves_signature(signed_at(Sources.moment))),
     *(sign(f"{count} random bytes", RANDOM_FAILED, sources=Sources(random=count), **OVER_OLDER) for count in (0, 63, 64, 127)),
-    sign("a moment before 1970", CLOCK_INCORRECT, sources=Sources(moment=-1), **OVER_OLDER),
-    sign("a moment before 1970 before an empty key", CLOCK_INCORRECT, sources=Sources(moment=-1), files={SK: b""}),
-    # A signature that exists is replaced and keeps its mode. One that cannot be written is told last.
+    sign("a time before 1970", CLOCK_INCORRECT, sources=Sources(moment=-1), **OVER_OLDER),
+    sign("a time before 1970 is reported before an empty key", CLOCK_INCORRECT, sources=Sources(moment=-1), files={SK: b""}),
+    # An existing signature is replaced and keeps its mode. A failed write of the signature is the last error that is reported.
     sign("a signature that exists", files={SIG: LONGER}),
     sign("an empty signature that exists", files={SIG: b""}),
     sign("a signature that exists, with a mode", files={SIG: WithMode(LONGER, 0o640)}, left=signed(mode=0o600)),
-    sign("a signature that exists, with a list of others' permissions", files={SIG: WithMode(LONGER, 0o644, "g::---,u:65534:rw")},
+    sign("a signature that exists, with an access control list", files={SIG: WithMode(LONGER, 0o644, "g::---,u:65534:rw")},
          left=signed(mode=0o644)),
-    sign("a mask of all but the owner", umask=0o077, left=signed(mode=0o600)),
+    sign("a umask with permissions for the owner only", umask=0o077, left=signed(mode=0o600)),
     sign("the signature in place of the data", arguments=(SK, FILE, FILE), left=signed(name=FILE)),
     sign("the signature in place of the key", arguments=(SK, FILE, SK), left=signed(name=SK)),
-    *(make(f"{name}{more}", WRITING_FAILED, arguments=(SK, FILE, path), files=files, left=kept(held))
-      for make, more in ((sign, ""), (sealed, ", and a sealed key"))
+    *(make(f"{name}{more}", WRITING_FAILED, arguments=(SK, FILE, path), files=files, left=leaves_signature(held))
+      for make, more in ((sign, ""), (sealed, ", and an encrypted key"))
       for name, path, files, held in (
           ("no room for the signature", FULL_DEVICE, {}, MISSING),
           ("a directory as signature", SIG, {SIG: DIRECTORY}, DIRECTORY),
@@ -188,22 +187,23 @@ CASES = [
           ("a signature that may not be written", SIG, {SIG: WithMode(LONGER, 0o444)}, LONGER),
           ("an empty name of the signature", "", {}, MISSING),
           ("a name of the signature that is too long", "s" * 256, {}, MISSING))),
-    sealed("a wrong password before a directory as signature", WRONG_PASSWORD, typed=b"q\n", files={SIG: DIRECTORY}, left=kept(DIRECTORY)),
+    sealed("a wrong password before a directory as signature", WRONG_PASSWORD, typed=b"q\n", files={SIG: DIRECTORY},
+           left=leaves_signature(DIRECTORY)),
     sign("the signature into standard output", arguments=(SK, FILE, "/dev/stdout"), sources=Sources(),
-         output=signed_at(Sources.moment), left=kept()),
-    # (into that very file, which has another name)
-    sign("the signature into a file that standard output leads into", arguments=(SK, FILE, "/dev/stdout"),
+         output=signed_at(Sources.moment), left=leaves_signature()),
+    # The file is written in place, not replaced: its second hard link has the signature too.
+    sign("the signature into standard output, which is a file", arguments=(SK, FILE, "/dev/stdout"),
          files={SIG: b"", "other": SecondName(SIG)}, stdout=IntoFile(SIG, os.O_RDWR),
          left=Leaves({"other": lambda text: check_signature(b"abc", text)}, others=(SK, FILE, SIG))),
-    sign("the signature into standard output with room for nine bytes", WRITING_FAILED,
+    sign("the signature into standard output, which takes nine bytes", WRITING_FAILED,
          arguments=(SK, FILE, "/dev/stdout"), stdout=RoomFor(9), output=b"untrusted"),
     *WITH_STREAMS,
-    *untold([*WITH_STREAMS, sealed("a password")]),
-    # Each allocation fails: where it is for the text that was made, that is reported as a failed write. No file is touched.
-    *refusing(
+    *without_stderr([*WITH_STREAMS, sealed("a password")]),
+    # Each allocation fails. If it is for the signature file, the error is a failed write. No file is touched.
+    *out_of_memory(
         OneOf(([WARNING, OUT_OF_MEMORY], [WARNING, WRITING_FAILED])),
-        ("a key that was never sealed", sign("", OUT_OF_MEMORY, **OVER_OLDER)),
-        ("a sealed key", sealed("", OUT_OF_MEMORY, **{**OVER_OLDER, "output": PrefixOf(OPENED)})),
-        ("an empty key", sign("", OUT_OF_MEMORY, files={SK: b"", SIG: b"older"}, left=kept(b"older")))),
+        ("an unencrypted key", sign("", OUT_OF_MEMORY, **OVER_OLDER)),
+        ("an encrypted key", sealed("", OUT_OF_MEMORY, **{**OVER_OLDER, "output": PrefixOf(OPENED)})),
+        ("an empty key", sign("", OUT_OF_MEMORY, files={SK: b"", SIG: b"older"}, left=leaves_signature(b"older")))),
     WHOLE_WAY,
 ]

@@ -1,6 +1,7 @@
-"""Disturbs the built program `minisign_tool`: kills it at each of its calls of the system, has each call fail in
-turn, and runs it on a full disk, under a limit on the size of files, and with data that could fill the memory. After
-each run every older file is the old or the new one, whole, and but for a kill nothing is left beside it.
+"""Test cases with faults for `minisign_tool`, which real_runs.py runs: it is killed at each of its system calls, each
+call fails in turn, and it runs on a full disk, with a limit on the size of files, and with data that could fill the
+memory. After each run every file is either the complete old one or the complete new one. Unless the program was killed,
+no temporary file is left.
 """
 
 import errno
@@ -30,7 +31,7 @@ PUBLIC_FRONT, SECRET_FRONT = b"untrusted comment: minisign", b"untrusted comment
 
 @dataclass(frozen=True)
 class Task(disturbed.Task):
-    """A run over files of this mode."""
+    """A run in a directory whose files have this mode."""
 
     mode: int = 0o644
     stage = STAGE
@@ -40,12 +41,13 @@ class Task(disturbed.Task):
         make_files(directory, {"kept": DIRECTORY, **files})
         return self.arguments
 
-    def may_have(self, name, mode, data, found):
-        """A file that was there keeps its mode. A stage has no more permissions than that, or than a new file of its kind, whatever it
-        holds by then. The file of a secret key is made once that of its public key is whole."""
+    def may_have(self, name, mode, data, files):
+        """Returns true if a file may have this mode. A file that existed keeps its mode. A temporary file has no more permissions than
+        the file that it replaces, or than a new file of its kind, whatever it contains so far. The temporary file for a secret key is
+        made after that for the public key is complete, so of two temporary files the one without a public key is the secret one's."""
         if not os.path.basename(name).startswith(STAGE):
             return mode == self.mode or name not in self.files or isinstance(data, Link)
-        stages = [each for each in found if os.path.basename(each).startswith(STAGE)]
+        stages = [each for each in files if os.path.basename(each).startswith(STAGE)]
         is_secret = data.startswith(SECRET_FRONT) or (len(stages) == 2 and not data.startswith(PUBLIC_FRONT))
         return not mode & ~(self.mode if {*self.targets} & {*self.files} else 0o600 if is_secret else 0o644)
 
@@ -66,12 +68,12 @@ TASKS = [
          {"kept/" + name: judge for name, judge in PAIR.items()}, mode=0o604),
     Task("a signature over an older one", SIGN, {**TO_SIGN, SIG: toy.signature_text(b"abc")}, {SIG: is_signature}),
     NEW_SIGNATURE,
-    Task("a signature through a link that leads nowhere", SIGN, {**TO_SIGN, SIG: Link("kept/" + SIG)}, {"kept/" + SIG: is_signature}),
+    Task("a signature through a dangling link", SIGN, {**TO_SIGN, SIG: Link("kept/" + SIG)}, {"kept/" + SIG: is_signature}),
 ]
-# Files of others, and what their permissions become.
+# Files of other users, and their permissions after they were replaced.
 OWNERS = [
-    ("another's, which root replaces", Replaced(0o644, 0o644, whose=(OTHER_USER, OTHER_GROUP))),
-    ("nobody's own", by_nobody(0o664, 0o644)),
+    ("of another user, replaced by root", Replaced(0o644, 0o644, whose=(OTHER_USER, OTHER_GROUP))),
+    ("owned and replaced by nobody", by_nobody(0o664, 0o644)),
     ("of another group", of_other_group(0o664, 0o604)),
     ("of another group that may not do what all others may", of_other_group(0o606, 0o600)),
     ("of another owner", by_nobody(0o664, 0o644, whose=(OTHER_USER, NOBODY))),
@@ -80,10 +82,10 @@ OWNERS = [
 
 
 class Surviving(OverTasks):
-    """Runs a program in fresh directories, with a password typed twice."""
+    """Runs a program in fresh directories, with the password `p` typed twice."""
 
     def in_fresh(self, case, task, *given):
-        """Makes a case in a fresh directory with what stands there before a task."""
+        """Runs a case in a fresh directory with the files of a task."""
         with tempfile.TemporaryDirectory(dir=self.place) as directory:
             task.make(directory)
             case(task, directory, *given)
@@ -95,38 +97,41 @@ class Surviving(OverTasks):
         expect(ran.status == 1 and ran.said.endswith(WRITING_FAILED), ran)
 
     def failing(self, task, calls, endings, number=errno.EIO):
-        """A run in which each of these calls fails in turn. `endings` answers of the call of a number with which exit statuses and how many
-        new files the run may end then; where it may end in one way alone, a failed write is told."""
+        """Makes each of these calls fail in turn. `endings` returns, for the number of the call, the allowed pairs of exit status and
+        number of new files. If only one pair is allowed, a failing run has to report a failed write."""
         whole, counted = (0, len(task.targets)), itertools.count(1)
 
         def judge(ran, directory):
             ended, allowed = (ran.status, sum(task.check(directory))), endings(next(counted)) if ran.came else [whole]
-            is_told = ended == whole or len(allowed) > 1 or ran.said.endswith(WRITING_FAILED)
-            expect(ended in allowed and is_told, ran, f"{ended[1]} files are new")
+            is_reported = ended == whole or len(allowed) > 1 or ran.said.endswith(WRITING_FAILED)
+            expect(ended in allowed and is_reported, ran, f"{ended[1]} files are new, expected one of {allowed} (exit status, new files)")
 
         came = self.break_each(task.make, judge, CALLS=calls, ERRNO=number)
-        expect(came or len(endings(1)) > 1, "it made no such call")
+        expect(came or len(endings(1)) > 1, f"the run made no call of {calls}")
 
     def taken_names(self, task, directory, count):
-        """A run that draws the same number each time, in a directory in which so many names from that one on are taken."""
+        """Checks a run with constant random numbers in a directory where the first `count` names of temporary files are taken. It succeeds
+        after up to 40 attempts, fails after 200, and changes none of these files."""
         taken = [f"{STAGE}{number:016x}" for number in range(count)]
         for name in taken:
-            write(directory, name, b"another's")
+            write(directory, name, b"another file")
         ran = self.run(directory, task.arguments, {"LD_PRELOAD": self.preload, "DRAW_ZEROS": "1"})
         for name in taken:
-            expect(content(directory, name) == b"another's", f"{name} was changed")
+            expect(content(directory, name) == b"another file", f"{name} was changed to {content(directory, name)!r}")
             os.remove(os.path.join(directory, name))
-        expect((ran.status, sum(task.check(directory))) == ((0, 2) if count < 99 else (1, 0)), ran)
+        ended, wanted = (ran.status, sum(task.check(directory))), (0, 2) if count < 99 else (1, 0)
+        expect(ended == wanted, ran, f"exit status and new files {ended}, expected {wanted}")
 
     def under_odd_path(self, task, directory):
-        """A program whose path is no UTF-8."""
+        """Checks that a program runs from a path that is not UTF-8."""
         odd = os.path.join(os.fsencode(self.room), b"tool\xff")
         shutil.copy(self.program, odd)
         ran = self.run(directory, [*map(os.fsencode, task.arguments)], program=odd)
         expect(ran.status == 0 and all(task.check(directory)), ran)
 
     def legacy_within(self, command, mebibytes=2):
-        """A legacy signature over 1 GiB is rejected within so many MiB more than a prehashed one over nothing takes."""
+        """Checks that a legacy signature of 1 GiB is rejected with at most this many MiB more than a prehashed signature of no data
+        needs."""
         is_raw = command == "verify-raw"
         with tempfile.TemporaryDirectory(dir=self.place) as directory:
             for name, algorithm in (("old", b"Ed"), ("new", b"ED")):
@@ -142,42 +147,42 @@ class Surviving(OverTasks):
                                     preexec_fn=lambda: resource.setrlimit(resource.RLIMIT_AS, bound))
 
             least = next((kibibytes for kibibytes in range(1024, 65536, 256) if run_within("nothing", "new", kibibytes).status == 0), None)
-            expect(least is not None, "64 MiB are not enough for no data")
+            expect(least is not None, "64 MiB are not enough to verify no data")
             ran = run_within("large", "old", least + 1024 * mebibytes)
-            expect(ran.status == 1 and ran.said.endswith(LEGACY.encode()), ran)
+            expect(ran.status == 1 and ran.said.endswith(LEGACY.encode()), ran, f"expected exit status 1 and {LEGACY!r}")
 
 
 def of_task(surviving, task):
-    """What each case of a task says of its run, and what makes it."""
+    """Yields the cases of a task: a name, a function, and its arguments."""
     count = len(task.targets)
     old, new = (1, 0), (0, count)
     yield "killed", surviving.killed
     for number in (errno.ENOSPC, errno.EDQUOT):
         for more, how in (("", {}), (" half way", {"SHORT": 1})):
-            yield f"and a write fails by {errno.errorcode[number]}{more}", partial(surviving.failing_writes, **how), number
-    # After the files themselves their directory is synced, when all are replaced.
-    yield "and a sync fails", surviving.failing, "fsync", lambda at: [old if at <= count else (1, count)]
-    yield "and a sync is of no use", surviving.failing, "fsync", lambda at: [old if at <= count else new], errno.EINVAL
-    yield "and a rename fails", surviving.failing, "rename", lambda at: [(1, at - 1)]
-    yield "and a close fails", surviving.failing, "close", lambda at: [new]
-    yield "and no name is drawn", surviving.failing, "getentropy", lambda at: [old]
+            yield f"a write fails with {errno.errorcode[number]}{more}", partial(surviving.failing_writes, **how), number
+    # The files are synced first. Their directory is synced last, when all files are replaced.
+    yield "a sync fails", surviving.failing, "fsync", lambda at: [old if at <= count else (1, count)]
+    yield "a sync is not supported", surviving.failing, "fsync", lambda at: [old if at <= count else new], errno.EINVAL
+    yield "a rename fails", surviving.failing, "rename", lambda at: [(1, at - 1)]
+    yield "a close fails", surviving.failing, "close", lambda at: [new]
+    yield "no random bytes for the name of a temporary file", surviving.failing, "getentropy", lambda at: [old]
     if {*task.targets} & {*task.files}:
-        yield "and no permissions are given", surviving.failing, "fchmod", lambda at: [old]
+        yield "fchmod fails", surviving.failing, "fchmod", lambda at: [old]
     for calls in ("open", "read", "statx readlink"):
-        yield f"and {calls} fails", surviving.failing, calls, lambda at: [old, new]
+        yield f"{calls} fails", surviving.failing, calls, lambda at: [old, new]
     yield "on a full disk", surviving.on_full_disk
-    yield "beyond the size of files", surviving.within_file_size, signal.SIG_DFL, True
-    yield "beyond the size of files, whose signal is ignored", surviving.within_file_size, signal.SIG_IGN
+    yield "the limit on file sizes is exceeded", surviving.within_file_size, signal.SIG_DFL, True
+    yield "the limit on file sizes is exceeded, SIGXFSZ ignored", surviving.within_file_size, signal.SIG_IGN
 
 
 def cases(program, room):
-    """The names of all cases, and what makes each."""
+    """Yields all cases: a name, a function, and its arguments."""
     os.chmod(room, 0o711)
     surviving = Surviving(shutil.copy(program, room), room)
     for task in TASKS:
         for name, run, *given in of_task(surviving, task):
             yield f"{task.name}, {name}", run, task, *given
-    yield "a pair over an older one for its owner alone, killed", surviving.killed, replace(REPLACED_PAIR, mode=0o600)
+    yield "a pair over an older one that only its owner may read, killed", surviving.killed, replace(REPLACED_PAIR, mode=0o600)
     for replaced in OLDER_PAIR:
         def prepare(directory, name=replaced):
             REPLACED_PAIR.make(directory)
@@ -186,8 +191,8 @@ def cases(program, room):
         for name, *row in permission_cases(surviving, prepare, lambda _: KEYGEN, OWNERS):
             yield f"{replaced}: {name}", *row
     for count in (1, 40, 200):
-        yield f"{count} names that are taken", surviving.in_fresh, surviving.taken_names, REPLACED_PAIR, count
-    yield "runs at once", surviving.at_once, NEW_SIGNATURE
-    yield "a program whose path is no UTF-8", surviving.in_fresh, surviving.under_odd_path, NEW_SIGNATURE
+        yield f"{count} names of temporary files are taken", surviving.in_fresh, surviving.taken_names, REPLACED_PAIR, count
+    yield "concurrent runs", surviving.at_once, NEW_SIGNATURE
+    yield "a program whose path is not UTF-8", surviving.in_fresh, surviving.under_odd_path, NEW_SIGNATURE
     for command in ("verify", "cat", "verify-raw"):
         yield f"{command} of large data with a legacy signature", surviving.legacy_within, command

@@ -1,5 +1,4 @@
-"""What the cases of all commands of `minisign_tool` have in common: what a run says, what it leaves, and in which order it tells what
-is wrong."""
+"""Helpers for the test cases of all commands of `minisign_tool`: expected messages and files, and the order of errors."""
 
 import itertools
 import os
@@ -12,67 +11,70 @@ from toy import READING_FAILED, WARNING
 
 
 def command(name, arguments, said, status=None, stderr=None, **how):
-    """A case in which these lines are said, after the warning where the error stream takes all, and which ends badly where the last of
-    them is an error, or as is said."""
+    """Returns a case that expects the warning and these lines on standard error; only these lines if `stderr` is given. The expected exit
+    status is 1 if the last line is an error and 0 otherwise, unless it is given."""
     status = (1 if said and said[-1].startswith("error: ") else 0) if status is None else status
     return Case(name, arguments, status, [*said] if stderr else [WARNING, *said], stderr=stderr, **how)
 
 
-def untold(cases, **how):
-    """These cases where the error stream takes nothing, and what differs then."""
-    return [replace(case, name=f"{case.name}, and for errors {errors}", lines=[], stderr=errors, **how)
-            for errors in (CLOSED, FULL, NO_READER) for case in cases]
+def without_stderr(cases, **how):
+    """Returns these cases with a standard error that takes nothing. `how` is what then differs."""
+    return [replace(case, name=f"{case.name}, stderr is {stderr}", lines=[], stderr=stderr, **how)
+            for stderr in (CLOSED, FULL, NO_READER) for case in cases]
 
 
 def opening(file, what, data):
-    """A phase of `in_order`: a file is opened."""
+    """Returns a phase of `in_order` in which a file is opened."""
     return file, [(f"missing {what}", MISSING, READING_FAILED), (f"unreadable {what}", unreadable(data), READING_FAILED)]
 
 
 def in_order(make, *phases):
-    """A run does one thing after the other, and what is wrong first is told. Each phase is of a file, and says what stands there that is
-    wrong then, and how that is told; the first phase of a file that has several opens it, and the next one reads it. The cases: each
-    thing that is wrong, alone, with each later one of another file, and with a pipe that nobody feeds in the place of another file,
-    which has to be opened in its turn and is not waited for."""
-    faults = [(at, file, *wrong) for at, (file, all_wrong) in enumerate(phases) for wrong in all_wrong]
-    turns = {file: [at for at, (other, _) in enumerate(phases) if other == file] for file, _ in phases}
+    """Yields cases for the order in which a command opens, reads and checks its files: it reports the first error.
+
+    A phase is a file and its possible faults in that phase: a name, the content, and the error. The first phase of a file opens it, and
+    the second one, if there is one, reads it. There is a case for each fault alone, for each fault with each later one of another file,
+    and for each fault with a named pipe, to which nobody writes, as another file: it must be opened only in its turn, and not read."""
+    faults = [(at, file, *fault) for at, (file, file_faults) in enumerate(phases) for fault in file_faults]
+    turns = {file: [at for at, (phase_file, _) in enumerate(phases) if phase_file == file] for file, _ in phases}
     for at, file, what, held, line in faults:
         yield make(what, line, files={file: held})
-        for other, (opened, *later) in turns.items():
-            if other != file and later and at < later[0]:
+        for other_file, (opened, *later) in turns.items():
+            if other_file != file and later and at < later[0]:
                 name, pipe = ("opened", UNOPENED_PIPE) if at < opened else ("read", OPENED_PIPE)
-                yield make(f"{what} before {other} is {name}", line, files={file: held, other: pipe})
-    for (_, file, what, held, line), (_, other, what_else, held_there, _) in itertools.combinations(faults, 2):
-        if file != other:
-            yield make(f"{what} before {what_else}", line, files={file: held, other: held_there})
+                yield make(f"{what} before {other_file} is {name}", line, files={file: held, other_file: pipe})
+    for (_, file, what, held, line), (_, later_file, later_what, later_held, _) in itertools.combinations(faults, 2):
+        if file != later_file:
+            yield make(f"{what} before {later_what}", line, files={file: held, later_file: later_held})
 
 
-def refusing(lines, *rows, **how):
-    """Each allocation of these cases fails, alone and with all after it, and one of these lines is said."""
+def out_of_memory(lines, *named_cases, **how):
+    """Returns these cases with each allocation failing in turn, alone or with all after it. They expect these lines."""
     return [replace(case, name=f"{name}, and {many} failing", lines=lines, rejecting=rejecting, **how)
-            for name, case in rows for rejecting, many in toy.REJECTING]
+            for name, case in named_cases for rejecting, many in toy.REJECTING]
 
 
 class Leaves:
-    """Looks at the directory that a run leaves. Each file has these bytes, or what judges them, or is such a link, or an empty directory,
-    and some have these modes; nothing else is there, but files that may be anything. A last judge gets all that `files_in` found."""
+    """Checks the directory that a run leaves.
+
+    `files` maps names to contents, to functions that check the content, to links, or to DIRECTORY. `modes` maps names to modes. No other
+    files may exist, except those in `others`, which may have any content. `judge` gets the result of `files_in`."""
 
     def __init__(self, files, modes=None, others=(), judge=None):
         self.files, self.modes, self.others, self.judge = files, modes or {}, {*others}, judge
 
     def __call__(self, directory):
-        found = files_in(directory)
-        # (a directory in which something stands is named by that)
-        names = {*found} - {os.path.dirname(name) for name in found}
+        left = files_in(directory)
+        # Only empty directories count; others are named by their files.
+        names = {*left} - {os.path.dirname(name) for name in left}
         expect(names >= {*self.files} - self.others and names <= {*self.files} | self.others,
-               f"it left {sorted(names)} in place of {sorted(self.files)}")
+               f"the run left {sorted(names)}, expected {sorted(self.files)}")
         for name, mode in self.modes.items():
-            expect(found[name][0] == mode, f"{name} has the mode {found[name][0]:o} in place of {mode:o}")
-        for name, wanted in self.files.items():
-            held = found[name][1]
-            if callable(wanted) and isinstance(held, bytes):
-                wanted(held)
-            elif wanted not in (DIRECTORY, LOCKED):
-                expect(held == wanted, f"{name} holds {held!r:.200} in place of {wanted!r:.200}")
+            expect(left[name][0] == mode, f"{name} has the mode {left[name][0]:o}, expected {mode:o}")
+        for name, expected in self.files.items():
+            held = left[name][1]
+            if callable(expected) and isinstance(held, bytes):
+                expected(held)
+            elif expected not in (DIRECTORY, LOCKED):
+                expect(held == expected, f"{name} contains {held!r:.200}, expected {expected!r:.200}")
         if self.judge:
-            self.judge(found)
+            self.judge(left)

@@ -1,4 +1,5 @@
-"""Runs of `verify` and `cat`, which take the same files, and of `verify-raw`: their answers, and what `cat` copies."""
+"""Test cases for `minisign_tool verify` and `cat`, which take the same files, and for `verify-raw`, which real_runs.py runs:
+their messages, and the data that `cat` copies."""
 
 import os
 from dataclasses import replace
@@ -6,7 +7,7 @@ from dataclasses import replace
 import toy
 from running import (CLOSED, DIRECTORY, FULL, MISSING, WRITE_ONLY, FromFile, IntoFile, Link, OneOf, Pieces, Pipe, PrefixOf, ReadLate,
                      RoomFor, SecondName, write)
-from tool_cases import Leaves, command, in_order, opening, refusing, untold
+from tool_cases import Leaves, command, in_order, opening, out_of_memory, without_stderr
 from toy import NOT_UTF8, OUT_OF_MEMORY, READING_FAILED, TOO_SHORT, WARNING, WRITING_FAILED
 
 VERIFIED_RAW = "Signature and comment signature verified\n"
@@ -26,31 +27,31 @@ INPUT_IS_OUTPUT = "error: input file is output file\n"
 PK, FILE, SIG = "key.pub", "data", "data.minisig"
 GOOD = {PK: toy.public_text(), FILE: b"abc", SIG: toy.signature_text(b"abc")}
 NO_TEXT = b"untrusted comment: \xff\n"
-# A key of another identifier, and lengths of data.
+# A key with another key ID, and lengths of data.
 OTHER_KEY = toy.public_text(keynum=toy.OTHER_KEYNUM)
 LENGTHS = (0, 1, 127, 128, 129, 65535, 65536, 65537, 131073, 5_000_000)
-# For errors there is room for the warning and five bytes more.
+# Standard error takes only the warning and five more bytes.
 CUT_SHORT = {"status": 1, "stderr": RoomFor(len(WARNING) + 5)}
 
 
 def verify(name, *said, files=None, arguments=(PK, FILE, SIG), **how):
-    """A case of `verify`, whose files are good where it says nothing else."""
+    """Returns a case of `verify`. `files` replaces good files."""
     return command(name, ["verify", *arguments], said, files={**GOOD, **(files or {})}, **how)
 
 
 def cat(name, *said, output=b"", **how):
-    """A case of `cat`, with the files of `verify`."""
+    """Returns a case of `cat`, with the same default files as `verify`."""
     return as_cat(verify(name, *said, **how), output)
 
 
 def as_cat(case, output=None):
-    """The same case of `cat`, with this output; else it copies the data where it ends with success."""
+    """Turns a case of `verify` into one of `cat`. By default it has to copy the data if it succeeds."""
     output = (case.files[FILE] if case.status == 0 else b"") if output is None else output
     return replace(case, arguments=["cat", *case.arguments[1:]], output=output)
 
 
 def signed(data=b"abc", **how):
-    """The data and a signature of it, of which this is otherwise than it has to be."""
+    """Returns the files for data and its signature. `how` changes parts of the signature."""
     return {FILE: data, SIG: toy.signature_text(data, **how)}
 
 
@@ -59,12 +60,12 @@ COMMENT = toy.signature_of(RECORD[10:] + b"t")
 FIRST, SECOND, THIRD, FOURTH = GOOD[SIG].splitlines(keepends=True)
 LARGE = toy.some_data(300_000)
 
-# The verdicts: what the files are, and what is said.
+# A name, the files, and the message.
 VERDICTS = [
     ("a good signature", {}, VERIFIED),
     ("no data", {FILE: b""}, REJECTED),
     ("more data", {FILE: b"abc\n"}, REJECTED),
-    ("a letter more", {FILE: b"abcd"}, REJECTED),
+    ("one more letter", {FILE: b"abcd"}, REJECTED),
     ("a changed signature", signed(record=toy.turned(RECORD)), REJECTED),
     ("a changed trusted comment", {SIG: GOOD[SIG].replace(b"comment: t\n", b"comment: u\n")}, COMMENT_REJECTED),
     ("a changed comment signature", signed(comment_signature=toy.turned(COMMENT)), COMMENT_REJECTED),
@@ -73,32 +74,33 @@ VERDICTS = [
     ("another untrusted comment", signed(untrusted=b"u"), VERIFIED),
     ("another key", {PK: toy.public_text(key=b"z" * 32)}, REJECTED),
     ("a signature of the data itself", signed(record=toy.signature_record(b"abc", algorithm=b"Ed")), LEGACY),
-    ("a trusted comment of more than a byte a letter", signed(trusted="\u00e4 \U0001f511".encode()), VERIFIED[:-2] + "\u00e4 \U0001f511\n"),
+    ("a trusted comment with characters of several bytes", signed(trusted="\u00e4 \U0001f511".encode()),
+     VERIFIED[:-2] + "\u00e4 \U0001f511\n"),
     *((f"data of {length} bytes", signed(toy.some_data(length)), VERIFIED) for length in LENGTHS),
-    # The texts are read whole, and have to be UTF-8.
+    # Key and signature files are read completely, and have to be UTF-8.
     ("a key of one line", {PK: b"c\n"}, NO_ENCODED_KEY),
     ("a raw key", {PK: toy.RECORD}, NO_ENCODED_KEY),
     ("a short record of a signature", signed(record=RECORD[:73]), TOO_SHORT),
-    ("a key that ends inside a letter", {PK: GOOD[PK] + b"\xc3"}, NOT_UTF8),
-    ("a signature that ends inside a letter", {SIG: GOOD[SIG] + b"\xf0\x9f\x94"}, NOT_UTF8),
+    ("a key that ends inside a character", {PK: GOOD[PK] + b"\xc3"}, NOT_UTF8),
+    ("a signature that ends inside a character", {SIG: GOOD[SIG] + b"\xf0\x9f\x94"}, NOT_UTF8),
     ("key and signature swapped", {PK: GOOD[SIG], SIG: GOOD[PK]}, NO_BASE64 + "\n"),
-    ("a key that is no base64", {PK: GOOD[PK][:-2] + b"!\n"}, NO_BASE64 + ": invalid base64\n"),
+    ("a key that is not base64", {PK: GOOD[PK][:-2] + b"!\n"}, NO_BASE64 + ": invalid base64\n"),
     ("a signature of one line", {SIG: FIRST}, "error: Missing signature\n"),
     ("a signature of two lines", {SIG: FIRST + SECOND}, "error: Missing trusted comment\n"),
     ("a signature of three lines", {SIG: FIRST + SECOND + THIRD}, "error: Missing global signature\n"),
     ("a signature without the label of its comment", {SIG: b"c\n" + SECOND + THIRD + FOURTH},
      "error: Untrusted comment must start with: untrusted comment: \n"),
-    ("a signature that is no base64", {SIG: FIRST + b"!" + SECOND[1:] + THIRD + FOURTH}, "error: invalid base64\n"),
+    ("a signature that is not base64", {SIG: FIRST + b"!" + SECOND[1:] + THIRD + FOURTH}, "error: invalid base64\n"),
     ("a signature without the label of its trusted comment", {SIG: FIRST + SECOND + b"t\n" + FOURTH},
      "error: Trusted comment should start with: trusted comment: \n"),
     ("a signature of an unknown algorithm", signed(record=toy.signature_record(b"abc", algorithm=b"Ex")), UNSUPPORTED),
     ("lines that end with carriage return and line feed", {name: GOOD[name].replace(b"\n", b"\r\n") for name in (PK, SIG)}, VERIFIED),
     ("more lines", {PK: GOOD[PK] + b"more", SIG: GOOD[SIG] + b"more\n" * 20_000}, VERIFIED),
-    ("a last line that is not ended", {PK: GOOD[PK][:-1], SIG: GOOD[SIG][:-1]}, VERIFIED),
+    ("last lines without a line feed", {PK: GOOD[PK][:-1], SIG: GOOD[SIG][:-1]}, VERIFIED),
 ]
 
-# The cases that both commands have. The files are opened in the order of the arguments, and nothing is read before all are open. The key
-# is read first, then the signature, then both are judged, and then the data is read.
+# The cases for both commands. The files are opened in the order of the arguments, and nothing is read before all are open. First the key
+# is read, then the signature, then both are checked, and then the data is read.
 BOTH = [
     *(verify(name, line, files=files) for name, files, line in VERDICTS),
     *in_order(
@@ -106,28 +108,28 @@ BOTH = [
         opening(PK, "key", GOOD[PK]),
         opening(FILE, "data", GOOD[FILE]),
         opening(SIG, "signature", GOOD[SIG]),
-        (PK, [("a directory as key", DIRECTORY, READING_FAILED), ("a key that is no UTF-8", NO_TEXT, NOT_UTF8)]),
-        (SIG, [("a directory as signature", DIRECTORY, READING_FAILED), ("a signature that is no UTF-8", NO_TEXT, NOT_UTF8)]),
+        (PK, [("a directory as key", DIRECTORY, READING_FAILED), ("a key that is not UTF-8", NO_TEXT, NOT_UTF8)]),
+        (SIG, [("a directory as signature", DIRECTORY, READING_FAILED), ("a signature that is not UTF-8", NO_TEXT, NOT_UTF8)]),
         (PK, [("an empty key", b"", NO_PUBLIC_KEY)]),
         (SIG, [("an empty signature", b"", NO_SIGNATURE)]),
         (FILE, [("a directory as data", DIRECTORY, READING_FAILED)]),
-        (PK, [("another identifier", OTHER_KEY, OTHER_KEYNUM)]),
+        (PK, [("another key ID", OTHER_KEY, OTHER_KEYNUM)]),
         (FILE, [("other data", b"abd", REJECTED)])),
 ]
 
 
-def over_streams(make, *rows):
-    """Cases of these files where input or output is closed, or neither."""
-    return [make(f"{what}, input {stdin}, output {stdout}", *said, files=files, stdin=stdin, stdout=stdout)
+def over_streams(make, *cases):
+    """Returns the cases with standard input closed or empty, and standard output closed or open."""
+    return [make(f"{what}, stdin {stdin or 'empty'}, stdout {stdout or 'open'}", *said, files=files, stdin=stdin, stdout=stdout)
             for stdin, stdout in [(b"", None), (CLOSED, None), (b"", CLOSED), (CLOSED, CLOSED)]
-            for what, files, *said in rows]
+            for what, files, *said in cases]
 
 
-def in_memory(make, *more_lines):
-    """Each allocation fails."""
-    rows = [("a good signature", {}), ("other data", {FILE: b"abd"}), ("an empty key", {PK: b""})]
-    return refusing(OneOf(([WARNING, OUT_OF_MEMORY], *more_lines)), *((name, make("", OUT_OF_MEMORY, files=files)) for name, files in rows),
-                    output=PrefixOf(b"abc"))
+def failing_allocations(make, *more_lines):
+    """Returns cases in which each allocation fails."""
+    named_files = [("a good signature", {}), ("other data", {FILE: b"abd"}), ("an empty key", {PK: b""})]
+    return out_of_memory(OneOf(([WARNING, OUT_OF_MEMORY], *more_lines)),
+                         *((name, make("", OUT_OF_MEMORY, files=files)) for name, files in named_files), output=PrefixOf(b"abc"))
 
 
 VERIFY = [
@@ -135,21 +137,21 @@ VERIFY = [
     verify("data from a pipe", VERIFIED, files={FILE: Pipe(b"abc")}),
     verify("large data from a pipe", VERIFIED, files={FILE: Pipe(LARGE), SIG: toy.signature_text(LARGE)}),
     verify("other data from a pipe", REJECTED, files={FILE: Pipe(b"abd")}),
-    verify("texts from pipes", VERIFIED, files={PK: Pipe(GOOD[PK]), SIG: Pipe(GOOD[SIG])}),
+    verify("key and signature from pipes", VERIFIED, files={PK: Pipe(GOOD[PK]), SIG: Pipe(GOOD[SIG])}),
     *over_streams(verify, ("a good signature", {}, VERIFIED))[1:],
-    verify("a good signature, and a full output", VERIFIED, stdout=FULL),
-    *untold(over_streams(verify, ("a good signature", {}), ("missing data", {FILE: MISSING})), status=1),
-    *in_memory(verify),
+    verify("a good signature, stdout full", VERIFIED, stdout=FULL),
+    *without_stderr(over_streams(verify, ("a good signature", {}), ("missing data", {FILE: MISSING})), status=1),
+    *failing_allocations(verify),
 ]
 
 
 def holding(name, data):
-    """What is left is what was there, and of it this file has these bytes."""
+    """Expects this content of a file, and no new file."""
     return Leaves({name: data}, others={*GOOD, "other"} - {name})
 
 
 APPEND = os.O_WRONLY | os.O_APPEND
-# Data that another process changes.
+# Data that changes between the two readings.
 LONG = toy.some_data(2_000_000)
 CHANGED = toy.turned(LONG)
 
@@ -163,63 +165,62 @@ def write_at(path, at, data):
 CAT = [
     *map(as_cat, BOTH),
     cat("data from a pipe", GOING_BACK_FAILED, files={FILE: Pipe(b"abc")}),
-    cat("data from a pipe before another identifier", GOING_BACK_FAILED, files={PK: OTHER_KEY, FILE: Pipe(b"abc")}),
+    cat("data from a pipe before another key ID", GOING_BACK_FAILED, files={PK: OTHER_KEY, FILE: Pipe(b"abc")}),
     cat("an empty signature before data from a pipe", NO_SIGNATURE, files={SIG: b"", FILE: Pipe(b"abc")}),
-    cat("texts from pipes", VERIFIED, files={PK: Pipe(GOOD[PK]), SIG: Pipe(GOOD[SIG])}, output=b"abc"),
-    # An output that cannot be written is told after the status.
-    cat("a closed input", VERIFIED, output=b"abc", stdin=CLOSED),
-    cat("room for two bytes of the copy", VERIFIED, WRITING_FAILED, output=b"ab", stdout=RoomFor(2)),
-    cat("for errors little room", WARNING + VERIFIED[:5], **CUT_SHORT),
-    *(cat(f"{what}, input {stdin}, and as output {stdout}", *said, files=files, stdin=stdin, stdout=stdout)
+    cat("key and signature from pipes", VERIFIED, files={PK: Pipe(GOOD[PK]), SIG: Pipe(GOOD[SIG])}, output=b"abc"),
+    # A failed write of the copy is reported after the status.
+    cat("stdin closed", VERIFIED, output=b"abc", stdin=CLOSED),
+    cat("stdout takes two bytes", VERIFIED, WRITING_FAILED, output=b"ab", stdout=RoomFor(2)),
+    cat("stderr takes five bytes after the warning", WARNING + VERIFIED[:5], **CUT_SHORT),
+    *(cat(f"{what}, stdin {stdin or 'empty'}, stdout {stdout}", *said, files=files, stdin=stdin, stdout=stdout)
       for stdout in (CLOSED, FULL) for stdin in (b"", CLOSED)
       for what, files, *said in (("a good signature", {}, VERIFIED, WRITING_FAILED), ("no data", signed(b""), VERIFIED),
                                  ("other data", {FILE: b"abd"}, REJECTED))),
-    *untold(over_streams(cat, ("a good signature", {})), status=1),
-    # Data from the file that standard output leads into is rejected before anything is read or written, and after all files were opened.
-    # Another file takes the copy.
+    *without_stderr(over_streams(cat, ("a good signature", {})), status=1),
+    # If standard output is the data's own file, this is reported after all files were opened and before anything is read or written.
     *(cat(name, said, files=files, arguments=(PK, data, SIG), stdout=IntoFile(into, flags), left=holding(FILE, left))
       for name, said, data, into, flags, files, left in [
-          ("its own data appended to", INPUT_IS_OUTPUT, FILE, FILE, APPEND, {}, b"abc"),
-          ("its own data written over", INPUT_IS_OUTPUT, FILE, FILE, os.O_RDWR, {}, b"abc"),
-          ("its own data cut to nothing before", INPUT_IS_OUTPUT, FILE, FILE, APPEND | os.O_TRUNC, {}, b""),
-          ("its own data written by a second name", INPUT_IS_OUTPUT, FILE, "other", APPEND, {"other": SecondName(FILE)}, b"abc"),
-          ("its own data written through a link", INPUT_IS_OUTPUT, FILE, "other", APPEND, {"other": Link(FILE)}, b"abc"),
-          ("data of a link appended to", INPUT_IS_OUTPUT, "other", FILE, APPEND, {"other": Link(FILE)}, b"abc"),
-          ("its own data appended to before an empty key", INPUT_IS_OUTPUT, FILE, FILE, APPEND, {PK: b""}, b"abc"),
-          ("a missing signature before its own data appended to", READING_FAILED, FILE, FILE, APPEND, {SIG: MISSING}, b"abc")]),
-    cat("another file appended to", VERIFIED, files={"other": b"abc"}, stdout=IntoFile("other", APPEND), left=holding("other", b"abcabc")),
-    # It is changed while it is copied: after the status was written, and before more than some pieces could be copied, since nobody reads
-    # the output until then.
-    *(cat(f"between the passes {name}", VERIFIED, *([] if output == LONG else [DATA_CHANGED]), files=signed(LONG), output=output,
+          ("stdout appends to the data", INPUT_IS_OUTPUT, FILE, FILE, APPEND, {}, b"abc"),
+          ("stdout overwrites the data", INPUT_IS_OUTPUT, FILE, FILE, os.O_RDWR, {}, b"abc"),
+          ("stdout truncated the data", INPUT_IS_OUTPUT, FILE, FILE, APPEND | os.O_TRUNC, {}, b""),
+          ("stdout is a second name of the data", INPUT_IS_OUTPUT, FILE, "other", APPEND, {"other": SecondName(FILE)}, b"abc"),
+          ("stdout is the data through a link", INPUT_IS_OUTPUT, FILE, "other", APPEND, {"other": Link(FILE)}, b"abc"),
+          ("the data is a link to stdout", INPUT_IS_OUTPUT, "other", FILE, APPEND, {"other": Link(FILE)}, b"abc"),
+          ("stdout appends to the data, before an empty key", INPUT_IS_OUTPUT, FILE, FILE, APPEND, {PK: b""}, b"abc"),
+          ("a missing signature, before stdout appends to the data", READING_FAILED, FILE, FILE, APPEND, {SIG: MISSING}, b"abc")]),
+    cat("stdout appends to another file", VERIFIED, files={"other": b"abc"}, stdout=IntoFile("other", APPEND),
+        left=holding("other", b"abcabc")),
+    # The data is changed while it is copied: after the status was written, and before more than a pipe holds could be copied, because the
+    # output is not read until then.
+    *(cat(f"while it is copied, {name}", VERIFIED, *([] if output == LONG else [DATA_CHANGED]), files=signed(LONG), output=output,
           stdout=ReadLate(2, lambda directory, change=change: change(os.path.join(directory, FILE))))
       for name, change, output in [
-          ("its last byte is changed", lambda path: write_at(path, len(LONG) - 1, CHANGED[-1:]), CHANGED),
-          ("it is cut by a byte", lambda path: os.truncate(path, len(LONG) - 1), LONG[:-1]),
-          ("half of it is cut", lambda path: os.truncate(path, 1_000_000), LONG[:1_000_000]),
-          ("more is appended", lambda path: write_at(path, len(LONG), b"more"), LONG + b"more"),
-          ("nothing is changed", lambda path: None, LONG),
-          ("another file takes its name", lambda path: os.replace(write("", path + ".new", CHANGED), path), LONG),
-          ("its name is taken away", os.unlink, LONG)]),
-    *in_memory(cat, [WARNING, VERIFIED, OUT_OF_MEMORY]),
+          ("the data's last byte changes", lambda path: write_at(path, len(LONG) - 1, CHANGED[-1:]), CHANGED),
+          ("the data loses a byte", lambda path: os.truncate(path, len(LONG) - 1), LONG[:-1]),
+          ("the data loses its second half", lambda path: os.truncate(path, 1_000_000), LONG[:1_000_000]),
+          ("the data grows", lambda path: write_at(path, len(LONG), b"more"), LONG + b"more"),
+          ("nothing changes", lambda path: None, LONG),
+          ("another file replaces the data", lambda path: os.replace(write("", path + ".new", CHANGED), path), LONG),
+          ("the data is removed", os.unlink, LONG)]),
+    *failing_allocations(cat, [WARNING, VERIFIED, OUT_OF_MEMORY]),
 ]
 
 
 # == verify-raw ==
 
 KEY = toy.RECORD
-# The signature of `abc` under that key by its digest, with a first half of zeros.
+# The prehashed signature of `abc` by this key, with a first half of zeros.
 SIGNATURE = b"ED" + toy.KEYNUM + bytes(32) + bytes.fromhex("9d5d3a5ce8ed6e7af22f1832807b60260ea8ffe6e9f10cb7a86b67d855a561a8")
 UNKNOWN, SAYS_LEGACY = b"Ex" + SIGNATURE[2:], b"Ed" + SIGNATURE[2:]
 
 
 def verify_raw(name, *said, files=None, arguments=(PK, SIG), **how):
-    """A case of `verify-raw`, whose files are a good key and a good signature of `abc` where it names no others. The data comes by
-    standard input."""
+    """Returns a case of `verify-raw`, by default with a good key, a good signature, and the data `abc`. The data is standard input."""
     files = {PK: KEY, SIG: SIGNATURE, FILE: b"abc", **(files or {})}
     return command(name, ["verify-raw", *arguments], said, stdin=files.pop(FILE), files=files, **how)
 
 
-# Data that comes byte by byte, in pieces, and much of it.
+# Data that comes byte by byte or in pieces, and large data.
 BY_BYTES = Pieces((b"a", b"b", b"c"))
 PIECES = (toy.some_data(1), toy.some_data(70_000), toy.some_data(128), toy.some_data(3))
 MUCH = toy.some_data(32_000_000)
@@ -227,7 +228,7 @@ OF_MUCH = toy.signature_record(MUCH)
 
 RAW = [
     *(verify_raw(name, line, files=files) for name, files, line in (
-        ("the first run", {}, VERIFIED_RAW),
+        ("a good signature", {}, VERIFIED_RAW),
         ("other data", {FILE: b"abd"}, REJECTED),
         ("no data", {FILE: b""}, REJECTED),
         ("more data", {FILE: b"abc\n"}, REJECTED),
@@ -238,12 +239,12 @@ RAW = [
         ("a longer key", {PK: KEY + b"\xff"}, VERIFIED_RAW),
         ("an empty signature", {SIG: b""}, TOO_SHORT),
         ("a longer signature", {SIG: SIGNATURE + b"\xff"}, VERIFIED_RAW),
-        ("a far longer signature", {SIG: SIGNATURE + bytes(200_000)}, VERIFIED_RAW),
+        ("a much longer signature", {SIG: SIGNATURE + bytes(200_000)}, VERIFIED_RAW),
         ("a short signature of an unknown algorithm", {SIG: UNKNOWN[:73]}, TOO_SHORT),
         ("data that cannot be read", {FILE: WRITE_ONLY}, READING_FAILED),
-        ("a closed input", {FILE: CLOSED}, READING_FAILED))),
-    # The key is opened first, then the signature, and nothing is read before both are open. The key is read first, then the signature,
-    # then both are tested, and then the data is read.
+        ("stdin closed", {FILE: CLOSED}, READING_FAILED))),
+    # The key is opened first, then the signature, and nothing is read before both are open. Then the key is read, then the signature, then
+    # both are checked, and then the data is read.
     *in_order(
         verify_raw,
         opening(PK, "key", KEY),
@@ -253,15 +254,15 @@ RAW = [
         (PK, [("a short key", KEY[:41], TOO_SHORT)]),
         (SIG, [("a short signature", SIGNATURE[:73], TOO_SHORT), ("an unknown algorithm", UNKNOWN, UNSUPPORTED)]),
         (FILE, [("a directory as data", DIRECTORY, READING_FAILED)]),
-        (PK, [("another identifier", toy.OTHER_RECORD, OTHER_KEYNUM)]),
-        (SIG, [("a signature that only says it is of the data itself", SAYS_LEGACY, LEGACY),
+        (PK, [("another key ID", toy.OTHER_RECORD, OTHER_KEYNUM)]),
+        (SIG, [("a prehashed signature with the algorithm of a legacy signature", SAYS_LEGACY, LEGACY),
                ("a changed signature", toy.turned(SIGNATURE), REJECTED)])),
-    # Each read fails in turn, also the one that finds the end: of the key, of the signature and of data that comes byte by byte. That comes
-    # before any verdict, and with a short key before the bytes of the two files are tested.
+    # Each read of the key, of the signature and of data that comes byte by byte fails in turn, including the one that finds the end. This
+    # is reported before any verdict, and with a short key before the contents of the two files are checked.
     *(verify_raw(f"{name}, and a read fails", READING_FAILED, files={PK: key, FILE: BY_BYTES}, breaking="read")
-      for name, key in (("good data", KEY), ("another identifier", toy.OTHER_RECORD), ("a short key", KEY[:41]))),
-    # Names of files are taken as they stand.
-    *(verify_raw(f"a file of the name {name[:20]!r}", VERIFIED_RAW,
+      for name, key in (("good data", KEY), ("another key ID", toy.OTHER_RECORD), ("a short key", KEY[:41]))),
+    # File names are used unchanged.
+    *(verify_raw(f"a file named {name[:20]!r}", VERIFIED_RAW,
                  files={name: KEY, PK: b""} if "/" not in name else {}, arguments=(name, SIG))
       for name in (" key ", "-", "--help", "sch\u00fcssel \U0001f511", "two\nlines", "./" + PK, "a\\b", "$HOME", "k" * 255)),
     *(verify_raw(name, line, arguments=arguments) for name, line, *arguments in (
@@ -271,7 +272,7 @@ RAW = [
         ("a path that is too long", READING_FAILED, "./" * 10_000 + PK, SIG),
         ("one file as key and signature", TOO_SHORT, PK, PK),
         ("key and signature swapped", TOO_SHORT, SIG, PK))),
-    # Data of many lengths, and however it comes.
+    # Data of many lengths, in one or several reads.
     *(verify_raw(f"data of {len(data)} bytes", VERIFIED_RAW, files={SIG: toy.signature_record(data), FILE: data})
       for data in map(toy.some_data, (*LENGTHS[:8], 256, 257, 131072, 131073))),
     *(verify_raw(name, line, files={FILE: data, SIG: signature}) for name, data, signature, line in (
@@ -279,15 +280,15 @@ RAW = [
         ("data in pieces", Pieces(PIECES), toy.signature_record(b"".join(PIECES)), VERIFIED_RAW),
         ("data from a file", FromFile(b"abc"), SIGNATURE, VERIFIED_RAW),
         ("no data from a file", FromFile(b""), SIGNATURE, REJECTED),
-        ("much data", MUCH, OF_MUCH, VERIFIED_RAW),
-        ("much data from a file", FromFile(MUCH), OF_MUCH, VERIFIED_RAW),
-        ("much data and a byte more", MUCH + b"\0", OF_MUCH, REJECTED))),
-    # Only a status line that cannot be written changes the exit status.
-    *untold([verify_raw(name, files=files) for name, files in (
+        ("large data", MUCH, OF_MUCH, VERIFIED_RAW),
+        ("large data from a file", FromFile(MUCH), OF_MUCH, VERIFIED_RAW),
+        ("large data and one more byte", MUCH + b"\0", OF_MUCH, REJECTED))),
+    # Of all messages only a status line that cannot be written changes the exit status.
+    *without_stderr([verify_raw(name, files=files) for name, files in (
         ("good data", {}), ("other data", {FILE: b"abd"}), ("a missing key", {PK: MISSING}))], status=1),
-    *(verify_raw(f"good data, and as output {stdout}", VERIFIED_RAW, stdout=stdout) for stdout in (CLOSED, FULL)),
-    verify_raw("for errors little room", WARNING + VERIFIED_RAW[:5], **CUT_SHORT),
-    # Each allocation fails, first while the arguments are read.
-    *refusing([WARNING, OUT_OF_MEMORY], ("good data", verify_raw("", OUT_OF_MEMORY)),
+    *(verify_raw(f"good data, stdout {stdout}", VERIFIED_RAW, stdout=stdout) for stdout in (CLOSED, FULL)),
+    verify_raw("stderr takes five bytes after the warning", WARNING + VERIFIED_RAW[:5], **CUT_SHORT),
+    # Each allocation fails. The first ones are made while the arguments are read.
+    *out_of_memory([WARNING, OUT_OF_MEMORY], ("good data", verify_raw("", OUT_OF_MEMORY)),
               ("other data", verify_raw("", OUT_OF_MEMORY, files={FILE: b"abd"})), ("no arguments", command("", [], [OUT_OF_MEMORY]))),
 ]

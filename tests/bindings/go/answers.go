@@ -1,5 +1,5 @@
-// What a program that was written for go-minisign answers to the lines on its standard input: tests/bindings/go.py says what each word
-// asks.
+// A test program that uses the module as go-minisign. It runs the check that its first argument names, most of them on the cases on
+// standard input, and prints the results, which tests/bindings/go.py compares.
 package main
 
 import (
@@ -23,20 +23,20 @@ import (
 type line struct{ key, data, signature []byte }
 
 func lines() []line {
-	var read []line
+	var result []line
 	scanner := bufio.NewScanner(os.Stdin)
 	scanner.Buffer(nil, 1<<24)
 	for scanner.Scan() {
 		var parts [3][]byte
-		for at, digits := range strings.Split(scanner.Text(), " ") {
-			parts[at], _ = hex.DecodeString(strings.Trim(digits, "-"))
+		for index, digits := range strings.Split(scanner.Text(), " ") {
+			parts[index], _ = hex.DecodeString(strings.Trim(digits, "-"))
 		}
-		read = append(read, line{parts[0], parts[1], parts[2]})
+		result = append(result, line{parts[0], parts[1], parts[2]})
 	}
-	return read
+	return result
 }
 
-// pieces gives data in pieces of one length, or of lengths that grow.
+// pieces is a reader that returns data in pieces of one length, or of lengths that grow by 1.
 type pieces struct {
 	rest []byte
 	next int
@@ -58,6 +58,7 @@ func (from *pieces) Read(to []byte) (int, error) {
 	return length, nil
 }
 
+// A way verifies data.
 type way func(key *minisign.PublicKey, data []byte, signature minisign.Signature) (bool, error)
 
 func atOnce(key *minisign.PublicKey, data []byte, signature minisign.Signature) (bool, error) {
@@ -74,42 +75,42 @@ func inPieces(length int) way {
 	}
 }
 
-// fromFile has files read: the key, the signature and the data.
+// fromFile reads the key, the signature and the data from files.
 func fromFile(directory string) way {
 	return func(_ *minisign.PublicKey, data []byte, signature minisign.Signature) (bool, error) {
 		key, err := minisign.NewPublicKeyFromFile(filepath.Join(directory, "key"))
 		if err != nil {
 			return false, err
 		}
-		read, err := minisign.NewSignatureFromFile(filepath.Join(directory, "signature"))
-		if err != nil || read != signature {
+		fileSignature, err := minisign.NewSignatureFromFile(filepath.Join(directory, "signature"))
+		if err != nil || fileSignature != signature {
 			return false, fmt.Errorf("another signature: %w", err)
 		}
 		if err := os.WriteFile(filepath.Join(directory, "data"), data, 0o644); err != nil {
 			return false, err
 		}
-		return key.VerifyFromFile(filepath.Join(directory, "data"), read)
+		return key.VerifyFromFile(filepath.Join(directory, "data"), fileSignature)
 	}
 }
 
-func verify(given line, how way) (string, error) {
-	key, err := minisign.DecodePublicKey(string(given.key))
+func verify(testCase line, verifyData way) (string, error) {
+	key, err := minisign.DecodePublicKey(string(testCase.key))
 	if err != nil {
 		return "", err
 	}
-	signature, err := minisign.DecodeSignature(string(given.signature))
+	signature, err := minisign.DecodeSignature(string(testCase.signature))
 	if err != nil {
 		return "", err
 	}
-	good, err := how(&key, given.data, signature)
+	good, err := verifyData(&key, testCase.data, signature)
 	if good != (err == nil) {
-		panic("a verdict and an error")
+		panic("the verdict and the error differ")
 	}
 	return strings.TrimPrefix(signature.TrustedComment, "trusted comment: "), err
 }
 
-func answer(given line, how way) string {
-	comment, err := verify(given, how)
+func answer(testCase line, verifyData way) string {
+	comment, err := verify(testCase, verifyData)
 	if err != nil {
 		number, _ := err.(minisign.Error)
 		return fmt.Sprintf("rejected %s %q", number.Name(), err.Error())
@@ -120,13 +121,13 @@ func answer(given line, how way) string {
 	return "accepted " + hex.EncodeToString([]byte(comment))
 }
 
-// reading tells the identifiers of a key and of a signature, and its algorithm: all of it before anything is asked.
-func reading(given line) string {
-	key, err := minisign.DecodePublicKey(string(given.key))
+// fields returns the key IDs of a key and of a signature, and its algorithm, before anything is verified.
+func fields(testCase line) string {
+	key, err := minisign.DecodePublicKey(string(testCase.key))
 	if err != nil {
 		return err.Error()
 	}
-	signature, err := minisign.DecodeSignature(string(given.signature))
+	signature, err := minisign.DecodeSignature(string(testCase.signature))
 	if err != nil {
 		return err.Error()
 	}
@@ -141,15 +142,15 @@ func pages() int {
 	return number
 }
 
-// growth verifies so many times: how many more pages are in memory than after a tenth.
+// growth verifies count times, and returns by how many pages the memory has grown after a tenth of them.
 func growth(cases []line, count int) int {
 	early := 0
 	for number := 0; number < count; number++ {
-		how := way(atOnce)
+		verifyData := way(atOnce)
 		if number%2 == 1 {
-			how = inPieces(7000)
+			verifyData = inPieces(7000)
 		}
-		answer(cases[number/2%len(cases)], how)
+		answer(cases[number/2%len(cases)], verifyData)
 		if number == count/10 {
 			early = pages()
 		}
@@ -157,22 +158,22 @@ func growth(cases []line, count int) int {
 	return pages() - early
 }
 
-// threads has all cases answered by many at once: whether each gets the answers of one alone.
+// threads verifies all cases in many goroutines at once. It returns true if each gets the results of a single one.
 func threads(cases []line) bool {
 	answers := func() string {
 		var all bytes.Buffer
-		for _, given := range cases {
-			fmt.Fprintln(&all, answer(given, atOnce), answer(given, inPieces(1000)))
+		for _, testCase := range cases {
+			fmt.Fprintln(&all, answer(testCase, atOnce), answer(testCase, inPieces(1000)))
 		}
 		return all.String()
 	}
-	alone, same := answers(), make(chan bool, 2*runtime.NumCPU())
+	expected, same := answers(), make(chan bool, 2*runtime.NumCPU())
 	var all sync.WaitGroup
 	for number := 0; number < cap(same); number++ {
 		all.Add(1)
 		go func() {
 			defer all.Done()
-			same <- answers() == alone
+			same <- answers() == expected
 		}()
 	}
 	all.Wait()
@@ -185,11 +186,11 @@ func threads(cases []line) bool {
 }
 
 func main() {
-	how := way(atOnce)
+	verifyData := way(atOnce)
 	switch word := os.Args[1]; word {
 	case "pieces":
 		length, _ := strconv.Atoi(os.Args[2])
-		how = inPieces(length)
+		verifyData = inPieces(length)
 	case "growth":
 		count, _ := strconv.Atoi(os.Args[2])
 		fmt.Println(growth(lines(), count))
@@ -209,16 +210,16 @@ func main() {
 		fmt.Printf("%x %x %v\n", key.KeyId, key.PublicKey, err)
 		return
 	}
-	for _, given := range lines() {
+	for _, testCase := range lines() {
 		if os.Args[1] == "read" {
-			fmt.Println(reading(given))
+			fmt.Println(fields(testCase))
 			continue
 		}
 		if os.Args[1] == "files" {
-			os.WriteFile(filepath.Join(os.Args[2], "key"), given.key, 0o644)
-			os.WriteFile(filepath.Join(os.Args[2], "signature"), given.signature, 0o644)
-			how = fromFile(os.Args[2])
+			os.WriteFile(filepath.Join(os.Args[2], "key"), testCase.key, 0o644)
+			os.WriteFile(filepath.Join(os.Args[2], "signature"), testCase.signature, 0o644)
+			verifyData = fromFile(os.Args[2])
 		}
-		fmt.Println(answer(given, how))
+		fmt.Println(answer(testCase, verifyData))
 	}
 }

@@ -1,8 +1,8 @@
-// What verifying says of a key and a signature that a program has changed, or put together, since it read them. It makes the calls of
-// go-minisign alone: tests/bindings/go.py builds it over that one too.
+// Verifies with keys and signatures whose fields the program has changed or composed. It uses only functions of go-minisign, so
+// tests/bindings/go.py builds it with go-minisign too.
 //
-// It takes the paths of a public key, of data and of a signature, and prints a line for each change: its name, why it has to
-// be rejected, the verdict and the error.
+// The arguments are the paths of a public key, of data and of a signature. For each change it prints its name, the error that it must be
+// rejected with, the verdict, and the error.
 package main
 
 import (
@@ -13,7 +13,7 @@ import (
 	"proved/minisign"
 )
 
-// A change, and the name in minisign.h of why what was changed has to be rejected, or "" where it is good.
+// A change has the name in minisign.h of the error that it must be rejected with, or "" if it must be accepted.
 type change struct {
 	name, why string
 	make      func(key *minisign.PublicKey, signature *minisign.Signature)
@@ -25,7 +25,7 @@ var changes = []change{
 		keys, signatures := []minisign.PublicKey{*key}, map[string]minisign.Signature{"": *signature}
 		*key, *signature = keys[0], signatures[""]
 	}},
-	{"put together from fields", "", func(key *minisign.PublicKey, signature *minisign.Signature) {
+	{"composed from fields", "", func(key *minisign.PublicKey, signature *minisign.Signature) {
 		*key = minisign.PublicKey{SignatureAlgorithm: key.SignatureAlgorithm, KeyId: key.KeyId, PublicKey: key.PublicKey}
 		*signature = minisign.Signature{
 			UntrustedComment: signature.UntrustedComment, SignatureAlgorithm: signature.SignatureAlgorithm,
@@ -44,7 +44,7 @@ var changes = []change{
 	{"a key of zeros", "UNSUPPORTED_ALGORITHM", func(key *minisign.PublicKey, signature *minisign.Signature) { *key = minisign.PublicKey{} }},
 	{"a signature of zeros", "UNTRUSTED_COMMENT_PREFIX", func(key *minisign.PublicKey, signature *minisign.Signature) { *signature = minisign.Signature{} }},
 	{"another algorithm of the key", "UNSUPPORTED_ALGORITHM", func(key *minisign.PublicKey, signature *minisign.Signature) { key.SignatureAlgorithm[1] = 'D' }},
-	{"another identifier of the key", "DIFFERENT_KEY_IDS", func(key *minisign.PublicKey, signature *minisign.Signature) { key.KeyId[7] ^= 1 }},
+	{"another key ID of the key", "DIFFERENT_KEY_IDS", func(key *minisign.PublicKey, signature *minisign.Signature) { key.KeyId[7] ^= 1 }},
 	{"another key", "SIGNATURE_REFUSED", func(key *minisign.PublicKey, signature *minisign.Signature) { key.PublicKey[31] ^= 1 }},
 	{"another untrusted comment", "", func(key *minisign.PublicKey, signature *minisign.Signature) {
 		signature.UntrustedComment = "untrusted comment: other"
@@ -54,31 +54,31 @@ var changes = []change{
 	{"an untrusted comment of two lines", "SIGNATURE_NOT_BASE64", func(key *minisign.PublicKey, signature *minisign.Signature) {
 		signature.UntrustedComment = "untrusted comment: other\nof two lines"
 	}},
-	{"another trusted comment behind a genuine text", "BAD_COMMENT", func(key *minisign.PublicKey, signature *minisign.Signature) {
+	{"another trusted comment after a valid signature file", "BAD_COMMENT", func(key *minisign.PublicKey, signature *minisign.Signature) {
 		text, err := os.ReadFile(os.Args[3])
 		if err != nil {
 			panic(err)
 		}
 		signature.UntrustedComment, signature.TrustedComment = string(text), "trusted comment: other"
 	}},
-	{"the older algorithm", "SIGNATURE_REFUSED", func(key *minisign.PublicKey, signature *minisign.Signature) { signature.SignatureAlgorithm[1] = 'd' }},
+	{"the legacy algorithm", "SIGNATURE_REFUSED", func(key *minisign.PublicKey, signature *minisign.Signature) { signature.SignatureAlgorithm[1] = 'd' }},
 	{"another algorithm", "UNSUPPORTED_ALGORITHM", func(key *minisign.PublicKey, signature *minisign.Signature) { signature.SignatureAlgorithm[0] = 'X' }},
-	{"another identifier", "DIFFERENT_KEY_IDS", func(key *minisign.PublicKey, signature *minisign.Signature) { signature.KeyId[0] ^= 1 }},
+	{"another key ID", "DIFFERENT_KEY_IDS", func(key *minisign.PublicKey, signature *minisign.Signature) { signature.KeyId[0] ^= 1 }},
 	{"another signature", "SIGNATURE_REFUSED", func(key *minisign.PublicKey, signature *minisign.Signature) { signature.Signature[63] ^= 1 }},
 	{"another trusted comment", "COMMENT_SIGNATURE_REFUSED", func(key *minisign.PublicKey, signature *minisign.Signature) {
 		signature.TrustedComment = "trusted comment: other"
 	}},
 	{"a longer trusted comment", "COMMENT_SIGNATURE_REFUSED", func(key *minisign.PublicKey, signature *minisign.Signature) { signature.TrustedComment += "2" }},
-	{"a blank behind the trusted comment", "BAD_COMMENT", func(key *minisign.PublicKey, signature *minisign.Signature) { signature.TrustedComment += " " }},
-	{"a line feed behind the trusted comment", "BAD_COMMENT", func(key *minisign.PublicKey, signature *minisign.Signature) {
+	{"a space after the trusted comment", "BAD_COMMENT", func(key *minisign.PublicKey, signature *minisign.Signature) { signature.TrustedComment += " " }},
+	{"a line feed after the trusted comment", "BAD_COMMENT", func(key *minisign.PublicKey, signature *minisign.Signature) {
 		signature.TrustedComment += "\n"
 	}},
-	{"a carriage return behind the trusted comment", "BAD_COMMENT", func(key *minisign.PublicKey, signature *minisign.Signature) {
+	{"a carriage return after the trusted comment", "BAD_COMMENT", func(key *minisign.PublicKey, signature *minisign.Signature) {
 		signature.TrustedComment += "\r"
 	}},
 	{"no trusted comment", "TRUSTED_COMMENT_PREFIX", func(key *minisign.PublicKey, signature *minisign.Signature) { signature.TrustedComment = "" }},
 	{"another third line", "TRUSTED_COMMENT_PREFIX", func(key *minisign.PublicKey, signature *minisign.Signature) { signature.TrustedComment = "other" }},
-	{"a trusted comment that is no UTF-8", "NOT_UTF8", func(key *minisign.PublicKey, signature *minisign.Signature) {
+	{"a trusted comment that is not UTF-8", "NOT_UTF8", func(key *minisign.PublicKey, signature *minisign.Signature) {
 		signature.TrustedComment += "\xff"
 	}},
 	{"another signature of the comment", "COMMENT_SIGNATURE_REFUSED", func(key *minisign.PublicKey, signature *minisign.Signature) { signature.GlobalSignature[0] ^= 1 }},

@@ -1,4 +1,4 @@
-// Runs the examples of bindings/go/README.md that its main does not call: tests/bindings/go.py puts this beside them.
+// Runs the examples of bindings/go/README.md that their main does not call. tests/bindings/go.py adds this file to them.
 package main
 
 import (
@@ -15,7 +15,7 @@ func TestExamples(t *testing.T) {
 		t.Fatal(err)
 	}
 	if err := makeKey([]byte("pass word")); !os.IsExist(err) {
-		t.Fatal("a key is written over another one: ", err)
+		t.Fatal("an existing key file is overwritten: ", err)
 	}
 	if err := sign([]byte("password")); err != minisign.ErrWrongPassword {
 		t.Fatal(err)
@@ -23,12 +23,12 @@ func TestExamples(t *testing.T) {
 	if err := sign([]byte("pass word")); err != nil {
 		t.Fatal(err)
 	}
-	key, noKey := minisign.NewPublicKeyFromFile("new.pub")
-	signature, noSignature := minisign.NewSignatureFromFile("app-3.minisig")
+	key, keyErr := minisign.NewPublicKeyFromFile("new.pub")
+	signature, signatureErr := minisign.NewSignatureFromFile("app-3.minisig")
 	var seen bytes.Buffer
 	err := verifyStream(key, signature, strings.NewReader("version 3"), &seen)
-	if noKey != nil || noSignature != nil || err != nil || seen.String() != "version 3" {
-		t.Fatal(noKey, noSignature, err, seen.String())
+	if keyErr != nil || signatureErr != nil || err != nil || seen.String() != "version 3" {
+		t.Fatal(keyErr, signatureErr, err, seen.String())
 	}
 	if err = verifyStream(key, signature, strings.NewReader("version 4"), &seen); err != minisign.ErrSignatureRefused {
 		t.Fatal(err)

@@ -1,4 +1,5 @@
-// What a program makes with the package's secret keys: tests/bindings/go.py says what each word asks.
+// A test program that makes keys and signatures. It runs the check that its first argument names, and prints the results, which
+// tests/bindings/go.py compares.
 package main
 
 import (
@@ -17,8 +18,8 @@ import (
 	"proved/minisign"
 )
 
-// told is how an error, or none, is told: by the name that it has in minisign.h, where it has one.
-func told(err error) string {
+// nameOf returns the name of an error in minisign.h, or its text if it has no name there, or "OK" for nil.
+func nameOf(err error) string {
 	var number minisign.Error
 	switch {
 	case err == nil:
@@ -37,18 +38,18 @@ func must(err error) {
 	}
 }
 
-// The least that is sealed under.
-var least = minisign.Work{OperationsLimit: 524288, MemoryLimit: 1 << 24}
+// The lowest limits that Encode accepts.
+var lowestLimits = minisign.Work{OperationsLimit: 524288, MemoryLimit: 1 << 24}
 
 func makePair(directory string, password []byte) error {
 	key, err := minisign.GenerateKey()
 	must(err)
 	text, err := key.EncodeUnsealed()
 	if password != nil {
-		text, err = key.Encode(password, least)
-		again, wrong := key.Encode(password, least)
-		if wrong != nil || bytes.Equal(text, again) {
-			panic("of a sealed key each text has a salt of its own")
+		text, err = key.Encode(password, lowestLimits)
+		second, secondErr := key.Encode(password, lowestLimits)
+		if secondErr != nil || bytes.Equal(text, second) {
+			panic("two encrypted key files have the same salt")
 		}
 	}
 	must(err)
@@ -58,54 +59,54 @@ func makePair(directory string, password []byte) error {
 	return os.WriteFile(directory+"/public", public, 0o644)
 }
 
-// sign signs a file with a key in each way, and reads back what was written.
+// sign signs a file in three ways, which must give the same signature, writes the signature, and verifies it.
 func sign(file, data, to, comment string, password []byte) error {
-	const other = "from a program in Go"
+	const untrusted = "from a program in Go"
 	key, err := minisign.NewSecretKeyFromFile(file, password, minisign.Work{LowMemory: true})
 	if err != nil {
 		return err
 	}
-	signature, err := key.SignFile(data, comment, other)
+	signature, err := key.SignFile(data, comment, untrusted)
 	if err != nil {
 		return err
 	}
 	bin, err := os.ReadFile(data)
 	must(err)
-	whole, err := key.SignBytes(bin, comment, other)
+	atOnce, err := key.SignBytes(bin, comment, untrusted)
 	must(err)
 	signer, err := minisign.NewSigner(key)
 	must(err)
-	for at := 0; at < len(bin); at += 1000 {
-		end := at + 1000
+	for begin := 0; begin < len(bin); begin += 1000 {
+		end := begin + 1000
 		if end > len(bin) {
 			end = len(bin)
 		}
-		signer.Write(bin[at:end])
+		signer.Write(bin[begin:end])
 	}
-	inPieces, err := signer.Sign(comment, other)
+	inPieces, err := signer.Sign(comment, untrusted)
 	must(err)
-	if whole != signature || inPieces != signature {
-		panic("in another way another signature is made")
+	if atOnce != signature || inPieces != signature {
+		panic("SignFile, SignBytes and Signer give different signatures")
 	}
-	if _, err := signer.Sign(comment, other); err != minisign.ErrAlreadyAsked {
+	if _, err := signer.Sign(comment, untrusted); err != minisign.ErrAlreadyAsked {
 		panic("a signer signs twice")
 	}
 	must(os.WriteFile(to, []byte(signature.Encode()), 0o644))
-	read, err := minisign.NewSignatureFromFile(to)
+	written, err := minisign.NewSignatureFromFile(to)
 	must(err)
-	if read.TrustedComment != "trusted comment: "+comment || read.UntrustedComment != "untrusted comment: "+other {
-		panic("another comment")
+	if written.TrustedComment != "trusted comment: "+comment || written.UntrustedComment != "untrusted comment: "+untrusted {
+		panic("the signature file has other comments")
 	}
 	public, err := key.PublicKey()
 	must(err)
-	_, err = public.Verify(bin, read)
+	_, err = public.Verify(bin, written)
 	return err
 }
 
 func opened(file string, password []byte) string {
 	key, err := minisign.NewSecretKeyFromFile(file, password, minisign.Work{})
 	if err != nil {
-		return told(err)
+		return nameOf(err)
 	}
 	if key.IsWeak() {
 		return "weak"
@@ -120,70 +121,70 @@ func sealed(words []string) string {
 	must(err)
 	text, err := key.Encode([]byte("pass word"), minisign.Work{OperationsLimit: operations, MemoryLimit: memory})
 	if (err == nil) != (len(text) > 0) {
-		panic("a text and an error")
+		panic("Encode returns a text and an error, or neither")
 	}
-	return told(err)
+	return nameOf(err)
 }
 
-// tells prints what has to come, and behind a tabulator what came.
-func tells(wanted, came interface{}) {
-	fmt.Printf("%v\t%v\n", wanted, came)
+// printPair prints the expected value, a tab, and the actual value.
+func printPair(expected, actual interface{}) {
+	fmt.Printf("%v\t%v\n", expected, actual)
 }
 
-// shown tells of a key in each way, of which none has a byte of the secret, and what is left of it once it was cleared.
+// shown checks that a key prints as its key ID with each verb, and that Clear clears it.
 func shown() {
 	key, err := minisign.GenerateKey()
 	must(err)
 	id := fmt.Sprintf("SecretKey(%s)", key.KeyIdText())
 	for _, verb := range []string{"%v", "%+v", "%#v", "%s", "%q", "%x", "%d"} {
 		for _, value := range []interface{}{key, *key} {
-			tells(id, fmt.Sprintf(verb, value))
+			printPair(id, fmt.Sprintf(verb, value))
 		}
 	}
 	signer, err := minisign.NewSigner(key)
 	must(err)
 	text := fmt.Sprintf("%+v", struct{ Key *minisign.SecretKey }{key})
-	tells(true, strings.Contains(text, id))
-	// (the bytes are those of the field `opened`, in which the secret stands after the mark and the identifier)
+	printPair(true, strings.Contains(text, id))
+	// The secret is in the struct that the field `opened` points to, after the mark and the key ID.
 	secret := unsafe.Slice((*byte)(unsafe.Add(*(*unsafe.Pointer)(unsafe.Pointer(key)), 16)), 64)
-	tells(false, bytes.Equal(secret, make([]byte, 64)))
+	printPair(false, bytes.Equal(secret, make([]byte, 64)))
 	key.Clear()
-	tells(true, bytes.Equal(secret, make([]byte, 64)))
+	printPair(true, bytes.Equal(secret, make([]byte, 64)))
 	_, err = signer.Sign("c", "u")
-	tells("KEY_NOT_OPENED", told(err))
+	printPair("KEY_NOT_OPENED", nameOf(err))
 	_, err = key.EncodeUnsealed()
-	tells("KEY_NOT_OPENED", told(err))
+	printPair("KEY_NOT_OPENED", nameOf(err))
 	password := []byte("pass word")
 	minisign.Wipe(password)
-	tells([9]byte{}, password)
+	printPair([9]byte{}, password)
 }
 
-// wrong makes calls with arguments that are none.
+// wrong calls functions with nil and zero values.
 func wrong() {
 	key, err := minisign.GenerateKey()
 	must(err)
 	_, err = key.Sign(nil, "c", "u")
-	tells("minisign: reader is nil", err)
+	printPair("minisign: reader is nil", err)
 	_, err = minisign.NewSigner(nil)
-	tells("minisign: key is nil", err)
+	printPair("minisign: key is nil", err)
 	for _, password := range [][]byte{nil, {}} {
-		_, err = key.Encode(password, least)
-		tells("minisign: password is empty; use EncodeUnsealed for a key without a password", err)
+		_, err = key.Encode(password, lowestLimits)
+		printPair("minisign: password is empty; use EncodeUnsealed for a key without a password", err)
 	}
 	_, err = minisign.DecodeSecretKey(nil, nil, minisign.Work{})
-	tells("MISSING_SECRET_KEY_COMMENT", told(err))
+	printPair("MISSING_SECRET_KEY_COMMENT", nameOf(err))
 	_, err = new(minisign.SecretKey).PublicKey()
-	tells("KEY_NOT_OPENED", told(err))
+	printPair("KEY_NOT_OPENED", nameOf(err))
 	_, err = new(minisign.SecretKey).SignBytes([]byte("data"), "c", "u")
-	tells("KEY_NOT_OPENED", told(err))
+	printPair("KEY_NOT_OPENED", nameOf(err))
 	var signer minisign.Signer
 	_, err = signer.Write([]byte("data"))
-	tells("NOT_BEGUN", told(err))
+	printPair("NOT_BEGUN", nameOf(err))
 	_, err = signer.Sign("c", "u")
-	tells("NOT_BEGUN", told(err))
+	printPair("NOT_BEGUN", nameOf(err))
 }
 
-// ids prints the key IDs of a secret key and of its public key, and the text of that.
+// ids prints the key ID of a secret key and of its public key, and the public key file.
 func ids(file string) {
 	key, err := minisign.NewSecretKeyFromFile(file, nil, minisign.Work{})
 	must(err)
@@ -201,7 +202,7 @@ func pages() int {
 	return number
 }
 
-// growth makes keys and signs so many times: how many more pages are in memory than after a tenth.
+// growth generates a key and signs with it, count times. It returns by how many pages the memory has grown after a tenth of them.
 func growth(count int) int {
 	early := 0
 	for number := 0; number < count; number++ {
@@ -216,7 +217,7 @@ func growth(count int) int {
 	return pages() - early
 }
 
-// threads has many sign by one key at once: whether each signature verifies.
+// threads signs with one key in many goroutines at once. It returns true if all signatures verify.
 func threads() bool {
 	key, err := minisign.GenerateKey()
 	must(err)
@@ -256,15 +257,15 @@ func password(words []string) []byte {
 func main() {
 	switch words := os.Args[2:]; os.Args[1] {
 	case "make":
-		fmt.Println(told(makePair(words[0], password(words[1:]))))
+		fmt.Println(nameOf(makePair(words[0], password(words[1:]))))
 	case "sign":
-		fmt.Println(told(sign(words[0], words[1], words[2], words[3], password(words[4:]))))
+		fmt.Println(nameOf(sign(words[0], words[1], words[2], words[3], password(words[4:]))))
 	case "ids":
 		ids(words[0])
 	case "write":
-		// (a file that is too long is an error then, as on a full disk, and does not end the program)
+		// Without this, a write beyond the file size limit would end the program instead of returning an error.
 		signal.Ignore(syscall.SIGXFSZ)
-		fmt.Println(told(minisign.WriteNew(words[0], []byte(words[1]))))
+		fmt.Println(nameOf(minisign.WriteNew(words[0], []byte(words[1]))))
 	case "opened":
 		fmt.Println(opened(words[0], password(words[1:])))
 	case "sealed":

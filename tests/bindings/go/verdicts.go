@@ -1,5 +1,5 @@
-// What go-minisign says of the lines on standard input, each a public key, data and a signature in hexadecimal digits: a line of the
-// verdict and the error for each. tests/bindings/go.py builds it over that one.
+// Verifies cases with go-minisign. Each line on standard input is a case: a public key, data and a signature in hexadecimal digits. The
+// program prints the verdict and the error for each. tests/bindings/go.py builds it with go-minisign.
 package main
 
 import (
@@ -29,9 +29,9 @@ func main() {
 	scanner.Buffer(nil, 1<<24)
 	for scanner.Scan() {
 		var parts [3]string
-		for at, digits := range strings.Split(scanner.Text(), " ") {
+		for index, digits := range strings.Split(scanner.Text(), " ") {
 			part, _ := hex.DecodeString(strings.Trim(digits, "-"))
-			parts[at] = string(part)
+			parts[index] = string(part)
 		}
 		good, err := verify(parts)
 		fmt.Printf("%t, %v\n", good, err)

@@ -1,18 +1,20 @@
-// What the package answers, as a program of its user: it stands in a directory beside `node_modules`.
+// A test program that verifies with the package. javascript.py copies it into a user's directory, beside `node_modules`, and compares
+// what it prints.
 //
-//     node answers.mjs cases [legacy]    the cases of standard input, one on each line, in an order that they answer
-//     node answers.mjs pieces [legacy]   the same, whose data comes in pieces in each way that there is
-//     node answers.mjs read [legacy]     the same, whose signature is read first: the identifier that it names and whether it is
-//                                        legacy, and what comes of verifying with it
-//     node answers.mjs threads           the same cases in four threads: what all of them answer, if it is the same
-//     node answers.mjs growth COUNT      how many bytes more are in memory after so many calls than after a tenth of them
-//     node answers.mjs comment           the same cases: their trusted comments, before there is data
+// These words verify the cases on standard input, one a line, and print a line for each:
 //
-// Of the published texts, whose data has four bytes, a line for each thing that is tried: what has to come of it, and what comes.
+//     node answers.mjs cases [legacy]    with data in memory
+//     node answers.mjs pieces [legacy]   with data of each kind
+//     node answers.mjs read [legacy]     with a signature and a key that were read before, whose fields are printed too
+//     node answers.mjs threads           in four threads, which must print the same
+//     node answers.mjs growth COUNT      COUNT times; prints by how many bytes the memory grows after a tenth of them
+//     node answers.mjs comment           only the trusted comments, before there is data
 //
-//     node answers.mjs verifier          what one verifier tells, step by step
-//     node answers.mjs wrong             what it says of arguments of other types, and of options that there are not
-//     node answers.mjs letters           which strings of one line are a key's letters alone
+// These words use the published signature, whose data has four bytes. Each line has the expected result, a tab, and the result:
+//
+//     node answers.mjs verifier          the properties and methods of a verifier
+//     node answers.mjs wrong             arguments of wrong types, and unknown options
+//     node answers.mjs letters           strings that are, or are not, the base64 of a key
 
 import {Readable} from "node:stream";
 import {runInNewContext} from "node:vm";
@@ -37,19 +39,20 @@ async function textOfInput() {
 const casesOf = text => text.split("\n").filter(line => line).map(line => line.split(" ").map(bytesOf));
 
 async function answerOf(data, signature, key, options) {
-  return told(async () => (await verify(data, signature, key, options)).trustedComment);
+  return outcome(async () => (await verify(data, signature, key, options)).trustedComment);
 }
 
-// The trusted comment, before and after there is data, which has to be the same.
+// Verifies the trusted comment before and after there is data, which has to give the same result.
 async function commentOf(data, signature, key) {
-  return told(async () => {
+  return outcome(async () => {
     const verifier = await createVerifier(signature, key);
     const [before] = [await verifier.trustedComment(), verifier.update(data)];
     return before === await verifier.trustedComment() ? before : "another comment";
   });
 }
 
-async function told(comment) {
+// Returns the line for a comment, or for the error that getting it throws.
+async function outcome(comment) {
   try {
     return `accepted ${hexOf(await comment())}`;
   } catch (why) {
@@ -60,14 +63,14 @@ async function told(comment) {
   }
 }
 
-// What is read of a signature, before its key is there, and what it is worth then, twice.
+// Reads the fields of keys and signatures, and verifies with the objects that were read.
 async function readAnswers(cases, options) {
   const answers = [];
   for (const [key, data, text] of cases) {
     try {
       const signature = await readSignature(text), publicKey = await readPublicKey(key);
-      const found = [await answerOf(data, signature, key, options), await answerOf(data, signature, publicKey, options)];
-      answers.push(`${publicKey.keyId} ${signature.keyId} ${signature.isLegacy} ${found[0] === found[1] ? found[0] : found}`);
+      const results = [await answerOf(data, signature, key, options), await answerOf(data, signature, publicKey, options)];
+      answers.push(`${publicKey.keyId} ${signature.keyId} ${signature.isLegacy} ${results[0] === results[1] ? results[0] : results}`);
     } catch (why) {
       answers.push(`rejected ${why.code ?? why.name}`);
     }
@@ -83,11 +86,12 @@ async function answersOf(cases, options) {
   return answers;
 }
 
+// Yields the data in pieces of these lengths in turn.
 function* cut(data, lengths) {
-  for (let at = 0, turn = 0; at < data.length; turn += 1) {
+  for (let begin = 0, turn = 0; begin < data.length; turn += 1) {
     const length = lengths[turn % lengths.length];
-    yield data.subarray(at, at + length);
-    at += length;
+    yield data.subarray(begin, begin + length);
+    begin += length;
   }
 }
 
@@ -98,10 +102,10 @@ const streamOf = pieces => new ReadableStream({
   },
 });
 
-// The same bytes in a buffer of another realm, and a view of that which is of this other realm too.
-const ELSEWHERE = runInNewContext("bytes => [new Uint8Array(bytes).buffer, new Uint8Array(bytes)]");
+// Copies bytes into a buffer of another realm, and into a view of that realm.
+const OF_OTHER_REALM = runInNewContext("bytes => [new Uint8Array(bytes).buffer, new Uint8Array(bytes)]");
 
-// The ways in which data comes, and a text as a string where it is one.
+// Verifies each case with data of each kind. Prints all results if they differ.
 async function answersInPieces(cases, options) {
   const answers = [];
   for (const [key, data, signature] of cases) {
@@ -109,12 +113,12 @@ async function answersInPieces(cases, options) {
     const ways = [
       data, data.slice().buffer, new DataView(data.buffer, data.byteOffset, data.length), new Blob([data]), cut(data, PIECE_LENGTHS),
       streamOf(cut(data, PIECE_LENGTHS)), Readable.from(cut(Buffer.from(data), [1000])), streamOf(cut(data, single)),
-      (async function* () { yield* cut(data, [300, 0, 1]); })(), ...ELSEWHERE(data),
+      (async function* () { yield* cut(data, [300, 0, 1]); })(), ...OF_OTHER_REALM(data),
     ];
-    const found = new Set(await Promise.all(ways.map(way => answerOf(way, signature, key, options))));
-    const [buffer, view] = ELSEWHERE(signature);
-    found.add(await answerOf(data, buffer, ELSEWHERE(key)[1], options)).add(await answerOf(data, view, ELSEWHERE(key)[0], options));
-    answers.push([...found].join(" and "));
+    const results = new Set(await Promise.all(ways.map(way => answerOf(way, signature, key, options))));
+    const [buffer, view] = OF_OTHER_REALM(signature);
+    results.add(await answerOf(data, buffer, OF_OTHER_REALM(key)[1], options)).add(await answerOf(data, view, OF_OTHER_REALM(key)[0], options));
+    answers.push([...results].join(" and "));
   }
   return answers;
 }
@@ -125,21 +129,21 @@ async function answersInThreads(text) {
     thread.on("message", resolve);
     thread.on("error", reject);
   });
-  const found = await Promise.all(Array.from({length: THREADS}, run));
-  return found.every(each => each.join() === found[0].join()) ? found[0] : ["different answers"];
+  const results = await Promise.all(Array.from({length: THREADS}, run));
+  return results.every(each => each.join() === results[0].join()) ? results[0] : ["the threads differ"];
 }
 
 async function growth(count, [[key, data, signature], [, other]]) {
   const called = async () => {
     if (await answerOf(data, signature, key) === await answerOf(other, signature, key)) {
-      throw new Error("the same answer to different data");
+      throw new Error("the same result for different data");
     }
   };
   const some = async times => {
     for (let at = 0; at < times; at += 50) {
       await Promise.all(Array.from({length: 25}, called));
     }
-    // (the second time waits until the buffers are gone that the first one has found; `external` has the memory of the module)
+    // The second collection waits until the buffers are freed that the first one found. `external` includes the memory of the module.
     globalThis.gc();
     globalThis.gc();
     const {heapUsed, external} = process.memoryUsage();
@@ -149,11 +153,11 @@ async function growth(count, [[key, data, signature], [, other]]) {
   return [await some(count - count / 10) - early];
 }
 
-// How it begins what it says of arguments of other types.
+// The beginnings of messages about arguments of wrong types.
 const DATA = "data must be bytes, a Blob, a stream or pieces of bytes, not";
 const SIGNATURE = "signature must be a text, as a string or bytes, not", KEY = "key must be a text, as a string or bytes, not";
 
-// Each of these calls rejects with a TypeError that names an argument: what has to come, and what comes.
+// Makes calls that must reject with a TypeError, which names the argument.
 async function wrongAnswers([[key, data, signature]]) {
   const read = await readSignature(signature), {signal} = new AbortController(), given = options => verify(data, signature, key, options);
   const tried = [
@@ -179,10 +183,10 @@ async function wrongAnswers([[key, data, signature]]) {
   return Promise.all(tried.map(async ([wanted, promise]) => `TypeError: ${wanted}\t${await promise.then(() => "accepted", String)}`));
 }
 
-// What a verifier tells, step by step.
+// Checks the properties and methods of a verifier, step by step.
 async function verifierAnswers([[key, data, signature]]) {
   const answers = [], tell = async (wanted, run) => answers.push(`${wanted}\t${await (async () => run())().catch(why => why.code ?? why.name)}`);
-  const verifier = await createVerifier(signature, key), told = [];
+  const verifier = await createVerifier(signature, key), reported = [];
   await tell("E7620F1842B4E81F false 0", () => `${verifier.keyId} ${verifier.isLegacy} ${verifier.bytes}`);
   await tell("TypeError", () => verifier.update("text"));
   for (const piece of cut(data, [1])) {
@@ -196,14 +200,14 @@ async function verifierAnswers([[key, data, signature]]) {
   }
   await tell("TypeError", () => { "use strict"; verifier.keyId = "another"; });
   for (const way of [data, new Blob([data]), [...cut(data, [1])]]) {
-    await verify(way, signature, key, {progress: (...seen) => told.push(seen)});
+    await verify(way, signature, key, {progress: (...seen) => reported.push(seen)});
   }
-  await tell("[[4,4],[4,4],[1,null],[2,null],[3,null],[4,null]]", () => JSON.stringify(told));
+  await tell("[[4,4],[4,4],[1,null],[2,null],[3,null],[4,null]]", () => JSON.stringify(reported));
   await tell("RangeError", () => verify(data, signature, key, {progress: () => { throw new RangeError(); }}));
   return answers;
 }
 
-// Which strings are a key: of one line its letters alone.
+// Checks which strings are keys: a string of one line must be the base64 of a key.
 async function letterAnswers([[key, data, signature]]) {
   const text = Buffer.from(key).toString(), letters = text.split("\n")[1], good = "E7620F1842B4E81F false";
   const tried = [

@@ -1,10 +1,9 @@
-// What the package answers where there is nothing but the language and the globals that are named:
+// A test program that verifies with the package where there are only the globals of the language and those that are named:
 //
-//     node --experimental-vm-modules bare.mjs context GLOBAL ..    in a context of its own
-//     node --experimental-vm-modules bare.mjs thread GLOBAL ..     in a thread that has lost all others
+//     node --experimental-vm-modules bare.mjs context GLOBAL ..    in a new context
+//     node --experimental-vm-modules bare.mjs thread GLOBAL ..     in a thread, after deleting all other globals
 //
-// It stands beside `node_modules`, reads a case from the standard input (`answers.mjs`), and answers a line for the data in each
-// form, and one for other data.
+// It reads a case from standard input, as answers.mjs does. It prints a line for the data in each form, and one for other data.
 
 import {webcrypto} from "node:crypto";
 import {readFileSync} from "node:fs";
@@ -16,14 +15,14 @@ const INDEX = new URL("index.js", PACKAGE).href;
 const LANGUAGE = new Set(vm.runInNewContext("Object.getOwnPropertyNames(globalThis)"));
 LANGUAGE.delete("WebAssembly");
 
-const given = {...Object.getOwnPropertyDescriptors(globalThis), crypto: {value: globalThis.crypto ?? webcrypto}};
+const descriptors = {...Object.getOwnPropertyDescriptors(globalThis), crypto: {value: globalThis.crypto ?? webcrypto}};
 
-// The package's calls in a context that has these globals alone, in which its files can import nothing but each other.
+// Loads the package in a context that has only these globals, and where its files can import only each other.
 async function inContext(names) {
   const context = vm.createContext({});
   vm.runInContext("delete globalThis.WebAssembly; delete globalThis.console", context);
   for (const name of names) {
-    Object.defineProperty(context, name, given[name]);
+    Object.defineProperty(context, name, descriptors[name]);
   }
   const files = new Map();
   const file = name => {
@@ -38,7 +37,7 @@ async function inContext(names) {
   return file("./index.js").namespace;
 }
 
-// The same in this thread, which loses all other globals.
+// Loads the package in this thread, after deleting all other globals.
 async function inThread(names) {
   for (const name of Object.getOwnPropertyNames(globalThis)) {
     if (!LANGUAGE.has(name)) {
@@ -46,12 +45,12 @@ async function inThread(names) {
     }
   }
   for (const name of names) {
-    Object.defineProperty(globalThis, name, {...given[name], configurable: true});
+    Object.defineProperty(globalThis, name, {...descriptors[name], configurable: true});
   }
   return import(INDEX);
 }
 
-// What the user has, who is asked with it.
+// Kept before the globals are deleted, for the test itself.
 const Data = Blob, Stream = ReadableStream;
 
 async function answers({verify, MinisignError}, [key, data, signature]) {

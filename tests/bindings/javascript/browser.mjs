@@ -1,4 +1,4 @@
-// What the package answers in a browser, in a page and in a worker of it: answers.html has it run in both, on what stands in asked.json.
+// A test program that uses the package in a browser, in a page and in a worker. index.html runs it in both, with the cases of asked.json.
 
 import {
   clearSecretKey, generateSecretKey, MinisignError, readSecretKey, sign, verify, writePublicKey, writeSecretKey,
@@ -15,32 +15,32 @@ async function answerOf(data, signature, key, options) {
   }
 }
 
-// A stream whose pieces have these lengths in turn.
+// Returns a stream of the data in pieces of these lengths in turn.
 function streamOf(data, lengths) {
-  let at = 0, turn = 0;
+  let begin = 0, turn = 0;
   return new ReadableStream({
     pull(controller) {
-      if (at >= data.length) {
+      if (begin >= data.length) {
         return controller.close();
       }
       const length = lengths[turn % lengths.length];
-      controller.enqueue(data.slice(at, at + length));
-      at += length;
+      controller.enqueue(data.slice(begin, begin + length));
+      begin += length;
       turn += 1;
     },
   });
 }
 
-// The data in each way that a browser has it: what all of them answer.
+// Verifies data of each kind that a browser has. Returns all results if they differ.
 async function answerInPieces(data, signature, key) {
   const blob = new Blob([data]), address = URL.createObjectURL(blob);
   const ways = [data, data.buffer, blob, new File([data], "data"), blob.stream(), streamOf(data, [1000, 1, 65536]), (await fetch(address)).body];
-  const found = new Set(await Promise.all(ways.map(way => answerOf(way, signature, key))));
+  const results = new Set(await Promise.all(ways.map(way => answerOf(way, signature, key))));
   URL.revokeObjectURL(address);
-  return [...found].join(" and ");
+  return [...results].join(" and ");
 }
 
-// Whether a stream is cancelled where its signature is rejected.
+// Resolves to true if a stream is cancelled when its signature is rejected.
 function isCancelled() {
   return new Promise(resolve => {
     const stream = new ReadableStream({cancel: () => resolve(true)});
@@ -48,26 +48,25 @@ function isCancelled() {
   });
 }
 
-// Whether a key that is made here, written and read again signs what verifies, and one that is given sealed by little work; and nothing
-// once it was cleared.
-async function signs(sealed) {
-  const made = await generateSecretKey(), given = await readSecretKey(sealed, {password: "pass word", lowMemory: true}), told = [];
-  for (const [key, of] of [[await readSecretKey(await writeSecretKey(made, null)), made], [given, given]]) {
+// Signs and verifies with a generated key that was written and read again, and with an encrypted key. A cleared key cannot sign.
+async function signs(encrypted) {
+  const generated = await generateSecretKey(), decrypted = await readSecretKey(encrypted, {password: "pass word", lowMemory: true}), results = [];
+  for (const [key, original] of [[await readSecretKey(await writeSecretKey(generated, null)), generated], [decrypted, decrypted]]) {
     const signature = await sign(new Blob(["data"]), key, {trustedComment: "version:2"});
-    const verified = await verify(new Blob(["data"]), signature, await writePublicKey(of));
-    told.push(verified.trustedComment, verified.keyId === of.keyId && key.keyId === of.keyId, key.isWeak);
+    const verified = await verify(new Blob(["data"]), signature, await writePublicKey(original));
+    results.push(verified.trustedComment, verified.keyId === original.keyId && key.keyId === original.keyId, key.isWeak);
   }
-  clearSecretKey(made);
-  return `${told} ${await sign(new Blob(["data"]), made).catch(why => why.code)}`;
+  clearSecretKey(generated);
+  return `${results} ${await sign(new Blob(["data"]), generated).catch(why => why.code)}`;
 }
 
-// A pair of keys that is made here: the sealed text of the secret one, and that of the public one.
+// Generates a key, and returns the encrypted secret key file and the public key file.
 async function pair() {
   const key = await generateSecretKey();
   return [await writeSecretKey(key, "pass word", {lowMemory: true}), await writePublicKey(key)];
 }
 
-// Whether an abort by a timer ends the verification of a long array, after a part of it was read.
+// Resolves to true if a timer can abort the verification of a long array after a part of it was read.
 async function isAborted() {
   const data = new Uint8Array(2 ** 28), key = await generateSecretKey(), controller = new AbortController();
   const texts = [await sign(new Uint8Array(1), key), await writePublicKey(key)];
@@ -78,7 +77,7 @@ async function isAborted() {
   return ended === "gone" && read > 0 && read < data.length;
 }
 
-// The default trusted comment of a file.
+// Returns the default trusted comment of a file.
 async function commentOfFile() {
   const key = await generateSecretKey(), file = new File(["data"], "app 1.zip");
   const {trustedComment} = await verify(file, await sign(file, key), await writePublicKey(key));
@@ -110,7 +109,7 @@ if (typeof document === "undefined") {
 } else {
   const worker = new Worker("browser.mjs", {type: "module"});
   const inWorker = new Promise((resolve, reject) => Object.assign(worker, {onmessage: event => resolve(event.data), onerror: reject}));
-  const told = await Promise.all([asked(), inWorker]).then(([page, thread]) => ({page, thread}), why => ({why: String(why.message ?? why)}));
-  document.body.textContent = JSON.stringify(told);
+  const answers = await Promise.all([asked(), inWorker]).then(([page, thread]) => ({page, thread}), why => ({why: String(why.message ?? why)}));
+  document.body.textContent = JSON.stringify(answers);
   document.documentElement.dataset.ready = "";
 }

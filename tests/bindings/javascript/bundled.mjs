@@ -1,4 +1,4 @@
-// A program that only verifies: javascript.py bundles it. Its words are a key, data and a signature in hexadecimal digits.
+// A program that only verifies, which javascript.py bundles. Its arguments are a key, data and a signature in hexadecimal digits.
 
 import {verify} from "minisign-proved";
 

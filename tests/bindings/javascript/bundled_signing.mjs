@@ -1,12 +1,12 @@
-// A program that also signs: javascript.py bundles it. It prints the trusted comment of a signature that it has made and verified.
+// A program that also signs, which javascript.py bundles. It makes and verifies a signature, and prints the trusted comment.
 
 import {generateSecretKey, sign, verify, writePublicKey} from "minisign-proved";
 
 const data = new Uint8Array(1);
 
-async function signed() {
+async function signAndVerify() {
   const key = await generateSecretKey();
   return verify(data, await sign(data, key, {trustedComment: "signed"}), await writePublicKey(key));
 }
 
-signed().then(({trustedComment}) => console.log(trustedComment), console.log);
+signAndVerify().then(({trustedComment}) => console.log(trustedComment), console.log);

@@ -1,12 +1,12 @@
-// Checks what the package does with files, in Node: it stands in a directory beside `node_modules`.
+// Checks what the package does with files, in Node. javascript.py copies this program into a user's directory, beside `node_modules`.
 //
-//     node files.mjs comments FILE OTHER ..    prints the default trusted comment of each form of these files, without its time
-//     node files.mjs names                     names that are on no disk
+//     node files.mjs comments FILE OTHER ..    prints the default trusted comment of these files, passed in each form, without the time
+//     node files.mjs names                     checks names that are not those of files
 //     node files.mjs new DIRECTORY             writes new files in this directory
-//     node files.mjs full DIRECTORY            writes a new file there that nothing can be written to
+//     node files.mjs full DIRECTORY            writes a new file there while no file can have any content
 //     node files.mjs ids KEY                   prints the key ID of a secret key, and the first line of its public key
 //
-// But for `comments` and `ids`, each line has the result that is expected, a tabulator, and the result.
+// Except for `comments` and `ids`, each line has the expected result, a tab, and the result.
 
 import {File} from "node:buffer";
 import {createReadStream, existsSync, lstatSync, readdirSync, readFileSync, readlinkSync, statSync, symlinkSync, writeFileSync} from "node:fs";
@@ -25,21 +25,21 @@ async function comments(paths) {
   const secretKey = await generateSecretKey(), lines = [];
   for (const path of paths) {
     const forms = [createReadStream(path), createReadStream(Buffer.from(path)), createReadStream(pathToFileURL(path)), new File([readFileSync(path)], basename(path))];
-    const found = new Set();
+    const results = new Set();
     for (const form of forms) {
-      found.add(commentOf(await sign(form, secretKey)));
+      results.add(commentOf(await sign(form, secretKey)));
     }
-    lines.push([...found].join(" and "));
+    lines.push([...results].join(" and "));
   }
   return lines;
 }
 
-// A stream of Node with this path.
+// Returns a stream of Node with this path.
 const streamOf = path => Object.assign(Readable.from([new Uint8Array(1)]), {path});
 
 async function names() {
   const secretKey = await generateSecretKey(), lines = [], bytes = new Uint8Array(1), {platform} = process;
-  const told = (data, options) => sign(data, secretKey, options).then(commentOf, why => `${why.name}: ${why.message}`);
+  const outcome = (data, options) => sign(data, secretKey, options).then(commentOf, why => `${why.name}: ${why.message}`);
   const without = "trusted comment: timestamp:TIME\thashed", named = name => `trusted comment: timestamp:TIME\tfile:${name}\thashed`;
   const rejected = why => `TypeError: a file name ${why} cannot be in the default trusted comment; pass a trustedComment`;
   const signer = await createSigner(secretKey);
@@ -53,11 +53,11 @@ async function names() {
     [rejected("with a line break"), new File([bytes], "a\nb")], [rejected("with a line break"), streamOf("a\rb")], [rejected("that is not UTF-8"), streamOf(Buffer.of(255))],
   ];
   for (const [wanted, data] of rows) {
-    lines.push([wanted, await told(data)]);
+    lines.push([wanted, await outcome(data)]);
   }
-  lines.push(["trusted comment: chosen", await told(new File([bytes], "a\nb"), {trustedComment: "chosen"})]);
+  lines.push(["trusted comment: chosen", await outcome(new File([bytes], "a\nb"), {trustedComment: "chosen"})]);
   Object.defineProperty(process, "platform", {value: "win32"});
-  lines.push([named("b"), await told(streamOf("C:\\a\\b"))], [named("c"), await told(streamOf("C:\\a/c"))], [named("a\\b"), await told(new File([bytes], "a\\b"))]);
+  lines.push([named("b"), await outcome(streamOf("C:\\a\\b"))], [named("c"), await outcome(streamOf("C:\\a/c"))], [named("a\\b"), await outcome(new File([bytes], "a\\b"))]);
   Object.defineProperty(process, "platform", {value: platform});
   return lines.map(line => line.map(JSON.stringify));
 }
@@ -91,7 +91,7 @@ async function newFiles([directory]) {
   }
   lines.push(["false", String(existsSync(at("no")))]);
   const many = await Promise.all(Array.from({length: 20}, () => result(writeNew(at("one"), text))));
-  lines.push(["1 19", `${many.filter(it => it === "written").length} ${many.filter(it => it === "EEXIST").length}`]);
+  lines.push(["1 19", `${many.filter(each => each === "written").length} ${many.filter(each => each === "EEXIST").length}`]);
   return lines;
 }
 

@@ -1,11 +1,11 @@
-// Uses a secret key, clears it and collects garbage, so that javascript_memory.py can search this process for the seed. It stands in a
-// directory beside `node_modules`.
+// Uses a secret key, clears it and collects garbage, so that javascript_memory.py can search this process for the seed. javascript.py
+// copies this program into a user's directory, beside `node_modules`.
 //
-//     node --expose-gc heap.mjs read KEY [PASSWORD]    reads the key of a file
-//     node --expose-gc heap.mjs generate               generates one
+//     node --expose-gc heap.mjs read KEY [PASSWORD]    reads the key from a file
+//     node --expose-gc heap.mjs generate               generates a key
 //
-// It prints the text of the key without a password, and waits for a line while it holds the key. Then it clears the key. It
-// collects garbage, prints `cleared` and waits for another line, again and again until it is killed.
+// It prints the unencrypted key file, and waits for a line while it holds the key. Then it clears the key. After that it collects
+// garbage, prints `cleared`, and waits for a line, in a loop, until it is killed.
 
 import {readFileSync} from "node:fs";
 import {createInterface} from "node:readline";
@@ -32,12 +32,12 @@ async function collect() {
   }
 }
 
-async function opened() {
+async function newSecretKey() {
   const text = what === "generate" ? null : readFileSync(path);
   return text === null ? generateSecretKey() : readSecretKey(String(text), {password});
 }
 
-const secretKey = await opened();
+const secretKey = await newSecretKey();
 await use(secretKey);
 process.stdout.write(`${await writeSecretKey(secretKey, null)}`);
 await input.next();

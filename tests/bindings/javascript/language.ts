@@ -1,4 +1,4 @@
-// A program over the types of the package where there are those of the language alone: `tests/bindings/javascript.py` compiles it.
+// Checks the types of the package with only the types of the language. `tests/bindings/javascript.py` compiles this program.
 
 import {
   clearSecretKey, createSigner, createVerifier, ERRORS, generateSecretKey, MinisignError, readPublicKey, readSecretKey, readSignature, sign, verify,
@@ -21,31 +21,31 @@ export async function all(text: string): Promise<Verified> {
     await verify(forms[0], signature, text, { progress: (bytes: number, total?: number) => bytes - (total ?? 0) });
   } catch (why) {
     const number: number = why instanceof MinisignError ? ERRORS[why.code] - why.number : 0;
-    // @ts-expect-error: an option that there is not
+    // @ts-expect-error: an unknown option
     await verify(forms[number], signature, key, { allowlegacy: true });
   }
-  // @ts-expect-error: a number is no data
+  // @ts-expect-error: a number is not data
   await verify(7, signature, key);
   return verifier.end();
 }
 
 export async function signed(data: Data): Promise<string> {
-  const made: SecretKey = await generateSecretKey();
-  const text: string = await writeSecretKey(made, "password", { lowMemory: true });
+  const generated: SecretKey = await generateSecretKey();
+  const text: string = await writeSecretKey(generated, "password", { lowMemory: true });
   const key = await readSecretKey(text, { password: new Uint8Array(1), mostRows: 2 });
   const signer = await createSigner(key, { trustedComment: "comment", untrustedComment: key.keyId });
   signer.update(new Uint8Array(signer.bytes));
   const signature: string = await sign(data, key, { progress: (bytes: number) => bytes, trustedComment: await signer.end() });
   await writeNew("minisign.key", text), await writeNew({ href: "file:///key", protocol: "file:" }, new Uint8Array(1));
-  // @ts-expect-error: a number is no path
+  // @ts-expect-error: a number is not a path
   await writeNew(7, text);
-  // @ts-expect-error: a key that is not sealed is asked for by null
-  await writeSecretKey(made);
-  // @ts-expect-error: an option that there is not
+  // @ts-expect-error: for a key without a password, null must be passed
+  await writeSecretKey(generated);
+  // @ts-expect-error: an unknown option
   await readSecretKey(text, { pass: "password" });
-  // @ts-expect-error: whether it is weak is not for a caller to say
+  // @ts-expect-error: isWeak is read-only
   key.isWeak = false;
   clearSecretKey(key);
   const code: ErrorCode = "WRONG_PASSWORD";
-  return code + signature + (await writePublicKey(made));
+  return code + signature + (await writePublicKey(generated));
 }

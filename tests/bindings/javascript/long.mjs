@@ -1,8 +1,9 @@
-// Checks that long data does not block the event loop, in Node: it stands in a directory beside `node_modules`.
+// Checks that long data does not block the event loop, in Node. javascript.py copies this program into a user's directory, beside
+// `node_modules`.
 //
-//     node long.mjs WHAT KEY SIGNATURE    checks this, one of TRIED; the signature is a valid one of other data
+//     node long.mjs CHECK KEY SIGNATURE    runs one of CHECKS; the signature is a valid one of other data
 //
-// Each line has the result that is expected, a tabulator, and the result.
+// Each line has the expected result, a tab, and the result.
 
 import {readFileSync} from "node:fs";
 
@@ -12,13 +13,13 @@ const [what, ...paths] = process.argv.slice(2);
 const [key, signature] = paths.map(path => readFileSync(path));
 
 const MIB = 1048576;
-// How long the data is that takes longer than any timer of these checks.
+// The size of data that takes longer to read than all timers of these checks.
 const LONG = 512 * MIB;
 const GONE = Object.assign(new Error(), {code: "GONE"});
 
 const result = promise => promise.then(() => "accepted", why => why.code ?? why.name);
 
-// The forms of long data that need no waiting of their own.
+// Forms of long data that can be read without waiting.
 const forms = data => ({
   array: data, buffer: data.buffer, list: [data.subarray(0, LONG / 2), data.subarray(LONG / 2)],
   pieces: Array.from({length: LONG / MIB}, (_, at) => data.subarray(at * MIB, (at + 1) * MIB)),
@@ -26,7 +27,8 @@ const forms = data => ({
   generator: (async function* () { yield data; })(),
 });
 
-// Runs with a timer that aborts: how it ends, and whether it had read a part of the data then, but not all.
+// Runs a call while a timer aborts it. Returns how the call ends, whether it had read a part of the data but not all, and whether it
+// reads no further.
 async function abortedBy(run) {
   const controller = new AbortController();
   let read = 0;
@@ -36,8 +38,8 @@ async function abortedBy(run) {
   return `${ended} ${atEnd > 0 && read < LONG} ${read - atEnd <= MIB}`;
 }
 
-const TRIED = {
-  // An AbortSignal that a timer fires ends the verification of each form, and it reads no further.
+const CHECKS = {
+  // A timer can abort the verification of each form, which then reads no further.
   async verifying() {
     const lines = [];
     for (const [form, data] of Object.entries(forms(new Uint8Array(LONG)))) {
@@ -49,7 +51,8 @@ const TRIED = {
     const data = new Uint8Array(LONG), secretKey = await generateSecretKey();
     return [["GONE true true", await abortedBy(options => sign(data, secretKey, options))]];
   },
-  // Timers fire many times while an array is verified, also where there is no MessageChannel. Without timers it is verified at once.
+  // Timers fire many times while an array is verified, also without MessageChannel. Without MessageChannel and setTimeout, the array is
+  // verified in one task.
   async timers() {
     const lines = [], data = new Uint8Array(LONG / 8), {setTimeout} = globalThis;
     for (const missing of ["none", "MessageChannel", "setTimeout"]) {
@@ -69,11 +72,11 @@ const TRIED = {
     const options = {trustedComment: "same", untrustedComment: "same"}, signer = await createSigner(secretKey, options);
     signer.update(data);
     const whole = await signer.end(), publicKey = await writePublicKey(secretKey);
-    await verify(data, whole, publicKey, {progress: (...told) => seen.push(told)});
+    await verify(data, whole, publicKey, {progress: (...reported) => seen.push(reported)});
     const wanted = [1, 2, 3, 4, 5].map(count => [count * MIB, data.length]).concat([[data.length, data.length]]);
     return [[whole, await sign(data, secretKey, options)].map(JSON.stringify), [wanted, seen].map(JSON.stringify)];
   },
-  // An array whose buffer is detached or shrunk meanwhile is neither verified nor signed, even if only its last piece is missing.
+  // An array whose buffer is detached or shrunk while it is read is neither verified nor signed, even if only its last piece is missing.
   async cut() {
     const secretKey = await generateSecretKey(), lines = [], length = 8 * MIB;
     const detach = ({buffer}) => structuredClone(buffer, {transfer: [buffer]});
@@ -91,7 +94,7 @@ const TRIED = {
   },
 };
 
-// (the library is loaded)
+// Load the library before the check.
 await result(verify(new Uint8Array(1), signature, key));
-const lines = await TRIED[what]();
+const lines = await CHECKS[what]();
 process.stdout.write(lines.map(line => `${line.join("\t")}\n`).join(""));

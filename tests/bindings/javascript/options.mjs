@@ -1,10 +1,11 @@
-// Checks which objects the package takes as options, in Node: it stands in a directory beside `node_modules`.
+// Checks which objects the package accepts as options, in Node. javascript.py copies this program into a user's directory, beside
+// `node_modules`.
 //
 //     node options.mjs kinds KEY DATA LEGACY       objects of each kind as options
-//     node options.mjs polluted KEY DATA LEGACY    the same calls while Object.prototype has properties
+//     node options.mjs polluted KEY DATA LEGACY    calls while Object.prototype has additional properties
 //
-// LEGACY is a legacy signature, which verifies only with the option `allowLegacy`. Each line has the result that is expected, a
-// tabulator, and the result.
+// LEGACY is a legacy signature, which verifies only with the option `allowLegacy`. Each line has the expected result, a tab, and the
+// result.
 
 import {readFileSync} from "node:fs";
 import vm from "node:vm";
@@ -45,7 +46,7 @@ async function kinds() {
   return lines;
 }
 
-// Values that each option would have if Object.prototype were read.
+// The values that each option would have if the package read it from Object.prototype.
 const POLLUTION = {
   allowLegacy: true, lowMemory: "no", mostRows: 1, password: "password", progress: () => { throw new RangeError(); }, signal: AbortSignal.abort(),
   trustedComment: "polluted", untrustedComment: "polluted", name: "polluted", path: "polluted", on: 7, destroy: 7, stream: 7, getReader: 7, other: 7,

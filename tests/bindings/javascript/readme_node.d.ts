@@ -1,4 +1,4 @@
-// The calls of Node that README.md uses, since Debian has no package of Node's types.
+// Declares the functions of Node that README.md uses, because Debian has no package of Node's types.
 
 declare module "node:fs" {
   export function createReadStream(path: string): AsyncIterable<Uint8Array>;

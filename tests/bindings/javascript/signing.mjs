@@ -1,15 +1,15 @@
-// What a program makes with the package's secret keys, in Node: it stands in a directory beside `node_modules`.
+// A test program that makes keys and signatures, in Node. javascript.py copies it into a user's directory, beside `node_modules`.
 //
-//     node signing.mjs make DIRECTORY [PASSWORD]                   makes a pair of keys there
-//     node signing.mjs sign KEY DATA TO COMMENT [PASSWORD]         signs a file with a key, in each way
-//     node signing.mjs opened KEY [PASSWORD]                       says whether a key is weak
-//     node signing.mjs growth COUNT                                how many bytes more are in memory after so many keys
-//     node signing.mjs threads                                     whether three threads sign at once
+//     node signing.mjs make DIRECTORY [PASSWORD]                   writes a key pair there
+//     node signing.mjs sign KEY DATA TO COMMENT [PASSWORD]         signs a file, passed in each way
+//     node signing.mjs opened KEY [PASSWORD]                       prints `weak` or `strong`
+//     node signing.mjs growth COUNT                                prints by how many bytes the memory grows after a tenth of COUNT keys
+//     node signing.mjs threads                                     prints whether three threads can sign at once
 //
 //     node signing.mjs itself DATA
 //
-// A line for each thing that is tried: what has to come of it, and what comes. How a key is shown, and what is left of it once it was
-// cleared; calls with arguments that are none; progress, a signal, and streams of four bytes that fail.
+// `itself` prints a line for each check: the expected result, a tab, and the result. It checks that a key shows no secret and is cleared;
+// arguments of wrong types; progress; the signal; and streams that fail. DATA has four bytes.
 
 import {createReadStream, readFileSync, writeFileSync} from "node:fs";
 import {inspect} from "node:util";
@@ -23,8 +23,8 @@ import {
 
 const OTHER = "from a program in JavaScript";
 
-// How an error is told: by its code, where it has one.
-const told = why => why instanceof MinisignError ? why.code : String(why);
+// Returns the code of an error, or its text if it has none.
+const codeOf = why => why instanceof MinisignError ? why.code : String(why);
 
 async function make(directory, password = null) {
   const key = await generateSecretKey();
@@ -37,33 +37,33 @@ async function make(directory, password = null) {
 async function signFile(file, data, to, trustedComment, password) {
   const key = await readSecretKey(readFileSync(file), {password, mostRows: 2 ** 20});
   const options = {trustedComment, untrustedComment: OTHER}, bytes = readFileSync(data);
-  const whole = await sign(bytes, key, options);
+  const expected = await sign(bytes, key, options);
   const blob = new Blob([bytes]);
   const ways = [createReadStream(data), blob, blob.stream(), [bytes.subarray(0, 7), bytes.subarray(7)],
                 vm.runInNewContext("Uint8Array.from(bytes).buffer", {bytes: [...bytes]})];
   for (const way of ways) {
-    if (await sign(way, key, options) !== whole) {
-      throw new Error("in another way another signature is made");
+    if (await sign(way, key, options) !== expected) {
+      throw new Error("data in another form gets another signature");
     }
   }
   const signer = await createSigner(key, options);
   for (let at = 0; at < bytes.length; at += 1000) {
     signer.update(bytes.subarray(at, at + 1000));
   }
-  const told = [await signer.end(), signer.bytes, await signer.end().catch(why => why.code)];
-  if (told[0] !== whole || told[1] !== bytes.length || told[2] !== "NOT_BEGUN") {
-    throw new Error(`in pieces: ${told}`);
+  const results = [await signer.end(), signer.bytes, await signer.end().catch(why => why.code)];
+  if (results[0] !== expected || results[1] !== bytes.length || results[2] !== "NOT_BEGUN") {
+    throw new Error(`in pieces: ${results}`);
   }
-  writeFileSync(to, whole);
+  writeFileSync(to, expected);
   const verified = await verify(bytes, readFileSync(to), await writePublicKey(key));
-  return verified.trustedComment === trustedComment && whole.startsWith(`untrusted comment: ${OTHER}\n`) ? "OK" : "another comment";
+  return verified.trustedComment === trustedComment && expected.startsWith(`untrusted comment: ${OTHER}\n`) ? "OK" : "another comment";
 }
 
 async function opened(file, password) {
   return (await readSecretKey(readFileSync(file), {password, lowMemory: true})).isWeak ? "weak" : "strong";
 }
 
-// How a key is shown, in which its secret is not.
+// Checks that no form of a key shows its secret.
 async function shown() {
   const key = await generateSecretKey(), digits = (await writeSecretKey(key, null)).split("\n")[1];
   const secret = Buffer.from(digits, "base64").subarray(62, 94);
@@ -79,9 +79,9 @@ async function shown() {
   return [...lines.map(line => `true\t${line}`), ...await tried(cleared.map(run => ["KEY_NOT_OPENED", run]))];
 }
 
-// What has to come of each call, and what comes.
+// Returns a line for each call: the expected result, a tab, and the result.
 function tried(rows) {
-  return Promise.all(rows.map(async ([wanted, run]) => `${wanted}\t${await run().then(() => "accepted", told)}`));
+  return Promise.all(rows.map(async ([wanted, run]) => `${wanted}\t${await run().then(() => "accepted", codeOf)}`));
 }
 
 async function wrong() {
@@ -114,8 +114,8 @@ async function wrong() {
 
 async function streams(path) {
   const key = await generateSecretKey(), lines = [], seen = [], bytes = readFileSync(path), gone = Object.assign(new Error(), {code: "GONE"});
-  await sign(bytes, key, {progress: (...told) => seen.push(told)});
-  await sign([bytes, bytes], key, {progress: (...told) => seen.push(told)});
+  await sign(bytes, key, {progress: (...reported) => seen.push(reported)});
+  await sign([bytes, bytes], key, {progress: (...reported) => seen.push(reported)});
   lines.push(`[[4,4],[4,null],[8,null]]\t${JSON.stringify(seen)}`);
   lines.push(`ENOENT\t${await sign(createReadStream(`${path}.absent`), key).catch(why => why.code)}`);
   const controller = new AbortController(), stopped = {cancelled: null};
@@ -128,7 +128,7 @@ async function streams(path) {
   return lines;
 }
 
-// How many bytes are in memory without what is unused. (What a collection finds goes during the next pause.)
+// Resolves to the memory of this process, after garbage was collected. A pause after each collection lets the engine free what it found.
 async function settled() {
   for (let times = 0; times < 3; times += 1) {
     globalThis.gc();
@@ -167,7 +167,7 @@ if (isMainThread) {
   };
   const itself = async path => [...await shown(), ...await wrong(), ...await streams(path)];
   const run = {make, sign: signFile, opened, itself, growth, threads}[what];
-  const lines = await run(...words).catch(told);
+  const lines = await run(...words).catch(codeOf);
   console.log([lines].flat().join("\n"));
 } else {
   parentPort.postMessage(await manySigned());

@@ -1,9 +1,10 @@
-// What becomes of the stream that a verification was given, in Node: it stands in a directory beside `node_modules`.
+// Checks what happens to the stream that was passed to `verify`, in Node. javascript.py copies this program into a user's directory, beside
+// `node_modules`.
 //
-//     node streams.mjs WHAT KEY DATA SIGNATURE    tries this, of TRIED, over files that verify: a line for each thing seen, with what
-//                                                 has to be seen before it
+//     node streams.mjs CHECK KEY DATA SIGNATURE    runs one of CHECKS with files that verify
 //
-// Nobody listens here to an error of a stream: one that does not reject the promise ends the program.
+// Each line has the expected result, a tab, and the result. The program has no listener for errors of streams, so an error that does not
+// reject the promise ends the program.
 
 import {createReadStream, readdirSync, readFileSync} from "node:fs";
 import {EventEmitter, getEventListeners} from "node:events";
@@ -17,22 +18,22 @@ const [key, data, signature] = paths.map(path => readFileSync(path));
 const dataPath = paths[1];
 
 const TIMES = 100;
-// How long a stream may take to close, in milliseconds.
+// The maximum time for closing a stream, in milliseconds.
 const CLOSING = 5000;
-// How long all of them are given to be opened.
+// The time to wait until all files are open, in milliseconds.
 const OPENING = 300;
 
-// What rejects before any data is read: a signature, a key, options.
+// A signature, a key and options that `verify` rejects before it reads data.
 const REJECTED = [["no signature", key], [signature, "no key"], [7, key], [signature, null], [signature, key, null]];
 
-// How a promise ends, in a word; one that does not end is told as well.
+// Resolves to how a promise ends, in a word: "nothing" if it does not end.
 function ending(promise) {
   return Promise.race([promise.then(() => "accepted", why => why?.code ?? why?.name ?? why), wait(CLOSING, "nothing", {ref: false})]);
 }
 
 const descriptors = () => readdirSync("/proc/self/fd").length;
 
-// How many descriptors are left of those that streams took, which have been opened by now.
+// Waits until streams have closed their file descriptors. Resolves to the number of those that are still open.
 async function left(before) {
   for (let waited = 0; descriptors() > before && waited < CLOSING; waited += 10) {
     await wait(10);
@@ -40,7 +41,7 @@ async function left(before) {
   return descriptors() - before;
 }
 
-// Files that are open, so many.
+// Resolves to TIMES streams of open files.
 function opened() {
   const open = () => new Promise(resolve => {
     const stream = createReadStream(dataPath);
@@ -49,7 +50,7 @@ function opened() {
   return Promise.all(Array.from({length: TIMES}, open));
 }
 
-// A stream of the web of these pieces, after which it goes on; it notes what it is cancelled with.
+// Returns a web stream of these pieces, which does not end after them. It notes the reason that it is cancelled with.
 function webStream(pieces) {
   const noted = {cancelled: "not cancelled"};
   const stream = new ReadableStream({
@@ -59,12 +60,12 @@ function webStream(pieces) {
   return {stream, noted};
 }
 
-// A stream of Node of these pieces, which then fails with a code, as soon as something is read of it.
+// Returns a stream of Node that fails with this code after these pieces, once it is read.
 function failing(pieces, code) {
   return new Readable({read() { pieces.length > 0 ? this.push(pieces.shift()) : this.destroy(Object.assign(new Error(code), {code})); }});
 }
 
-// What was an error of a stream before its iteration told of one: it has pieces and errors, and never ends.
+// A stream whose iteration never ends or fails, and that reports errors only by the event "error".
 class Endless extends EventEmitter {
   async *[Symbol.asyncIterator]() {
     yield data;
@@ -72,8 +73,8 @@ class Endless extends EventEmitter {
   }
 }
 
-// What has to be seen.
-const WANTED = {
+// The expected results.
+const EXPECTED = {
   descriptors: ["MISSING_SIGNATURE 0", "BARE_PUBLIC_KEY_LENGTH 0", "TypeError 0", "TypeError 0", "TypeError 0"],
   opening: ["MISSING_SIGNATURE 0"],
   cancelled: [
@@ -89,8 +90,8 @@ const WANTED = {
   accepted: ["accepted,accepted 0 false"],
 };
 
-const TRIED = {
-  // Files that are open, for each reason.
+const CHECKS = {
+  // Open files are closed after each kind of rejection.
   async descriptors() {
     const seen = [];
     for (const rest of REJECTED) {
@@ -100,7 +101,7 @@ const TRIED = {
     }
     return seen;
   },
-  // Files that are opened meanwhile.
+  // Files that are not open yet are closed too.
   async opening() {
     const before = descriptors(), seen = new Set();
     for (let time = 0; time < TIMES; time += 1) {
@@ -109,7 +110,7 @@ const TRIED = {
     await wait(OPENING);
     return [`${[...seen]} ${await left(before)}`];
   },
-  // Streams of the web, also once a piece was read, and what iterates over one.
+  // Web streams are cancelled, also after a piece was read, and so is the stream of an iterator.
   async cancelled() {
     const seen = [];
     for (const rest of REJECTED) {
@@ -122,41 +123,41 @@ const TRIED = {
     seen.push(`${await ending(verify(given.stream.values(), "no signature", key))} ${given.noted.cancelled}`);
     return seen;
   },
-  // A file that is not there.
+  // The error of a missing file rejects the promise.
   async absent() {
     return [await ending(verify(createReadStream(`${dataPath}.absent`), signature, key))];
   },
-  // One that is not there, and texts that are rejected: one of both is told.
+  // If the file is missing and the signature is malformed, the promise rejects with either error.
   async both() {
     const ended = await ending(verify(createReadStream(`${dataPath}.absent`), "no signature", key));
     await wait(100);
     return [["ENOENT", "MISSING_SIGNATURE"].includes(ended) ? "rejected" : ended];
   },
-  // It fails while the library is loaded.
+  // The stream fails while the library is loaded.
   async begun() {
     const stream = failing([], "BEGUN");
     stream.read();
     return [await ending(verify(stream, signature, key))];
   },
-  // It fails after a piece.
+  // The stream fails after a piece.
   async between() {
     return [await ending(verify(failing([data], "BETWEEN"), signature, key))];
   },
-  // It tells of an error, and its iteration does not.
+  // The stream reports an error by an event only, not by its iteration.
   async event() {
     const stream = new Endless();
     const promise = verify(stream, signature, key);
     setTimeout(() => stream.emit("error", Object.assign(new Error(), {code: "EVENT"})), 200);
     return [await ending(promise)];
   },
-  // It fails while it is destroyed, after the promise was rejected.
+  // The stream fails while it is destroyed, after the promise was rejected.
   async late() {
     const stream = new Readable({read() {}, destroy: (_, done) => setTimeout(done, 50, new Error("late"))});
     const ended = await ending(verify(stream, "no signature", key));
     await wait(200);
     return [`${ended} ${stream.destroyed}`];
   },
-  // One of the web that has failed, one that fails as it is read, and one that somebody else reads.
+  // Web streams: one that has failed, one that fails when it is read, and one that is locked to another reader.
   async web() {
     const at = when => new ReadableStream({[when]: queue => queue.error(Object.assign(new Error(), {code: when}))});
     const seen = [await ending(verify(at("start"), signature, key)), await ending(verify(at("pull"), signature, key))];
@@ -164,12 +165,12 @@ const TRIED = {
     locked.getReader();
     return [...seen, `${await ending(verify(locked, "no signature", key))} ${await ending(verify(locked, signature, key))}`];
   },
-  // A signal that said so before, one that does so while a stream waits, and one that does so between two pieces.
+  // The signal has aborted before, aborts while a stream waits, or aborts between two pieces.
   async aborted() {
     const seen = [], gone = Object.assign(new Error(), {code: "GONE"}), waiting = () => ({
       web: webStream([]), node: {stream: new Readable({read() {}}), noted: {}}, own: {stream: new Endless(), noted: {}},
     });
-    // (the library is loaded, so that the streams are being read when the signal aborts)
+    // Load the library first, so that the streams are being read when the signal aborts.
     await ending(verify(data, signature, key));
     for (const when of ["before", "meanwhile"]) {
       for (const [kind, {stream, noted}] of Object.entries(waiting())) {
@@ -180,13 +181,13 @@ const TRIED = {
         seen.push(`${when} ${kind} ${ended} ${noted.cancelled ?? stream.destroyed}`);
       }
     }
-    const controller = new AbortController(), told = [];
-    const progress = bytes => { told.push(bytes); controller.abort(gone); };
+    const controller = new AbortController(), reported = [];
+    const progress = bytes => { reported.push(bytes); controller.abort(gone); };
     const ended = await ending(verify([data, data, data], signature, key, {progress, signal: controller.signal}));
     const listeners = getEventListeners(controller.signal, "abort").length;
-    return [...seen, `between ${ended} ${told.length} ${listeners}`];
+    return [...seen, `between ${ended} ${reported.length} ${listeners}`];
   },
-  // Streams that are accepted.
+  // Streams that verify are closed and unlocked.
   async accepted() {
     const before = descriptors(), web = new Blob([data]).stream();
     const ended = [await ending(verify(createReadStream(dataPath), signature, key)), await ending(verify(web, signature, key))];
@@ -194,5 +195,5 @@ const TRIED = {
   },
 };
 
-const seen = await TRIED[what]();
-process.stdout.write(WANTED[what].map((wanted, number) => `${wanted}\t${seen[number]}\n`).join(""));
+const seen = await CHECKS[what]();
+process.stdout.write(EXPECTED[what].map((wanted, number) => `${wanted}\t${seen[number]}\n`).join(""));

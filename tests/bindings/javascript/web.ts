@@ -1,4 +1,4 @@
-// A program over the types of the package in a browser: `tests/bindings/javascript.py` compiles it with the types of the web.
+// Checks the types of the package with those of the web. `tests/bindings/javascript.py` compiles this program with the DOM library.
 
 import { verify } from "minisign-proved";
 
@@ -8,5 +8,5 @@ export async function all(file: File, answer: Response, signature: Blob, key: st
   if (answer.body !== null) {
     verified.push(await verify(answer.body, text, key, { signal, allowLegacy: false }));
   }
-  return verified.map((one) => one.trustedComment);
+  return verified.map((result) => result.trustedComment);
 }

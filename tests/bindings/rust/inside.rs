@@ -1,4 +1,5 @@
-// What is tested inside of the module that calls C: tests/bindings/rust.py adds this to it, and what the header says of the structs.
+// Checks the private structs of the module that calls C. tests/bindings/rust.py appends this file to that module, with the sizes and
+// offsets that a C compiler gives the structs of the header.
 #[cfg(test)]
 mod inside {
     use super::*;
@@ -16,13 +17,13 @@ mod inside {
         };
     }
     #[test]
-    fn a_key_is_cleared() {
+    fn clears_dropped_key() {
         let mut key = ManuallyDrop::new(SecretKey { mark: 1, key_id: [2; 8], secret: [3; 64] });
         unsafe { ManuallyDrop::drop(&mut key) };
         assert_eq!(key.secret, [0; 64]);
     }
     #[test]
-    fn structs_are_those_of_the_header() {
+    fn structs_have_layout_of_header() {
         // STRUCTS
     }
 }

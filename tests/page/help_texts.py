@@ -1,5 +1,5 @@
-"""Help for a person who never heard of Minisign: the words before the first field, signatures that are known by their
-text, and a sentence for each thing that was given in place of another.
+"""Checks the page's help for users who do not know Minisign: the introduction, and a sentence for each wrong input, such as
+a signature given as a key. Also checks pasted signatures, and what the page shows if it cannot start.
 """
 
 import contextlib
@@ -15,14 +15,14 @@ PGP_KEY = ("-----BEGIN PGP PUBLIC KEY BLOCK-----\n\nmDMEXEcE6RYJKwYBBAHaRw8BAQdA
            "-----END PGP PUBLIC KEY BLOCK-----\n")
 PGP_SIGNATURE = "-----BEGIN PGP SIGNATURE-----\n\niHUEABYKAB0WIQQ=\n=abcd\n-----END PGP SIGNATURE-----\n"
 PGP_BYTES = b"\x88\x75\x04\x00\x16"
-# What is shown where the page verifies nothing, and what where it does.
+# The elements that are shown if the page cannot verify, and if it can.
 STATES = ("lacking", "controls")
 
 
 @contextlib.contextmanager
 def served(page, **headers):
-    """A server that answers with the page, under these headers: its address, that by a name which browsers do not know, and what it is
-    asked for."""
+    """Runs a server for the page with these headers. Yields its address, its address under a name that browsers do not treat as local,
+    and the list of requested paths."""
     asked = []
 
     class Handler(http.server.BaseHTTPRequestHandler):
@@ -45,8 +45,8 @@ def served(page, **headers):
             server.shutdown()
 
 
-def check_helps(person):
-    """Each wrong thing gets a sentence that helps, and no secret is taken."""
+def check_wrong_files(person):
+    """Each wrong file gets a helpful message, and a secret key is not accepted."""
     line, secret, sig = person.first.line, person.minisign.read("first.key"), person.sign(b"data", trusted="t")
     bare = f"{line}\n".encode()
     person.open()
@@ -58,7 +58,7 @@ def check_helps(person):
                                ("alone.pub", bare, "only the key", f" {line} (alone.pub)")):
         person.choose_key(person.put(name, data))
         person.says("key-said", f"{words[0]}, as the key's file", name, *words)
-    # What is no file is told among the files. (Of the line of a key that stands alone there no key is shown.)
+    # Wrong files that are dropped as downloads are reported with the files. (For a file with only the line of a key, no key is shown.)
     person.open()
     for part, name, data, words in (
             *(("key-said", name, bare, f"Paste it into the field: ({name})") for name in ("alone.pub", "alone.txt")),
@@ -71,31 +71,32 @@ def check_helps(person):
         person.same(person.rows(), [], f"{name} among the files: the rows")
 
 
-def check_typed(person):
-    """What stands in the key's field and is no key is told for what it is; the key in it is shown where that helps."""
+def check_wrong_key_texts(person):
+    """A text in the key's field that is not a key gets a message that says what it is, with the key that it contains if that helps."""
     line, pk = person.first.line, person.first.text.decode()
     secret, sig = person.minisign.read("first.key").decode(), person.sign(b"data", trusted="t").decode()
     link, pgp = "made the link chose the key", "a PGP key or signature, which this page cannot verify"
     person.open()
     for what, typed, words, is_key_shown in (
             ("a secret key", secret, "secret key", False),
-            ("its second line", secret.split("\n")[1], "secret key", False),
+            ("the second line of a secret key", secret.split("\n")[1], "secret key", False),
             ("a signature", sig, "is a signature, not a key", False),
-            ("the first 56 letters of its second line", sig.split("\n")[1][:56], "part of a signature, not a key", False),
-            ("the same as a key's file", f"untrusted comment: x\n{sig.split(chr(10))[1][:56]}\n", "part of a signature, not a key", False),
-            ("another part of its second line", sig.split("\n")[1][:40], "part of a signature, not a key", False),
+            ("the first 56 letters of a signature's line", sig.split("\n")[1][:56], "part of a signature, not a key", False),
+            ("a key file with these 56 letters", f"untrusted comment: x\n{sig.split(chr(10))[1][:56]}\n", "part of a signature, not a key",
+             False),
+            ("another part of a signature's line", sig.split("\n")[1][:40], "part of a signature, not a key", False),
             ("a key of another algorithm", f"RWA{line[3:]}", "not a Minisign public key", False),
             ("the line of a signature", sig.split("\n")[1], "is a signature, not a key", False),
             ("a command line", f"minisign -Vm f -P {line}", "is a command line", True),
-            ("the end of one", f"-P {line}", "is a command line", True),
-            ("another one", "C:\\minisign.exe -V -p minisign.pub -m f", "is a command line", False),
+            ("the end of a command line", f"-P {line}", "is a command line", True),
+            ("a command line of Windows", "C:\\minisign.exe -V -p minisign.pub -m f", "is a command line", False),
             ("words around a key", f"Our key is {line}.", "around the key", True),
             ("a key in quotes", f'"{line}"', "around the key", True),
             ("a key in typographic quotes", f"\u201c{line}\u201d", "quotes or invisible characters around the key", True),
-            ("something invisible behind a key", f"{line}\u200b", "quotes or invisible characters around the key", True),
-            ("a key of two lines, and something invisible", pk.rstrip() + "\u2060\n", "invisible characters", True),
-            ("a key that was broken", f"{line[:31]}\n{line[31:]}", "broken over several lines", True),
-            ("a key with its comment that was broken", f"{pk[:-9]}\n{pk[-9:]}", "broken over several lines", True),
+            ("an invisible character after a key", f"{line}\u200b", "quotes or invisible characters around the key", True),
+            ("a key file, and an invisible character", pk.rstrip() + "\u2060\n", "invisible characters", True),
+            ("a key with a line break", f"{line[:31]}\n{line[31:]}", "broken over several lines", True),
+            ("a key file with another line break", f"{pk[:-9]}\n{pk[-9:]}", "broken over several lines", True),
             ("the page's link", f"{person.address}#{line}", link, False),
             ("a link with a signature", f"{person.address}#sig=dW50&key={line}", link, False),
             ("another link", f"https://example.org/minisign.html#later=x&key={line}", link, False),
@@ -108,8 +109,8 @@ def check_typed(person):
         person.same((person.is_shown("key-whole"), person.see("numberOfKey") is None), (False, False), f"{what}: a key is shown, no number")
 
 
-def check_dragged(person):
-    """A text that is dragged to a field stands there alone, and is taken as if it were pasted."""
+def check_dragged_texts(person):
+    """A text that is dragged to a field replaces its text, and is used as if it were pasted."""
     line = person.first.line
     person.begin("no key")
     person.drop_text("key-text", line)
@@ -121,11 +122,11 @@ def check_dragged(person):
     person.same(len(person.rows()), 1, "a text that is dragged to no field: the rows")
 
 
-def check_pasted(person):
-    """The text of a signature can be pasted, before the file and after it, and again; what is none is told."""
+def check_pasted_signatures(person):
+    """A signature can be pasted before or after its file, and again. Another text gets a message."""
     path, (sig, other) = person.put("update.zip", b"data"), (person.sign(data, trusted="t").decode() for data in (b"data", b"x"))
     person.open()
-    for what, texts, wanted in (("as it is", [sig], 0), ("with blanks", [sig.replace("\n", "\n    ")], 0),
+    for what, texts, wanted in (("unchanged", [sig], 0), ("with spaces", [sig.replace("\n", "\n    ")], 0),
                                 ("with empty lines", ["\n" + sig.replace("\n", "\n\n\u00a0 ")], 0), ("without its end", [sig.rstrip()], 0),
                                 ("of other data", [other], 31), ("again", [other, sig], 0)):
         for is_file_first in (True, False):
@@ -135,7 +136,7 @@ def check_pasted(person):
             if not is_file_first:
                 person.choose(path)
             person.only(f"a pasted signature {what}", number=wanted, name="update.zip")
-    # Of the next file. The one before has no signature any more (unverified.py).
+    # A signature for the next file. The file before it no longer has a signature (replaced_inputs.py).
     for name in ("one", "two"):
         person.choose(person.put(name, name.encode()))
         person.type_text("signature-text", person.sign(name.encode(), trusted="t").decode())
@@ -147,20 +148,21 @@ def check_pasted(person):
         person.says("files-said", "no signature that is pasted", words)
         person.same(person.rows(), [], f"{words}: the rows")
         person.type_text("signature-text", "")
-        person.same(person.text_of("files-said"), "", f"{words}: once it is gone")
+        person.same(person.text_of("files-said"), "", f"{words}: the message after the field was cleared")
 
 
-def check_not_started(person):
-    """Where the script cannot run, or not all of it, or no WebAssembly, the page says so, and what to do."""
+def check_page_that_cannot_start(person):
+    """If the script, a part of it or WebAssembly cannot run, the page says so, and what to do."""
     seen = "return [performance.now(), getComputedStyle(document.getElementById('lacking')).visibility === 'visible']"
     what = "a script that cannot run"
     with served(person.page, Content_Security_Policy="script-src 'none'") as (address, *_):
         person.go(address)
         milliseconds, is_early = person.run(seen)
-        person.check(not is_early or milliseconds > 1400, f"after {milliseconds} ms the page says that it has not started")
+        person.check(not is_early or milliseconds > 1400,
+                     f"the page says after {milliseconds} ms that it has not started, expected after 1400 ms or later")
         person.wait(lambda: person.run(seen)[1])
         person.says("lacking", what, "has not started")
-        person.same([*map(person.is_shown, STATES)], [True, False], f"{what}: what is shown")
+        person.same([*map(person.is_shown, STATES)], [True, False], f"{what}: if {STATES} are shown")
     for policy, at, is_secure, has in (
             ("script-src 'unsafe-inline'", 0, True, ["The server of this page forbids WebAssembly"]),
             ("", 1, False, ["was not opened from disk or by https", "Save the page and open it from disk"])):
@@ -168,9 +170,10 @@ def check_not_started(person):
         with served(person.page, Content_Security_Policy=policy) as addresses:
             person.open(addresses[at])
         person.says("lacking", what, *has, lacks=["newer browser"])
-        found = person.run("return isSecureContext"), *map(person.is_shown, STATES), person.run(seen)[1]
-        person.same(found, (is_secure, True, False, True), f"{what}: what is shown")
-    # No thread of its own: it verifies all the same.
+        shown = person.run("return isSecureContext"), *map(person.is_shown, STATES), person.run(seen)[1]
+        person.same(shown, (is_secure, True, False, True),
+                    f"{what}: a secure context, if {STATES} are shown, and if the message is visible")
+    # Without worker threads the page still verifies.
     with served(person.page, Content_Security_Policy="worker-src 'none'") as (address, *_):
         person.open(address)
         engine = person.run("return beginEngine('').then(engine => engine.constructor.name);")

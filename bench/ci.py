@@ -1,14 +1,14 @@
 #!/usr/bin/env python3
-"""Runs the gate, and lists what its parts take of the clock and of processor time.
+"""Runs CI, and lists the elapsed time and the processor time of its parts.
 
-    bench/gate.py LOG
+    bench/ci.py LOG
 
-What `.ci/run` says goes to the file LOG, and in it what each script of tests/Makefile took, of which there is a
-table of its own. It looks at the prover's processes twice a second, and tells them apart by their words and their
-directory, so no other prover may be at work; the row of all else has what was too short to be seen, and the scripts.
-Processor time grows with the work that others do on the host, also where `vmstat` shows none in its column `st`.
+The output of `.ci/run` goes to the file LOG. It has the times of each script of tests/Makefile, which become a second
+table. The script samples the prover's processes twice a second and tells them apart by their arguments and their directory,
+so no other prover may run. The row "everything else" has the scripts, and processes that were too short to be sampled.
+Processor times grow with the load of other virtual machines on the host, even if `vmstat` shows no steal time (`st`).
 
-Needs Python 3.9 or later, what the gate needs, and Linux.
+Needs Python 3.9 or later, what CI needs, and Linux.
 """
 
 import os
@@ -23,14 +23,14 @@ from collections import defaultdict
 TOP = os.path.join(os.path.dirname(os.path.realpath(__file__)), "..")
 SECONDS = 0.5
 TICKS = os.sysconf("SC_CLK_TCK")
-# What a script says at its end.
+# The line that tests/counted.sh prints after a script.
 SCRIPT = re.compile(r"(?m)^== (.*): (\d+) s, (\d+) of the processor$")
-# What is run, beside proofs, by the words or the directory of a process.
+# The names of parts that are not proofs of a crate.
 MUST_FAIL, GROUPS, ARCHIVES = "the edits of must-fail/", "the edits in groups", "archives for C, the page's module"
 
 
 def part_of(words, directory):
-    """The part of the gate that a process of the prover belongs to, if it proves or builds a crate."""
+    """Returns the part of CI to which a process of the prover belongs, or an empty text if it neither proves nor builds a crate."""
     if "--crate-name" not in words[:-1]:
         return ""
     name = words[words.index("--crate-name") + 1]
@@ -44,22 +44,22 @@ def part_of(words, directory):
 
 
 class Watch:
-    """What the prover's processes have taken of processor time, by parts of the gate."""
+    """The processor time of the prover's processes, by parts of CI."""
 
     def __init__(self):
         self.taken, self.parts, self.ends, self.begun = {}, {}, {}, time.monotonic()
 
     def look(self):
-        """Looks at each process once."""
+        """Samples each process once."""
         for pid in filter(str.isdigit, os.listdir("/proc")):
             try:
                 self.look_at(pid)
             except (OSError, ValueError, IndexError):
-                # (it has ended meanwhile)
+                # The process has ended.
                 pass
 
     def look_at(self, pid):
-        """Notes what a process of the prover has taken until now."""
+        """Records the processor time of a process, if it is the prover's."""
         with open(f"/proc/{pid}/stat", encoding="utf-8", errors="replace") as file:
             name, _, rest = file.read().rpartition(") ")
         fields = rest.split()
@@ -75,7 +75,7 @@ class Watch:
             self.ends[self.parts[key]] = time.monotonic() - self.begun
 
     def rows(self):
-        """What each part has taken, and when it ended, in seconds."""
+        """Returns the name of each part, its processor time, and when it ended, in seconds."""
         sums = defaultdict(float)
         for key, seconds in self.taken.items():
             sums[self.parts[key]] += seconds
@@ -83,39 +83,39 @@ class Watch:
 
 
 def run(log, watch):
-    """Runs the gate, and returns its status."""
+    """Runs CI, and returns its exit status."""
     with open(log, "w", encoding="utf-8") as file:
-        gate = subprocess.Popen(["bash", os.path.join(TOP, ".ci", "run")], stdin=subprocess.DEVNULL, stdout=file,
-                                stderr=subprocess.STDOUT)
-        waiting = threading.Thread(target=gate.wait)
+        ci = subprocess.Popen(["bash", os.path.join(TOP, ".ci", "run")], stdin=subprocess.DEVNULL, stdout=file,
+                              stderr=subprocess.STDOUT)
+        waiting = threading.Thread(target=ci.wait)
         waiting.start()
         while waiting.is_alive():
             watch.look()
             waiting.join(SECONDS)
-    return gate.returncode
+    return ci.returncode
 
 
 def main(words):
     if len(words) != 1:
-        print("usage: bench/gate.py LOG")
+        print("usage: bench/ci.py LOG")
         return 2
     log, watch = words[0], Watch()
     status = run(log, watch)
     used = resource.getrusage(resource.RUSAGE_CHILDREN)
     total, rows = used.ru_utime + used.ru_stime, watch.rows()
-    rows.append(("all else", total - sum(seconds for _, seconds, _ in rows), time.monotonic() - watch.begun))
-    rows.append(("the gate", total, time.monotonic() - watch.begun))
+    rows.append(("everything else", total - sum(seconds for _, seconds, _ in rows), time.monotonic() - watch.begun))
+    rows.append(("CI", total, time.monotonic() - watch.begun))
     print("| Part | Ended after, minutes | Processor time, minutes |\n|---|---|---|")
     for name, seconds, end in rows:
         print(f"| {name} | {end / 60:.1f} | {seconds / 60:.1f} |")
     with open(log, encoding="utf-8", errors="replace") as file:
-        said = file.read()
-    print("\n| Script | By the clock, minutes | Processor time, minutes |\n|---|---|---|")
-    for name, seconds, used in sorted(SCRIPT.findall(said), key=lambda row: -int(row[2])):
+        output = file.read()
+    print("\n| Script | Elapsed time, minutes | Processor time, minutes |\n|---|---|---|")
+    for name, seconds, used in sorted(SCRIPT.findall(output), key=lambda row: -int(row[2])):
         print(f"| {name} | {int(seconds) / 60:.1f} | {int(used) / 60:.1f} |")
-    kept = re.search(r"(?m)^rt: ok;.*", said)
-    print(kept[0] if kept else "rt ci did not pass")
-    print(said.rstrip("\n").rpartition("\n")[2])
+    passed = re.search(r"(?m)^rt: ok;.*", output)
+    print(passed[0] if passed else "rt ci did not pass")
+    print(output.rstrip("\n").rpartition("\n")[2])
     return status
 
 

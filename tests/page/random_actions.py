@@ -1,24 +1,26 @@
-"""Random acts of a person, one after the other: whatever came before, each row stands for its own file, signature and
+"""Checks that after any random sequence of actions each row of the page has the verdict of its file, its signature and the
 key.
 """
 
 import itertools
 import random
 
-ACTS = 150
-# Names of files, data of them, the names of keys, and what is signed by which.
+ACTIONS = 150
+# The names and contents of files, the names of keys, and the pairs of a key and the content that it signs.
 NAMES, DATA, KEYS = ("a.zip", "b.zip"), (b"one", b"two"), ("first", "second")
 SIGNED = tuple(itertools.product(KEYS, DATA))
 
 
 class Model:
-    """What the page has to have: the key and how it came, and of each name the data and the signature, in their order."""
+    """The expected state of the page: the key, true in `is_given` if the user gave it, and the data and signature of each row by name,
+    in the order of the rows."""
 
     def __init__(self):
         self.key, self.is_given, self.downloads = None, False, {}
 
     def take_files(self, files):
-        """Files of one drop: (name, kind, what), where a key is of kind "key", and a signature is (signer, data)."""
+        """Adds the files of one drop, as (name, kind, content). The kind is "data", "signature" or "key"; the content of a signature is
+        its signer and data."""
         names = {kind: [name for name, each, _ in files if each == kind] for kind in ("data", "signature")}
         is_pair = all(len(of) == 1 for of in names.values())
         for name, kind, what in files:
@@ -31,6 +33,7 @@ class Model:
             self.downloads[files[0]] |= self.downloads.pop(signatures[0])
 
     def verdict(self, data=None, signature=None):
+        """Returns the verdict of a row and its error number."""
         if data is None or signature is None or self.key is None:
             return "waiting", None
         signer, signed = signature
@@ -38,18 +41,18 @@ class Model:
         return "bad" if number else "good" if self.is_given else "unchecked", number
 
 
-def check_acts(person):
-    """After each act, or a few of them, the rows, the key and what is beside the verdicts are those of the model."""
-    chance, model, said = random.Random(20), Model(), []
+def check_random_actions(person):
+    """The rows and the key are those of the model, after one or several actions."""
+    chance, model, done = random.Random(20), Model(), []
     keys = {"first": person.first, "second": person.second}
     texts = {what: person.sign(what[1], what[0], trusted="t") for what in SIGNED} | {data: data for data in DATA}
     texts |= {name: key.text for name, key in keys.items()}
     person.open()
-    for count in range(ACTS):
-        said.append(act(person, model, chance, keys, texts))
+    for count in range(ACTIONS):
+        done.append(act(person, model, chance, keys, texts))
         if chance.random() < 0.4:
             continue
-        what = f"act {count}, after {said[-4:]}"
+        what = f"action {count}, after {done[-4:]}"
         rows = [(row.name, row.verdict, row.number) for row in person.settled(what)]
         person.same(rows, [(name, *model.verdict(**parts)) for name, parts in model.downloads.items()], what)
         whole = f"In full: {keys[model.key].line}" if model.key else ""
@@ -57,7 +60,7 @@ def check_acts(person):
 
 
 def act(person, model, chance, keys, texts):
-    """Does something, in the page and in the model; what it was."""
+    """Does a random action, in the page and in the model, and returns a description of it."""
     kind, name = chance.choice(("type", "choose", "remove", "clear", "files", "files", "files", "files")), chance.choice(KEYS)
     key = keys[name]
     if kind == "files":

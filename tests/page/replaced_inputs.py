@@ -1,22 +1,22 @@
-"""Whatever is replaced becomes unverified at once: a key, a file, a signature, or the text of a signature, also while its replacement is
-still being read. And the band never asks for what is just being read.
+"""Checks that verdicts disappear at once when the key, the file, the signature or the pasted signature is replaced, even
+while the replacement is still being read, and that the page never asks for an input that is being read.
 """
 
 from person import NEXT
-from standing import HOW_FAR, LONG_BYTES
+from robustness import HOW_FAR, LONG_BYTES
 
 WAIT, MISSING = "Wait until it has been read.", "Its signature is missing"
 
 
 def verdicts(person):
-    """The verdict of each row at this moment, by the names, and the next step of the band."""
+    """Returns the current verdict of each row by name, and the next step that the band shows."""
     rows, band, _ = person.see("state")
     return {row["name"]: row["verdict"] for row in rows}, band and band[2]
 
 
-def check_replaced(person):
-    """On a slow disk: a file, its signature or the key is replaced, and nothing that it may change is verified until the page has read it.
-    What it does not change stays verified."""
+def check_replaced_files(person):
+    """With a slow disk: if a file, its signature or the key is replaced, the rows that the replacement may affect have no verdict until
+    the page has read it. Other rows keep their verdicts."""
     good, other = person.signed("a.zip", b"good", trusted="t"), person.signed("b.zip", b"other", trusted="t")
     evil = person.pair("a.zip", b"evil", person.sign(b"good", trusted="t"))
     renamed = person.put("a.zip.sig", person.sign(b"x", trusted="t")), person.put("A (1).ZIP.minisig", person.sign(b"x", trusted="t"))
@@ -26,37 +26,39 @@ def check_replaced(person):
             ("a file and its signature", person.drop, ("downloads", *evil), first, {"a.zip": "bad", "b.zip": "good"}),
             ("a file and its signature, chosen", person.choose, evil, first, {"a.zip": "bad", "b.zip": "good"}),
             ("a file", person.drop, ("downloads", evil[0]), first, {"a.zip": "bad", "b.zip": "good"}),
-            ("a signature", person.drop, ("downloads", other[1], person.put("a.zip.minisig", b"x")), both, {"a.zip": "bad", "b.zip": "good"}),
-            ("a signature of another ending", person.drop, ("downloads", renamed[0]), first, {"a.zip": "bad", "b.zip": "good"}),
+            ("a signature", person.drop, ("downloads", other[1], person.put("a.zip.minisig", b"x")), both,
+             {"a.zip": "bad", "b.zip": "good"}),
+            ("a signature file with another extension", person.drop, ("downloads", renamed[0]), first, {"a.zip": "bad", "b.zip": "good"}),
             ("the same file", person.drop, ("downloads", *good), first, {"a.zip": "good", "b.zip": "good"}),
-            ("a file of another name", person.drop, ("downloads", person.put("c.zip", b"c")), {"a.zip": "good", "b.zip": "good"},
+            ("a file with another name", person.drop, ("downloads", person.put("c.zip", b"c")), {"a.zip": "good", "b.zip": "good"},
              {"a.zip": "good", "b.zip": "good", "c.zip": "waiting"}),
-            ("the key's file", person.choose_key, (second,), both, {"a.zip": "bad", "b.zip": "bad"}),
-            ("the key's file, dropped", person.drop, ("key", second), both, {"a.zip": "bad", "b.zip": "bad"}),
-            ("what is no key", person.choose_key, (no_key,), both, {"a.zip": "waiting", "b.zip": "waiting"})):
+            ("the key", person.choose_key, (second,), both, {"a.zip": "bad", "b.zip": "bad"}),
+            ("the key, dropped", person.drop, ("key", second), both, {"a.zip": "bad", "b.zip": "bad"}),
+            ("the key by another file", person.choose_key, (no_key,), both, {"a.zip": "waiting", "b.zip": "waiting"})):
         person.begin(person.first.line, *good, *other, anew=what == "a file and its signature")
         person.expect_each("verdict", {"a.zip": "good", "b.zip": "good"}, f"before {what} is replaced")
         with person.with_held_files():
             act(*given)
             seen, step = verdicts(person)
-            # A row may be read already: neither state is a verdict.
+            # A row may already be read. Neither state is a verdict.
             seen = {name: "queued" if verdict == "reading" else verdict for name, verdict in seen.items()}
             person.same(seen, at_once, f"{what} is replaced, and being read")
             wanted = WAIT if "queued" in at_once.values() else NEXT["good"]
             person.same(step, wanted, f"{what} is replaced, and being read: the next step")
             if at_once is both and "key" in what:
-                person.check(not person.is_shown("key-whole"), f"{what} is replaced: the old key is shown")
+                person.check(not person.is_shown("key-whole"), f"{what} is replaced: the old key is still shown")
         person.expect_each("verdict", after, f"{what} is replaced")
 
 
-def check_behind(person):
-    """An act that has to wait for another one, which is still being read, makes unverified at once, too."""
+def check_queued_actions(person):
+    """An action removes verdicts at once even if it has to wait for files of an earlier action."""
     good, slow = person.signed("a.zip", b"good", trusted="t"), person.put("slow.zip", b"x")
     text = person.sign(b"good", trusted="file:a.zip").decode()
     evil = person.pair("a.zip", b"evil", person.sign(b"evil", key="second", trusted="t"))
     waiting, bad = ({"a.zip": verdict, "slow.zip": "waiting"} for verdict in ("waiting", "bad"))
     for what, act, given, after in (
-            ("another key is typed", person.type_key, (person.second.line,), bad), ("the key is removed", person.click, ("key-remove",), waiting),
+            ("another key is typed", person.type_key, (person.second.line,), bad),
+            ("the key is removed", person.click, ("key-remove",), waiting),
             ("no key is typed", person.type_key, ("no key",), waiting), ("a file is dropped", person.drop, ("downloads", *evil), bad),
             ("the pasted signature is cleared", person.type_text, ("signature-text", ""), waiting),
             ("the pasted signature is changed", person.type_text, ("signature-text", text.replace("RU", "RR", 1)), bad)):
@@ -72,8 +74,9 @@ def check_behind(person):
 
 
 def check_while_verifying(person):
-    """While a large file is verified: what is no key is chosen as the key, and the file is dropped again. No verdict is left from before,
-    and no row is empty. The band names the file that is read and says to wait, though another one lacks its signature."""
+    """While a large file is verified, the user chooses a file as the key that is not a key, or drops the large file again. Then no old
+    verdict is left, and no row is without a state. The band names the file that is being read and asks to wait, although another file
+    lacks its signature."""
     paths, small = person.sparse("long", LONG_BYTES), person.signed("small", b"small", trusted="t")
     lone, no_key = person.put("lone.txt", b"lone"), person.put("photo.jpg", b"\xff" * 70000)
 
@@ -88,7 +91,7 @@ def check_while_verifying(person):
     begin()
     person.choose_key(no_key)
     wanted = {name: "waiting" for name in ("small", "lone.txt", "long")}
-    person.expect_each("verdict", wanted, "what is no key is chosen while a large file is read")
+    person.expect_each("verdict", wanted, "a file that is not a key is chosen as the key while a large file is read")
     begin()
     person.drop("downloads", person.put("other.txt", b"other"), *paths)
     wanted = {"small": "good", "lone.txt": "waiting", "long": "good", "other.txt": "waiting"}
@@ -96,19 +99,20 @@ def check_while_verifying(person):
 
 
 def check_signature_field(person):
-    """A verdict that came from the field of the signature ends with any change of its text, and comes back with the text."""
+    """Any change of a pasted signature removes its verdict, and pasting the signature again restores it."""
     path, text = person.put("update.zip", b"data"), person.sign(b"data", trusted="t").decode()
     person.begin(person.first.line, path)
     for what, typed, verdict, has in (
-            ("nothing", "", "waiting", MISSING), ("spaces", " \n", "waiting", MISSING), ("something else", "x", "waiting", MISSING),
-            ("a key", person.second.line, "waiting", MISSING), ("a part of it", text[:-40], "bad", ""), ("its beginning", text[:30], "waiting", MISSING),
-            ("another one", person.sign(b"x", trusted="t").decode(), "bad", "not the one that was signed"),
-            ("a letter more in its comment", text.replace("trusted comment: t\n", "trusted comment: tt\n"), "bad", "")):
+            ("an empty text", "", "waiting", MISSING), ("spaces", " \n", "waiting", MISSING), ("another text", "x", "waiting", MISSING),
+            ("a key", person.second.line, "waiting", MISSING), ("a part of the signature", text[:-40], "bad", ""),
+            ("the beginning of the signature", text[:30], "waiting", MISSING),
+            ("another signature", person.sign(b"x", trusted="t").decode(), "bad", "not the one that was signed"),
+            ("the signature with a changed comment", text.replace("trusted comment: t\n", "trusted comment: tt\n"), "bad", "")):
         person.type_text("signature-text", text)
         person.only(f"a pasted signature, before {what}", verdict="good", name="update.zip")
         person.type_text("signature-text", typed)
-        person.only(f"{what} in the place of a pasted signature", verdict=verdict, name="update.zip", has=[has])
-    # Of several files it is for the one that has the signed name, or else for the one that has had none.
+        person.only(f"{what} instead of a pasted signature", verdict=verdict, name="update.zip", has=[has])
+    # If there are several files, a pasted signature is for the file with the signed name.
     person.begin(person.first.line, anew=False)
     names = ("one.zip", "two.zip", "three.zip")
     for name in names:
@@ -118,9 +122,9 @@ def check_signature_field(person):
         person.expect_each("verdict", {each: "good" if each == name else "waiting" for each in names}, f"a signature of {name} is pasted")
     person.type_text("signature-text", "")
     person.expect_each("verdict", {name: "waiting" for name in names}, "the field of several files is cleared")
-    # A signature that was pasted before its file.
+    # A signature without a file.
     person.begin(person.first.line, anew=False)
     person.type_text("signature-text", text)
-    person.only("a signature alone", verdict="waiting")
+    person.only("only a signature", verdict="waiting")
     person.type_text("signature-text", "")
-    person.same(person.rows(), [], "a signature alone that is cleared")
+    person.same(person.rows(), [], "only a signature, which is cleared")
