@@ -21,9 +21,11 @@
  *
  * To sign a file:
  *
- * - Read the secret key with minisign_read_secret_key, and open it: with minisign_open_sealed_key if it is sealed,
- *   which means encrypted with a password, or else with minisign_open_unsealed_key.
- * - Hash the data with minisign_init, minisign_update and minisign_digest. Sign the digest.
+ * - Read the secret key with minisign_read_secret_key. Then open it, which decrypts it if necessary and checks its
+ *   checksum: use minisign_open_sealed_key if the key is sealed (encrypted with a password), otherwise
+ *   minisign_open_unsealed_key.
+ * - Hash the data with minisign_init, minisign_update and minisign_digest. Sign the digest with Ed25519 and the field
+ *   `secret` of the opened key.
  * - Write that signature and the trusted comment into one message with minisign_comment_message. Sign this message
  *   too.
  * - Verify both signatures before you publish them: see minisign_open_unsealed_key.
@@ -38,18 +40,20 @@
  * contains the minor version, as in libminisign.so.0.3, so a program that was built with another minor version does
  * not load it.
  *
- * What is proved, if the caller meets the "Requirements" below: what each call returns and writes, as the contracts
- * in crates/minisign_c/src/lib.rt of the sources state; and what the calls achieve in sequence, to verify or to sign,
- * as in_a_row.rt in the same directory states. What is only tested: memory from malloc is cleared before it is freed;
- * no secret stays on the stack or in registers; MINISIGN_TEXT_BYTES is large enough; the C code between this header,
- * the proved calls and malloc (boundary.c, allocation.c and clearing.c in c/library) works; and this header describes
- * the contracts correctly.
+ * Machine-checked proofs show, if the caller meets the "Requirements" below, what each call returns and writes, and
+ * what the calls achieve in sequence, to verify or to sign. The contracts in crates/minisign_c/src/lib.rt of the
+ * sources state the first, and in_a_row.rt in the same directory states the second. Only tests show that memory from
+ * malloc is cleared before it is freed; that no secret stays on the stack or in registers; that MINISIGN_TEXT_BYTES is
+ * large enough; that the C code between the calls of this header and the proved calls, and between the proved calls
+ * and malloc, works (boundary.c, allocation.c and clearing.c in c/library); and that this header describes the
+ * contracts correctly.
  *
- * For Linux on x86-64 and AArch64, the proved calls are compiled to archives of machine code. There are two archives
- * for x86-64, one for processors with AVX2 (x86-64-v3) and one for older processors, since 2009 (x86-64-v2); the
- * library selects one when it is loaded. On every other system or processor, including those with 32-bit pointers and
- * still older x86-64 processors, the calls are C code that a script has translated from the same proved calls. z3
- * proves how the script translates each instruction; the rest of the script is tested.
+ * For Linux, the proved calls are compiled to archives of machine code: one for AArch64, and two for x86-64, of which
+ * one is for processors with AVX2 (x86-64-v3) and one for older processors back to 2009 (x86-64-v2). For every other
+ * system or processor, including those with 32-bit pointers and x86-64 processors that are older still, a script has
+ * translated the same proved calls to C code. On Linux with x86-64 the library contains both archives and the C code,
+ * and selects one of the three when it is loaded. z3 proves that the script translates each instruction correctly; the
+ * rest of the script is tested.
  */
 #ifndef MINISIGN_H
 #define MINISIGN_H
@@ -88,60 +92,62 @@ extern "C" {
 #endif
 
 /*
- * Requirements. The library cannot check these. If you break one, it guarantees nothing.
+ * Requirements, and what the library does with memory, threads and secrets. The library cannot check the requirements.
+ * If you break one, it guarantees nothing.
  *
  * - Pointers. A pointer that is followed by a length points to that many elements, at most 2^63 - 1 bytes in total.
- *   They must be readable, and also writable unless the pointer is const. If the length is 0, the pointer may be
+ *   They must be readable, and also writable unless the pointer is to const. If the length is 0, the pointer may be
  *   NULL. No other pointer may be NULL: a pointer to a struct points to one struct, aligned as your compiler aligns
  *   it, and a pointer that is declared as an array points to all its elements. A call that writes to the start of a
- *   buffer leaves the rest of the buffer unchanged. gcc warns if it sees that a length is greater than the buffer,
- *   and gcc and clang warn about NULL where it is not allowed.
- * - Overlap and threads. What a call may write to must not overlap anything else that you pass to it. No other thread
- *   may use what you passed to a call before the call returns. Different threads may use different states at the same
- *   time. When it is loaded, the library records what the processor supports. After that it changes no global
- *   variable.
+ *   buffer leaves the rest of the buffer unchanged. gcc warns if it sees that a length is greater than the buffer, and
+ *   gcc and clang warn about NULL where it is not allowed.
+ * - Overlap and threads. What a call may write to must not overlap anything else that you pass to it. Until the call
+ *   returns, no other thread may change what you passed to it, or use what the call may write to. Different threads
+ *   may use different states at the same time. When it is loaded, the library records what the processor supports.
+ *   After that it changes no global variable.
  * - Memory. You allocate all structs and buffers. The library keeps no pointer after a call has returned. (The inline
- *   functions of minisign_stream.h do: see there.) What a call takes from malloc, it clears and frees before it
- *   returns. malloc and free must belong together, and malloc must align a block of n bytes to every power of two up
- *   to 16 that divides n. Verifying does not allocate. The calls that allocate are minisign_open_sealed_key,
- *   minisign_signed_text, minisign_secret_key_text, minisign_secret_key_text_with_any_limits and
- *   minisign_public_key_text. Do not use them in a signal handler, or in the child of a process with several threads
- *   after fork.
+ *   functions of minisign_stream.h do: see there.) Before a call returns, it clears and frees the memory that it got
+ *   from malloc. A program that replaces malloc must also replace free, and malloc must align a block of n bytes to
+ *   every power of two up to 16 that divides n. Verifying does not allocate. The calls that allocate are
+ *   minisign_open_sealed_key, minisign_signed_text, minisign_secret_key_text, minisign_secret_key_text_with_any_limits
+ *   and minisign_public_key_text. Do not use them in a signal handler, or in the child of a process with several
+ *   threads after fork.
  * - The thread of scrypt. When you open a sealed key or write one, scrypt runs. Meanwhile the library uses a second
  *   thread, which makes the system provide the memory pages before scrypt needs them. This thread blocks all signals
  *   and has ended when the call returns. If no thread can be created, or the library was built with
  *   -DMINISIGN_NO_THREADS, the call takes a little longer. minisign_open_sealed_key_in_place uses your memory and
  *   creates no thread.
  * - No secret stays behind. A call that gets a secret key, a secret key file or a password clears three things before
- *   it returns: what it took from malloc, the caller-saved registers, and the 16 KiB of the stack below its own frame.
- *   Less than that is used: the archives use less than 8 KiB, and the calls as C less than 13 KiB. Provide 20 KiB of
- *   stack for these calls: 16 KiB that they clear, and 4 KiB for the frames above. They do not clear what you hold:
- *   passwords, key files, and each minisign_unopened_key and minisign_secret_key. If a signal handler runs on another
- *   stack (sigaltstack), the system saves registers there, which the library cannot clear. Registers are cleared on
- *   x86-64 and AArch64 with ELF, and under Linux on s390x, 32-bit ARM and 64-bit RISC-V. Elsewhere only memory and
- *   stack are cleared. tests/c/cleared.py tests this on x86-64 and AArch64, with glibc and with musl, with the
- *   archives and with the calls as C, compiled with -O0 and -O2. It generates keys, opens them and signs with them,
- *   also with a wrong checksum and while signals arrive. Then it searches all writable memory and all registers for
- *   the first half of the secret key and for its first 16 bytes, for the base64 of the key, for the password, and for
- *   what scrypt derives from it.
- * - Opaque bytes. Only the library may write three things: the bytes of a state, which minisign_init writes first; the
- *   bytes of a minisign_signature; and the mark of a key. You may copy these structs by assignment or memcpy. For
- *   example, copy a state to continue twice from the same point. Set keys and signatures to zeros before their first
- *   use, so that the library detects one that was never read. Clear secret keys, unopened or open, after their last
- *   use. You need not clear a state, but it holds up to the last 256 bytes of the data. minisign_clear sets any value
- *   to zeros.
+ *   it returns: the memory that it got from malloc, the caller-saved registers, and the 16 KiB of the stack below its
+ *   own frame. The calls use less than these 16 KiB: the archives less than 8 KiB, and the C code that replaces them
+ *   less than 13 KiB. Provide 20 KiB of stack for these calls: 16 KiB that they clear, and 4 KiB for the frames above.
+ *   They do not clear what you hold: passwords, key files, and each minisign_unopened_key and minisign_secret_key. If
+ *   a signal handler runs on another stack (sigaltstack), the system saves registers there, which the library cannot
+ *   clear. Registers are cleared on x86-64 and AArch64 with ELF, and under Linux on s390x, 32-bit ARM and 64-bit
+ *   RISC-V. Elsewhere only memory and stack are cleared. tests/c/cleared.py tests this on x86-64 and AArch64, with
+ *   glibc and with musl, with the archives and with the C code, compiled with -O0 and -O2. It generates keys, opens
+ *   them and signs with them, also with a wrong checksum and while signals arrive. Then it searches all writable
+ *   memory and all registers for the first half of the secret key and for its first 16 bytes, for the base64 of the
+ *   key, for the password, and for what scrypt derives from it.
+ * - Opaque bytes. Only the library may write these: the bytes of a state, which minisign_init writes first; the bytes
+ *   of a minisign_signature; the mark of a key; and the field `bytes` of a minisign_unopened_key. You may copy these
+ *   structs by assignment or memcpy. For example, copy a state to continue twice from the same point. Set keys and
+ *   signatures to zeros before their first use, so that the library detects one that was never read. Clear secret
+ *   keys, unopened or open, after their last use. A state need not be cleared unless the data is secret: it holds up
+ *   to the last 256 bytes of the data. minisign_clear sets any value to zeros.
  * - Answers. The results that you pass to the library must be those of an Ed25519 implementation for exactly the two
  *   signatures that the library asked you to check.
- * - Ed25519. minisign_ask rejects three kinds of input, even if the equation of Ed25519 holds for them. First, a
- *   public key, or the point R in the first 32 bytes of a signature, that has small order (1, 2, 4 or 8). Second, a
- *   public key or R that is not canonically encoded: its y coordinate is not below 2^255 - 19, or x is 0 and its sign
- *   bit is set. Third, a number S in the last 32 bytes of a signature that is not below the group order, 2^252 +
- *   27742317777372353535851937790883648493. crypto_sign_verify_detached of libsodium rejects all three kinds. If
- *   small orders were accepted, anybody could forge signatures under such a key: with OpenSSL 3.0, 64 zero bytes are
- *   a valid signature of one message in four under a public key of 32 zero bytes, which minisign_read_bare_public_key
- *   reads from 56 letters A. If a larger S were accepted, anybody could change a valid signature into another valid
- *   one. Because of these checks, all Ed25519 implementations that check the equation without the cofactor give the
- *   same verdict. minisign_install_ask rejects none of these inputs, so there your Ed25519 implementation must.
+ * - Ed25519. Three kinds of input must be rejected, even if the equation of Ed25519 holds for them. First, a public
+ *   key, or the point R in the first 32 bytes of a signature, that has small order (1, 2, 4 or 8). Second, a public
+ *   key or R that is not canonically encoded: its y coordinate is not below 2^255 - 19, or x is 0 and its sign bit is
+ *   set. Third, a number S in the last 32 bytes of a signature that is not below the group order, 2^252 +
+ *   27742317777372353535851937790883648493. minisign_ask rejects all three kinds, and so does
+ *   crypto_sign_verify_detached of libsodium. minisign_install_ask rejects none of them, so there your Ed25519
+ *   implementation must. If small orders were accepted, anybody could forge signatures under such a key: with OpenSSL
+ *   3.0, 64 zero bytes are a valid signature of one message in four under a public key of 32 zero bytes, which
+ *   minisign_read_bare_public_key reads from 56 letters A. If a larger S were accepted, anybody could change a valid
+ *   signature into another valid one. Because of the checks in minisign_ask, all Ed25519 implementations that check
+ *   the equation without the cofactor give the same verdict.
  *
  * API misuse that the library can detect returns an error and changes nothing:
  *
@@ -157,10 +163,11 @@ extern "C" {
 uint32_t minisign_version(void);
 
 /* Error numbers. No call returns a number that is not listed here. Later versions may add numbers anywhere, so do not
- * decide by ranges. In this version, 1 to 15, 61 to 63, and 82 to 84 are API misuse, lack of memory, and bytes that
- * are not UTF-8. The others are malformed or rejected keys and signatures, rejected updates, and failures of input and
- * output. "Encrypted" means the same here as "sealed" in the names of calls. In MINISIGN_RECORD_TOO_SHORT, a record is
- * a decoded key or signature; everywhere else it is the version record of minisign_install.h. */
+ * decide by ranges. In this version, each of the numbers 1 to 15, 61 to 63, and 82 to 84 means API misuse, lack of
+ * memory, or bytes that are not UTF-8. The others are malformed or rejected keys and signatures, rejected updates, and
+ * failures of input and output. "Encrypted" means the same here as "sealed" in the names of calls. In
+ * MINISIGN_RECORD_TOO_SHORT, a record is a decoded key or signature; everywhere else it is the version record of
+ * minisign_install.h. */
 /* Numbers, made by tools/header.py. */
 enum minisign_error {
     MINISIGN_OK = 0,
@@ -323,8 +330,7 @@ typedef struct minisign_state {
     uint64_t opaque[64];
 } minisign_state;
 
-/* Initializes a state, to which no data was fed yet. What the state held before is overwritten. Does not allocate.
- * Since 0.1. */
+/* Initializes a state for new data. What the state held before is overwritten. Does not allocate. Since 0.1. */
 void minisign_init(minisign_state *state MINISIGN_ROLE(output));
 
 /* Hashes the next len bytes of the data. A piece may have any length; 64 KiB and more are fastest. Does not allocate.
@@ -367,9 +373,9 @@ MINISIGN_MUST_USE enum minisign_error minisign_read_public_key(
 MINISIGN_MUST_USE enum minisign_error minisign_read_bare_public_key(
     const uint8_t *base64, size_t base64_len, minisign_public_key *key MINISIGN_ROLE(output));
 
-/* The content of a signature file. Nothing in it is verified yet. Only the library sets mark and text_digest. You may
- * read the other fields, for example to choose the public key by key_id, or to detect a legacy signature before you
- * call minisign_ask. */
+/* The content of a signature file. Nothing in it is verified yet. Only the library writes its fields, and only the
+ * library uses mark and text_digest. You may read the other fields, for example to choose the public key by key_id, or
+ * to detect a legacy signature before you call minisign_ask. */
 typedef struct minisign_signature {
     uint64_t mark;
     uint8_t key_id[8];             /* of the key that signed, according to the file */
@@ -423,8 +429,8 @@ typedef struct minisign_questions {
 /*
  * Prepares the two checks: writes the key and both signatures to questions, and the message of the second check to
  * message. sig_text is the file from which the signature was read. It is not parsed again: the call compares its
- * digest, and takes the trusted comment from it. message is a buffer of room bytes, and needs 64 + comment_len bytes,
- * with the comment_len of the signature. Does not allocate.
+ * digest with the text_digest of the signature, and takes the trusted comment from it. message is a buffer of room
+ * bytes, and needs 64 + comment_len bytes, with the comment_len of the signature. Does not allocate.
  *
  * Call minisign_ask before you feed data, so that a file that cannot be valid is rejected early. You may also call it
  * later, before minisign_digest: the first check is always about all data that the state was fed.
@@ -440,9 +446,9 @@ typedef struct minisign_questions {
  * errors, in this order: MINISIGN_BAD_LEGACY_FLAG; MINISIGN_NOT_BEGUN, MINISIGN_ALREADY_ASKED;
  * MINISIGN_PUBLIC_KEY_NOT_READ; MINISIGN_SIGNATURE_NOT_READ; MINISIGN_OTHER_SIGNATURE_TEXT, if sig_text has another
  * digest than the file from which the signature was read; MINISIGN_DIFFERENT_KEY_IDS; MINISIGN_LEGACY_NOT_ACCEPTED;
- * MINISIGN_NO_ROOM; MINISIGN_WEAK_ED25519, if the bytes of the public key, the signature or the comment signature are
- * ones that are always rejected, as "Ed25519" under "Requirements" says. A comment signature of fewer than 64 bytes
- * is no error here: minisign_verdict rejects it. Since 0.3.
+ * MINISIGN_NO_ROOM; MINISIGN_WEAK_ED25519, if the public key, the signature or the comment signature is of a kind that
+ * "Ed25519" under "Requirements" lists. A comment signature of fewer than 64 bytes is no error here: minisign_verdict
+ * rejects it. Since 0.3.
  */
 MINISIGN_MUST_USE enum minisign_error minisign_ask(
     minisign_state *state, const minisign_public_key *key, const minisign_signature *signature,
@@ -460,10 +466,10 @@ enum minisign_answer {
 };
 /* The end of the answers. */
 
-/* Verifies only the trusted comment, by the result of the second check. MINISIGN_OK means that the owner of the
- * secret key signed this trusted comment together with the first signature. It says nothing about the data, and
- * nothing about the validity of the first signature. You may call it from minisign_ask until minisign_verdict, as
- * often as you like; the state is unchanged. Does not allocate. The errors, in this order: MINISIGN_BAD_ANSWER;
+/* Verifies only the trusted comment, by the result of the second check. MINISIGN_OK means that the owner of the secret
+ * key signed this trusted comment together with the first signature. It says nothing about the data, and nothing about
+ * the validity of the first signature. You may make this call as often as you like after minisign_ask and before
+ * minisign_verdict; the state is unchanged. Does not allocate. The errors, in this order: MINISIGN_BAD_ANSWER;
  * MINISIGN_NOT_BEGUN; MINISIGN_NOT_ASKED, before minisign_ask; MINISIGN_COMMENT_SIGNATURE_REFUSED, if the file has
  * fewer than 64 bytes of the comment signature, or Ed25519 does not accept it. Since 0.2. */
 MINISIGN_MUST_USE enum minisign_error minisign_comment_verdict(const minisign_state *state,
@@ -527,9 +533,9 @@ typedef struct minisign_secret_key {
  *
  * Neither this call nor minisign_open_sealed_key checks that the two halves of the secret belong together, because
  * that takes Ed25519. In a key that was damaged, or changed by an attacker, they may not belong together. Then its
- * signatures are not valid, and each signature that you publish reveals the secret half of the key. So verify each
- * signature under the public half, the last 32 bytes of secret, before you write it or send it, as c/examples/sign.c
- * does.
+ * signatures are not valid, and each one that you publish reveals the secret half of the key to anybody who also has a
+ * valid signature of the same data. So verify each signature under the public half, the last 32 bytes of secret,
+ * before you write it or send it, as c/examples/sign.c does.
  *
  * Does not allocate. After an error the key is unchanged. The errors, in this order: MINISIGN_KEY_NOT_READ;
  * MINISIGN_KEY_SEALED; MINISIGN_KEY_CORRUPTED, if the checksum neither matches nor consists of zeros. Since 0.3.
@@ -549,8 +555,8 @@ MINISIGN_MUST_USE enum minisign_error minisign_open_unsealed_key(
  *
  * - keep_every limits the memory. Only every keep_every-th row is kept, and the others are computed again when they
  *   are needed. 0 and 1 keep all rows, which is fastest, and takes 1 GiB for a key of `minisign -G`. With
- *   MINISIGN_KEEP_FEW_ROWS, which is 16, such a key takes 65 MiB and about three times as long. The opened key is the
- *   same for every value.
+ *   MINISIGN_KEEP_FEW_ROWS, which is 16, such a key takes at most 65 MiB and about three times as long. The opened key
+ *   is the same for every value.
  * - most_rows limits the time. It is the greatest number of rows that may be computed, not counting those that are
  *   computed again. A key takes 2^log2_rows * work rows, with the fields of minisign_unopened_key.
  *   MINISIGN_USUAL_ROWS, which is 2^20, is enough for the keys of `minisign -G`. With MINISIGN_ANY_ROWS, a key from
@@ -590,7 +596,7 @@ MINISIGN_MUST_USE enum minisign_error minisign_open_sealed_key_in_place(
     uint64_t keep_every, uint64_t most_rows, uint32_t *words, size_t words_len, uint8_t *bytes, size_t bytes_len,
     minisign_secret_key *key MINISIGN_ROLE(output));
 
-/* A new secret key, which you generate with your Ed25519 and random bytes: see "Making keys". */
+/* A new secret key, which you generate with your Ed25519 implementation and random bytes: see "Making keys". */
 typedef struct minisign_new_key {
     uint8_t key_id[8];  /* random bytes */
     uint8_t secret[64] MINISIGN_ROLE(secret); /* the seed, then the public key, as libsodium stores it */
@@ -672,9 +678,9 @@ typedef struct minisign_sealing {
 } minisign_sealing;
 
 /* The limits of `minisign -G`. With them scrypt takes 1 GiB of memory, or less if few rows are kept. If `minisign -G`
- * gets too little memory, it halves both limits and tries again, down to the least ones. If a sealed key that you read
- * has a log2_rows below MINISIGN_LEAST_LOG2_ROWS, it is weaker than a key with the least limits, and an attacker can
- * guess passwords fast. */
+ * gets too little memory, it halves both limits and tries again, down to MINISIGN_LEAST_OPERATIONS_LIMIT and
+ * MINISIGN_LEAST_MEMORY_LIMIT. If a sealed key that you read has a log2_rows below MINISIGN_LEAST_LOG2_ROWS, it is
+ * weaker than a key with these least limits, and an attacker can guess passwords fast. */
 #define MINISIGN_OPERATIONS_LIMIT 33554432
 #define MINISIGN_MEMORY_LIMIT 1073741824
 #define MINISIGN_LEAST_OPERATIONS_LIMIT 524288
@@ -700,8 +706,9 @@ static inline minisign_sealing minisign_usual_sealing(const uint8_t salt[32])
 #define MINISIGN_PASSWORD 1
 #define MINISIGN_ANY_PASSWORD 2
 
-/* The comments that `minisign -G` writes. Append the key ID to that of a public key, as one little-endian number,
- * which you can print with "%" PRIX64. The calls below take comments without "untrusted comment: ", which they add. */
+/* The comments that `minisign -G` writes. The comment of a public key is MINISIGN_PUBLIC_KEY_COMMENT followed by the
+ * key ID: read the ID as one little-endian number, and print it with "%" PRIX64. The calls below take comments without
+ * "untrusted comment: ", which they add. */
 #define MINISIGN_SECRET_KEY_COMMENT "minisign encrypted secret key"
 #define MINISIGN_PUBLIC_KEY_COMMENT "minisign public key "
 
@@ -748,10 +755,10 @@ MINISIGN_MUST_USE enum minisign_error minisign_secret_key_text_with_any_limits(
     uint8_t *text MINISIGN_ROLE(room SECRET_KEY_BYTES + comment_len), size_t room, size_t *text_len);
 
 /* Writes a public key file: both lines of a file such as minisign.pub, to text, a buffer of room bytes, and their
- * length to text_len. The call takes the secret key, so that you cannot publish secret bytes by mistake for a public
- * key. After an error, *text and *text_len are unchanged. The errors, in this order: MINISIGN_KEY_NOT_OPENED;
- * MINISIGN_NOT_UTF8; MINISIGN_BAD_COMMENT, MINISIGN_UNREADABLE_COMMENT, as for minisign_secret_key_text;
- * MINISIGN_NO_ROOM; MINISIGN_OUT_OF_MEMORY. Since 0.2. */
+ * length to text_len. The call takes the secret key, so that you cannot pass secret bytes in place of a public key by
+ * mistake, and publish them. After an error, *text and *text_len are unchanged. The errors, in this order:
+ * MINISIGN_KEY_NOT_OPENED; MINISIGN_NOT_UTF8; MINISIGN_BAD_COMMENT, MINISIGN_UNREADABLE_COMMENT, as for
+ * minisign_secret_key_text; MINISIGN_NO_ROOM; MINISIGN_OUT_OF_MEMORY. Since 0.2. */
 MINISIGN_MUST_USE enum minisign_error minisign_public_key_text(
     const minisign_secret_key *key, const uint8_t *comment, size_t comment_len,
     uint8_t *text MINISIGN_ROLE(room PUBLIC_KEY_BYTES + comment_len), size_t room, size_t *text_len);

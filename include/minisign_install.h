@@ -1,17 +1,17 @@
 /*
- * minisign_install.h: install updates that have a valid Minisign signature. It adds to the calls of minisign.h.
+ * minisign_install.h: install updates that have a valid Minisign signature. Use it together with minisign.h.
  *
  * SPDX-License-Identifier: MIT
  *
  * An installation replaces one file, the target, with an update. A file in the same directory, the version record,
- * holds the version number of the newest update that was installed. Only an update with a valid signature gets the
- * name of the target, and only if its version number is not below the recorded one. Whenever the run is interrupted,
- * even by a crash of the machine, the target is a complete file: the old one or the update.
+ * holds the version number of the newest update that was installed. Only an update with a valid signature is renamed
+ * to the target, and only if its version number is not below the recorded one. Whenever the installation is
+ * interrupted, even by a crash of the machine, the target is a complete file: the old one or the update.
  *
  * The library makes no system calls. It tells you which step is due, you carry it out, and you report how it went.
- * Call minisign_install_init, and then repeat: get the next step from minisign_install_due, carry it out, and report
- * the outcome with the call listed here. The run ends when MINISIGN_DUE_INSTALLED, MINISIGN_DUE_ALREADY,
- * MINISIGN_DUE_WOULD_INSTALL or MINISIGN_DUE_REFUSED is due.
+ * Call minisign_install_init, which begins a run, and then repeat: get the next step from minisign_install_due, carry
+ * it out, and report the outcome with the call listed here. The run ends when MINISIGN_DUE_INSTALLED,
+ * MINISIGN_DUE_ALREADY, MINISIGN_DUE_WOULD_INSTALL or MINISIGN_DUE_REFUSED is due.
  *
  * - MINISIGN_DUE_READ_RECORD: minisign_install_record, or minisign_install_no_record if there is no record.
  * - MINISIGN_DUE_JUDGE, MINISIGN_DUE_JUDGE_TARGET and MINISIGN_DUE_ANSWER: minisign_install_ask returns two
@@ -19,8 +19,9 @@
  * - MINISIGN_DUE_LOOK and MINISIGN_DUE_READ_BACK: minisign_install_piece for each piece, and with 0 bytes at the end
  *   of the file; minisign_install_no_target if there is no file at the target.
  * - MINISIGN_DUE_RECEIVE and MINISIGN_DUE_COPY: minisign_install_more for each piece, and minisign_install_done at the
- *   end of the data. MINISIGN_DUE_RECEIVE is due only if the option is_waiting is set. Then MINISIGN_DUE_COPY copies
- *   the temporary file into which you received the data. Otherwise it copies the data from its source.
+ *   end of the data. MINISIGN_DUE_RECEIVE is due only if the option is_waiting is set. After it MINISIGN_DUE_LOCK and
+ *   the steps that follow it are due again, and MINISIGN_DUE_COPY copies the temporary file into which you received
+ *   the data. If is_waiting is not set, MINISIGN_DUE_COPY copies the data from its source.
  * - MINISIGN_DUE_TAKE_PERMISSIONS: minisign_install_done. If there is no file at the target, give the new file the
  *   permissions that you want; minisign-install uses mode 0600 unless --mode is given.
  * - All other steps: minisign_install_done.
@@ -30,25 +31,26 @@
  * names and the modes of the files.
  *
  * The record contains the version number, the field of the trusted comment from which it was read, the public key
- * that verified the update, and the digest of the data. New data and a new record are first written to temporary
- * files in the directory of the target, with random names. They are synced before they are renamed, so what is
- * renamed is always complete.
+ * under which the update was verified, and the digest of the data. New data and a new record are first written to
+ * temporary files in the directory of the target, with random names. They are synced before they are renamed, so what
+ * is renamed is always complete.
  *
  * If an update has the recorded version number, the installed file is read and verified. If it is the update, the file
  * and the directory are synced, and the run ends with MINISIGN_DUE_ALREADY. If it is another file, the update is
- * installed if the record was written for the same data: so the next run completes a run that was interrupted after it
- * had renamed its record. Otherwise the update is rejected, unless the option `again` is set.
+ * installed if the record was written for the data of this update, or if the option `again` is set. Otherwise the
+ * update is rejected. So if a run was interrupted after it had renamed its record and before it renamed its data, the
+ * next run completes the installation.
  *
- * You have to meet the "Requirements" of minisign.h, and these. If you break one, nothing is guaranteed about the
- * target.
+ * You have to meet the "Requirements" of minisign.h, and those in the following list. If you break one, nothing is
+ * guaranteed about the target.
  *
  * - Hold the lock from MINISIGN_DUE_LOCK to MINISIGN_DUE_UNLOCK or to the end of the run. All other programs that
  *   change the target or its record have to use the same lock. You choose the lock: minisign-install calls flock with
- *   LOCK_EX and LOCK_NB on an empty file in the directory of the target, which for the target app is .app.lock. Do not
- *   lock the target itself, because it is replaced.
+ *   LOCK_EX and LOCK_NB on an empty file in the directory of the target, such as .app.lock for a target with the name
+ *   app. Do not lock the target itself, because it is replaced.
  * - Report a step as done only if you carried it out as this header says, and it succeeded.
- * - Pass to minisign_install_piece what the file contains, from its first byte to its end. Read it through the file
- *   descriptor with which you opened or wrote the file.
+ * - Pass to minisign_install_piece all bytes of the file, from the first to the last. Read the installed file through
+ *   the file descriptor with which you opened it, and the temporary file through the one with which you wrote it.
  */
 #ifndef MINISIGN_INSTALL_H
 #define MINISIGN_INSTALL_H
@@ -143,7 +145,8 @@ typedef struct minisign_install_options {
     uint32_t is_first;    /* install even if no version of this numbering is recorded: there is no record, it is damaged,
                            * or it has the other numbering. Also ignore a record that names neither of the two keys,
                            * which helps if a thief has signed a high version number with a key that you no longer use.
-                           * If is_first is 0, the version in such a record is compared like any other */
+                           * The version in every other record is compared as usual. If is_first is 0, the version in a
+                           * record that names neither key is compared too */
     uint32_t again;       /* install an update of the recorded version even if a different file is installed */
     uint32_t is_check;    /* only find out what a run would do: nothing is locked, synced or written */
     uint32_t is_waiting;  /* the data may arrive slowly, as from a pipe: receive it while the target is not locked */
@@ -188,13 +191,13 @@ enum minisign_due minisign_install_due(const minisign_installation *installation
 MINISIGN_MUST_USE enum minisign_error minisign_install_done(minisign_installation *installation);
 
 /*
- * Reports that a piece of piece_len bytes was received or copied, and that there may be more. MINISIGN_DUE_RECEIVE or
- * MINISIGN_DUE_COPY is due again. Report every piece, even one of 0 bytes, and report the end of the data with
- * minisign_install_done.
+ * Reports that a piece of piece_len bytes was received or copied, and that there may be more. The same step,
+ * MINISIGN_DUE_RECEIVE or MINISIGN_DUE_COPY, remains due. Report every piece, even one of 0 bytes, and report the end
+ * of the data with minisign_install_done.
  *
  * If the trusted comment has a field "size:", the library counts the bytes, separately for MINISIGN_DUE_RECEIVE and
  * MINISIGN_DUE_COPY. There is an exception: if another run held the lock, the data is received before the trusted
- * comment is verified. Then its size is only checked when it is copied.
+ * comment is verified. Then its size is checked only later, when it is copied.
  *
  * The errors, in this order: MINISIGN_NOT_DUE, after which nothing is changed; MINISIGN_OTHER_SIZE, if the data is
  * longer than the field "size:" says. Then the run is rejected for this error, and you continue with the step that is
@@ -205,7 +208,7 @@ MINISIGN_MUST_USE enum minisign_error minisign_install_more(minisign_installatio
 /*
  * Reports that the step that is due failed. why is MINISIGN_OUT_OF_MEMORY, MINISIGN_READING_FAILED,
  * MINISIGN_WRITING_FAILED or MINISIGN_RANDOM_SOURCE_FAILED, or for MINISIGN_DUE_LOCK also MINISIGN_TARGET_IN_USE. You
- * may report a failure of any step, even of one that has its own call.
+ * may report a failure of any step, even of one whose success you report with another call than minisign_install_done.
  *
  * If there are temporary files with names, MINISIGN_DUE_REMOVE_RECORD and MINISIGN_DUE_REMOVE become due next. Then
  * MINISIGN_DUE_REFUSED is due, and minisign_install_error returns why. This also holds if MINISIGN_DUE_CLEAR or
@@ -223,8 +226,8 @@ MINISIGN_MUST_USE enum minisign_error minisign_install_more(minisign_installatio
  * failure of MINISIGN_DUE_SYNC_NAME that of the data. Its removal becomes due all the same. There is nothing to
  * remove, so report that step as done.
  *
- * The only error is MINISIGN_NOT_DUE, for any other error number and after the end of the run. Then nothing is
- * changed. Since 0.3.
+ * The only error is MINISIGN_NOT_DUE, if why is an error that is not listed above for this step, and after the end of
+ * the run. Then nothing is changed. Since 0.3.
  */
 MINISIGN_MUST_USE enum minisign_error minisign_install_failed(
     minisign_installation *installation, enum minisign_error why);
@@ -271,9 +274,9 @@ MINISIGN_MUST_USE enum minisign_error minisign_install_no_target(minisign_instal
  * is the whole signature file. message is a buffer of room bytes. It needs 64 bytes and the length of the trusted
  * comment, so sig_text_len bytes are always enough. Legacy signatures are always rejected. For MINISIGN_DUE_JUDGE, the
  * digest is the one in the record, or zeros if the record has none. This check shows if the record was written for the
- * same data, so its result may well be no. Otherwise the digest is that of the bytes that you passed to
+ * data of this update, so its result may well be no. Otherwise the digest is that of the bytes that you passed to
  * minisign_install_piece. Unlike minisign_ask, this call rejects no weak public keys and signatures, so your Ed25519
- * must reject them: see "Ed25519" under "Requirements" in minisign.h.
+ * implementation must reject them: see "Ed25519" under "Requirements" in minisign.h.
  *
  * The call also checks what the trusted comment says. You get the result from minisign_install_answer, because until
  * then the comment may be forged. The comment consists of fields that are separated by tabs. It must have
@@ -288,16 +291,16 @@ MINISIGN_MUST_USE enum minisign_error minisign_install_no_target(minisign_instal
  * A number consists of decimal digits only, and is below 2^64. If the comment has several fields "file:", the first of
  * them counts, and likewise for the fields of the chosen numbering.
  *
- * `now` is the time of your clock in seconds since 1970. In C, use clock_gettime with CLOCK_REALTIME, because since
- * Linux 6.13 the function time can be some milliseconds behind the times of files. If `now` is less than the time at
- * which the record was written, the clock is wrong. Then every update with a field "expires:" counts as expired,
+ * `now` is the time of your clock in seconds since 1970. In C, use clock_gettime with CLOCK_REALTIME and not time(),
+ * because since Linux 6.13 time() can be some milliseconds behind the times of files. If `now` is less than the time
+ * at which the record was written, the clock is wrong. Then every update with a field "expires:" counts as expired,
  * unless is_first is set.
  *
  * The errors, in this order: MINISIGN_NOT_DUE; MINISIGN_NOT_UTF8, for file; those of minisign_read_signature;
- * MINISIGN_ALREADY_ASKED, if minisign_install_answer was not called since the last call; MINISIGN_DIFFERENT_KEY_IDS;
- * MINISIGN_LEGACY_NOT_ACCEPTED; MINISIGN_NO_ROOM. After MINISIGN_NOT_DUE, MINISIGN_ALREADY_ASKED and MINISIGN_NO_ROOM
- * nothing is changed. After the others the run is rejected for this error, and you continue with the step that is
- * due. After every error questions and message are unchanged. Since 0.3.
+ * MINISIGN_ALREADY_ASKED, if minisign_install_answer was not called since the previous minisign_install_ask;
+ * MINISIGN_DIFFERENT_KEY_IDS; MINISIGN_LEGACY_NOT_ACCEPTED; MINISIGN_NO_ROOM. After MINISIGN_NOT_DUE,
+ * MINISIGN_ALREADY_ASKED and MINISIGN_NO_ROOM nothing is changed. After the others the run is rejected for this error,
+ * and you continue with the step that is due. After every error questions and message are unchanged. Since 0.3.
  */
 MINISIGN_MUST_USE enum minisign_error minisign_install_ask(
     minisign_installation *installation, const uint8_t *sig_text, size_t sig_text_len, const uint8_t *file,
@@ -326,11 +329,11 @@ MINISIGN_MUST_USE enum minisign_error minisign_install_answer(
     minisign_installation *installation, enum minisign_answer first, enum minisign_answer second);
 
 /*
- * Returns 1 if the trusted comment of the last minisign_install_ask is "vouched" for: according to the results that
- * you passed to minisign_install_answer, the comment signature is valid under the key that was chosen by its key ID.
- * It is 1 even if minisign_install_answer rejected the run because of the data or of what the comment says. Otherwise
- * it is 0. So it is 0 from minisign_install_ask until minisign_install_answer. The comment is in the buffer message,
- * at the comment_offset of the questions. Show it only if this call returns 1. Since 0.3.
+ * Returns 1 if the comment signature that the last minisign_install_ask returned is valid, according to the results
+ * that you passed to minisign_install_answer, under the key that was chosen by its key ID. It is 1 even if
+ * minisign_install_answer rejected the run because of the data or of what the comment says. Otherwise it is 0. So it
+ * is 0 from minisign_install_ask until minisign_install_answer. The trusted comment is in the buffer message, at the
+ * comment_offset of the questions. Show it only if this call returns 1. Since 0.3.
  */
 uint32_t minisign_install_is_vouched(const minisign_installation *installation);
 

@@ -1,9 +1,9 @@
 /*
  * minisign_stream.h: verifies and signs data that arrives in pieces.
  *
- * Each job takes three calls: start, feed and finish. Errors stick: after the first error the later calls do nothing
- * and finish returns that error. So of these calls you only have to check finish. Also check, as the example does,
- * that reading the data did not fail.
+ * Verifying takes three calls, and so does signing: start, feed and finish. After the first error the later calls do
+ * nothing, and finish returns that error. So of these calls you only have to check finish. Also check, as the example
+ * does, that reading the data did not fail.
  *
  *     static minisign_verifier verifier;
  *     const char *comment;
@@ -16,11 +16,12 @@
  *         reject();
  *     }
  *
- * The calls are inline functions over those of minisign.h and follow its "Requirements", with one exception: between
- * the calls, a minisign_signer keeps the pointer to your secret key, or the context of your signing function. Both
- * kinds of state keep the pointers to your functions. You pass the functions of your Ed25519 library:
- * crypto_sign_verify_detached and crypto_sign_detached of libsodium, or functions of the same types. No call
- * allocates, except minisign_sign_finish and minisign_signature_file.
+ * The calls are inline functions that use those of minisign.h, and the "Requirements" there apply, with one exception:
+ * from start to finish, these calls keep pointers. A minisign_signer keeps the pointer to your secret key, or the
+ * context of your signing function. A minisign_signer and a minisign_verifier both keep the pointers to your
+ * functions. You pass the functions of your Ed25519 library: crypto_sign_verify_detached and crypto_sign_detached of
+ * libsodium, or functions of the same types. No call allocates, except minisign_sign_finish and
+ * minisign_signature_file.
  *
  * SPDX-License-Identifier: MIT
  */
@@ -65,7 +66,7 @@ typedef struct minisign_verifier {
     minisign_verify_detached *verify;
     minisign_state state;
     minisign_questions questions;
-    /* The message of the comment signature: 64 bytes, then the trusted comment, and here a 0 byte. */
+    /* The message of the comment signature: 64 bytes, then the trusted comment. A 0 byte follows the message. */
     uint8_t message[64 + MINISIGN_STREAM_COMMENT_BYTES + 1];
 } minisign_verifier;
 
@@ -91,8 +92,8 @@ static inline enum minisign_error minisign_verify_start_(minisign_verifier *veri
 /*
  * Starts a verification. key is a public key: both lines of a file such as minisign.pub, or only the 56 characters of
  * its second line, without a line feed. If key contains a line feed, it is read as a file. sig is the whole signature
- * file. You may free both when the call has returned. Legacy signatures, which sign the data itself and not its hash,
- * are rejected.
+ * file. You may free both when the call has returned. Legacy signatures, which are over the data itself and not over
+ * its hash, are rejected.
  *
  * minisign_verify_finish returns the errors in the public key and in the signature file. They are, in this order:
  * those of minisign_read_public_key or minisign_read_bare_public_key, those of minisign_read_signature, and those of
@@ -230,11 +231,11 @@ static inline enum minisign_error minisign_signature_file_(
 
 /*
  * Writes the signature file for a public key and two signatures, and verifies it before it returns. The signatures may
- * come from a token, an agent or another machine: this program needs no secret key. To make *fed, initialize a state
- * with minisign_init and feed all of the data to it with minisign_update. Do not call minisign_digest on it; to get
- * the digest that is to be signed, call minisign_digest on a copy of the state. *fed is unchanged. verify is called
- * for both signatures, under key. parts has both signatures and both comments. The file is written to text, a buffer
- * of text_size bytes, and its length to text_len. MINISIGN_TEXT_BYTES is a size that is enough.
+ * come from a token, an agent or another machine: this program needs no secret key. *fed is a state to which you fed
+ * all of the data: initialize it with minisign_init and pass the data to minisign_update. Do not call minisign_digest
+ * on it; to get the digest that is to be signed, call minisign_digest on a copy of the state. *fed is unchanged.
+ * verify is called for both signatures, under key. parts has both signatures and both comments. The file is written to
+ * text, a buffer of text_size bytes, and its length to text_len. MINISIGN_TEXT_BYTES is a size that is enough.
  *
  * After an error *text_len is 0, and text holds nothing of the signatures: an invalid signature may reveal the secret
  * key. The errors, in this order: those of minisign_signed_text, those of minisign_ask, then
