@@ -44,9 +44,10 @@
     "                     and T stand for KiB, MiB, GiB and TiB, as in `100M`. Both\n" \
     "                     names of the option mean the same.\n" \
     "  --wait SECONDS     Wait up to SECONDS (at most 86400) for another\n" \
-    "                     installation of TARGET to finish, and then exit with\n" \
-    "                     status 5. The default is not to wait. If DATA is a pipe,\n" \
-    "                     the program reads it before it waits.\n" \
+    "                     installation of TARGET to finish, and exit with status 5\n" \
+    "                     if it has not finished by then. The default is not to\n" \
+    "                     wait. If DATA is a pipe, the program reads it before it\n" \
+    "                     waits.\n" \
     "  --                 End the options. All further arguments are paths.\n" \
     "  --help, -h         Print the options and the exit statuses. Give no other\n" \
     "                     argument.\n" \
