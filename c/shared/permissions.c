@@ -166,11 +166,11 @@ bool give_permissions(int fd, const struct permissions *permissions)
 bool close_to_others(int fd)
 {
     acl_t empty = acl_init(1);
-    bool is_closed = empty != NULL && (acl_set_fd(fd, empty) == 0 || is_none(errno) || errno == ENOTSUP);
-    int number = errno;
+    bool is_closed = empty != NULL && (acl_set_fd(fd, empty) == 0 || is_missing_list(errno) || errno == ENOTSUP);
+    int error = errno;
 
     acl_free(empty);
-    errno = number;
+    errno = error;
     return is_closed;
 }
 
