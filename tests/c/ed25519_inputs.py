@@ -36,7 +36,7 @@ from running import read
 # What each document has to say, as patterns of its words.
 RULES = ("public key .*?R.* small order", "R that is not canonically encoded", "S .*?that is not below the group order",
          "OpenSSL 3\\.0, 64 zero bytes are a valid signature of one message in four under a public key of 32 zero bytes",
-         "56 letters A", "crypto_sign_verify_detached of libsodium rejects all three")
+         "56 letters A", "minisign_ask rejects all three kinds, and so does crypto_sign_verify_detached of libsodium")
 DETAILS = ("small order \\(1, 2, 4 or 8\\)", "y coordinate is not below 2\\^255 - 19", "2\\^252 \\+ 27742317777372353535851937790883648493")
 OF_STREAM = ("need not reject a public key or a point R .*?of small order", "R that is not canonically encoded",
              "S .*?that is not below the group order", "MINISIGN_WEAK_ED25519")
