@@ -29,7 +29,7 @@ import "C"
 
 // The calls of minisign.h, made by tools/bindings.py. A nil password means that the key is not encrypted.
 
-// What pointer returns for an empty slice, because the proved calls take no NULL.
+// nothing is the target of the pointer for an empty slice, because the proved calls take no NULL.
 var nothing [1]byte
 
 func pointer(bytes []byte) *C.uint8_t {

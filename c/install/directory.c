@@ -359,7 +359,7 @@ void unlock_target(struct directory *directory)
 
 /* ---- Leftovers and the record ---- */
 
-/* What cannot be removed, such as a directory of this name, is left. */
+/* Leaves what cannot be removed, such as a directory of this name. */
 static void remove_name(int directory, const char *name)
 {
     (void) AGAIN(unlinkat(directory, name, 0));

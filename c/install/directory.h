@@ -49,7 +49,7 @@ struct directory {
     struct part target;
     struct part lock;
     struct part record;
-    /* What messages call each temporary file. */
+    /* The name of each temporary file in messages. */
     struct part stages;
     /* The temporary files of the update and of the record, and the installed file while it is read. */
     struct stage update;

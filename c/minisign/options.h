@@ -7,7 +7,7 @@
 
 enum command { NO_COMMAND, GENERATE, RECREATE, CHANGE, SIGN, VERIFY };
 
-/* What to print about verified data: everything; nothing (-q); only the trusted comment (-Q). */
+/* The output about verified data: everything; nothing (-q); only the trusted comment (-Q). */
 enum quiet { SAY_ALL, SAY_NOTHING, SAY_COMMENT };
 
 struct options {

@@ -102,7 +102,7 @@ static bool may_follow(const struct place *place, const struct stat *link)
     return true;
 }
 
-/* What a name in a directory is: a link, whose target was read, or no link. IS_UNKNOWN is an error, in errno. */
+/* The kind of a name in a directory: a link, whose target was read, or no link. IS_UNKNOWN is an error, in errno. */
 enum step { IS_LINK, IS_NO_LINK, IS_UNKNOWN };
 
 static enum step read_link(const struct place *place, const char *name, char target[TARGET_BYTES])
