@@ -412,7 +412,8 @@ def check_mutants(checks, user, room, minisign):
             ASKED[word](by_node(checks, copied, "answers.mjs"), minisign, shared_cases.corpus())
 
     package = os.path.join(user, "node_modules", "minisign-proved")
-    shared_cases.check_mutants(checks, package, "bindings/javascript", mutants_of("bindings", "javascript", "mutants"), room, ask)
+    all_mutants = mutants_of("bindings", "javascript", "mutants")
+    shared_cases.check_mutants(checks, package, "bindings/javascript", all_mutants, room, ask, {"memory"})
 
 
 def run_all(checks, room):

@@ -529,14 +529,20 @@ def is_detected(package, room, ask, word, mutant=None, inside=""):
     return False
 
 
-def check_mutants(checks, package, inside, package_mutants, room, ask):
+# How often a case that searches memory may run for a mutant: malloc may overwrite what the mutant leaves before it is found.
+SEARCHES = 5
+
+
+def check_mutants(checks, package, inside, package_mutants, room, ask, searching=()):
     """Checks that `ask` detects each mutant of a package, and passes for a copy without a mutant. The package is a copy of the repository's
-    directory `inside`. `ask` takes the checks, the changed copy, an empty directory and the case that must fail."""
+    directory `inside`. `ask` takes the checks, the changed copy, an empty directory and the case that must fail. The cases in `searching`
+    search memory, and run up to SEARCHES times."""
     for word in sorted({mutant.case for mutant in package_mutants}):
         checks.check(not is_detected(package, room, ask, word), f"{word}: fails for a copy without a mutant")
     for mutant in package_mutants:
         try:
-            is_failing = is_detected(package, room, ask, mutant.case, mutant, inside)
+            tries = SEARCHES if mutant.case in searching else 1
+            is_failing = any(is_detected(package, room, ask, mutant.case, mutant, inside) for _ in range(tries))
             checks.check(is_failing, f"{mutant.case} does not detect the mutant {mutant.name}")
         except Failure as why:
             checks.check(False, str(why))
