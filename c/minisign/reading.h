@@ -22,7 +22,7 @@ struct data {
     size_t tag_count;
 };
 
-/* What to keep besides the digest: nothing; all bytes; or tags, so that the data can be copied later. */
+/* The memory of the data besides its digest: nothing; all bytes; or tags, so that the data can be copied later. */
 enum reading_mode { DIGEST_ONLY, KEEP_BYTES, COPY_LATER };
 
 struct data open_data(const char *file);

@@ -22,7 +22,7 @@
 #define COUNTED_DESCRIPTORS 256
 
 struct replacement {
-    /* Where the file goes. `place.file` is NULL if this entry is free. */
+    /* The place that the file gets. `place.file` is NULL if this entry is free. */
     struct place place;
     /* The temporary file, open and locked until it is in place. -1 if the file was written in place. */
     int fd;
