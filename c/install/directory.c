@@ -1,5 +1,7 @@
 /* SPDX-License-Identifier: MIT */
 /* Makes the system calls of an installation, relative to the open directory of the target. */
+#define _GNU_SOURCE
+
 #include "directory.h"
 
 #include <limits.h>
@@ -9,8 +11,10 @@
 #include "shared/stages.h"
 #include "shared/streams.h"
 
-/* The mode of new files. */
+/* The mode of new files, and that of the record, which everybody may read. Nobody else may open the lock file, because
+ * whoever can open it can hold it for ever. */
 #define FOR_THE_OWNER 0600
+#define FOR_ALL_TO_READ 0644
 
 /* How often to open a file again that other processes keep replacing. */
 #define MAX_OPENINGS 100
@@ -120,13 +124,58 @@ static enum presence find(struct directory *directory, const struct part *part, 
                                            : "this is not a regular file";
         hint = part != &directory->target || !(S_ISLNK(status->st_mode) || S_ISDIR(status->st_mode))
                    ? "remove it or move it away"
-               : S_ISLNK(status->st_mode) ? "give the path that it leads to"
+               : S_ISLNK(status->st_mode) ? "use the path that it points to"
                                           : "give the path of a file in it";
     } else if (errno == ENOENT) {
         return ABSENT;
     }
     remember(directory, part, cause, hint);
     return UNUSABLE;
+}
+
+/* Returns true if a file or directory is mounted at this name, so that no file can be renamed to it. */
+static bool is_mounted_at(int directory, const char *name)
+{
+#if defined STATX_ATTR_MOUNT_ROOT && !defined POSIX_ONLY
+    struct statx status;
+
+    return AGAIN(statx(directory, name, AT_SYMLINK_NOFOLLOW, 0, &status)) == 0
+           && (status.stx_attributes & STATX_ATTR_MOUNT_ROOT) != 0;
+#else
+    (void) directory;
+    (void) name;
+    return false;
+#endif
+}
+
+/* Calls find for the target, which is unusable also if another file is mounted there. */
+static enum presence find_replaceable(struct directory *directory, struct stat *status)
+{
+    const struct part *target = &directory->target;
+    enum presence presence = find(directory, target, status);
+
+    if (presence == PRESENT && is_mounted_at(directory->fd, target->name)) {
+        errno = EBUSY;
+        remember(directory, target, "another file is mounted here", "unmount it, or give the path of another file");
+        return UNUSABLE;
+    }
+    return presence;
+}
+
+enum minisign_error expect_regular_files(struct directory *directory)
+{
+    struct stat status;
+    bool is_usable = find(directory, &directory->target, &status) != UNUSABLE
+                     && find(directory, &directory->lock, &status) != UNUSABLE;
+
+    return is_usable ? MINISIGN_OK : MINISIGN_READING_FAILED;
+}
+
+enum minisign_error expect_replaceable_target(struct directory *directory)
+{
+    struct stat status;
+
+    return find_replaceable(directory, &status) == UNUSABLE ? MINISIGN_WRITING_FAILED : MINISIGN_OK;
 }
 
 /* Calls fstat. On failure, remembers the error and returns false. */
@@ -152,25 +201,33 @@ static enum presence leads_to(struct directory *directory, const struct part *pa
     return presence == PRESENT && !is_same_file(&named, &opened) ? ABSENT : presence;
 }
 
-/* Finds the keeper, who must own the lock file and the record: the owner and group of the installed file or, if that
- * belongs to root or does not exist, of the directory. Therefore a run by root does not prevent later runs by the usual
- * owner. */
-static bool find_keeper(struct directory *directory, struct stat *keeper)
+/* Finds the keeper, who must own the lock file and the record: the owner and group of the existing lock file or record,
+ * if that does not belong to root; otherwise those of the installed file or, if that belongs to root or does not exist
+ * either, of the directory. Therefore a run by root neither takes these files away from a user nor prevents later runs
+ * by the usual owner. */
+static bool find_keeper(struct directory *directory, const struct part *existing, struct stat *keeper)
 {
-    enum presence presence = find(directory, &directory->target, keeper);
+    const struct part *const parts[] = { existing, &directory->target };
 
-    return (presence == PRESENT && keeper->st_uid != 0)
-           || (presence != UNUSABLE && look_at(directory, &directory->itself, directory->fd, keeper));
+    for (size_t i = 0; i < sizeof parts / sizeof parts[0]; i++) {
+        enum presence presence = find(directory, parts[i], keeper);
+
+        if (presence == UNUSABLE || (presence == PRESENT && keeper->st_uid != 0)) {
+            return presence == PRESENT;
+        }
+    }
+    return look_at(directory, &directory->itself, directory->fd, keeper);
 }
 
-/* Gives a file to the keeper, if the system allows it. This run must have created the file: whoever can write to the
- * directory could have renamed another user's file. */
-static bool give_to_keeper(struct directory *directory, const struct part *part, int fd)
+/* Gives a new lock file or record to the keeper, if the system allows it. `existing` is the file that it replaces, and
+ * `part` what messages call it. This run must have created the file: whoever can write to the directory could have
+ * renamed another user's file. */
+static bool give_to_keeper(struct directory *directory, const struct part *existing, const struct part *part, int fd)
 {
     struct stat keeper, status;
     bool is_given;
 
-    if (!find_keeper(directory, &keeper) || !look_at(directory, part, fd, &status)) {
+    if (!find_keeper(directory, existing, &keeper) || !look_at(directory, part, fd, &status)) {
         return false;
     }
     if ((status.st_uid != keeper.st_uid || status.st_gid != keeper.st_gid)
@@ -206,7 +263,8 @@ static enum minisign_error open_part(struct directory *directory, const struct p
         if (*fd < 0 && errno != ENOENT && errno != ELOOP) {
             return errno == EACCES && part != &directory->target
                        ? fails_for(directory, part, "only the owner of this file can open it",
-                                   "give it the same owner as the installed file", MINISIGN_READING_FAILED)
+                                   "use chown to change its owner to that of the installed file",
+                                   MINISIGN_READING_FAILED)
                        : fails(directory, part, MINISIGN_READING_FAILED);
         }
         presence = *fd < 0 ? ABSENT : leads_to(directory, part, *fd);
@@ -263,7 +321,7 @@ static enum minisign_error lock_file(struct directory *directory, int fd, bool i
     } else {
         error = fails(directory, &directory->lock, MINISIGN_READING_FAILED);
     }
-    if (presence == UNUSABLE || (presence == PRESENT && is_made && !give_to_keeper(directory, &directory->lock, fd))) {
+    if (presence == UNUSABLE || (presence == PRESENT && is_made && !give_to_keeper(directory, &directory->lock, &directory->lock, fd))) {
         error = MINISIGN_READING_FAILED;
     }
     if (presence == PRESENT && error == MINISIGN_OK) {
@@ -304,15 +362,15 @@ static bool is_locked(struct directory *directory)
     return presence == PRESENT;
 }
 
-/* If this is a run by root, and the lock file or record does not belong to the keeper (as after an earlier run by
- * root), creates the file that is to replace it. An existing file is never given away. */
+/* If this is a run by root, and the lock file or record belongs to root but not to the keeper (as after an earlier run
+ * by root), creates the file that is to replace it. An existing file is never given away. */
 static enum minisign_error begin_renewal(struct directory *directory, const struct part *part, bool is_lock,
                                          struct stage *fresh)
 {
     struct stat keeper, status;
     enum presence presence = find(directory, part, &status);
 
-    if (presence == UNUSABLE || !find_keeper(directory, &keeper)) {
+    if (presence == UNUSABLE || !find_keeper(directory, part, &keeper)) {
         return MINISIGN_READING_FAILED;
     }
     /* Lock files of this program are empty. */
@@ -330,7 +388,7 @@ static enum minisign_error renew_lock(struct directory *directory)
     if (error != MINISIGN_OK || fresh.fd < 0) {
         return error;
     }
-    if (give_to_keeper(directory, &directory->lock, fresh.fd) && AGAIN(flock(fresh.fd, LOCK_EX | LOCK_NB)) == 0
+    if (give_to_keeper(directory, &directory->lock, &directory->lock, fresh.fd) && AGAIN(flock(fresh.fd, LOCK_EX | LOCK_NB)) == 0
         && AGAIN(renameat(directory->fd, fresh.name, directory->fd, directory->lock.name)) == 0) {
         close(directory->locked);
         directory->locked = fresh.fd;
@@ -347,6 +405,7 @@ enum minisign_error lock_target(struct directory *directory)
     if (directory->locked >= 0) {
         return is_locked(directory) ? MINISIGN_OK : MINISIGN_READING_FAILED;
     }
+    error = error == MINISIGN_OK ? expect_regular_files(directory) : error;
     error = error == MINISIGN_OK ? lock_found(directory) : error;
     return error == MINISIGN_OK ? renew_lock(directory) : error;
 }
@@ -502,7 +561,8 @@ static enum minisign_error give(struct directory *directory, struct permissions 
         return MINISIGN_OK;
     }
     is_denied = errno == EPERM || errno == EACCES;
-    snprintf(directory->words, sizeof directory->words, "the mode %03o is not allowed here", (unsigned) mode);
+    snprintf(directory->words, sizeof directory->words, "the system does not allow the mode %03o for this file",
+             (unsigned) mode);
     return fails_for(directory, &directory->stages, is_denied ? directory->words : NULL,
                      is_denied ? "use --mode to choose another mode" : NULL, MINISIGN_WRITING_FAILED);
 }
@@ -513,7 +573,7 @@ enum minisign_error take_permissions(struct directory *directory)
         struct permissions older;
         struct stat status;
 
-        switch (find(directory, &directory->target, &status)) {
+        switch (find_replaceable(directory, &status)) {
         case UNUSABLE: return MINISIGN_WRITING_FAILED;
         case ABSENT: return give(directory, NULL);
         case PRESENT: break;
@@ -535,9 +595,11 @@ enum minisign_error sync_stage(struct directory *directory, const struct stage *
 
 enum minisign_error sync_record(struct directory *directory, const struct stage *stage)
 {
-    bool is_given = give_to_keeper(directory, &directory->stages, stage->fd);
-
-    return is_given ? sync_stage(directory, stage) : MINISIGN_WRITING_FAILED;
+    if (!give_mode(stage->fd, FOR_ALL_TO_READ)) {
+        return fails(directory, &directory->stages, MINISIGN_WRITING_FAILED);
+    }
+    return give_to_keeper(directory, &directory->record, &directory->stages, stage->fd) ? sync_stage(directory, stage)
+                                                                                         : MINISIGN_WRITING_FAILED;
 }
 
 /* ---- Renaming and removing ---- */

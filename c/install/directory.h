@@ -78,6 +78,14 @@ void close_directory(struct directory *directory);
 /* Opens the directory, if it is not open yet. */
 enum minisign_error open_directory(struct directory *directory);
 
+/* Fails if the target or the lock file is a link or a directory, or is no regular file for another reason. Either may be
+ * missing. */
+enum minisign_error expect_regular_files(struct directory *directory);
+
+/* Fails if no file can be renamed to the target, because something is mounted there, or the target is no regular
+ * file. */
+enum minisign_error expect_replaceable_target(struct directory *directory);
+
 /* Locks the target, if it is not locked yet. Returns MINISIGN_TARGET_IN_USE if another run has the lock. A new lock
  * file gets the owner who may install the next update, if the system allows it. An existing file is never given
  * away. */
@@ -91,8 +99,8 @@ enum minisign_error remove_leftovers(struct directory *directory);
 
 enum minisign_error read_record(struct directory *directory, struct record *record);
 
-/* If this is a run by root, and the record does not belong to the keeper (as after an earlier run by root), replaces it
- * by a new file of the keeper's with the same text and time. The old file is never given away. */
+/* If this is a run by root, and the record belongs to root but should belong to another user (as after an earlier run by
+ * root), replaces it by a new file of that user with the same text and time. The old file is never given away. */
 enum minisign_error renew_record(struct directory *directory, const struct record *record);
 
 /* Sets the modification time of a temporary file. */
@@ -118,8 +126,8 @@ enum minisign_error read_stage(struct directory *directory, struct stage *stage,
 /* Sets the permissions of the update to those of the installed file, or to the mode of the options. */
 enum minisign_error take_permissions(struct directory *directory);
 
-/* Syncs a temporary file or the installed file. A record is first given to the owner who may install the next update,
- * if the system allows it. */
+/* Syncs a temporary file or the installed file. A record is first made readable by everybody, and given to the owner who
+ * may install the next update, if the system allows it. */
 enum minisign_error sync_stage(struct directory *directory, const struct stage *stage);
 enum minisign_error sync_record(struct directory *directory, const struct stage *stage);
 

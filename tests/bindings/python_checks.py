@@ -534,6 +534,7 @@ KINDS = {
     "password": Kind((*NUMBER_TYPES, *OTHER_TYPES)),
     "new password": Kind((*NUMBER_TYPES, *OTHER_TYPES), bad=("", b"", bytearray())),
     "path": Kind((None, bytearray(b"data"), NoPath(), *NUMBER_TYPES, *OTHER_TYPES), bad=BAD_PATHS, same=FORMS_OF_A_PATH),
+    "name": Kind((None, bytearray(b"data"), NoPath(), *NUMBER_TYPES, *OTHER_TYPES), bad=(*BAD_PATHS, "", b""), same=FORMS_OF_A_PATH),
     "target": Kind((None, bytearray(b"data"), NoPath(), *NUMBER_TYPES, *OTHER_TYPES), bad=(*BAD_PATHS, ".", "..", b"/", "there/"), same=FORMS_OF_A_PATH),
     "path or file": Kind((None, NoPath(), io.StringIO(""), io.StringIO("data"), *NUMBER_TYPES, *OTHER_TYPES), bad=BAD_PATHS,
                          same=(*FORMS_OF_A_PATH, lambda path: open(path, "rb"), lambda path: io.BytesIO(open(path, "rb").read()))),
@@ -608,7 +609,7 @@ def table(room: str) -> List[Call]:
     limits: Dict[str, Any] = {"operations_limit": ("operations", 2**20), "memory_limit": ("memory", 2**25)}
     comments: Dict[str, Any] = {"trusted_comment": ("text or none", "comment \u00e9"), "untrusted_comment": ("text", "other")}
     progress: Dict[str, Any] = {"progress": ("function or none", None)}
-    update: Dict[str, Any] = {"must_expire": ("truth", False), "numbering": ("numbering", "version"), "name": ("path or none", "app")}
+    update: Dict[str, Any] = {"must_expire": ("truth", False), "numbering": ("numbering", "version"), "name": ("name or none", "app")}
     return [
         Call("Signature", minisign, text=("text", signature.text.decode())),
         Call("Signature.from_file", Signature, path=("path", path + ".minisig")),
@@ -634,7 +635,7 @@ def table(room: str) -> List[Call]:
         Call("write_new", minisign, path=("path", there), text=("bytes", b"text")),
         Call("change_password", minisign, path=("path", key_path), old=("password", None), new=("new password", None), low_memory=("truth", False)),
         Call("use_ed25519", minisign, name=("Ed25519", kind)),
-        Call("check", minisign, key=("public keys", public), signature=("signature", signature), target=("target", there), first=("truth", True), **update),
+        Call("check", minisign, key=("public keys", public), signature=("signature", signature), target=("target", there), first=("truth", True), again=("truth", False), **update),
         Call("install", minisign, key=("public keys", public), data=("path or file", path), signature=("signature", signature), target=("target", there),
             first=("truth", True), again=("truth", False), **update, mode=("mode or none", 0o640), most=("size or none", 4), wait=("seconds", 1), **progress),
     ]

@@ -31,7 +31,7 @@ from words import word_cases
 
 FAILED, MISUSED, REJECTED, OLDER, IN_USE, NOT_ON_DISK, UNRECORDED, SAME, EXPIRED, THERE = range(1, 11)
 OFFERS = {minisign.Offer.NEWER: 0, minisign.Offer.THERE: THERE, minisign.Offer.OLDER: OLDER}
-OPTIONS = ["first", "again", "check", "must-expire", "key=", "name=", "numbering=", "mode=", "most=", "wait="]
+OPTIONS = ["first", "again", "check", "must-expire", "key=", "name=", "numbering=", "mode=", "max-size=", "most=", "wait="]
 
 # The exit statuses of `minisign-install` for errors. For all other errors the status is that of a rejected update.
 STATUSES = {
@@ -44,20 +44,21 @@ STATUSES = {
 HINTS = {
     minisign.NoRecord: "use --first for the first installation", minisign.DamagedRecord: "use --first to install anyway",
     minisign.SameNumber: "use --again to install anyway", minisign.TargetInUse: "use --wait SECONDS to wait for it",
-    minisign.OtherFile: "use --name NAME if the update is signed under another name than {name}",
+    minisign.OtherFile: "use --name NAME if the update was signed under a name other than {name}",
     minisign.KeptByVersion: "use --numbering version", minisign.KeptByTimestamp: "use --numbering timestamp",
     minisign.DifferentKeyIds: "use the public key of the signer", minisign.DirectoryNotSynced: "run the command again",
-    minisign.TooLong: "use --most BYTES to accept larger data",
+    minisign.TooLong: "use --max-size BYTES to accept larger data",
     **dict.fromkeys((minisign.OlderUpdate, minisign.Expired), "download the latest update"),
     **dict.fromkeys((minisign.SignatureRefused, minisign.CommentSignatureRefused, minisign.OtherSize), AGAIN),
 }
 NO_NUMBER = {"version": "omit --numbering version if the comment has a field timestamp:", "timestamp": "use --numbering version if the comment has a field version:"}
 HINTS_OF_CAUSES = {
     "this directory does not exist": "create it first",
-    "only the owner of this file can open it": "give it the same owner as the installed file",
+    "only the owner of this file can open it": "use chown to change its owner to that of the installed file",
     "this file is too long for a version record": "remove it and use --first to install anyway",
     "another process removed or replaced this lock file": "run the command again",
-    "the mode ": "use --mode to choose another mode", "it was written at ": "set the system clock",
+    "the system does not allow the mode ": "use --mode to choose another mode", "written at ": "set the system clock",
+    "another file is mounted": "unmount it, or give the path of another file",
 }
 
 
@@ -69,7 +70,7 @@ def failure(why, place):
     hint = next((hint for front, hint in HINTS_OF_CAUSES.items() if cause.startswith(front)), None)
     if cause.startswith("this is "):
         kind = cause if why.filename == place else ""
-        hint = ("give the path that it leads to" if "symbolic link" in kind else "give the path of a file in it" if "directory" in kind
+        hint = ("use the path that it points to" if "symbolic link" in kind else "give the path of a file in it" if "directory" in kind
                 else "remove it or move it away")
     return f"error: {why.filename}: {cause}" + ("" if is_own_text else f" (os error {why.errno})"), hint
 
@@ -116,7 +117,7 @@ def install(words):
     key = None if keys else paths.pop(0)
     data = None if "--check" in options else paths.pop(0)
     signature, place = paths
-    most, mode, name = map(options.get, ("--most", "--mode", "--name"))
+    most, mode, name = options.get("--max-size", options.get("--most")), options.get("--mode"), options.get("--name")
     numbering = options.get("--numbering", "timestamp")
     if most is not None:
         most = int(most.rstrip("K")) << 10 * most.endswith("K")
@@ -125,7 +126,7 @@ def install(words):
         text = read_text(minisign.Signature.from_file, signature)
         parameters = {"first": "--first" in options, "must_expire": "--must-expire" in options, "numbering": numbering, "name": name}
         if "--check" in options:
-            return OFFERS[minisign.check(public_keys, text, place, **parameters)]
+            return OFFERS[minisign.check(public_keys, text, place, again="--again" in options, **parameters)]
         is_new = minisign.install(public_keys, data, text, place, again="--again" in options, mode=None if mode is None else int(mode, 8),
                                   most=most, wait=int(options.get("--wait", 0)), **parameters)
     except minisign.MinisignError as error:
@@ -147,7 +148,7 @@ def install(words):
 # Cases that test the command line or the messages of a program, which functions do not have.
 LEFT_OUT = {"shows progress at a terminal", "works with a closed error stream", "installs nothing if an allocation fails",
             "exits normally if nobody reads its errors", "--check shows only signed text, without control characters",
-            "the documented systemd unit installs an update", "warns that --mode does not change an installed file"}
+            "the document shows the updater's files", "systemd accepts the updater's service and timer", "warns that --mode does not change an installed file"}
 INCLUDED = {"takes a name that begins with a dash", "takes a file name other than the signed one"}
 
 

@@ -20,6 +20,7 @@ import sys
 HERE = os.path.dirname(os.path.realpath(__file__))
 sys.path.append(os.path.join(HERE, "..", "shared"))
 
+import debian_crates
 import ending
 import needs
 import static_library
@@ -41,7 +42,7 @@ ENDS = {"../c/out/minisign-install --check ": (10, "2\r\nversion:2\tfile:app\r\n
 LEFT = {"try-signing/copy": b"test", "try-signing/there/app": b"version 3\n", "try-signing/there/.app.number": b"version:3",
         "try-installing/there/app": b"version 2\n", "try-installing/there/.app.number": b"version:2",
         "try-installing/there/.release.pub.number": b"version:1", "try-ci/app": b"version 1\n"}
-SECRET_KEYS = {"try-signing/my.key", "try-installing/my.key", "try-installing/root.key"}
+SECRET_KEYS = {"try-signing/my.key", "try-installing/clock.key", "try-installing/my.key", "try-installing/root.key"}
 # The end of a command, or a password prompt.
 ENDED = "--- ended with status "
 STOP = re.compile(rb"\r?\n" + ENDED.encode() + rb"(\d+)\r\n|Password[^\n:]*: $")
@@ -127,6 +128,7 @@ def check_left_files(checks, clone):
 def run_all(checks, room):
     needs.libsodium()
     needs.rust_compiler()
+    debian_crates.use(room)
     for name, package in (("make", "make"), ("ld", "binutils"), ("cargo", "cargo")):
         needs.program(name, package)
     clone = Clone(room)

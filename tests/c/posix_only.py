@@ -27,6 +27,8 @@ EXCHANGE = "two files cannot be exchanged, so after a failure or a signal the fi
 UNNAMED = "each new file has a name from the start, so a kill leaves a temporary file until the next run"
 DIRECTORY = "a directory is opened by its name, which a removed directory does not have"
 
+MOUNTS = "a file that is mounted at the target is noticed only when the update is renamed"
+
 # Patterns of the names of cases that fail, and why, by script.
 WEAKER = {
     "command_line/command_line.py": {
@@ -36,14 +38,15 @@ WEAKER = {
         r"writes into a directory without a name": DIRECTORY,
     },
     "installer/real_installing.py": {
-        r"the permissions of a replaced file: a (list|mode that is asked for over a list) ": LISTS,
+        r"the permissions of a replaced file: a (list|requested mode removes) ": LISTS,
         r"(stays consistent if|retries) f(get|remove)xattr ": LISTS,
         r"first file (with --mode )?gets no inherited access list": LISTS,
+        r"rejects a target at which a file is mounted": MOUNTS,
     },
 }
 
 # Calls that only Linux has.
-LINUX_CALLS = {"renameat2", "syscall", "sync_file_range", "getrandom", "fstatfs", "getxattr", "fgetxattr", "fsetxattr", "fremovexattr"}
+LINUX_CALLS = {"renameat2", "syscall", "sync_file_range", "getrandom", "fstatfs", "getxattr", "fgetxattr", "fsetxattr", "fremovexattr", "statx"}
 
 
 def check_calls(checks, program):

@@ -1,12 +1,12 @@
 """The cases of --check, and of the systemd unit in docs/INSTALLING.md."""
 
 import os
-import re
 import shutil
 
 from installers import (ALREADY, CHECK, EXPIRED, FAILED, NEW, NO_DIRECTORY, OLD, OLDER, PAST, PK, RECORD, REJECTED, SAME_VERSION, TARGET,
                         error)
 from process import run_program
+import needs
 import proved
 from running import expect, read
 from runs import Cases, repeating, unfed_pipe
@@ -33,6 +33,18 @@ def shows_signed_text(directory):
     directory.offer()
     with open("/dev/full", "wb") as full:
         directory.expect_end(directory.run(CHECK, stdout=full), FAILED)
+
+
+@check_cases.table("--check --again accepts other data of the recorded version")
+def checks_again(directory):
+    """Without --again, --check rejects it, as an installation does."""
+    directory.offer(number=5)
+    before = directory.snapshot()
+    directory.expect_end(directory.run(CHECK), SAME_VERSION)
+    directory.expect_run(["--again", *CHECK], 0)
+    expect(directory.snapshot() == before, "--check changed something")
+    directory.expect_install("new", 0, "--again")
+    directory.expect_run(["--again", *CHECK], ALREADY)
 
 
 @check_cases.table("warns that --mode does not change an installed file")
@@ -73,12 +85,9 @@ def reads_whole_record(directory):
             directory.expect_run(CHECK, 0, environment=directory.disturbing(SLOW="5000"))
 
 
-# == Blocks of docs/INSTALLING.md ==
+# == The updater of examples/updater ==
 
-def block_of(first):
-    """Returns the indented block of the document that begins with this line."""
-    lines = re.search(rb"^    %b\n(?:    .*\n)+" % re.escape(first), read(proved.ROOT, "docs", "INSTALLING.md"), re.M)[0]
-    return re.sub(rb"(?m)^    ", b"", lines)
+UPDATER = os.path.join(proved.ROOT, "examples", "updater")
 
 
 def prepare_documented(directory, *names):
@@ -99,20 +108,20 @@ def offer_app(directory, name, data, number, signed=None, more=""):
     os.replace(directory.path_of(f"{name}.sig"), directory.path_of(f"{name}.minisig"))
 
 
-@check_cases.table("the documented systemd unit installs an update")
-def runs_unit(directory):
-    """Its command installs an update, and exits with the SuccessExitStatus of the unit if the update is already
-    installed. `systemd-analyze`, if there is one, finds nothing wrong."""
-    environment = prepare_documented(directory)
-    text = block_of(b"[Service]").decode()
-    unit = dict(line.split("=", 1) for line in text.splitlines()[1:])
-    expect({*unit} == {"Type", "SuccessExitStatus", "WorkingDirectory", "ExecStart"}, f"the unit has {unit}")
-    offer_app(directory, "app", NEW, 2)
-    for status in (0, int(unit["SuccessExitStatus"])):
-        ran = run_program(unit["ExecStart"].split(), directory.path, env=environment)
-        expect((ran.status, directory.content("there/app")) == (status, NEW), ran)
-    if shutil.which("systemd-analyze"):
-        text = text.replace("=minisign-install ", f"={directory.path}/bin/minisign-install ")
-        directory.put("update.service", text.encode())
-        ran = run_program(["systemd-analyze", "verify", "--man=no", "update.service"], directory.path)
-        expect(b"update.service" not in ran.said, ran)
+@check_cases.table("the document shows the updater's files")
+def shows_updater(_):
+    """Each of them is a block of docs/INSTALLING.md, indented by four spaces."""
+    document = read(proved.ROOT, "docs", "INSTALLING.md").decode()
+    for name in sorted(os.listdir(UPDATER)):
+        block = "".join("    " + line if line.strip() else line for line in read(UPDATER, name).decode().splitlines(True))
+        expect(f"\n\n{block}\n" in document, f"docs/INSTALLING.md does not show examples/updater/{name} as it is")
+
+
+@check_cases.table("systemd accepts the updater's service and timer")
+def checks_units(directory):
+    """`systemd-analyze verify` finds nothing wrong with them."""
+    for name in ("app-update.service", "app-update.timer"):
+        directory.put(name, read(UPDATER, name))
+    ran = run_program([needs.program("systemd-analyze", "systemd"), "verify", "--man=no", "app-update.timer", "app-update.service"],
+                      directory.path)
+    expect(ran.status == 0 and b"app-update" not in ran.said, ran)

@@ -1,5 +1,5 @@
-"""The cases of the updater script of docs/INSTALLING.md, as the document shows it, with the real curl: against a good
-server, and against servers that send too much, too slowly or nothing. All servers listen on the loopback interface.
+"""The cases of the updater script of examples/updater, with the real curl: against a good server, and against servers that
+send too much, too slowly or nothing. All servers listen on the loopback interface.
 """
 
 import concurrent.futures
@@ -7,16 +7,17 @@ import contextlib
 import fcntl
 import http.server
 import os
+import re
 import signal
 import subprocess
 import threading
 import time
 
 import needs
-from checking import block_of, offer_app, prepare_documented
+from checking import UPDATER, offer_app, prepare_documented
 from installers import LATER, NEW, OLD, OLDER, REJECTED
 from process import Ran
-from running import Failure, expect
+from running import Failure, expect, read
 from runs import Cases, Directory
 
 download_cases = Cases()
@@ -133,9 +134,11 @@ def serving(directory, bad):
             thread.join()
 
 
-def run_script(directory, environment, url):
-    """Runs the script of the document. If it does not end in time, it is killed, and the case fails."""
-    command = ["sh", "update", url]
+def run_script(directory, environment, url, *command):
+    """Runs the script with the arguments that the service passes. If it does not end in time, it is killed, and the case fails."""
+    words = re.search(r"^ExecStart=(.*)$", read(UPDATER, "app-update.service").decode(), re.M)[1].split()
+    expect(words[:3] == ["/bin/sh", "update", "https://example.org/releases"], f"the service runs {words}")
+    command = [*words[:2], url, *command]
     with subprocess.Popen(command, cwd=directory.path, env=environment, stdin=subprocess.DEVNULL, stdout=subprocess.PIPE,
                           stderr=subprocess.PIPE, start_new_session=True) as script:
         try:
@@ -150,7 +153,7 @@ def prepare(directory):
     """Makes the directory of the document with its script, version 1 of the program, and version 2 on the server."""
     needs.program("curl", "curl")
     environment = {**prepare_documented(directory, "url"), "HOME": directory.path}
-    directory.put("update", block_of(b"#!/bin/sh"))
+    directory.put("update", read(UPDATER, "update"))
     offer_app(directory, "url/app", NEW, 2)
     return environment
 
@@ -185,6 +188,31 @@ def waits_for_another_installation(directory):
             with contextlib.suppress(concurrent.futures.TimeoutError):
                 expect(False, "it did not wait", run.result(timeout=2))
         expect_script(directory, run.result(), 0, NEW)
+
+
+@download_cases.table("the updater script restarts the program once")
+def restarts_program(directory):
+    """It runs the command after each new version. If the script was killed before the command, or the command failed, the
+    next run, which finds the update installed, runs it again."""
+    environment = prepare(directory)
+    command = ["sh", "-c", "echo restarted >> log; [ ! -e broken ]"]
+    lines = lambda: (directory.content("log") or b"").count(b"restarted\n")
+    with serving(directory, {}) as server:
+        for data, number, count, status, is_broken in ((NEW, 2, 1, 1, True), (NEW, 2, 2, 0, False), (NEW, 2, 2, 0, False),
+                                                       (LATER, 3, 3, 0, False), (OLD, 1, 3, OLDER, False)):
+            offer_app(directory, "url/app", data, number)
+            if is_broken:
+                directory.put("broken", b"")
+            ran = run_script(directory, environment, server.url, *command)
+            expect((ran.status, lines()) == (status, count), ran, f"version {number}: the command ran {lines()} times, expected {count}")
+            if is_broken:
+                os.remove(directory.path_of("broken"))
+        # (as if the script had been killed after it installed an update)
+        offer_app(directory, "url/app", LATER + b"4", 4)
+        run_script(directory, environment, server.url)
+        expect(lines() == 3, "without a command, one was run")
+        run_script(directory, environment, server.url, *command)
+        expect(lines() == 4, "an installed version was not started")
 
 
 @download_cases.table("the updater script makes the program executable")

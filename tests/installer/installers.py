@@ -57,6 +57,10 @@ class RealInstaller:
         """Returns the version record of an update: field and number, the key that signed, and the digest of the data."""
         return f"{label}:{number}\n{self.public_record()[10:].hex()}\n{hashlib.blake2b(data).hexdigest()}".encode()
 
+    def sign_file(self, path, signature, trusted):
+        """Signs a large file."""
+        self.call("-S", "-s", "key.key", "-m", path, "-x", signature, "-t", trusted)
+
     def signature_text(self, data, trusted, legacy=False):
         """Returns a signature file. Signatures are cached."""
         if (data, trusted, legacy) not in self.made:

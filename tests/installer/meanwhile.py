@@ -2,11 +2,15 @@
 runs.
 """
 
+import fcntl
 import os
 import select
 import signal
+import struct
 import subprocess
+import termios
 import time
+import tty
 
 from disturbed import in_turn
 from installers import (ALREADY, CHECK, FAILED, IN_USE, LATER, LIBC_CALLS, LOCK, NEW, OLD, OLDER, OTHER_SIGNED, PK, RECORD, REJECTED,
@@ -46,6 +50,22 @@ def stalled_pipe(directory, name, data, number, status):
     directory.expect_end_of(process, status, b"" if status == ALREADY else None)
     directory.expect_installed(data, str(number).encode())
     expect(os.stat(directory.path_of(TARGET)).st_ino == before.st_ino, "it was installed once more")
+
+
+@meanwhile_cases.table("a stalled device blocks no other run")
+def stalled_device(directory):
+    """A terminal is no regular file either: a run that waits for data from it does not hold the lock."""
+    directory.offer("later", LATER, 7)
+    ours, theirs = os.openpty()
+    tty.setraw(theirs)
+    process = directory.start([PK, os.ttyname(theirs), "new.sig", TARGET])
+    os.write(ours, NEW[:1000])
+    wait_until(lambda: struct.unpack("i", fcntl.ioctl(theirs, termios.FIONREAD, bytes(4)))[0] == 0, "the data was not read")
+    directory.expect_install("later", 0)
+    process.kill()
+    directory.expect_end_of(process, -signal.SIGKILL)
+    os.close(ours)
+    os.close(theirs)
 
 
 # == Files that others change ==
@@ -157,7 +177,7 @@ def replaced_target(directory, is_installed):
         fresh.put("same", fresh.content())
         ran = fresh.run_stopped_before(number, lambda at: os.replace(at.path_of("same"), at.path_of(TARGET)), CALLS="fstat fstatat openat")
         fresh.expect_result(ran, ALREADY if is_installed else 0, b"")
-        return ran.came
+        return ran.reached
 
     in_turn(directory.installing.place, attempt)
 
@@ -177,7 +197,7 @@ def notices_lost_lock(directory, call, at):
 
     ran = directory.run_stopped_before(at, overtake, CALLS=LIBC_CALLS[call])
     said = f"{LOCK}: another process removed or replaced this lock file\nhint: run the command again\n".encode()
-    expect(ran.came and ran.status == FAILED and said in ran.said, ran)
+    expect(ran.reached and ran.status == FAILED and said in ran.said, ran)
     expect(directory.installed_state() == (LATER, b"7"), f"the record holds {directory.content(RECORD)}")
 
 

@@ -4,7 +4,7 @@ and no user gets a file that was not made for them. Each case needs root.
 
 import os
 
-from installers import ALREADY, FAILED, LATER, LOCK, NEW, OLD, OLDER, RECORD, TARGET, error
+from installers import ALREADY, CHECK, FAILED, LATER, LOCK, NEW, OLD, OLDER, RECORD, TARGET, TEMPORARY, error
 from permissions import OTHER_GROUP, OTHER_USER
 from running import AS_NOBODY, NOBODY, expect
 from runs import Cases
@@ -13,7 +13,7 @@ owner_cases = Cases()
 
 LAST = b"last" * 1000
 SECRET = b"secret:what root alone may read"
-NOT_OWN = "only the owner of this file can open it", "give it the same owner as the installed file"
+NOT_OWN = "only the owner of this file can open it", "use chown to change its owner to that of the installed file"
 
 
 def expect_owned_by_nobody(directory):
@@ -34,7 +34,8 @@ def update_by_root(directory):
     directory.give_away(".", TARGET)
     directory.expect_install("new", 0)
     expect_owned_by_nobody(directory)
-    directory.expect_mode(0o600, RECORD)
+    directory.expect_mode(0o644, RECORD)
+    directory.expect_mode(0o600, LOCK)
     nobody_installs(directory, "later", LATER, 7)
 
 
@@ -57,12 +58,14 @@ def first_installation_by_root(directory):
 )
 def next_run_by_root(directory, data, number, status):
     """After a run by root, target and directory are given to nobody. A run by nobody then fails, and its error names
-    the lock or the record, with a hint. After one more run by root, even if that installs nothing, lock and record
-    belong to nobody, who can install the next update."""
+    the lock or, if that is nobody's but the record has the mode that version 0.2 gave it, the record, with a hint. After
+    one more run by root, even if that installs nothing, lock and record belong to nobody, who can install the next
+    update."""
     directory.put_installed(None, None)
     directory.expect_install("new", 0, "--first")
     directory.give_away(".", TARGET)
     directory.offer("other", data, number)
+    os.chmod(directory.path_of(RECORD), 0o600)
     for name in (LOCK, RECORD):
         directory.expect_end(directory.install("other", **AS_NOBODY), FAILED, error(f"./{name}", *NOT_OWN))
         directory.give_away(LOCK)
@@ -72,6 +75,66 @@ def next_run_by_root(directory, data, number, status):
     installed = (NEW, 6) if status else (data, number)
     directory.expect_recorded(installed[0], directory.kind.record(*installed))
     nobody_installs(directory, "last", LAST, 8)
+
+
+@owner_cases.table(
+    ("a newer update by root leaves lock and record to their owner", LATER, 7, 0),
+    ("the same update by root leaves lock and record to their owner", NEW, 6, ALREADY),
+    ("an older update by root leaves lock and record to their owner", OLD, 5, OLDER),
+)
+def lock_and_record_stay(directory, data, number, status):
+    """Lock and record belong to another user than the target and the directory. Both still do after a run by root."""
+    directory.expect_install("new", 0)
+    directory.give_away(".", TARGET)
+    directory.give_away(LOCK, RECORD, to=(OTHER_USER, OTHER_GROUP))
+    directory.offer("other", data, number)
+    directory.expect_install("other", status)
+    for name in (LOCK, RECORD):
+        found = os.stat(directory.path_of(name))
+        expect((found.st_uid, found.st_gid) == (OTHER_USER, OTHER_GROUP), f"{name} belongs to {found.st_uid}:{found.st_gid}")
+
+
+@owner_cases.table("a record that root rewrites is synced before it is renamed")
+def rewritten_record_is_synced(directory):
+    """Otherwise a crash could lose the number, and an older update would be installed."""
+    directory.expect_install("new", 0)
+    directory.give_away(TARGET)
+    ran, calls = directory.run_traced(directory.arguments("new"))
+    directory.expect_end(ran, ALREADY, b"")
+    made = [call.split(" ")[1] for call in calls if call.startswith(f"make {TEMPORARY}")]
+    # (the first of them is the new lock file)
+    steps = [call.replace(made[-1], "N") for call in calls if made[-1] in call or call == "sync ."]
+    wanted = ["make N new 600", "write N", "permissions N 644", "owner N", "sync N", f"rename N {RECORD}", "sync ."]
+    expect(steps[:len(wanted)] == wanted, f"its calls were {steps}")
+
+
+@owner_cases.table(
+    ("--check by another user reads the record", 6, 0),
+    ("--check by another user reads the record of the same version", 5, ALREADY),
+)
+def check_by_other_user(directory, number, status):
+    """A user who may only read can check. So can root, over the files of another user."""
+    directory.put_installed(NEW if status else OLD, directory.kind.record(NEW if status else OLD, 5))
+    directory.offer(number=number)
+    os.chmod(directory.path_of(RECORD), 0o644)
+    for name in (".", TARGET):
+        os.chmod(directory.path_of(name), 0o755)
+    directory.give_away(".", TARGET, RECORD, to=(OTHER_USER, OTHER_GROUP))
+    for how in (AS_NOBODY, {}):
+        directory.expect_run(CHECK, status, **how)
+    os.chmod(directory.path_of(RECORD), 0o600)
+    directory.expect_run(CHECK, status)
+    directory.expect_run(CHECK, FAILED, error(f"./{RECORD}", *NOT_OWN), **AS_NOBODY)
+
+
+@owner_cases.table("--check by root rewrites no record")
+def check_by_root(directory):
+    """An installation by root would give the record to the owner of the target. A check writes nothing."""
+    directory.put_installed(NEW, directory.kind.record(NEW, 6))
+    directory.give_away(".", TARGET)
+    before = directory.snapshot()
+    directory.expect_run(CHECK, ALREADY)
+    expect(directory.snapshot() == before, "--check changed something")
 
 
 # == Files of root ==

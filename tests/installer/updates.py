@@ -7,13 +7,15 @@ import base64
 import errno
 import itertools
 import os
+import shutil
 import time
 from dataclasses import dataclass, field, fields
 
+from disturbed import mounted
 from installers import (AGAIN, ALREADY, CHECK, EXPIRED, FAILED, FIRST, LATER, LOCK, NEW, OLD, OLDER, ORDER, OTHER_SIGNED, PAST, PK, RECORD,
                         REJECTED, SAME_VERSION, TARGET, TEMPORARY, UNRECORDED, error)
 from permissions import INHERITED, list_of, make_older
-from running import SECONDS, expect
+from running import SECONDS, Skip, expect, only_root
 from runs import Cases, unfed_pipe
 
 update_cases = Cases()
@@ -28,16 +30,16 @@ OTHER_DATA = error(TARGET, "this version is already recorded, but the installed 
 NO_RECORD = error(RECORD_PATH, "no version is recorded yet", "use --first for the first installation")
 DAMAGED_RECORD = error(RECORD_PATH, "the version record is damaged", "use --first to install anyway")
 OTHER_NAME = (error("new.sig", "the trusted comment does not name the file to install")
-              + f"hint: use --name NAME if the update is signed under another name than {TARGET}\n".encode())
+              + f"hint: use --name NAME if the update was signed under a name other than {TARGET}\n".encode())
 HOLDS_VERSION, HOLDS_TIMESTAMP = (
     error(RECORD_PATH, f"the version record holds a {recorded}, not a {other}", f"use --numbering {recorded}")
     for recorded, other in (("version", "timestamp"), ("timestamp", "version")))
-TOO_LONG = ("the data is larger than the limit", "use --most BYTES to accept larger data")
+TOO_LONG = ("the data is larger than the limit", "use --max-size BYTES to accept larger data")
 # The field of a trusted comment for an update that has not expired.
 SOON = "\texpires:99999999999"
 # The date of a record that is later than any real clock, and the message about such a record.
 WRITTEN = 4000000000
-CLOCK_BEHIND = EXPIRED_AT + error(RECORD_PATH, "it was written at 2096-10-02 07:06:40 UTC, but the system clock is behind",
+CLOCK_BEHIND = EXPIRED_AT + error(RECORD_PATH, "written at 2096-10-02 07:06:40 UTC, which is later than the system clock",
                                   "set the system clock")
 BAD_EXPIRY = error("new.sig", "the trusted comment has an invalid or repeated field expires:")
 NO_EXPIRY = error("new.sig", "the trusted comment does not say when the update expires")
@@ -307,6 +309,7 @@ JUDGED = (
       for keys in (["own"], ["own", "other"], ["other", "own"], ["own", "twin"], ["twin", "own"])
       for status, before in ((0, {}), (ALREADY, HAS_NEW))),
     ("keys twin and twin", REJECTED, OTHER_COMMENT, dict(keys=["twin", "twin"])),
+    *((f"older update with keys {' and '.join(keys)}", OLDER, IS_OLDER, dict(keys=keys, number=4)) for keys in (["own", "twin"], ["twin", "own"])),
     ("keys other", REJECTED, error("new.sig", "Signature key id is different from public key", "use the public key of the signer"),
      dict(keys=["other"])),
     # The record of the greatest version under a key. With --first an update under another key is installed over it.
@@ -361,7 +364,7 @@ def rejects_key(directory, key, more):
 
 @update_cases.table(
     ("rejects endless data by its signed size", "new", OTHER_SIZE, dict(more=SIZED)),
-    ("rejects endless data by --most", "new", error("new", *TOO_LONG), "--most", "1000000"),
+    ("rejects endless data by --max-size", "new", error("new", *TOO_LONG), "--max-size", "1000000"),
     ("rejects an endless key file", PK, error(PK, "this file is larger than 1 MiB", ORDER)),
 )
 def rejects_endless_file(directory, name, said, *options, **offered):
@@ -370,13 +373,13 @@ def rejects_endless_file(directory, name, said, *options, **offered):
     directory.expect_result(directory.install("new", *options), REJECTED, said)
 
 
-@update_cases.table(*((f"{'rejects' if status else 'accepts'} {len(NEW)} bytes with --most {limit}", limit, status) for limit, status in (
+@update_cases.table(*((f"{'rejects' if status else 'accepts'} {len(NEW)} bytes with --max-size {limit}", limit, status) for limit, status in (
     (f"{len(NEW) - 1}", REJECTED), (f"{len(NEW) // 1024}K", REJECTED), (f"{len(NEW) // 1024 + 1}K", 0), (f"{len(NEW)}", 0))))
 def limits_data(directory, limit, status):
     """The limit applies to data from a file and from a pipe."""
     for source in ("new", "/dev/stdin"):
         directory.put_installed()
-        ran = directory.run(["--most", limit, PK, source, "new.sig", TARGET], typed=NEW)
+        ran = directory.run(["--max-size", limit, PK, source, "new.sig", TARGET], typed=NEW)
         directory.expect_result(ran, status, error(source, *TOO_LONG) if status else b"")
 
 
@@ -444,7 +447,7 @@ def removes_leftovers(directory):
 
 
 # What is put at the path of a file: a function that makes it, the error, and the hint if it is the target.
-IS_LINK, LEADS = "this is a symbolic link, which is not followed", "give the path that it leads to"
+IS_LINK, LEADS = "this is a symbolic link, which is not followed", "use the path that it points to"
 AWAY = "remove it or move it away"
 NOT_REGULAR = {
     "pipe": (os.mkfifo, "this is not a regular file", AWAY),
@@ -461,8 +464,8 @@ NOT_REGULAR = {
     ("rejects a pipe as the target of the recorded version", "pipe", TARGET, NEW, True),
 )
 def rejects_irregular_file(directory, kind, name, behind, is_recorded=False):
-    """A link, or what is not a regular file, is rejected without following it, waiting for it or changing it. --check also rejects
-    such a record. `behind` is the content of the file that links lead to."""
+    """A link, or what is not a regular file, is rejected without following it, waiting for it or changing it, by --check too.
+    `behind` is the content of the file that links lead to."""
     directory.put("behind", behind)
     if is_recorded:
         directory.put(RECORD, directory.kind.record(NEW, 6))
@@ -471,14 +474,43 @@ def rejects_irregular_file(directory, kind, name, behind, is_recorded=False):
     if name == TARGET:
         said = error(TARGET, *NOT_REGULAR[kind][1:])
     before, names = os.lstat(path), {*os.listdir(directory.path), LOCK}
-    if name == RECORD:
-        directory.expect_run(CHECK, FAILED, said)
+    directory.expect_run(CHECK, FAILED, said)
+    expect({*os.listdir(directory.path)} == names - {LOCK} | {name}, f"--check left {os.listdir(directory.path)}")
     directory.expect_install("new", FAILED, said=said)
     after = os.lstat(path)
     is_unchanged = (before.st_ino, before.st_mode, behind) == (after.st_ino, after.st_mode, directory.content("behind"))
     expect(is_unchanged, f"{name}, or the file that it leads to, was changed")
     expect(name == TARGET or directory.content() == OLD, "the update was installed")
     expect({*os.listdir(directory.path)} <= names, f"it left {os.listdir(directory.path)}")
+
+
+@update_cases.table("rejects a target at which a file is mounted")
+def rejects_mounted_target(directory):
+    """No file can be renamed to it. Neither the target nor the record changes, and --check reports the same."""
+    only_root("mount")
+    directory.put("mounted", OLD)
+    said = error(TARGET, "another file is mounted here", "unmount it, or give the path of another file")
+    with mounted(directory.path_of(TARGET), "--bind", directory.path_of("mounted")):
+        directory.expect_run(CHECK, FAILED, b"" + said)
+        directory.expect_install("new", FAILED, said=said)
+        directory.expect_installed(OLD, b"5")
+        directory.put_installed(NEW, directory.kind.record(NEW, 6))
+        directory.expect_run(CHECK, ALREADY)
+        directory.expect_install("new", ALREADY)
+
+
+@update_cases.table("installs a file above 2 GiB")
+def installs_large_file(directory):
+    """Nothing limits the size of the data if no option and no field does."""
+    if shutil.disk_usage(directory.path).free < 8 << 30:
+        raise Skip("there is no room for a file of 2 GiB and its copy")
+    path, size = directory.path_of("new"), (2 << 30) + 1
+    with open(path, "wb") as file:
+        file.truncate(size)
+    directory.kind.sign_file(path, directory.path_of("new.sig"), f"timestamp:6\tfile:{TARGET}")
+    directory.expect_end(directory.install(), 0, b"")
+    found = os.stat(directory.path_of(TARGET)).st_size
+    expect((found, directory.content(RECORD)) == (size, b"6"), f"the target has {found} bytes")
 
 
 @update_cases.table(
@@ -492,5 +524,5 @@ def first_file_gets_mode(directory, mode, options, inherited=""):
     make_older(directory.path, directory.path, 0o711, inherited=inherited)
     directory.expect_result(directory.install("new", "--first", *options), 0)
     directory.expect_mode(mode)
-    directory.expect_mode(0o600, RECORD)
+    directory.expect_mode(0o644, RECORD)
     expect(list_of(directory.path_of(TARGET)) is None, f"the file has the list {list_of(directory.path_of(TARGET))}")

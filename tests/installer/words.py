@@ -42,14 +42,14 @@ REPORTS = (
     *(misuse(f"{option} {value!r}", [option, value, *PATHS], option, f'invalid value "{value}", expected {expected}')
       for option, expected, values in (
         ("--numbering", FIELD, ("versions",)), ("--mode", OCTAL, ("75", "00755", "4755", "758")),
-        ("--most", SIZE, ("5m", "5MB", "K", "16777216T", "17179869184G", "-1K", "+1000000", " 1000000", str(2 ** 64))),
-        ("--max-size", SIZE, ("10X",)), ("--wait", DURATION, ("1.5", "86401", ""))) for value in values),
+        ("--max-size", SIZE, ("5m", "5MB", "K", "16777216T", "17179869184G", "-1K", "+1000000", " 1000000", str(2 ** 64))),
+        ("--most", SIZE, ("10X",)), ("--wait", DURATION, ("1.5", "86401", "99999", "")), ("--name", "a file name", ("",))) for value in values),
     *(misuse(f"the unknown option {option}", [option, *value, *PATHS], option, "unknown option")
       for option, *value in (("--frist",), ("--num", "version"), ("-h",), ("-f",), ("--name=app",), ("--First",), ("--help",))),
     *(misuse(f"{words[0]} twice", [*words, *PATHS, *words], words[0], GIVEN)
       for words in (FIRST, ("--name", "a"), ("--check",), ("--must-expire",))),
     *(misuse(f"--check with {' '.join(words)}", [*words, "--check", PK, "new.sig", TARGET], words[0], UNPAIRED)
-      for words in (("--mode", "755"), ("--wait", "1"), ("--most", "1M"), ("--again",))),
+      for words in (("--mode", "755"), ("--wait", "1"), ("--max-size", "1M"), ("--most", "1M"))),
     misuse("--most with --max-size", ["--most", "1M", "--max-size", "1M", *PATHS], "--max-size", GIVEN),
     misuse("an empty command line", [], None, MISSING + "PK DATA SIG TARGET"),
     misuse("three paths", PATHS[:3], None, MISSING + "PK DATA SIG TARGET"),
@@ -91,11 +91,11 @@ word_cases.table(*REPORTS)(reports)
 
 @word_cases.table(
     ("takes options after the paths", [*PATHS, "--first", "--mode", "0640"], 0o640),
-    ("takes options between the paths", [PK, "--mode", "640", "new", "--most", "1000000", "new.sig", "--first", TARGET], 0o640),
-    ("takes options before the paths", ["--most", "1000000", "--numbering", "timestamp", "--name", TARGET, *PATHS]),
-    ("takes --most with a unit", ["--most", "1M", *PATHS]),
-    ("takes the greatest --most", ["--most", "16777215T", *PATHS]),
-    ("takes --max-size as --most", ["--max-size", str(len(NEW)), *PATHS]),
+    ("takes options between the paths", [PK, "--mode", "640", "new", "--max-size", "1000000", "new.sig", "--first", TARGET], 0o640),
+    ("takes options before the paths", ["--max-size", "1000000", "--numbering", "timestamp", "--name", TARGET, *PATHS]),
+    ("takes --max-size with a unit", ["--max-size", "1M", *PATHS]),
+    ("takes the greatest --max-size", ["--max-size", "16777215T", *PATHS]),
+    ("takes --most as --max-size", ["--most", str(len(NEW)), *PATHS]),
     ("takes -- before the paths", ["--", *PATHS]),
     ("takes -- between the paths", [PK, "--first", "new", "--", "new.sig", TARGET]),
     ("takes a name that begins with a dash", ["--", *PATHS[:3], "--first"], dict(name="--first", names="--first")),

@@ -7,7 +7,7 @@ Made by tools/bindings.py from include/minisign.h.
 
 class MinisignError(Exception):
     """Base class of all errors of the library. `number` is the error code in
-    include/minisign.h, and the message is a sentence."""
+    include/minisign.h, and `str(error)` is the message of the library."""
 
     number = 0
 
