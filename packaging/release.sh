@@ -29,17 +29,6 @@ list_files() {
     done | LC_ALL=C sort
 }
 
-# Prints the time of the commit, or in a release the time of its files, in seconds since 1970.
-file_time() {
-    if test -n "${SOURCE_DATE_EPOCH-}"; then
-        echo "$SOURCE_DATE_EPOCH"
-    elif test -e .git; then
-        git log -1 --format=%ct
-    else
-        date -r CHANGELOG.md +%s
-    fi
-}
-
 directory=$(mktemp -d)
 trap 'rm -rf "$directory"' EXIT
 trap 'exit 1' HUP INT TERM
@@ -52,7 +41,7 @@ tar -xf "$directory/archive" -C "$directory/$name"
 # release.
 cp c/release.md "$directory/$name/README.md"
 cp c/release.md "$directory/$name/c/release.md"
-time=$(file_time)
+time=$(sh packaging/time.sh)
 tar -C "$directory" --sort=name --mtime="@$time" --owner=0 --group=0 --numeric-owner --mode=u=rwX,go=rX --format=ustar \
     -cf "$directory/archive" "$name"
 gzip -9nc "$directory/archive"

@@ -40,7 +40,7 @@ SUITE, MIRROR = "bookworm", "http://deb.debian.org/debian"
 USER = "ann"
 HOME = f"/srv/{USER}"
 # The packages of packages.txt that no script of IN_DEBIAN needs: browsers, other compilers and systems, emulators, packaging.
-LEFT_OUT = re.compile(r"acl|build-essential|chromium|firefox|fonts|lintian|debhelper|dpkg-dev|win|mingw|s390x|riscv64|arm|aarch64|qemu|"
+LEFT_OUT = re.compile(r"acl|autoconf|automake|libtool|zip|build-essential|chromium|firefox|fonts|lintian|debhelper|dpkg-dev|win|mingw|s390x|riscv64|arm|aarch64|qemu|"
                       r"tcc|lld|musl|mandoc|mypy|black|rustfmt|typescript|go-minisign|binaryen|nodejs")
 
 

@@ -5,8 +5,6 @@
  */
 #include "keys.h"
 
-#include <sys/resource.h>
-
 #include <sodium.h>
 
 #include "library/clearing.h"
@@ -14,6 +12,7 @@
 #include "files.h"
 #include "replacing.h"
 #include "shared/handles.h"
+#include "shared/platform.h"
 #include "shared/progress.h"
 #include "shared/reports.h"
 #include "shared/text.h"
@@ -37,9 +36,7 @@ static void clear_secrets(void)
 
 void allocate_secrets(void)
 {
-    struct rlimit no_core = { 0, 0 };
-
-    setrlimit(RLIMIT_CORE, &no_core);
+    forbid_core_dumps();
     secrets = sodium_malloc(sizeof *secrets);
     if (secrets == NULL) {
         fail("sodium_malloc()");
@@ -252,7 +249,7 @@ void reject_secret_key_as_output(const struct options *options, const char *file
 static void create_directory(const char *file)
 {
     char *directory = strdup(file);
-    char *slash = directory == NULL ? NULL : strrchr(directory, '/');
+    char *slash = directory == NULL ? NULL : last_separator(directory);
 
     if (slash != NULL && slash != directory) {
         *slash = 0;

@@ -13,6 +13,7 @@
 
 #include <sodium.h>
 
+#include "shared/platform.h"
 #include "shared/progress.h"
 #include "shared/streams.h"
 #include "signing.h"
@@ -39,6 +40,9 @@ int main(int argc, char *argv[])
 
     if (!fill_standard_streams()) {
         return TROUBLE;
+    }
+    if (!read_arguments(&argc, &argv)) {
+        fail_error(NULL, "an argument is not Unicode", "rename the file, or use another name for it");
     }
     options = read_options(argc, argv);
     if (options.quiet != SAY_ALL) {

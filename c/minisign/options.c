@@ -3,6 +3,7 @@
 #include "options.h"
 
 #include "files.h"
+#include "shared/platform.h"
 
 /* The version of Minisign that this program imitates, and this program's own version. */
 #define VERSION "minisign 0.11\nMinisign in Rattle " MINISIGN_VERSION_TEXT
@@ -43,10 +44,10 @@ static _Noreturn void usage(void)
                    "-P <pubkey>       public key, as a base64 string\n"
                    "-s <seckey_file>  secret key file (default: ~/.minisign/minisign.key)\n"
                    "-W                do not encrypt/decrypt the secret key with a password\n"
-                   "-k <rows>         use less memory to decrypt or encrypt a key: 16 takes 66 MiB\n"
-                   "                  instead of 1 GiB, but more time\n"
-                   "-K <work>         decrypt keys that take up to <work> times the work of a default\n"
-                   "                  key (default: 16)\n"
+                   "-k <rows>         keep only one of every <rows> rows of scrypt in memory: 16 takes\n"
+                   "                  66 MiB instead of 1 GiB, and three times as long (default: 1)\n"
+                   "-K <work>         decrypt a key only if that takes at most <work> times as long\n"
+                   "                  as with Minisign's default limits (default: 16)\n"
                    "-x <sigfile>      signature file (default: <file>.minisig)\n"
                    "-c <comment>      add a one-line untrusted comment\n"
                    "-t <comment>      add a one-line trusted comment\n"
@@ -61,7 +62,7 @@ static _Noreturn void usage(void)
 static const char *default_secret_file(void)
 {
     const char *directory = getenv("MINISIGN_CONFIG_DIR");
-    const char *home = getenv("HOME");
+    const char *home = home_directory();
 
     if (directory != NULL) {
         return join(directory, "/minisign.key", "");

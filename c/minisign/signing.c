@@ -12,6 +12,7 @@
 #include "keys.h"
 #include "replacing.h"
 #include "verifying.h"
+#include "shared/platform.h"
 #include "shared/reports.h"
 #include "shared/text.h"
 
@@ -19,9 +20,9 @@
 
 static const char *last_part(const char *path)
 {
-    const char *slash = strrchr(path, '/');
+    const char *separator = last_separator(path);
 
-    return slash == NULL ? path : slash + 1;
+    return separator == NULL ? path : separator + 1;
 }
 
 /* Returns the default trusted comment: the time, and the file's name without its directory. */
@@ -43,14 +44,14 @@ static void check_default_comment(const char *data_file, bool legacy)
     const char *error_text = NULL;
 
     if (!is_utf8(text, len)) {
-        error_text = "the trusted comment cannot hold a name that is not UTF-8";
+        error_text = "this name is not UTF-8, so it cannot be in the trusted comment";
     } else if (strpbrk(name, "\r\n") != NULL) {
-        error_text = "the trusted comment cannot hold a name with a line break";
+        error_text = "this name contains a line break, so it cannot be in the trusted comment";
     } else if (legacy && ends_with_space(text, len)) {
-        error_text = "the trusted comment cannot end with white space";
+        error_text = "this name ends with white space, so the trusted comment cannot end with it";
     }
     if (error_text != NULL) {
-        fail_error(data_file, error_text, "use -t COMMENT to give another trusted comment");
+        fail_error(data_file, error_text, "use -t COMMENT to choose the trusted comment");
     }
 }
 
@@ -125,7 +126,7 @@ static void verify_signature(const struct options *options, const minisign_state
     if (name_of_public_key(options) != NULL) {
         fprintf(stderr, "error: %s: this is not the public key of %s\n", escape_name(name_of_public_key(options)).text,
                 escape_name(options->secret_file).text);
-        print_hint("use -R to write the public key file again");
+        print_hint("use -R to recreate the public key file");
     }
     exit(TROUBLE);
 }

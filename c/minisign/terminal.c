@@ -1,5 +1,5 @@
 /* SPDX-License-Identifier: MIT */
-/* Asks for passwords, and prints comments to a terminal. */
+/* Asks for passwords. */
 #include "terminal.h"
 
 #include <sys/select.h>
@@ -7,9 +7,6 @@
 
 #include "cleanup.h"
 #include "files.h"
-#include "shared/text.h"
-
-/* ---- Passwords ---- */
 
 /* The signal that arrived while a password was typed, or 0. */
 static volatile sig_atomic_t caught_signal;
@@ -152,16 +149,5 @@ void ask_password(struct password *password, const char *prompt)
     fputs(line == LINE_READ && password->len == 0 ? "(empty)\n" : "\n", stderr);
     if (line == LINE_TOO_LONG) {
         fail_error(NULL, "the password is too long", "use at most 1023 bytes");
-    }
-}
-
-/* ---- Comments ---- */
-
-void write_comment(FILE *to, const uint8_t *text, size_t len)
-{
-    if (isatty(fileno(to))) {
-        write_escaped(to, text, len);
-    } else {
-        fwrite(text, 1, len, to);
     }
 }

@@ -1,5 +1,5 @@
 /* SPDX-License-Identifier: MIT */
-/* Asks for passwords, and prints comments to a terminal. */
+/* Asks for passwords. */
 #ifndef TERMINAL_H
 #define TERMINAL_H
 
@@ -20,9 +20,5 @@ struct password {
  * or if the password is too long.
  */
 void ask_password(struct password *password, const char *prompt);
-
-/* Writes a text, which must be UTF-8. For a terminal, control characters other than a tab and bidirectional formatting
- * characters are escaped. */
-void write_comment(FILE *to, const uint8_t *text, size_t len);
 
 #endif

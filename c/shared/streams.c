@@ -1,26 +1,6 @@
 /* SPDX-License-Identifier: MIT */
-/* Reserves the descriptors of closed standard streams, and reads and writes whole buffers. */
+/* Reads and writes whole buffers. */
 #include "streams.h"
-
-static bool was_closed[STDERR_FILENO + 1];
-
-bool fill_standard_streams(void)
-{
-    for (int fd = STDIN_FILENO; fd <= STDERR_FILENO; fd++) {
-        if (fcntl(fd, F_GETFD) < 0) {
-            was_closed[fd] = true;
-            if (open("/", O_RDONLY) != fd) {
-                return false;
-            }
-        }
-    }
-    return true;
-}
-
-bool was_closed_at_start(int fd)
-{
-    return fd >= STDIN_FILENO && fd <= STDERR_FILENO && was_closed[fd];
-}
 
 ssize_t read_whole(int fd, uint8_t *bytes, size_t size)
 {

@@ -154,8 +154,8 @@ def check_licence(checks):
 class Signing:
     """Runs `make release` from a directory with keys that are made here."""
 
-    # (without optimization, to save time)
-    WORDS = (WITHOUT_C, "CFLAGS=-O0", "CPPFLAGS=")
+    # (without optimization, to save time; windows.py checks the archive for Windows)
+    WORDS = (WITHOUT_C, "CFLAGS=-O0", "CPPFLAGS=", "WINDOWS_CC=")
 
     def __init__(self, checks, room, program):
         self.place, self.out, self.program = f"{room}/own keys", f"{room}/one", program

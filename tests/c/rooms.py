@@ -35,9 +35,10 @@ C = static_library.DIRECTORY
 MADE = {f"{C}/install/usage.h", f"{C}/library/boundary.c"}
 # Functions with more lines cause a warning, except those of LONG.
 FUNCTION_LINES, LONG = 50, ()
-PROGRAM_ROOMS, ROOMS = ("minisign", "install", "shared"), ("minisign", "install", "shared", "library", "library/portable", "examples")
+PROGRAM_ROOMS, ROOMS = ("minisign", "install", "shared"), ("minisign", "install", "shared", "windows", "library", "library/portable", "examples")
 # The headers that each directory includes besides its own: those of a directory, or one file.
-INCLUDES = {"minisign": ("shared/", "library/clearing.h"), "install": ("shared/",), "shared": (), "library": ()}
+INCLUDES = {"minisign": ("shared/", "library/clearing.h"), "install": ("shared/",), "shared": ("windows/posix.h",), "library": (),
+            "windows": ("shared/", "minisign/")}
 # What only Linux has, by the only file that uses it; then a format of paths in /proc that are written through.
 LINUX_ONLY = {"handles.c": ("O_PATH", "fstatfs", "ST_NOSYMFOLLOW", '"/proc/self/fd/%d"'), "permissions.c": ("xattr",),
             "stages.c": ("O_TMPFILE", "renameat2", "RENAME_NOREPLACE", "sync_file_range", "getrandom")}
@@ -48,6 +49,7 @@ NOT_CAUSED = {
     "the data could not be hashed": "the state was initialized, and its digest is finalized later",
     "too many files at once": "pending files are renamed before there are that many",
     "other processes keep replacing this file": "others would have to do so during each of a hundred attempts to open it",
+    "the target of this link does not exist": "wine shows a link to a missing file as a missing file",
     "atexit() failed": "the C library allows at least 32 functions",
 }
 MOST_GLIBC = (2, 31)
@@ -94,7 +96,7 @@ def check_sources(checks, files):
     for what, pattern in (("a test of UTF-8", r"0xd800"), ("the struct of an allocation", r"struct grant \{")):
         checks.check(sum(len(re.findall(pattern, text)) for text in files.values()) == 1, f"{what} must be there exactly once")
     for path, text in files.items():
-        functions = re.findall(r"^[a-z_][^;{}]*\n\{\n(?:.*\n)*?\}\n", text, re.M)
+        functions = re.findall(r"^[A-Za-z_][^;{}]*\n\{\n(?:.*\n)*?\}\n", text, re.M)
         ends = len(re.findall(r"^\}$", text, re.M))
         checks.check(len(functions) == ends, f"{path}: {len(functions)} functions were found, but {ends} end")
         for function in functions:
@@ -170,7 +172,7 @@ def run_all(checks, room):
     code = {name: files_of(name) for name in ROOMS}
     check_rooms(checks, code)
     check_sources(checks, {path: text for files in code.values() for path, text in files.items()})
-    check_messages(checks, {path: text for name in PROGRAM_ROOMS for path, text in code[name].items()})
+    check_messages(checks, {path: text for name in (*PROGRAM_ROOMS, "windows") for path, text in code[name].items()})
     check_pages(checks)
     check_built(checks, room)
 

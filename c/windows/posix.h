@@ -1,0 +1,75 @@
+/* SPDX-License-Identifier: MIT */
+/*
+ * Maps the names of POSIX that the programs use to functions of Windows, as git's compat/mingw does. shared/system.h
+ * includes this file.
+ *
+ * Paths and variables are UTF-8 here and UTF-16 in Windows. Paths may be longer than 260 characters. Files are read and
+ * written without changes: no line end is converted, and Ctrl-Z is a byte like any other.
+ */
+#ifndef WINDOWS_POSIX_H
+#define WINDOWS_POSIX_H
+
+#include <fcntl.h>
+#include <getopt.h>
+#include <io.h>
+#include <stdbool.h>
+#include <stdint.h>
+#include <stdio.h>
+#include <stdlib.h>
+#include <string.h>
+#include <sys/stat.h>
+#include <sys/types.h>
+#include <unistd.h>
+
+#define O_CLOEXEC _O_NOINHERIT
+
+/* A user, by a digest of the security identifier. */
+typedef uint64_t uid_t;
+
+/* The part of POSIX's struct stat that the programs use. `st_dev` and `st_ino` identify the file. */
+struct windows_stat {
+    uint64_t st_dev, st_ino, st_size, st_nlink;
+    uid_t st_uid;
+    unsigned st_mode;
+};
+
+/* These set errno like the functions of POSIX. `windows_open` only opens for reading. `windows_mkdir` gives nobody but
+ * the user and the system access to the directory, and ignores the mode. */
+int windows_open(const char *file, int flags);
+int windows_stat(const char *file, struct windows_stat *status);
+int windows_fstat(int fd, struct windows_stat *status);
+int windows_mkdir(const char *path, int mode);
+int64_t windows_lseek(int fd, int64_t offset, int from);
+ssize_t windows_read(int fd, void *buffer, size_t size);
+ssize_t windows_write(int fd, const void *bytes, size_t len);
+
+/* Returns true only for a console. The function of the C library also does so for NUL. */
+int windows_isatty(int fd);
+
+char *windows_getenv(const char *name);
+
+/* Returns the text of an errno, also of those below. */
+const char *windows_strerror(int error);
+
+/* Writes each text in one piece, so that a console shows UTF-8. */
+int windows_fprintf(FILE *to, const char *format, ...) __attribute__((format(gnu_printf, 2, 3)));
+
+/* Values of errno for files that only Windows rejects. */
+enum { NAME_HAS_COLON = 20000, NAME_IS_RESERVED, NAME_END_IS_DROPPED, FILE_IS_IN_USE, LINK_HAS_NO_TARGET };
+
+#undef stat
+#undef fstat
+#undef lseek
+#define stat windows_stat
+#define fstat windows_fstat
+#define open windows_open
+#define mkdir windows_mkdir
+#define lseek windows_lseek
+#define read windows_read
+#define write windows_write
+#define isatty windows_isatty
+#define getenv windows_getenv
+#define strerror windows_strerror
+#define fprintf windows_fprintf
+
+#endif
