@@ -5,7 +5,8 @@
     tools/bindings.py            writes the files
     tools/bindings.py --check    fails if a file is not what the header says; the last line is `N passed, M failed`
 
-    Rust          src/raw/header.rs: numbers, structs and calls
+    Rust          rust-sys/src/header.rs: numbers, structs and calls, as the header declares them;
+                  rust/src/raw/header.rs: errors, and a safe function for each call
     Go            errors.go: errors; header.go: calls
     Python        errors.py: errors; _header.py: numbers, structs and calls, of include/minisign_install.h too
     JavaScript    errors.js and errors.d.ts: errors; header.js: numbers, structs and calls for signing;
@@ -25,7 +26,7 @@ import sources
 from c_header import FILE as HEADER, both, parsed
 from sources import Unfit
 
-RUST = "bindings/rust/src/raw/header.rs"
+RUST, RUST_SYS = "bindings/rust/src/raw/header.rs", "bindings/rust-sys/src/header.rs"
 GO_ERRORS = "bindings/go/errors.go"
 GO = "bindings/go/header.go"
 JAVASCRIPT_ERRORS, JAVASCRIPT_TYPES = "bindings/javascript/errors.js", "bindings/javascript/errors.d.ts"
@@ -315,9 +316,9 @@ def go_call(call, header):
     is_flat = any(parameter.kind in header.in_parts for parameter in call.parameters)
     expression = f"C.{'flat_' * is_flat}{call.name}({', '.join(arguments)})"
     if call.answer == "enum minisign_error":
-        lines, types = [f"return {', '.join([*results, 'done(err)'])}"], [*types, "error"]
+        lines, types = [f"return {', '.join([*results, 'errorOf(err)'])}"], [*types, "error"]
         expression = f"err := {expression}" if results else expression
-        lines = [expression, *lines] if results else [f"return done({expression})"]
+        lines = [expression, *lines] if results else [f"return errorOf({expression})"]
     elif call.answer != "void" and not results:
         lines, types = [f"return {expression}"], [f"C.{call.answer.removeprefix('enum ')}"]
     elif call.answer != "void":
@@ -364,7 +365,7 @@ SIGNING = ("read_secret_key", "open_unsealed_key", "open_sealed_key", "take_secr
 JAVASCRIPT_STRUCTS = ("public_key", "unopened_key", "secret_key", "new_key", "sealing")
 WIDTHS = {"uint8_t": 1, "uint32_t": 4, "uint64_t": 8}
 # The marks of the generated part of calls.js, and the fields that it reads.
-JAVASCRIPT_MADE, JAVASCRIPT_END = "made by tools/bindings.py ----\n\n", "// ---- What is made ends here ----"
+JAVASCRIPT_MADE, JAVASCRIPT_END = "made by tools/bindings.py ----\n\n", "// ---- End of the generated part ----"
 READ_OF = {"public_key": ("key", "key_id"), "signature": ("key_id", "legacy"),
            "questions": ("public_key", "digest", "signature", "comment_signature", "message_len", "comment_offset", "comment_len", "legacy")}
 
@@ -419,7 +420,7 @@ def javascript_header(header):
         rows = [f"{name}: {place}" if length is None else f"{name}: [{place}, {length}]"
                 for (name, place), length in zip(places_of(fields), lengths)]
         text += f"  {struct}: {{\n" + "".join(f"    {row},\n" for row in rows) + "  },\n"
-    text += "};\n" + by_hand(JAVASCRIPT, "\n// No bytes", "buffer).fill(0);\n    }\n  }\n")
+    text += "};\n" + by_hand(JAVASCRIPT, "\n// An instance of", "giveBack(instance);\n    }\n  }\n")
     calls = {call.name.removeprefix("minisign_"): call for call in header.calls}
     return text + "".join(f"\n{javascript_call(calls[name], header)}" for name in SIGNING) + "}\n"
 
@@ -525,12 +526,12 @@ def rust_call(call, header):
     """Returns a Rust function that makes a call and returns its results."""
     parameters, before, arguments, types, results = in_words(call, header, RUST_ROLES, rust_type, "{}.len()".format, "{} as usize".format)
     arguments = [word for words in arguments for word in ([words] if "\n" in words else words.split(", "))]
-    call_between = lambda before, after: rust_unsafe(before, call.name, arguments, after)
+    call_between = lambda before, after: rust_unsafe(before, f"sys::{call.name}", arguments, after)
     result, value = in_one(types) or "()", in_one(results)
     result_type = {"void": result, "uint32_t": "u32"}.get(call.answer, f"Result<{result}, Reason>")
     if call.answer == "enum minisign_error":
         ok_value = value if result == "String" else f"Ok({value})"
-        lines = [call_between("done(", ")?;"), ok_value] if value else [call_between("done(", ")")]
+        lines = [call_between("check(", ")?;"), ok_value] if value else [call_between("check(", ")")]
     elif call.answer == "size_t":
         lines = [call_between("let len = ", ";"), value]
     else:
@@ -545,21 +546,25 @@ RUST_DERIVED = {"minisign_public_key": "Clone, Debug, Eq, PartialEq, Ord, Partia
                 "minisign_state": "Clone, Debug", "minisign_questions": "Clone, Debug"}
 
 
+def rust_sys_type(kind, header):
+    return kind if kind in header.structs else RUST_TYPES.get(kind, "u32")
+
+
 def rust_struct(struct, fields, header):
     """Returns a struct with a constant of zeros. A struct that holds a secret is cleared when it is dropped."""
     text = f"\n#[derive({RUST_DERIVED[struct]})]" if struct in RUST_DERIVED else ""
-    kinds = [f"[{rust_type(field.kind, header)}; {field.count}]" if field.count else "*const " * bool(field.star) + rust_type(field.kind, header)
+    kinds = [f"[{rust_sys_type(field.kind, header)}; {field.count}]" if field.count else "*const " * bool(field.star) + rust_sys_type(field.kind, header)
              for field in fields]
     inside = "".join(f"    pub {field.name}: {kind},\n" for field, kind in zip(fields, kinds))
     zeros = [f"{field.name}: {f'[0; {field.count}]' if field.count else '0'}" for field in fields]
-    text += f"\n#[repr(C)]\npub struct {name_of(struct)} {{\n{inside}}}\n"
+    text += f"\n#[repr(C)]\npub struct {struct} {{\n{inside}}}\n"
     if struct in header.in_parts:
         return text
     of_zeros = f" {zeros[0]} " if len(zeros) == 1 else "\n" + "".join(f"        {zero},\n" for zero in zeros) + "    "
-    text += f"\nimpl {name_of(struct)} {{\n    pub const ZEROS: Self = Self {{{of_zeros}}};\n}}\n"
+    text += f"\nimpl {struct} {{\n    pub const ZEROS: Self = Self {{{of_zeros}}};\n}}\n"
     if struct in header.secrets:
         cleared = "".join(f"        clear(&mut self.{field.name});\n" for field in fields if "secret" in field.roles)
-        text += RUST_CLEARED.format(struct=name_of(struct), cleared=cleared)
+        text += RUST_CLEARED.format(struct=struct, cleared=cleared)
     return text
 
 
@@ -567,35 +572,47 @@ def rust_declaration(call, header):
     """Returns the declaration of a call in Rust."""
     parameters = []
     for parameter in call.parameters:
-        of, array, pointer = rust_type(parameter.kind, header), "&" if parameter.const else "&mut ", "*const " if parameter.const else "*mut "
+        of, array, pointer = rust_sys_type(parameter.kind, header), "&" if parameter.const else "&mut ", "*const " if parameter.const else "*mut "
         parameters.append(f"{parameter.name}: " + (f"{array}[{of}; {parameter.count}]" if parameter.count else f"{pointer}{of}" if parameter.star else of))
     result = {"void": ");", "size_t": ") -> usize;"}.get(call.answer, ") -> u32;")
-    return in_lines(" " * 4, f"fn {call.name}(", parameters, result) + "\n"
+    return in_lines(" " * 4, f"pub fn {call.name}(", parameters, result) + "\n"
+
+
+def rust_constants(header):
+    """Returns the names, types and values of the header's numbers and texts, without `MINISIGN_`."""
+    kinds = [(name, "u64" if value.startswith("0x") else "usize", value) for name, value in header.numbers]
+    kinds += [*((size.name, "usize", size.number) for size in header.sizes), *((name, "&str", text) for name, text in header.texts)]
+    return kinds + [(member.name, "u32", member.number) for enum, members in header.enums.items() if enum != "error" for member in members]
+
+
+def rust_sys_header(header):
+    text = by_hand(RUST_SYS, "// SPDX", "non_camel_case_types)]\n") + "\npub const MINISIGN_OK: u32 = 0;\n"
+    text += "".join(f"pub const MINISIGN_{error.name}: u32 = {error.number};\n" for error in header.errors) + "\n"
+    text += "".join(f"pub const MINISIGN_{name}: {kind} = {value};\n" for name, kind, value in rust_constants(header))
+    text += "".join(rust_struct(struct, fields, header) for struct, fields in header.structs.items())
+    text += "\nextern \"C\" {\n" + "".join(rust_declaration(call, header) for call in header.calls) + "}\n"
+    return text + by_hand(RUST_SYS, "\n/// Writes zeros", "write_volatile(byte, 0) });\n}\n")
 
 
 def rust_header(header):
-    text = by_hand(RUST, "// SPDX", "use crate::Reason;\n")
+    text = by_hand(RUST, "// SPDX", "use minisign_proved_sys as sys;\n")
     text += "\nimpl Reason {\n    /// No error.\n    pub const OK: Reason = Reason(0);\n"
     for comment, name, number in header.errors:
         text += "".join(f"    /// {line}\n" for line in textwrap.wrap(comment, RUST_WIDTH - 8))
         text += f"    pub const {name}: Reason = Reason({number});\n"
     text += "\n    /// Returns the name in `minisign.h` without `MINISIGN_`, or \"\" for an unknown number.\n"
-    text += "    pub fn name(self) -> &'static str {\n        match self.0 {\n            0 => \"OK\",\n"
+    text += "    #[must_use]\n    pub fn name(self) -> &'static str {\n        match self.0 {\n            0 => \"OK\",\n"
     text += "".join(f'            {error.number} => "{error.name}",\n' for error in header.errors) + '            _ => "",\n        }\n    }\n'
-    kinds = [(name, "u64" if value.startswith("0x") else "usize", value) for name, value in header.numbers]
-    kinds += [*((size.name, "usize", size.number) for size in header.sizes), *((name, "&str", text) for name, text in header.texts)]
-    kinds += [(member.name, "u32", member.number) for enum, members in header.enums.items() if enum != "error" for member in members]
-    text += "}\n\n" + "".join(f"pub const {name}: {kind} = {value};\n" for name, kind, value in kinds)
-    text += "".join(rust_struct(struct, fields, header) for struct, fields in header.structs.items())
-    text += "\nextern \"C\" {\n" + "".join(rust_declaration(call, header) for call in header.calls) + "}\n"
-    text += by_hand(RUST, "\n/// Writes zeros", "Reason::NOT_UTF8)\n}\n")
+    text += "}\n\n" + "".join(f"pub const {name}: {kind} = sys::MINISIGN_{name};\n" for name, kind, value in rust_constants(header)) + "\n"
+    text += "".join(f"pub type {name_of(struct)} = sys::{struct};\n" for struct in header.structs)
+    text += by_hand(RUST, "\n/// Returns an error unless", "Reason::NOT_UTF8)\n}\n")
     return text + "".join(rust_call(call, header) for call in header.calls if call.name not in DECLARED_ALONE)
 
 
 def generated_files():
     """Yields the paths and texts of the generated files."""
     header, installing_too = parsed(sources.read(HEADER)), both()
-    for path, make in ((RUST, rust_header), (GO_ERRORS, go_errors), (GO, go_header), (JAVASCRIPT_ERRORS, javascript_errors),
+    for path, make in ((RUST, rust_header), (RUST_SYS, rust_sys_header), (GO_ERRORS, go_errors), (GO, go_header), (JAVASCRIPT_ERRORS, javascript_errors),
                        (JAVASCRIPT_TYPES, javascript_types), (JAVASCRIPT, javascript_header),
                        (JAVASCRIPT_CALLS, javascript_calls), (PYTHON_ERRORS, python_errors)):
         yield path, make(header)

@@ -26,6 +26,7 @@ import time
 HERE = os.path.dirname(os.path.realpath(__file__))
 sys.path += [os.path.join(HERE, "..", name) for name in ("shared", "bindings")]
 
+import debian_crates
 import ending
 import installed
 import needs
@@ -48,8 +49,7 @@ VERIFIED = "Signature and comment signature verified\nTrusted comment: timestamp
 COPY = os.path.join("a b", "c d")
 # The directories with a Makefile: the goals that are built into another directory, and those that are tried with an
 # invalid OUT.
-MAKEFILES = {"c": ("all archive C_CALLS=", "all install archive release uninstall clean"), "bindings": ("rust go", "all rust javascript clean"),
-             "examples/rust": ("", "out/minisign-verify clean")}
+MAKEFILES = {"c": ("all archive C_CALLS=", "all install archive release uninstall clean"), "bindings": ("rust go", "all rust javascript clean")}
 # Where paths of the copy lead if they are split at their spaces.
 NEIGHBOURS = ("a", "a b/c", *(f"{COPY}/{directory}/{name}" for directory in MAKEFILES
                               for name in ("b/c", "d/bindings/out/rust", "d/c/out")))
@@ -198,8 +198,8 @@ def check_built_programs(checks, copy):
     """The programs that are built verify a download."""
     copy.make("c")
     copy.make("c", "test", says=" 0 failed")
-    copy.make("examples/rust", f"CARGO={copy.cargo}")
-    copy.ended(copy.path("examples/rust/out/minisign-verify"), *PUBLISHED, at="tests/corpus", says="timestamp:1556193335")
+    example = ("run", "--quiet", "--manifest-path", copy.path("bindings/rust/Cargo.toml"), "--target-dir", copy.path("an example"), "--example", "verify")
+    copy.ended(copy.cargo, *example, "--", *PUBLISHED, at="tests/corpus", says="timestamp:1556193335")
     copy.ended(sys.executable, "page/build.py", "--from", copy.path("dist/minisign.html"), "--key", KEY, "a page.html")
     checks.check(os.path.exists(copy.path("a page.html")), "no page was built")
 
@@ -249,8 +249,6 @@ def check_clean(checks, copy):
     for directory in MAKEFILES:
         copy.make(directory, "clean")
         checks.check(not os.path.exists(copy.path(directory, "out")), f"make -C {directory} clean leaves out/")
-    # (the library for the example)
-    copy.make("c", "library", "OUT=../library", "C_CALLS=")
     copy.put("named", *FOREIGN_FILES)
     copy.put("never", *FOREIGN_FILES, *FILES_WITH_OUR_NAMES)
     for directory, (words, _) in MAKEFILES.items():
@@ -266,6 +264,7 @@ def check_clean(checks, copy):
 
 
 def run_all(checks, room):
+    debian_crates.use(room)
     copy, compiler = Copy(checks, room), needs.libsodium()
     tree = Tree(room, copy.top, compiler, ("gcc", "cc"))
     for check in (check_readme_commands, check_changed_sources, check_damaged_archives, check_missing_kit, check_without_sources):
@@ -275,7 +274,7 @@ def run_all(checks, room):
     for name in NEIGHBOURS:
         checks.check(FOREIGN_FILE in files_below(os.path.join(room, name)), f"the file of others in {name} was removed")
     beside = {*os.listdir(room)} | {f"a b/{name}" for name in os.listdir(os.path.join(room, "a b"))}
-    checks.check(beside == {"a", "a b", "a b/c", "a b/c d", "bin", "tem p"}, f"there are other files beside the copy: {sorted(beside)}")
+    checks.check(beside == {".cargo", "a", "a b", "a b/c", "a b/c d", "bin", "tem p"}, f"there are other files beside the copy: {sorted(beside)}")
 
 
 if __name__ == "__main__":

@@ -76,7 +76,7 @@ static int refuse(const char *name, enum minisign_error (*call)(void), const min
                   long last)
 {
     enum minisign_error error;
-    int came;
+    int reached;
 
     key = *before;
     requests = held = 0;
@@ -84,11 +84,11 @@ static int refuse(const char *name, enum minisign_error (*call)(void), const min
     refused_to = last;
     error = call();
     refused_from = refused_to = 0;
-    came = requests >= request;
+    reached = requests >= request;
     check_call(held == 0, name, "memory is not freed", request);
-    check_call(error == (came ? MINISIGN_OUT_OF_MEMORY : MINISIGN_OK), name, "wrong error", request);
-    check_call(!came || memcmp(before, &key, sizeof key) == 0, name, "the key has changed", request);
-    return came;
+    check_call(error == (reached ? MINISIGN_OUT_OF_MEMORY : MINISIGN_OK), name, "wrong error", request);
+    check_call(!reached || memcmp(before, &key, sizeof key) == 0, name, "the key has changed", request);
+    return reached;
 }
 
 static void refuse_each(const char *name, enum minisign_error (*call)(void), const minisign_secret_key *before)

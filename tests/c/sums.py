@@ -22,6 +22,7 @@ import sys
 HERE = os.path.dirname(os.path.realpath(__file__))
 sys.path.append(os.path.join(HERE, "..", "shared"))
 
+import debian_crates
 import ending
 import needs
 from copies import BASE, TOOLS, copy_tree
@@ -77,9 +78,9 @@ class Copy:
         copy_tree(self.top)
         os.mkdir(self.programs)
         self.cargo, self.rustc = needs.program("cargo", "cargo"), needs.rust_compiler()
-        more = ("cc", "date", "gcc", "gzip", "head", "mktemp", "mv", "tar", "test", "touch")
+        more = ("cc", "date", "gcc", "gzip", "head", "mktemp", "mv", "tar", "test", "touch", "pkg-config")
         for name in {*BASE, *TOOLS, *more} - {"sha256sum"}:
-            os.symlink(needs.program(name, "make", "binutils", "gcc"), f"{self.programs}/{name}")
+            os.symlink(needs.program(name, "make", "binutils", "gcc", "pkg-config"), f"{self.programs}/{name}")
 
     def put(self, programs):
         """Makes these the only SHA-256 programs in PATH."""
@@ -197,18 +198,19 @@ def check_incomplete(checks, copy):
 
 
 def packed_crate(copy):
-    """Unpacks the crate as `cargo package` packs it, without the sources of the proved calls, and returns its path."""
+    """Unpacks the crate minisign-proved-sys as `cargo package` packs it, without the sources of the proved calls, and returns its path."""
     copy.put(PLACES["shasum only"][0])
     variables = {"CARGO_NET_OFFLINE": "true", "CARGO_HOME": f"{copy.room}/home", "RUSTC": copy.rustc, "CFLAGS": "-O0"}
     status, said = copy.run("make", "-s", "-C", "bindings", "rust", f"OUT={copy.room}/packed", f"CARGO={copy.cargo}", **variables)
     if status != 0:
         raise needs.Missing(f"the crate cannot be packed: {said[-1000:]}")
-    archive, = (name for name in os.listdir(f"{copy.room}/packed") if name.endswith(".crate"))
+    archive, = (name for name in os.listdir(f"{copy.room}/packed") if re.match(r"minisign-proved-sys-.*\.crate$", name))
     shutil.unpack_archive(f"{copy.room}/packed/{archive}", f"{copy.room}/unpacked", "gztar")
     return os.path.join(f"{copy.room}/unpacked", *os.listdir(f"{copy.room}/unpacked"))
 
 
 def run_all(checks, room):
+    debian_crates.use(room)
     copy = Copy(room)
     own, crate = f"{copy.top}/bindings/rust", packed_crate(copy)
     checks.check(not os.path.exists(f"{crate}/library/crates"), "a packed crate has sources of the proved calls")

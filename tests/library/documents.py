@@ -46,10 +46,12 @@ RUN_BY = {
     "bindings/javascript/README.md": {"sh": PACKAGES, "js": "tests/bindings/javascript.py"},
     "bindings/python/README.md": {"sh": PACKAGES, "python": "tests/bindings/python.py"},
     "bindings/rust/README.md": {"sh": PACKAGES, "toml": PACKAGES, "rust": "tests/bindings/rust.py"},
+    "bindings/rust-minisign/README.md": {"toml": "tests/bindings/drop_in.py", "rust": "tests/bindings/drop_in.py"},
 }
-# The first lines of the blocks that are indented and not fenced: the usage, the output of a check, the systemd unit that
-# tests/installer/checking.py runs, and the script that tests/installer/downloads.py runs.
-INDENTED = {"docs/INSTALLING.md": ["minisign-install [OPTION ..] PK DATA SIG TARGET", "2", "[Service]", "#!/bin/sh"]}
+# The first lines of the paragraphs that are indented and not fenced: the usage, the output of a check, and the files of
+# examples/updater, which tests/installer/checking.py compares with the document.
+INDENTED = {"docs/INSTALLING.md": ["minisign-install [OPTION ..] PK DATA SIG TARGET", "2",
+                                    "[Unit]", "[Service]", "[Unit]", "[Timer]", "[Install]", "#!/bin/sh"]}
 IN_COMMANDS = re.compile(r"(?<![\w./-])(?:\.ci|bench|c|crates|docs|examples|tests|tools)/[\w./*-]+")
 QUOTED = re.compile(r"`([^`]+)`")
 # Quoted names of functions, separated by commas.
