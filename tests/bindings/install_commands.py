@@ -50,11 +50,11 @@ def check_package(checks, package, room):
     shutil.copy(os.path.join(HERE, package, source), os.path.join(room, place))
     for name, text in described.items():
         write(room, name, (text + dependencies).encode())
-    shutil.copy(shared_cases.PATHS[2], os.path.join(room, "app.minisig"))
+    shutil.copy(shared_cases.PUBLISHED_PATHS[2], os.path.join(room, "app.minisig"))
     os.symlink(os.path.join("..", CLONE), os.path.join(room, CLONE))
     # C is compiled without optimization, which takes less time.
     environment = {"PATH": static_library.path_without_kit(), "HOME": room, "GOPROXY": "off", "GOFLAGS": "", "GOTOOLCHAIN": "local",
-                   "CARGO_HOME": f"{room}/cargo", "CARGO_NET_OFFLINE": "true", "CFLAGS": "-O0", "CGO_CFLAGS": "-O0"}
+                   "CARGO_HOME": f"{room}/.cargo", "CARGO_NET_OFFLINE": "true", "CFLAGS": "-O0", "CGO_CFLAGS": "-O0"}
     lines = commands.commands_of(readme)
     checks.check(any(line.startswith(f"make -C {CLONE}/bindings {package}") for line in lines), f"{package}: README does not pack it")
     for line in lines:

@@ -1,19 +1,21 @@
 #!/usr/bin/env python3
-"""Checks that the Rust crate in bindings/rust works for a user: it is packed by cargo, unpacked into an empty directory,
-and built by cargo, without network, registry and kit, as a dependency of a program that names it `minisign-verify`.
+"""Checks that the Rust crates in bindings/rust and bindings/rust-sys work for a user: they are packed by cargo, unpacked into
+an empty directory, and built by cargo, without network and kit, as dependencies of a program that names bindings/rust
+`minisign-verify`. cargo takes the crates that they use from Debian's packages.
 
     tests/bindings/rust.py
 
-It is also built in a path with spaces, with no make in PATH, as a git dependency, for Windows, where wine runs it, and
-for AArch64. The examples of README.md are pasted into a crate and run. The results are compared with `c/minisign`,
-libsodium and the header (`ask_all`), and the layout of structs with the header. `unsafe` is in one module only, and
-without the feature `sodium` nothing of libsodium is linked. Each mutant of rust/mutants is detected. It prints a line for
-each failure; the last line is `N passed, M failed`.
+They are also built in a path with spaces, with neither make nor objcopy in PATH, with the variables of the crate cc and of
+libsodium, as a git dependency, for Windows, where wine runs them, and for AArch64. The examples of README.md are pasted into
+a crate and run. The results are compared with `c/minisign`, libsodium and the header (`compare_results`), and the layout of structs
+with the header. `unsafe` is in one module only, and without the feature `sodium` nothing of libsodium is linked. Each mutant
+of rust/mutants is detected. It prints a line for each failure; the last line is `N passed, M failed`.
 
-Needs Python 3.9 or later, cargo, rustc, make, clang, a C compiler, binutils, libsodium with its header, minisign, strace,
-git, and of Debian libstd-rust-dev-windows, gcc-mingw-w64-x86-64, wine64, gcc-aarch64-linux-gnu, libc6-dev-arm64-cross
-and qemu-user-static. It installs what is missing if it may; apt-get fetches Rust's library for AArch64 once. If another
-cargo than Debian's comes first in PATH, it is tested too.
+Needs Python 3.9 or later, cargo, rustc, make, clang, a C compiler, binutils, llvm, libsodium with its header, minisign,
+strace, git, pkg-config, and of Debian librust-cc-dev, librust-pkg-config-dev, librust-rpassword-dev, librust-zeroize-dev,
+libstd-rust-dev-windows, gcc-mingw-w64-x86-64, wine64, gcc-aarch64-linux-gnu, libc6-dev-arm64-cross and qemu-user-static. It
+installs what is missing if it may; apt-get fetches Rust's library for AArch64 once. If another cargo than Debian's comes
+first in PATH, it is tested too.
 """
 
 import glob
@@ -27,6 +29,7 @@ HERE = os.path.dirname(os.path.realpath(__file__))
 sys.path += [HERE, *(os.path.join(HERE, "..", name) for name in ("shared", "c"))]
 
 import commands
+import debian_crates
 import emulated
 import ending
 import needs
@@ -36,21 +39,18 @@ import static_library
 from mutants import mutants_of
 from shared_cases import TOP, Program, read, record_of, run, write
 
-CRATE = os.path.join(TOP, "bindings", "rust")
-# The files that are written by hand, of which the first four have no `unsafe`; and the file that tools/bindings.py makes.
-BY_HAND = ["build.rs", "src/lib.rs", "src/files.rs", "src/signing.rs", "src/raw.rs", "src/raw/sodium.rs"]
-GENERATED = "src/raw/header.rs"
+CRATE, SYS = (os.path.join(TOP, "bindings", name) for name in ("rust", "rust-sys"))
+# The files of bindings/rust that are written by hand, of which the first five have no `unsafe`; and the files that tools/bindings.py
+# makes, of bindings/rust and of bindings/rust-sys.
+BY_HAND = ["src/lib.rs", "src/base64.rs", "src/files.rs", "src/records.rs", "src/signing.rs", "src/raw.rs", "src/raw/sodium.rs"]
+GENERATED, GENERATED_SYS = "src/raw/header.rs", "src/header.rs"
 NO_SODIUM = dict.fromkeys(("crypto_sign", "sodium_init", "randombytes"), False)
 # The number of calls, and by how many pages of 4 KiB the memory may grow after a tenth of them.
 CALLS, PAGES = 10_000, 16
 
 RENAMED = 'minisign-verify = {{ package = "minisign-proved", path = "{crate}" }}'
+PLAIN = 'minisign-proved = {{ path = "{crate}" }}'
 WITHOUT_SODIUM = 'minisign-proved = {{ path = "{crate}", default-features = false }}'
-
-# The structs of the header, as the crate names them.
-STRUCTS = {"minisign_state": "State", "minisign_public_key": "PublicKey", "minisign_signature": "Signature",
-           "minisign_questions": "Questions", "minisign_unopened_key": "UnopenedKey", "minisign_secret_key": "SecretKey",
-           "minisign_signed_parts": "SignedParts", "minisign_sealing": "Sealing", "minisign_new_key": "NewKey"}
 
 # The variants of Error for errors of the header, if minisign-verify has a variant for them; and the same for data in pieces.
 KNOWN = dict(line.split() for line in read(HERE, "rust", "known.txt").decode().splitlines())
@@ -64,6 +64,14 @@ def toolchains():
     if all(first) and not os.path.samefile(first[0], pairs[0][0]):
         pairs.append(first)
     return pairs
+
+
+def depends_on(form, crate, unpacked=None, used=("minisign-proved-sys",)):
+    """Returns a dependency on a crate, and patches for the packed crates that it uses. They are in the directory `unpacked`, which by
+    default is the directory of the crate."""
+    unpacked = unpacked or os.path.dirname(crate)
+    patches = "".join(f'{name} = {{ path = "{unpacked}/{name}-{shared_cases.VERSION}" }}\n' for name in used)
+    return f"{form.format(crate=crate)}\n\n[patch.crates-io]\n{patches}"
 
 
 def new_crate(room, name, dependency, source):
@@ -108,22 +116,22 @@ def check_sources(checks):
         words = "\n".join(lines).replace("unsafe_code", "")
         checks.check(name.startswith("src/raw") or "unsafe" not in words, f"{name}: it has `unsafe`")
     files = {os.path.relpath(path, CRATE) for path in glob.glob(f"{CRATE}/src/**", recursive=True) if os.path.isfile(path)}
-    checks.check({*files, "build.rs"} == {*BY_HAND, GENERATED}, f"the crate has the files {sorted(files)}")
+    checks.check(files == {*BY_HAND, GENERATED}, f"the crate has the files {sorted(files)}")
 
 
 def check_inside(checks, cargo, crate, room):
     """Checks that the structs have the layout that a C compiler gives those of the header, and that secret keys are cleared."""
-    lines = []
+    sys_crate = f"{os.path.dirname(crate)}/minisign-proved-sys-{shared_cases.VERSION}"
+    source, inside, lines = read(sys_crate, GENERATED_SYS), read(HERE, "rust", "inside.rs").decode(), []
     for place, number in shared_cases.layout(room).items():
         struct, _, field = place.partition(".")
-        if struct in STRUCTS:
-            lines.append(f"        {'offset' if field else 'size'}!({STRUCTS[struct]}, {number}{field and ', '}{field});")
-    source, inside = read(crate, GENERATED), read(HERE, "rust", "inside.rs").decode()
-    write(crate, GENERATED, source + inside.replace("        // STRUCTS", "\n".join(lines)).encode())
-    status, output = cargo.try_to_run(crate, "test", "--lib", **Cargo.UNOPTIMIZED)
+        if f"pub struct {struct} " in source.decode():
+            lines.append(f"        {'offset' if field else 'size'}!({struct}, {number}{field and ', '}{field});")
+    write(sys_crate, GENERATED_SYS, source + inside.replace("        // STRUCTS", "\n".join(lines)).encode())
+    status, output = cargo.try_to_run(sys_crate, "test", "--lib", **Cargo.UNOPTIMIZED)
     is_right = status == 0 and "2 passed; 0 failed" in output and len(lines) >= 15
-    checks.check(is_right, f"the module raw, {len(lines)} sizes and offsets: {output[-1500:]}")
-    write(crate, GENERATED, source)
+    checks.check(is_right, f"minisign-proved-sys, {len(lines)} sizes and offsets: {output[-1500:]}")
+    write(sys_crate, GENERATED_SYS, source)
 
 
 # ---- Output of the test program ----
@@ -144,20 +152,22 @@ def fields_line(fields):
     return " ".join([*(key_id.hex() for key_id in ids), *map(shared_cases.key_id_text, ids), str(fields.is_legacy).lower()])
 
 
-def ask_all(program, room, minisign, cases):
+def compare_results(program, room, minisign, cases):
     """Checks all results of a program that uses the crate."""
-    program.ask_answers(minisign, cases, (["verify"], True), (["strict"], False), (["reader"], False),
+    program.check_verdicts(minisign, cases, (["verify"], True), (["strict"], False), (["reader"], False),
                         *((["pieces", str(length)], False) for length in (1, 128, 1000, 0)))
-    program.ask_reasons(["strict"], shared_cases.rejections(), reason(KNOWN))
-    program.ask_reasons(["pieces", "7"], shared_cases.rejections(), reason(IN_PIECES))
-    program.ask_vectors(["verify"], reason(KNOWN))
-    program.ask_comments(["comment"], reason(IN_PIECES))
-    program.ask_fields(["read"], fields_line)
-    program.ask_libsodium(["accepts"])
+    program.check_errors(["strict"], shared_cases.rejections(), reason(KNOWN))
+    program.check_errors(["pieces", "7"], shared_cases.rejections(), reason(IN_PIECES))
+    program.check_vectors(["verify"], reason(KNOWN))
+    program.check_comments(["comment"], reason(IN_PIECES))
+    program.check_fields(["read"], fields_line)
+    program.check_libsodium(["accepts"])
     of_length, of_base64 = (f"Err(InvalidEncoding(BARE_PUBLIC_KEY_{why}))" for why in ("LENGTH", "NOT_BASE64"))
-    program.ask_bare_keys(*map(re.escape, ("Ok(None)", of_length, of_base64, of_length)))
+    program.check_bare_keys(*map(re.escape, ("Ok(None)", of_length, of_base64, of_length)))
     # Debug prints nothing secret, and a reason by its name.
-    program.ask_pairs(6, "shown")
+    program.check_pairs(6, "shown")
+    # Traits, records, bare signatures and keys that are not decrypted yet.
+    program.check_pairs(30, "types")
     shared_cases.check_signing(program, os.path.join(room, "signed"), minisign, lambda name: f"Err(Rejected({name}))", "Ok(())")
     shared_cases.check_key_ids(program, os.path.join(room, "ids"), minisign)
     shared_cases.check_new_key_files(program, os.path.join(room, "written"), "Ok(())")
@@ -165,11 +175,14 @@ def ask_all(program, room, minisign, cases):
 
 # ---- Builds ----
 
-# All programs that Debian's cargo runs to build the crate and a program that uses it. make is not one of them.
-NEEDED = ("cargo", "rustc", "gcc", "cc", "ld", "as", "ar", "objcopy", "git", "sh", "sha256sum", "find", "sort", "grep", "xargs", "cut",
-          "dirname")
+# All programs that Debian's cargo runs to build the packed crate and a program that uses it. make and objcopy are not among them.
+NEEDED = ("cargo", "rustc", "gcc", "cc", "ld", "as", "ar", "git", "sh", "sha256sum", "find", "sort", "grep", "xargs", "cut", "dirname")
 WINDOWS, ARM = "x86_64-pc-windows-gnu", "aarch64-unknown-linux-gnu"
-NO_COMPILER = "no C compiler with GNU options, such as gcc or clang, builds for "
+HERE_TRIPLE = "x86_64-unknown-linux-gnu"
+NOT_GNU = "cl does not have GNU options: name gcc or clang for x86_64-unknown-linux-gnu in CC_x86_64_unknown_linux_gnu"
+# A C compiler that records each call, for the variables of the crate cc.
+RECORDING = '#!/bin/sh\necho called >> "$0-calls"\nexec gcc "$@"\n'
+DEBIAN_LIBRARIES = "/usr/lib/x86_64-linux-gnu"
 
 
 def messages():
@@ -192,16 +205,17 @@ def check_readme(checks, cargo, room, crate, minisign):
     dependency, = re.findall(r"^```toml\n(.*?)^```$", read(CRATE, "README.md").decode(), re.M | re.S)
     os.makedirs(os.path.join(directory, "src", "bin"))
     os.makedirs(os.path.join(directory, "vendor"))
-    os.symlink(crate, os.path.join(directory, "vendor", os.path.basename(crate)))
+    for name in os.listdir(os.path.dirname(crate)):
+        os.symlink(os.path.join(os.path.dirname(crate), name), os.path.join(directory, "vendor", name))
     write(directory, "Cargo.toml", read(HERE, "rust", "user.toml").replace(b"[dependencies]\n", dependency.encode()))
-    write(directory, "src/main.rs", shared_cases.readme_program("rust").encode())
+    write(directory, "src/main.rs", shared_cases.readme_examples("rust").encode())
     shutil.copy(os.path.join(HERE, "rust", "readme.rs"), os.path.join(directory, "src", "bin"))
     # Warnings are allowed, because the program does not call all examples.
     status, why = cargo.try_to_run(directory, "build", RUSTFLAGS="", **Cargo.UNOPTIMIZED)
     if not checks.check(status == 0, f"the examples of README.md do not compile: {why[-1500:]}"):
         return
     programs = os.path.join(cargo.target, "debug")
-    shutil.copy(shared_cases.PATHS[2], os.path.join(directory, "app.minisig"))
+    shutil.copy(shared_cases.PUBLISHED_PATHS[2], os.path.join(directory, "app.minisig"))
     for app, *expected, error in VERIFIED:
         shutil.copy(os.path.join(shared_cases.CORPUS, app), os.path.join(directory, "app"))
         status, output, errors = run([f"{programs}/user"], directory)
@@ -233,7 +247,7 @@ class UserCrate:
         status, output = self.build(target, **environment)
         if not checks.check(status == 0, f"{what}: the build failed: {output[-1000:]}"):
             return
-        program, (key, _, signature) = os.path.join(self.cargo.target, target, "debug", f"user{ending}"), shared_cases.PATHS
+        program, (key, _, signature) = os.path.join(self.cargo.target, target, "debug", f"user{ending}"), shared_cases.PUBLISHED_PATHS
         status, output, errors = run([*before, program, key, signature], environment=variables)
         checks.check(output.decode().replace("\r", "") == messages(), f"{what}: status {status}, {output.decode()}{errors[-500:]}")
         symbols = shared_cases.symbols_of(program)
@@ -252,26 +266,46 @@ def rust_for_arm():
 def check_here(checks, programs, crate, room):
     """Checks the crate on this system, in a path with spaces and without make and libsodium: with the archives, as C, and as a git
     dependency."""
-    place = UserCrate(programs, room, "a user's crate", WITHOUT_SODIUM.format(crate=crate))
+    place = UserCrate(programs, room, "a user's crate", depends_on(WITHOUT_SODIUM, crate))
     for what, has_archives, portable in (("the archives", True, ""), ("C alone", False, "1")):
         place.check(checks, f"without make, {what}", {"v3_minisign_update": has_archives, **NO_SODIUM}, MINISIGN_PORTABLE=portable)
     status, why = place.build(CC="cl", MINISIGN_PORTABLE="")
-    checks.check(status != 0 and NO_COMPILER + "x86_64-unknown-linux-gnu: name one in CC_x86_64_unknown_linux_gnu (tried: cl)\n" in why,
-                 f"a compiler without GNU options: {why[-500:]}")
+    checks.check(status != 0 and NOT_GNU in why, f"a compiler without GNU options: {why[-500:]}")
+    compiler = write(room, "recording", RECORDING.encode())
+    os.chmod(compiler, 0o755)
+    status, why = place.build(CC_x86_64_unknown_linux_gnu=compiler, MINISIGN_PORTABLE="")
+    checks.check(status == 0 and os.path.exists(f"{compiler}-calls"), f"a compiler for one target: {why[-500:]}")
+    check_libsodium(checks, crate, room)
     dependency = f'minisign-proved = {{ git = "file://{commands.Clone(room).top}", default-features = false }}'
-    place = UserCrate(programs, room, "by git", dependency)
-    place.check(checks, "as a git dependency", {}, CARGO_NET_OFFLINE="false")
+    for what, has_objcopy in (("by git without objcopy", False), ("by git", True)):
+        if has_objcopy:
+            os.symlink(os.path.join(needs.DEBIAN, "objcopy"), os.path.join(programs, "objcopy"))
+        place = UserCrate(programs, room, what, dependency)
+        place.check(checks, what, {"v3_minisign_update": has_objcopy}, CARGO_NET_OFFLINE="false")
+
+
+def check_libsodium(checks, crate, room):
+    """Checks that libsodium is found by pkg-config or in SODIUM_LIB_DIR, and linked as the variables say."""
+    place = UserCrate(static_library.path_without_kit(), room, "with libsodium", depends_on(PLAIN, crate))
+    for variables, is_shared in (({}, True), ({"SODIUM_LIB_DIR": DEBIAN_LIBRARIES}, False),
+                                 ({"SODIUM_LIB_DIR": DEBIAN_LIBRARIES, "SODIUM_SHARED": "1"}, True)):
+        place.check(checks, f"with libsodium, {variables}", {}, **variables)
+        needed = run([needs.program("readelf", "binutils"), "-d", f"{place.cargo.target}/debug/user"])[1].decode()
+        checks.check(("libsodium.so" in needed) == is_shared, f"with libsodium, {variables}: {needed}")
+    few = UserCrate(shared_cases.path_directory(os.path.join(room, "few"), *NEEDED), room, "without pkg-config", depends_on(PLAIN, crate))
+    status, why = few.build()
+    checks.check(status != 0 and "libsodium was not found: install it" in why and "SODIUM_LIB_DIR" in why, f"without pkg-config: {why[-800:]}")
 
 
 def check_targets(checks, programs, crate, room):
-    """Checks the crate for Windows, under wine, and for AArch64, under qemu, and that a compiler for another target is rejected."""
+    """Checks the crate for Windows, under wine, and for AArch64, under qemu."""
     wine, arm = portable.Windows(room), emulated.AARCH64
     needs.need(lambda: True if os.path.isdir(f"/usr/lib/rustlib/{WINDOWS}") else None, "Rust for Windows", "libstd-rust-dev-windows")
     needs.program("x86_64-w64-mingw32-gcc", "gcc-mingw-w64-x86-64")
     emulator, compiler, library = emulated.emulator(arm), emulated.compiler(arm), rust_for_arm()
     for name in ("x86_64-w64-mingw32-gcc", os.path.basename(compiler)):
         os.symlink(os.path.join(needs.DEBIAN, name), os.path.join(programs, name))
-    place = UserCrate(programs, room, "for others", WITHOUT_SODIUM.format(crate=crate))
+    place = UserCrate(programs, room, "for others", depends_on(WITHOUT_SODIUM, crate))
     place.check(checks, "for Windows", {}, [wine.program], WINDOWS, ".exe", wine.variables)
     wine.end()
     os.makedirs(f"{room}/sysroot/lib")
@@ -279,25 +313,18 @@ def check_targets(checks, programs, crate, room):
     linker = {f"CARGO_TARGET_{ARM.upper().replace('-', '_')}_LINKER": compiler}
     place.check(checks, "for AArch64", {"aarch64_minisign_update": True}, emulator, ARM, RUSTFLAGS=f"--sysroot {room}/sysroot", **linker)
 
-    def ask_for_windows(checks, changed, directory, _):
-        """Checks that the build fails if CC is a compiler for another target."""
-        status, output = UserCrate(programs, directory, "for Windows", WITHOUT_SODIUM.format(crate=changed)).build(WINDOWS, CC="gcc")
-        checks.check(status != 0 and NO_COMPILER + WINDOWS in output, f"gcc for Linux as CC for Windows: {output[-500:]}")
-
-    shared_cases.check_mutants(checks, crate, "bindings/rust", mutants_of("bindings", "rust", "build_mutants"), room, ask_for_windows)
-
 
 def check_mutants(checks, cargo, crate, room, minisign):
     """Checks that a program that uses the crate detects each mutant. A mutant may cause warnings. All mutants are built in one directory,
     so that cargo compiles only what differs from the previous mutant."""
     crate_path = os.path.join(room, "changed")
-    user = new_crate(room, "mutants", RENAMED.format(crate=crate_path), "answers.rs")
+    user = new_crate(room, "mutants", depends_on(RENAMED, crate_path, os.path.dirname(crate)), "answers.rs")
 
     def ask(checks, changed, directory, _):
         shutil.rmtree(crate_path, ignore_errors=True)
         os.rename(changed, crate_path)
         cargo.run(user, "build", RUSTFLAGS="", CARGO_INCREMENTAL="1", **Cargo.UNOPTIMIZED)
-        ask_all(Program(checks, f"{cargo.target}/debug/user"), directory, minisign, shared_cases.corpus())
+        compare_results(Program(checks, f"{cargo.target}/debug/user"), directory, minisign, shared_cases.corpus())
 
     shared_cases.check_mutants(checks, crate, "bindings/rust", mutants_of("bindings", "rust", "mutants"), room, ask)
 
@@ -306,29 +333,30 @@ def check_toolchain(checks, room, toolchain, minisign, is_first):
     """Checks what one cargo builds. With the first cargo, more cases are tried, and also memory, threads, mutants and other targets."""
     cargo = Cargo(room, *toolchain, **({} if is_first else Cargo.UNOPTIMIZED))
     # `cargo package` builds what it packs, so this takes less time without optimization.
-    crate = shared_cases.packed("rust", room, {**cargo.environment, **Cargo.UNOPTIMIZED}, CARGO=cargo.cargo)
-    answers = new_crate(room, "answers", RENAMED.format(crate=crate), "answers.rs")
+    crate = shared_cases.unpacked_package("rust", room, {**cargo.environment, **Cargo.UNOPTIMIZED}, CARGO=cargo.cargo)
+    answers = new_crate(room, "answers", depends_on(RENAMED, crate), "answers.rs")
     cargo.run(answers, "build", "--release")
     program = Program(checks, shutil.copy(os.path.join(cargo.target, "release", "user"), answers))
-    few = shared_cases.corpus() + shared_cases.damaged(60)
-    ask_all(program, room, minisign, shared_cases.all_cases(checks, minisign) if is_first else few)
+    few = shared_cases.corpus() + shared_cases.damaged_cases(60)
+    compare_results(program, room, minisign, shared_cases.all_cases(checks, minisign) if is_first else few)
     check_readme(checks, cargo, room, crate, minisign)
     check_inside(checks, cargo, crate, room)
-    cargo.run(crate, "check", "--no-default-features", **Cargo.UNOPTIMIZED)
     if not is_first:
         return
-    program.ask_growth(CALLS, PAGES, few)
-    program.ask_threads(few)
+    program.check_growth(CALLS, PAGES, few)
+    program.check_threads(few)
     check_mutants(checks, cargo, crate, room, minisign)
-    programs = shared_cases.few_programs(room, *NEEDED)
+    programs = shared_cases.path_directory(room, *NEEDED)
     check_here(checks, programs, crate, room)
     check_targets(checks, programs, crate, room)
-    shutil.rmtree(os.path.join(crate, "library"))
-    status, _ = cargo.try_to_run(crate, "build", "--profile", "bench")
+    sys_crate = f"{os.path.dirname(crate)}/minisign-proved-sys-{shared_cases.VERSION}"
+    shutil.rmtree(os.path.join(sys_crate, "library"))
+    status, _ = cargo.try_to_run(sys_crate, "build", "--profile", "bench")
     checks.check(status != 0, "the crate can be built without its directory library")
 
 
 def run_all(checks, room):
+    debian_crates.use(room)
     minisign = shared_cases.c_minisign(room)
     check_sources(checks)
     pairs = toolchains()

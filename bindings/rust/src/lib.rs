@@ -3,18 +3,37 @@
 #![cfg_attr(not(doctest), doc = include_str!("../README.md"))]
 #![deny(unsafe_code, missing_docs)]
 
+mod base64;
 mod files;
 mod raw;
+mod records;
 mod signing;
 
 pub use files::write_new;
+pub use records::{BareSignature, Kind, UnopenedKey};
 pub use signing::{SecretKey, Signer, Work};
-use std::{fmt, fs, io, path::Path};
+use std::borrow::Cow;
+use std::hash::{Hash, Hasher};
+use std::{cmp, fmt, fs, io, path::Path};
 
 /// An error code of `minisign.h`. `Display` prints its text, a sentence, and `Debug` its name in
 /// the header, without `MINISIGN_`.
 #[derive(Clone, Copy, Eq, PartialEq, Hash)]
-pub struct Reason(pub u32);
+pub struct Reason(u32);
+
+impl Reason {
+    /// Returns the reason with a number of `minisign.h`.
+    #[must_use]
+    pub const fn from_code(code: u32) -> Reason {
+        Reason(code)
+    }
+
+    /// Returns the number in `minisign.h`.
+    #[must_use]
+    pub const fn code(self) -> u32 {
+        self.0
+    }
+}
 
 impl fmt::Debug for Reason {
     fn fmt(&self, f: &mut fmt::Formatter) -> fmt::Result {
@@ -33,9 +52,10 @@ impl fmt::Display for Reason {
 
 impl std::error::Error for Reason {}
 
-/// An error of this crate: the variants of `minisign-verify`, and two more. `Display` prints a
+/// An error of this crate: the variants of `minisign-verify`, and three more. `Display` prints a
 /// sentence.
 #[derive(Debug)]
+#[non_exhaustive]
 pub enum Error {
     /// A public key or a signature file is malformed, for this reason.
     InvalidEncoding(Reason),
@@ -54,20 +74,23 @@ pub enum Error {
     UnsupportedLegacyMode,
     /// `encode` was called with limits below the minimum of the program minisign.
     WeakLimits,
+    /// The implementation of Ed25519 failed to sign or to make a key.
+    Scheme(SchemeError),
     /// Any other error: of signing, of secret keys, or API misuse.
     Rejected(Reason),
 }
 
 impl Error {
-    /// Returns the error code of `minisign.h`. Returns `None` for `WeakLimits`, and for an
-    /// `IoError` of the system.
+    /// Returns the error code of `minisign.h`. Returns `None` for `WeakLimits`, for `Scheme`, and
+    /// for an `IoError` of the system.
+    #[must_use]
     pub fn reason(&self) -> Option<&Reason> {
         match self {
             Error::InvalidEncoding(it) | Error::InvalidSignature(it) | Error::Rejected(it) => {
                 Some(it)
             }
             Error::IoError(error) => error.get_ref()?.downcast_ref(),
-            Error::WeakLimits => None,
+            Error::WeakLimits | Error::Scheme(_) => None,
             Error::UnexpectedKeyId => Some(&Reason::DIFFERENT_KEY_IDS),
             Error::UnsupportedAlgorithm => Some(&Reason::UNSUPPORTED_ALGORITHM),
             _ => Some(&Reason::LEGACY_NOT_ACCEPTED),
@@ -91,6 +114,12 @@ impl From<Reason> for Error {
     }
 }
 
+impl From<SchemeError> for Error {
+    fn from(error: SchemeError) -> Error {
+        Error::Scheme(error)
+    }
+}
+
 impl From<io::Error> for Error {
     fn from(error: io::Error) -> Error {
         Error::IoError(error)
@@ -101,6 +130,7 @@ impl fmt::Display for Error {
     fn fmt(&self, f: &mut fmt::Formatter) -> fmt::Result {
         match self {
             Error::IoError(error) => error.fmt(f),
+            Error::Scheme(error) => error.fmt(f),
             Error::WeakLimits => {
                 f.write_str("the key limits are below 524288 operations or 16 MiB")
             }
@@ -109,46 +139,95 @@ impl fmt::Display for Error {
     }
 }
 
-/// The source is the `Reason`, or the error of the system.
+/// The source is the `Reason`, or the error of the system or of the implementation of Ed25519.
 impl std::error::Error for Error {
     fn source(&self) -> Option<&(dyn std::error::Error + 'static)> {
         match self {
             Error::IoError(error) => Some(error),
+            Error::Scheme(error) => Some(error),
             _ => self.reason().map(|reason| reason as _),
         }
     }
 }
 
-/// An implementation of Ed25519. The crate trusts its results. It rejects public keys and
-/// signatures of small order or with a non-canonical encoding itself (`Reason::WEAK_ED25519`), so
-/// `accepts` need not reject them. An implementation that only verifies can leave the other methods
-/// at their defaults.
-pub trait Ed25519: Sync {
-    /// Returns true if the signature is valid for the message and the public key.
-    fn accepts(&self, signature: &[u8; 64], message: &[u8], public_key: &[u8; 32]) -> bool;
-    /// Signs the message with a secret key: the 32 bytes of the seed, then the 32 bytes of the
-    /// public key. Returns `None` on failure, which is the default.
-    fn sign(&self, _message: &[u8], _secret_key: &[u8; 64]) -> Option<[u8; 64]> {
-        None
-    }
-    /// Writes the secret key that belongs to a seed. Returns false on failure, which is the
-    /// default.
-    fn expand(&self, _seed: &[u8; 32], _secret_key: &mut [u8; 64]) -> bool {
-        false
-    }
-    /// Writes random bytes that nobody can guess. Returns false on failure, which is the default.
-    fn random(&self, _bytes: &mut [u8]) -> bool {
-        false
+/// An error of an implementation of Ed25519 or of a source of random bytes.
+#[derive(Clone, Debug, Eq, PartialEq)]
+pub struct SchemeError(Cow<'static, str>);
+
+impl SchemeError {
+    /// Makes an error that `Display` prints as this text.
+    pub fn new(text: impl Into<Cow<'static, str>>) -> Self {
+        SchemeError(text.into())
     }
 }
 
-impl fmt::Debug for dyn Ed25519 + '_ {
+impl fmt::Display for SchemeError {
     fn fmt(&self, f: &mut fmt::Formatter) -> fmt::Result {
-        f.write_str("Ed25519")
+        f.write_str(&self.0)
     }
 }
 
-/// The Ed25519 of libsodium.
+impl std::error::Error for SchemeError {}
+
+/// An implementation of Ed25519 that verifies signatures. The crate trusts its results. It rejects
+/// public keys and signatures of small order or with a non-canonical encoding itself
+/// (`Reason::WEAK_ED25519`), so `verify` need not reject them.
+pub trait Verify: Sync {
+    /// Verifies the signature of a message.
+    ///
+    /// # Errors
+    ///
+    /// Any error means that the signature is not valid for the message and the public key.
+    fn verify(
+        &self,
+        signature: &[u8; 64],
+        message: &[u8],
+        public_key: &[u8; 32],
+    ) -> Result<(), SchemeError>;
+}
+
+/// An implementation of Ed25519 that also signs and makes keys. Each new signature is verified, so
+/// it verifies too.
+pub trait Sign: Verify {
+    /// Signs a message with a secret key: the 32 bytes of the seed, then the 32 bytes of the public
+    /// key.
+    ///
+    /// # Errors
+    ///
+    /// If signing fails, which the crate reports as `Error::Scheme`.
+    fn sign(&self, message: &[u8], secret_key: &[u8; 64]) -> Result<[u8; 64], SchemeError>;
+
+    /// Writes the secret key that belongs to a seed.
+    ///
+    /// # Errors
+    ///
+    /// If that fails, which the crate reports as `Error::Scheme`.
+    fn expand(&self, seed: &[u8; 32], secret_key: &mut [u8; 64]) -> Result<(), SchemeError>;
+}
+
+/// A source of random bytes that nobody can guess, for keys and salts.
+pub trait Random {
+    /// Fills a buffer with random bytes.
+    ///
+    /// # Errors
+    ///
+    /// If there are none, which the crate reports as `Reason::RANDOM_SOURCE_FAILED`.
+    fn fill(&self, bytes: &mut [u8]) -> Result<(), SchemeError>;
+}
+
+impl fmt::Debug for dyn Verify + '_ {
+    fn fmt(&self, f: &mut fmt::Formatter) -> fmt::Result {
+        f.write_str("Verify")
+    }
+}
+
+impl fmt::Debug for dyn Sign + '_ {
+    fn fmt(&self, f: &mut fmt::Formatter) -> fmt::Result {
+        f.write_str("Sign")
+    }
+}
+
+/// The Ed25519 and the random bytes of libsodium.
 #[cfg(feature = "sodium")]
 #[derive(Clone, Copy, Debug, Default)]
 pub struct Sodium;
@@ -181,11 +260,38 @@ fn read_pieces(mut from: impl io::Read, mut take: impl FnMut(&[u8], u64)) -> io:
     }
 }
 
-/// A public key, which verifies signatures.
-#[derive(Clone, Debug, Eq, PartialEq, Ord, PartialOrd, Hash)]
+/// A public key, which verifies signatures. Keys are equal if their keys and key IDs are equal,
+/// whatever the comments are.
+#[derive(Clone, Debug)]
 pub struct PublicKey {
     untrusted_comment: Option<String>,
     key: raw::PublicKey,
+}
+
+impl PartialEq for PublicKey {
+    fn eq(&self, other: &Self) -> bool {
+        self.key == other.key
+    }
+}
+
+impl Eq for PublicKey {}
+
+impl Hash for PublicKey {
+    fn hash<H: Hasher>(&self, state: &mut H) {
+        self.key.hash(state);
+    }
+}
+
+impl PartialOrd for PublicKey {
+    fn partial_cmp(&self, other: &Self) -> Option<cmp::Ordering> {
+        Some(self.cmp(other))
+    }
+}
+
+impl Ord for PublicKey {
+    fn cmp(&self, other: &Self) -> cmp::Ordering {
+        self.key.cmp(&other.key)
+    }
 }
 
 impl PublicKey {
@@ -197,6 +303,22 @@ impl PublicKey {
     }
 
     /// Parses the content of a public key file, such as `minisign.pub`: both lines.
+    ///
+    /// # Errors
+    ///
+    /// `InvalidEncoding` if a line is missing, or the second line is not 56 characters of base64.
+    ///
+    /// # Examples
+    ///
+    /// ```
+    /// use minisign_proved::PublicKey;
+    ///
+    /// let base64 = "RWQf6LRCGA9i53mlYecO4IzT51TGPpvWucNSCh1CBM0QTaLn73Y7GFO3";
+    /// let key = PublicKey::decode(&format!("untrusted comment: a key\n{base64}\n"))?;
+    /// assert_eq!(key, PublicKey::from_base64(base64)?);
+    /// assert_eq!(key.untrusted_comment(), Some("untrusted comment: a key"));
+    /// # Ok::<(), minisign_proved::Error>(())
+    /// ```
     pub fn decode(lines: &str) -> Result<Self, Error> {
         let key = raw::read_public_key(lines.as_bytes())?;
         Ok(Self::new(lines.lines().next(), key))
@@ -204,30 +326,41 @@ impl PublicKey {
 
     /// Parses the 56 base64 characters of a public key, which are the second line of its file and
     /// the argument of `minisign -P`.
+    ///
+    /// # Errors
+    ///
+    /// `InvalidEncoding` with `BARE_PUBLIC_KEY_LENGTH` or `BARE_PUBLIC_KEY_NOT_BASE64`.
     pub fn from_base64(public_key: &str) -> Result<Self, Error> {
         let key = raw::read_bare_public_key(public_key.as_bytes())?;
         Ok(Self::new(None, key))
     }
 
     /// Reads a public key file, such as `minisign.pub`.
+    ///
+    /// # Errors
+    ///
+    /// `IoError` if the file cannot be read or is not UTF-8, and the errors of `decode`.
     pub fn from_file<P: AsRef<Path>>(path: P) -> Result<Self, Error> {
         Self::decode(&text_of_file(path.as_ref())?)
     }
 
     /// Returns the first line of the key file, which is not signed. Returns `None` for a key from
     /// base64.
+    #[must_use]
     pub fn untrusted_comment(&self) -> Option<&str> {
         self.untrusted_comment.as_deref()
     }
 
     /// Returns the 8 bytes of the key ID, which is one little-endian number. Anybody can make a key
     /// with the same key ID.
+    #[must_use]
     pub fn key_id(&self) -> &[u8; 8] {
         &self.key.key_id
     }
 
     /// Returns the key ID as the program minisign prints it: in upper-case hexadecimal digits
     /// without leading zeros.
+    #[must_use]
     pub fn key_id_text(&self) -> String {
         key_id_text(&self.key.key_id)
     }
@@ -239,6 +372,17 @@ impl PublicKey {
     ///
     /// `UnexpectedKeyId` if the signature has another key ID; `UnexpectedAlgorithm` for a legacy
     /// signature that is not allowed; `InvalidSignature` if the signature is not valid, or weak.
+    ///
+    /// # Examples
+    ///
+    /// ```no_run
+    /// use minisign_proved::{PublicKey, Signature};
+    ///
+    /// let key = PublicKey::from_file("key.pub")?;
+    /// let signature = Signature::from_file("data.minisig")?;
+    /// key.verify(&std::fs::read("data")?, &signature, false)?;
+    /// # Ok::<(), minisign_proved::Error>(())
+    /// ```
     #[cfg(feature = "sodium")]
     pub fn verify(
         &self,
@@ -250,9 +394,13 @@ impl PublicKey {
     }
 
     /// Verifies data in memory as `verify` does, with this implementation of Ed25519.
+    ///
+    /// # Errors
+    ///
+    /// Those of `verify`.
     pub fn verify_with(
         &self,
-        ed25519: &dyn Ed25519,
+        ed25519: &dyn Verify,
         data: &[u8],
         signature: &Signature,
         allow_legacy: bool,
@@ -262,6 +410,38 @@ impl PublicKey {
         verifier.end(data)
     }
 
+    /// Verifies data in memory with a signature that has no comments, with this implementation of
+    /// Ed25519.
+    ///
+    /// # Errors
+    ///
+    /// Those of `verify`.
+    pub fn verify_bare_with(
+        &self,
+        ed25519: &dyn Verify,
+        data: &[u8],
+        signature: &BareSignature,
+        allow_legacy: bool,
+    ) -> Result<(), Error> {
+        let mut verifier = StreamVerifier::bare(&self.key, ed25519, signature, allow_legacy)?;
+        verifier.update(data);
+        verifier.end(data)
+    }
+
+    /// Begins to verify data that arrives in pieces with a signature that has no comments, with
+    /// this implementation of Ed25519.
+    ///
+    /// # Errors
+    ///
+    /// Those of `verify_stream`.
+    pub fn verify_bare_stream_with<'a>(
+        &self,
+        ed25519: &'a dyn Verify,
+        signature: &'a BareSignature,
+    ) -> Result<StreamVerifier<'a>, Error> {
+        StreamVerifier::bare(&self.key, ed25519, signature, false).map_err(without_legacy)
+    }
+
     /// Begins to verify data that arrives in pieces, and checks everything that does not depend on
     /// the data.
     ///
@@ -269,22 +449,42 @@ impl PublicKey {
     ///
     /// `UnexpectedKeyId` if the signature has another key ID; `UnsupportedLegacyMode` for a legacy
     /// signature; `InvalidSignature` for a weak public key or signature.
+    ///
+    /// # Examples
+    ///
+    /// ```no_run
+    /// # use minisign_proved::{PublicKey, Signature};
+    /// # let key = PublicKey::from_file("key.pub")?;
+    /// let signature = Signature::from_file("data.minisig")?;
+    /// let mut verifier = key.verify_stream(&signature)?;
+    /// std::io::copy(&mut std::fs::File::open("data")?, &mut verifier)?;
+    /// verifier.finalize()?;
+    /// # Ok::<(), minisign_proved::Error>(())
+    /// ```
     #[cfg(feature = "sodium")]
     pub fn verify_stream<'a>(&self, signature: &'a Signature) -> Result<StreamVerifier<'a>, Error> {
         self.verify_stream_with(&Sodium, signature)
     }
 
     /// Begins to verify data as `verify_stream` does, with this implementation of Ed25519.
+    ///
+    /// # Errors
+    ///
+    /// Those of `verify_stream`.
     pub fn verify_stream_with<'a>(
         &self,
-        ed25519: &'a dyn Ed25519,
+        ed25519: &'a dyn Verify,
         signature: &'a Signature,
     ) -> Result<StreamVerifier<'a>, Error> {
-        let verifier = StreamVerifier::begin(&self.key, ed25519, signature, false);
-        verifier.map_err(|reason| match reason {
-            Reason::LEGACY_NOT_ACCEPTED => Error::UnsupportedLegacyMode,
-            _ => reason.into(),
-        })
+        StreamVerifier::begin(&self.key, ed25519, signature, false).map_err(without_legacy)
+    }
+}
+
+/// The error for data in pieces, which cannot have a legacy signature.
+fn without_legacy(reason: Reason) -> Error {
+    match reason {
+        Reason::LEGACY_NOT_ACCEPTED => Error::UnsupportedLegacyMode,
+        _ => reason.into(),
     }
 }
 
@@ -297,41 +497,54 @@ pub struct Signature {
 
 impl Signature {
     /// Parses the content of a signature file, such as `data.minisig`: four lines.
+    ///
+    /// # Errors
+    ///
+    /// `InvalidEncoding` if the file is malformed; `UnsupportedAlgorithm`.
     pub fn decode(lines: &str) -> Result<Self, Error> {
         let (text, parsed) = (lines.into(), raw::read_signature(lines.as_bytes())?);
         Ok(Signature { text, parsed })
     }
 
     /// Reads a signature file, such as `data.minisig`.
+    ///
+    /// # Errors
+    ///
+    /// `IoError` if the file cannot be read or is not UTF-8, and the errors of `decode`.
     pub fn from_file<P: AsRef<Path>>(path: P) -> Result<Self, Error> {
         Self::decode(&text_of_file(path.as_ref())?)
     }
 
     /// Returns the trusted comment, which is signed with the data. Trust it only after the
     /// signature was verified, or if `StreamVerifier::trusted_comment` returned it.
+    #[must_use]
     pub fn trusted_comment(&self) -> &str {
         &self.text[self.parsed.comment_offset as usize..][..self.parsed.comment_len as usize]
     }
 
     /// Returns the first line of the signature file, which is not signed.
+    #[must_use]
     pub fn untrusted_comment(&self) -> &str {
         self.text.lines().next().unwrap_or_default()
     }
 
     /// Returns the 8 bytes of the key ID of the signer's key. Use it to choose the public key.
     /// Nothing is verified: anybody can write any key ID.
+    #[must_use]
     pub fn key_id(&self) -> &[u8; 8] {
         &self.parsed.key_id
     }
 
     /// Returns the key ID as the program minisign prints it: in upper-case hexadecimal digits
     /// without leading zeros.
+    #[must_use]
     pub fn key_id_text(&self) -> String {
         key_id_text(&self.parsed.key_id)
     }
 
     /// Returns true for a legacy signature, which signs the data itself instead of its digest, as
     /// Minisign made them before version 0.10.
+    #[must_use]
     pub fn is_legacy(&self) -> bool {
         self.parsed.legacy == 1
     }
@@ -344,11 +557,14 @@ impl fmt::Display for Signature {
     }
 }
 
-/// Verifies data that arrives in pieces: call `update` for each piece, and `finalize` at the end.
+/// Verifies data that arrives in pieces: call `update` for each piece, or write the data to it, and
+/// call `finalize` at the end.
 #[derive(Clone, Debug)]
+#[must_use = "nothing is verified before `finalize` returns Ok"]
 pub struct StreamVerifier<'a> {
-    ed25519: &'a dyn Ed25519,
+    ed25519: &'a dyn Verify,
     signature: &'a Signature,
+    is_bare: bool,
     state: raw::State,
     questions: raw::Questions,
     comment_message: Vec<u8>,
@@ -359,7 +575,7 @@ impl<'a> StreamVerifier<'a> {
     /// the comment signature.
     fn begin(
         key: &raw::PublicKey,
-        ed25519: &'a dyn Ed25519,
+        ed25519: &'a dyn Verify,
         signature: &'a Signature,
         allow_legacy: bool,
     ) -> Result<Self, Reason> {
@@ -370,10 +586,23 @@ impl<'a> StreamVerifier<'a> {
         Ok(StreamVerifier {
             ed25519,
             signature,
+            is_bare: false,
             state,
             questions,
             comment_message,
         })
+    }
+
+    /// Begins to verify with a signature that has no comments.
+    fn bare(
+        key: &raw::PublicKey,
+        ed25519: &'a dyn Verify,
+        signature: &'a BareSignature,
+        allow_legacy: bool,
+    ) -> Result<Self, Reason> {
+        let mut verifier = Self::begin(key, ed25519, &signature.signature, allow_legacy)?;
+        verifier.is_bare = true;
+        Ok(verifier)
     }
 
     /// Adds the next piece of the data, of any length.
@@ -384,6 +613,10 @@ impl<'a> StreamVerifier<'a> {
 
     /// Adds the data of a reader, up to its end. Calls `progress` after each piece with the number
     /// of bytes read so far.
+    ///
+    /// # Errors
+    ///
+    /// The first error of the reader, except `Interrupted`.
     pub fn update_from(
         &mut self,
         from: impl io::Read,
@@ -396,22 +629,35 @@ impl<'a> StreamVerifier<'a> {
     }
 
     /// Verifies the comment signature, and returns the trusted comment. You can call this before
-    /// you have the data. It says nothing about the data. After `finalize` it returns an error.
+    /// you have the data. It says nothing about the data.
+    ///
+    /// # Errors
+    ///
+    /// `InvalidSignature` with `COMMENT_SIGNATURE_REFUSED` if the comment signature is not valid,
+    /// and for a signature without comments; `Rejected` after `finalize`.
     pub fn trusted_comment(&self) -> Result<&'a str, Error> {
         raw::comment_verdict(&self.state, self.accepts_comment())?;
         Ok(self.signature.trusted_comment())
     }
 
-    /// Returns `Ok` if the signature is valid for all of the data, and otherwise
-    /// `InvalidSignature`. Then use none of the data. Call it once: a second call returns an error.
+    /// Returns `Ok` if the signature is valid for all of the data. Call it once.
+    ///
+    /// # Errors
+    ///
+    /// `InvalidSignature` if the signature is not valid: use none of the data. A second call
+    /// returns an error.
     pub fn finalize(&mut self) -> Result<(), Error> {
         self.end(&[])
+    }
+
+    fn accepts(&self, signature: &[u8; 64], message: &[u8], key: &[u8; 32]) -> bool {
+        self.ed25519.verify(signature, message, key).is_ok()
     }
 
     fn accepts_comment(&self) -> bool {
         let questions = &self.questions;
         let (signature, key) = (&questions.comment_signature, &questions.public_key);
-        self.ed25519.accepts(signature, &self.comment_message, key)
+        !self.is_bare && self.accepts(signature, &self.comment_message, key)
     }
 
     /// Returns the verdict. For a legacy signature, `data` is all of the data.
@@ -419,12 +665,25 @@ impl<'a> StreamVerifier<'a> {
         let (digest, questions) = (raw::digest(&mut self.state)?, &self.questions);
         let message = if questions.legacy == 1 { data } else { &digest };
         let (signature, key) = (&questions.signature, &questions.public_key);
-        let is_data_valid = self.ed25519.accepts(signature, message, key);
+        let is_data_valid = self.accepts(signature, message, key);
         let is_comment_valid = self.accepts_comment();
-        Ok(raw::verdict(
-            &mut self.state,
-            is_data_valid,
-            is_comment_valid,
-        )?)
+        match raw::verdict(&mut self.state, is_data_valid, is_comment_valid) {
+            // The verdict is this error only if the signature of the data is valid.
+            Err(Reason::COMMENT_SIGNATURE_REFUSED) if self.is_bare => Ok(()),
+            verdict => Ok(verdict?),
+        }
+    }
+}
+
+/// Adds data, as `update` does. After `finalize` writing fails.
+impl io::Write for StreamVerifier<'_> {
+    fn write(&mut self, piece: &[u8]) -> io::Result<usize> {
+        raw::update(&mut self.state, piece)
+            .map(|()| piece.len())
+            .map_err(|reason| io::Error::new(io::ErrorKind::Other, reason))
+    }
+
+    fn flush(&mut self) -> io::Result<()> {
+        Ok(())
     }
 }

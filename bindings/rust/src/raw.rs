@@ -7,3 +7,34 @@ mod header;
 mod sodium;
 
 pub use header::*;
+use header::{check, text_of};
+use minisign_proved_sys as sys;
+
+/// Encodes a secret key file as `secret_key_text` does, but also accepts an empty password.
+pub fn secret_key_text_with_any_password(
+    key: &SecretKey,
+    password: Option<&[u8]>,
+    sealing: &Sealing,
+    keep_every: u64,
+    comment: &[u8],
+) -> Result<String, crate::Reason> {
+    let (mut text, mut len) = (vec![0; SECRET_KEY_BYTES + comment.len()], 0);
+    let password = password.unwrap_or_default();
+    let result = unsafe {
+        sys::minisign_secret_key_text(
+            key,
+            ANY_PASSWORD as u32,
+            password.as_ptr(),
+            password.len(),
+            sealing,
+            keep_every,
+            comment.as_ptr(),
+            comment.len(),
+            text.as_mut_ptr(),
+            text.len(),
+            &mut len,
+        )
+    };
+    check(result)?;
+    text_of(text, len)
+}

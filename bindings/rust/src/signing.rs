@@ -1,24 +1,30 @@
 // SPDX-License-Identifier: MIT
 //! Makes secret keys and signatures.
 
-use crate::{key_id_text, raw, read_pieces, text_of_file};
-use crate::{Ed25519, Error, PublicKey, Reason, Signature};
+use crate::{raw, read_pieces};
+use crate::{Error, PublicKey, Random, Reason, Sign, Signature, UnopenedKey};
 use std::{fmt, fs, io, path::Path};
+use zeroize::{ZeroizeOnDrop, Zeroizing};
 
 /// The memory and time of scrypt, which derives a key from a password.
-#[derive(Clone, Copy, Debug)]
+///
+/// # Examples
+///
+/// ```
+/// use minisign_proved::Work;
+///
+/// // Encrypts with 64 MiB, and decrypts with a sixteenth of the memory.
+/// let work = Work::new(2_097_152, 67_108_864).keep_every(16);
+/// # let _ = work;
+/// ```
+#[derive(Clone, Copy, Debug, Eq, PartialEq)]
+#[must_use]
 pub struct Work {
-    /// Every `keep_every`-th row of scrypt is kept in memory, and the others are computed again
-    /// when they are needed. 1 keeps all rows and is the fastest. 16 takes at most 65 MiB, and some
-    /// three times as long.
-    pub keep_every: u64,
-    /// The maximum work of decrypting a key file: the rows of scrypt in all, which are N times p.
-    pub most_rows: u64,
-    /// The work that a key is encrypted with, as libsodium counts it. At least 524,288, the minimum
-    /// of the program minisign.
-    pub operations_limit: u64,
-    /// The memory that a key is encrypted with, in bytes: from 2^24 to 2^30.
-    pub memory_limit: u64,
+    pub(crate) keep_every: u64,
+    pub(crate) most_rows: u64,
+    pub(crate) operations_limit: u64,
+    pub(crate) memory_limit: u64,
+    pub(crate) allow_empty_password: bool,
 }
 
 impl Work {
@@ -28,39 +34,105 @@ impl Work {
         most_rows: raw::USUAL_ROWS as u64,
         operations_limit: raw::OPERATIONS_LIMIT as u64,
         memory_limit: raw::MEMORY_LIMIT as u64,
+        allow_empty_password: false,
     };
+
+    /// Returns limits that a key is encrypted with: the work as libsodium counts it, at least
+    /// 524,288, and the memory in bytes, from 2^24 to 2^30. `encode` checks them.
+    pub const fn new(operations_limit: u64, memory_limit: u64) -> Work {
+        Work {
+            operations_limit,
+            memory_limit,
+            ..Work::USUAL
+        }
+    }
+
+    /// Keeps only every n-th row of scrypt in memory, and computes the others again when they are
+    /// needed. 1 keeps all rows and is the fastest, and the default. 16 takes at most 65 MiB, and
+    /// some three times as long.
+    pub const fn keep_every(self, keep_every: u64) -> Work {
+        Work { keep_every, ..self }
+    }
+
+    /// Sets the maximum work of decrypting a key file: the rows of scrypt in all, which are N times
+    /// p. The default is 2^20.
+    pub const fn most_rows(self, most_rows: u64) -> Work {
+        Work { most_rows, ..self }
+    }
+
+    /// Sets whether `encode` may encrypt a key with an empty password, which protects nothing. The
+    /// default is false.
+    pub const fn allow_empty_password(self, allow_empty_password: bool) -> Work {
+        Work {
+            allow_empty_password,
+            ..self
+        }
+    }
+}
+
+impl Default for Work {
+    fn default() -> Work {
+        Work::USUAL
+    }
 }
 
 /// A decrypted or new secret key. Its bytes are cleared when it is dropped.
 pub struct SecretKey {
-    key: Box<raw::SecretKey>,
+    // On the heap, because moving the key would leave a copy. It clears itself.
+    pub(crate) key: Box<raw::SecretKey>,
     is_weak: bool,
 }
 
+impl ZeroizeOnDrop for SecretKey {}
+
 impl SecretKey {
     /// Generates a new key from random bytes.
-    pub fn generate(ed25519: &dyn Ed25519) -> Result<SecretKey, Error> {
-        let (mut new, mut seed) = (raw::NewKey::ZEROS, [0; 32]);
-        let is_complete = ed25519.random(&mut new.key_id)
-            && ed25519.random(&mut seed)
-            && ed25519.expand(&seed, &mut new.secret);
-        let key = raw::take_secret_key(&new);
-        raw::clear(&mut seed);
-        is_complete
-            .then_some(SecretKey {
-                key,
-                is_weak: false,
-            })
-            .ok_or_else(|| Reason::RANDOM_SOURCE_FAILED.into())
+    ///
+    /// # Errors
+    ///
+    /// `Rejected` with `RANDOM_SOURCE_FAILED`; `Scheme` if Ed25519 fails.
+    ///
+    /// # Examples
+    ///
+    /// ```
+    /// # #[cfg(feature = "sodium")] {
+    /// use minisign_proved::{SecretKey, Sodium};
+    ///
+    /// let key = SecretKey::generate(&Sodium)?;
+    /// let signature = key.sign(&Sodium, b"data", "timestamp:1", "my signature")?;
+    /// key.public_key()?.verify(b"data", &signature, false)?;
+    /// # }
+    /// # Ok::<(), minisign_proved::Error>(())
+    /// ```
+    pub fn generate<E: Sign + Random + ?Sized>(ed25519: &E) -> Result<SecretKey, Error> {
+        let (mut new, mut seed) = (raw::NewKey::ZEROS, Zeroizing::new([0; 32]));
+        let failed = |_| Reason::RANDOM_SOURCE_FAILED;
+        ed25519.fill(&mut new.key_id).map_err(failed)?;
+        ed25519.fill(&mut *seed).map_err(failed)?;
+        ed25519.expand(&seed, &mut new.secret)?;
+        let (key, is_weak) = (raw::take_secret_key(&new), false);
+        Ok(SecretKey { key, is_weak })
     }
 
     /// Decrypts the content of a secret key file, such as `minisign.key`: both lines. Pass `None`
     /// as the password of a key that is not encrypted.
+    ///
+    /// # Errors
+    ///
+    /// Those of `UnopenedKey::decode`, and then those of `UnopenedKey::open`.
     pub fn decode(lines: &str, password: Option<&str>, work: &Work) -> Result<SecretKey, Error> {
-        let (unopened, every) = (raw::read_secret_key(lines.as_bytes())?, work.keep_every);
+        UnopenedKey::decode(lines)?.open(password, work)
+    }
+
+    pub(crate) fn open(
+        unopened: &raw::UnopenedKey,
+        password: Option<&str>,
+        work: &Work,
+    ) -> Result<SecretKey, Error> {
+        let every = work.keep_every;
         let key = match password.map(str::as_bytes) {
-            Some(password) => raw::open_sealed_key(&unopened, password, every, work.most_rows),
-            None => raw::open_unsealed_key(&unopened),
+            Some(password) => raw::open_sealed_key(unopened, password, every, work.most_rows),
+            None => raw::open_unsealed_key(unopened),
         }?;
         let is_weak =
             unopened.is_sealed == 1 && usize::from(unopened.log2_rows) < raw::LEAST_LOG2_ROWS;
@@ -69,37 +141,57 @@ impl SecretKey {
 
     /// Returns true if the file that the key was read from was encrypted with limits that `encode`
     /// rejects. Passwords of such a file can be tried fast, so encrypt the key again.
+    #[must_use]
     pub fn is_weak(&self) -> bool {
         self.is_weak
     }
 
     /// Reads and decrypts a secret key file, such as `minisign.key`: see `decode`.
+    ///
+    /// # Errors
+    ///
+    /// `IoError` if the file cannot be read or is not UTF-8, and the errors of `decode`.
     pub fn from_file<P: AsRef<Path>>(
         path: P,
         password: Option<&str>,
         work: &Work,
     ) -> Result<SecretKey, Error> {
-        let text = text_of_file(path.as_ref())?;
-        let key = Self::decode(&text, password, work);
-        raw::clear(&mut text.into_bytes());
-        key
+        UnopenedKey::from_file(path)?.open(password, work)
     }
 
     /// Returns the content of a secret key file for this key: both lines. Write it with
-    /// `write_new`.
+    /// `write_new`. The text is cleared when it is dropped.
     ///
     /// The key is encrypted with the password and a new salt, or not encrypted if the password is
     /// `None`.
     ///
     /// # Errors
     ///
-    /// With a password, `WeakLimits` if the limits in `work` are below the minimum.
-    pub fn encode(
+    /// With a password, `WeakLimits` if the limits in `work` are below the minimum, and `Rejected`
+    /// with `RANDOM_SOURCE_FAILED`, `EMPTY_PASSWORD` or `OUT_OF_MEMORY`.
+    pub fn encode<R: Random + ?Sized>(
         &self,
-        ed25519: &dyn Ed25519,
+        random: &R,
         password: Option<&str>,
         work: &Work,
-    ) -> Result<String, Error> {
+    ) -> Result<Zeroizing<String>, Error> {
+        self.encode_with_comment(random, password, work, raw::SECRET_KEY_COMMENT)
+    }
+
+    /// Returns the content of a secret key file as `encode` does, with this comment after
+    /// `untrusted comment: `.
+    ///
+    /// # Errors
+    ///
+    /// Those of `encode`, and `Rejected` with `BAD_COMMENT` or `UNREADABLE_COMMENT` for a comment
+    /// that Minisign could not read back.
+    pub fn encode_with_comment<R: Random + ?Sized>(
+        &self,
+        random: &R,
+        password: Option<&str>,
+        work: &Work,
+        comment: &str,
+    ) -> Result<Zeroizing<String>, Error> {
         let mut sealing = raw::Sealing {
             salt: [0; 32],
             operations_limit: work.operations_limit,
@@ -110,40 +202,46 @@ impl SecretKey {
         if password.is_some() && is_weak {
             return Err(Error::WeakLimits);
         }
-        if password.is_some() && !ed25519.random(&mut sealing.salt) {
+        if password.is_some() && random.fill(&mut sealing.salt).is_err() {
             return Err(Reason::RANDOM_SOURCE_FAILED.into());
         }
-        Ok(raw::secret_key_text(
-            &self.key,
-            password.map(str::as_bytes),
-            &sealing,
-            work.keep_every,
-            raw::SECRET_KEY_COMMENT.as_bytes(),
-        )?)
-    }
-
-    /// Returns the key ID as the program minisign prints it: in upper-case hexadecimal digits
-    /// without leading zeros.
-    pub fn key_id_text(&self) -> String {
-        key_id_text(&self.key.key_id)
+        let encode = match password {
+            Some("") if work.allow_empty_password => raw::secret_key_text_with_any_password,
+            _ => raw::secret_key_text,
+        };
+        let (password, comment) = (password.map(str::as_bytes), comment.as_bytes());
+        let text = encode(&self.key, password, &sealing, work.keep_every, comment)?;
+        Ok(Zeroizing::new(text))
     }
 
     /// Returns the content of a public key file for this key, such as `minisign.pub`: both lines.
+    ///
+    /// # Errors
+    ///
+    /// None for a key that was decrypted or generated.
     pub fn public_key_text(&self) -> Result<String, Error> {
         let comment = format!("{}{}", raw::PUBLIC_KEY_COMMENT, self.key_id_text());
         Ok(raw::public_key_text(&self.key, comment.as_bytes())?)
     }
 
     /// Returns the public key, which verifies the signatures of this key.
+    ///
+    /// # Errors
+    ///
+    /// None for a key that was decrypted or generated.
     pub fn public_key(&self) -> Result<PublicKey, Error> {
         Ok(PublicKey::new(None, raw::public_key_of(&self.key)?))
     }
 
     /// Signs data in memory. The comments have one line each. `trusted` is signed with the data,
-    /// and `untrusted` is not signed. The errors are those of `Signer::finalize`.
+    /// and `untrusted` is not signed.
+    ///
+    /// # Errors
+    ///
+    /// Those of `Signer::finalize`.
     pub fn sign(
         &self,
-        ed25519: &dyn Ed25519,
+        ed25519: &dyn Sign,
         data: &[u8],
         trusted: &str,
         untrusted: &str,
@@ -154,9 +252,13 @@ impl SecretKey {
     }
 
     /// Signs a file, as `sign` signs data.
+    ///
+    /// # Errors
+    ///
+    /// `IoError` if the file cannot be read, and the errors of `Signer::finalize`.
     pub fn sign_file<P: AsRef<Path>>(
         &self,
-        ed25519: &dyn Ed25519,
+        ed25519: &dyn Sign,
         path: P,
         trusted: &str,
         untrusted: &str,
@@ -167,7 +269,7 @@ impl SecretKey {
     }
 
     /// Begins to sign data that arrives in pieces.
-    pub fn sign_stream<'a>(&'a self, ed25519: &'a dyn Ed25519) -> Signer<'a> {
+    pub fn sign_stream<'a>(&'a self, ed25519: &'a dyn Sign) -> Signer<'a> {
         Signer {
             ed25519,
             key: self,
@@ -183,10 +285,12 @@ impl fmt::Debug for SecretKey {
     }
 }
 
-/// Signs data that arrives in pieces: call `update` for each piece, and `finalize` at the end.
+/// Signs data that arrives in pieces: call `update` for each piece, or write the data to it, and
+/// call `finalize` at the end.
 #[derive(Clone, Debug)]
+#[must_use = "nothing is signed before `finalize`"]
 pub struct Signer<'a> {
-    ed25519: &'a dyn Ed25519,
+    ed25519: &'a dyn Sign,
     key: &'a SecretKey,
     state: raw::State,
 }
@@ -199,6 +303,10 @@ impl Signer<'_> {
     }
 
     /// Adds the data of a reader, up to its end.
+    ///
+    /// # Errors
+    ///
+    /// The first error of the reader, except `Interrupted`.
     pub fn update_from(&mut self, from: impl io::Read) -> io::Result<()> {
         read_pieces(from, |piece, _| self.update(piece))
     }
@@ -207,6 +315,7 @@ impl Signer<'_> {
     ///
     /// # Errors
     ///
+    /// `Scheme` if Ed25519 fails to sign;
     /// `InvalidSignature` if the seed and the public key in the secret key do not belong together,
     /// as in a damaged key; `Rejected` with `BAD_COMMENT` or `UNREADABLE_COMMENT` for a comment
     /// that Minisign could not read back.
@@ -231,8 +340,22 @@ impl Signer<'_> {
     /// key of a damaged key do not belong together, its signatures reveal the secret.
     fn sign_message(&self, message: &[u8]) -> Result<[u8; 64], Error> {
         let (key, ed25519) = (self.key.public_key()?.key.key, self.ed25519);
-        let signature = ed25519.sign(message, &self.key.key.secret);
-        let verified = signature.filter(|signature| ed25519.accepts(signature, message, &key));
-        verified.ok_or_else(|| Reason::SIGNATURE_REFUSED.into())
+        let signature = ed25519.sign(message, &self.key.key.secret)?;
+        match ed25519.verify(&signature, message, &key) {
+            Ok(()) => Ok(signature),
+            Err(_) => Err(Reason::SIGNATURE_REFUSED.into()),
+        }
+    }
+}
+
+/// Adds data, as `update` does.
+impl io::Write for Signer<'_> {
+    fn write(&mut self, piece: &[u8]) -> io::Result<usize> {
+        self.update(piece);
+        Ok(piece.len())
+    }
+
+    fn flush(&mut self) -> io::Result<()> {
+        Ok(())
     }
 }

@@ -1,9 +1,10 @@
 //! A test program that uses the crate under the name `minisign-verify`. It runs the check that its first argument names, most of
 //! them on the cases on standard input, and prints the results, which `tests/bindings/rust.py` compares.
 
-use minisign_verify::{write_new, Ed25519, Error, PublicKey, Reason, SecretKey, Signature, Sodium, Work};
+use minisign_verify::{write_new, Error, Kind, PublicKey, Random, Reason, SchemeError, SecretKey, Sign, Signature, Sodium, UnopenedKey, Verify, Work};
 use std::error::Error as _;
-use std::{env, fs, io, path::Path, process, thread};
+use std::io::Write as _;
+use std::{collections::HashSet, env, fs, io, path::Path, process, thread};
 
 fn bytes(digits: &str) -> Vec<u8> {
     let digits = digits.trim_matches('-');
@@ -118,7 +119,7 @@ fn answer(verdict: Result<String, Error>) -> String {
             let source = error.source().and_then(|source| source.downcast_ref::<Reason>());
             let is_of_file = matches!(&error, Error::IoError(_)) && error.source().map_or(false, |source| source.is::<io::Error>());
             assert!(is_of_file || error.reason() == source, "the source is {source:?}, not the reason");
-            format!("rejected {error:?} {}: {error}", error.reason().map_or(0, |reason| reason.0)).replace('\n', " ")
+            format!("rejected {error:?} {}: {error}", error.reason().map_or(0, |reason| reason.code())).replace('\n', " ")
         }
     }
 }
@@ -176,17 +177,17 @@ fn is_same_in_threads(cases: &[Vec<Vec<u8>>]) -> bool {
 /// Writes a key pair into a directory. With a password, the key is encrypted with the lowest limits.
 fn make(directory: &str, password: Option<&str>) -> Result<(), Error> {
     let key = SecretKey::generate(&Sodium)?;
-    let work = Work { operations_limit: 524288, memory_limit: 1 << 24, ..Work::USUAL };
+    let work = Work::new(524288, 1 << 24);
     let text = key.encode(&Sodium, password, &work)?;
     assert_eq!(password.is_some(), text != key.encode(&Sodium, password, &work)?, "two encrypted key files have the same salt");
-    fs::write(format!("{directory}/secret"), text).unwrap();
+    fs::write(format!("{directory}/secret"), text.as_bytes()).unwrap();
     fs::write(format!("{directory}/public"), key.public_key_text()?).unwrap();
     Ok(())
 }
 
 /// Signs a file in three ways, which must give the same signature, writes the signature, and verifies it.
 fn sign(key: &str, data: &str, to: &str, comment: &str, password: Option<&str>) -> Result<(), Error> {
-    let key = SecretKey::from_file(key, password, &Work { keep_every: 16, ..Work::USUAL })?;
+    let key = SecretKey::from_file(key, password, &Work::USUAL.keep_every(16))?;
     let from_file = key.sign_file(&Sodium, data, comment, "from a program in Rust")?;
     let data = fs::read(data)?;
     let mut signer = key.sign_stream(&Sodium);
@@ -208,7 +209,7 @@ fn opened(key: &str, password: Option<&str>) -> Result<&'static str, Error> {
 
 /// Encrypts a key with these limits.
 fn sealed(operations: &str, memory: &str) -> Result<(), Error> {
-    let work = Work { operations_limit: operations.parse().unwrap(), memory_limit: memory.parse().unwrap(), ..Work::USUAL };
+    let work = Work::new(operations.parse().unwrap(), memory.parse().unwrap());
     let key = SecretKey::generate(&Sodium)?;
     key.encode(&Sodium, None, &work)?;
     key.encode(&Sodium, Some("pass word"), &work).map(|_| ())
@@ -226,8 +227,117 @@ fn shown() {
     for (expected, shown) in ["Signer", "StreamVerifier", "Signer", "Sodium"].iter().zip(shown) {
         println!("{expected}\t{}", shown.split(&[' ', '('][..]).next().unwrap());
     }
-    println!("WRONG_PASSWORD Reason(77)\t{:?} {:?}", Reason::WRONG_PASSWORD, Reason(77));
+    println!("WRONG_PASSWORD Reason(77)\t{:?} {:?}", Reason::WRONG_PASSWORD, Reason::from_code(77));
     println!("WRONG_PASSWORD\t{}", Reason::WRONG_PASSWORD.name());
+}
+
+/// An Ed25519 whose functions fail, except those that the flags allow.
+struct Broken {
+    fills: bool,
+    expands: bool,
+}
+
+fn failing<T>(what: &'static str) -> Result<T, SchemeError> {
+    Err(SchemeError::new(what))
+}
+
+impl Verify for Broken {
+    fn verify(&self, signature: &[u8; 64], message: &[u8], key: &[u8; 32]) -> Result<(), SchemeError> {
+        Sodium.verify(signature, message, key)
+    }
+}
+
+impl Sign for Broken {
+    fn sign(&self, _: &[u8], _: &[u8; 64]) -> Result<[u8; 64], SchemeError> {
+        failing("no hardware key")
+    }
+    fn expand(&self, seed: &[u8; 32], secret: &mut [u8; 64]) -> Result<(), SchemeError> {
+        if self.expands { Sodium.expand(seed, secret) } else { failing("no curve") }
+    }
+}
+
+impl Random for Broken {
+    fn fill(&self, bytes: &mut [u8]) -> Result<(), SchemeError> {
+        if self.fills { Sodium.fill(bytes) } else { failing("no randomness") }
+    }
+}
+
+fn pair(expected: impl std::fmt::Display, actual: impl std::fmt::Debug) {
+    println!("{expected}\t{actual:?}");
+}
+
+/// Checks what the types promise to a Rust program. Prints pairs of the expected and the actual output.
+fn types() {
+    let key = SecretKey::generate(&Sodium).unwrap();
+    let public = key.public_key().unwrap();
+    let from_file = PublicKey::decode(&key.public_key_text().unwrap()).unwrap();
+    pair(true, from_file == public && from_file.untrusted_comment() != public.untrusted_comment());
+    pair(1, HashSet::from([from_file.clone(), public.clone()]).len());
+    pair("Equal", from_file.cmp(&public));
+    pair(false, public == SecretKey::generate(&Sodium).unwrap().public_key().unwrap());
+    // An error of Ed25519 is not an error of the signature.
+    pair("Some(Scheme(SchemeError(\"no curve\")))", SecretKey::generate(&Broken { fills: true, expands: false }).err());
+    pair("Some(Rejected(RANDOM_SOURCE_FAILED))", SecretKey::generate(&Broken { fills: false, expands: true }).err());
+    let broken = Broken { fills: true, expands: true };
+    let error = key.sign(&broken, b"data", "c", "u").unwrap_err();
+    pair("Scheme(SchemeError(\"no hardware key\")) no hardware key None true".replace(' ', "_"), Shown(format!(
+        "{error:?} {error} {:?} {}", error.reason(), error.source().map_or(false, |source| source.is::<SchemeError>())).replace(' ', "_")));
+    // Streams are writers.
+    let mut signer = key.sign_stream(&Sodium);
+    signer.write_all(b"some ").unwrap();
+    signer.write_all(b"data").unwrap();
+    let signature = signer.finalize("c", "u").unwrap();
+    pair(true, signature == key.sign(&Sodium, b"some data", "c", "u").unwrap());
+    for (data, expected) in [("some data", "Ok(())"), ("Some data", "Err(InvalidSignature(SIGNATURE_REFUSED))")] {
+        let mut verifier = public.verify_stream(&signature).unwrap();
+        assert_eq!(io::copy(&mut data.as_bytes(), &mut verifier).unwrap(), 9);
+        pair(expected, verifier.finalize());
+        pair("Other", verifier.write(b"more").map_err(|error| error.kind()).unwrap_err());
+    }
+    // A signature without comments.
+    let bare = signature.to_bare();
+    pair(true, bare.to_record()[..] == signature.to_record()[..] && minisign_verify::BareSignature::from_record(&bare.to_record()).unwrap() == bare);
+    pair("Ok(())", public.verify_bare_with(&Sodium, b"some data", &bare, false));
+    pair("Err(InvalidSignature(SIGNATURE_REFUSED))", public.verify_bare_with(&Sodium, b"Some data", &bare, false));
+    let mut verifier = public.verify_bare_stream_with(&Sodium, &bare).unwrap();
+    verifier.update(b"some data");
+    pair(true, verifier.trusted_comment().is_err());
+    pair("Ok(())", verifier.finalize());
+    pair("Some(InvalidEncoding(RECORD_TOO_SHORT))", minisign_verify::BareSignature::from_record(&[0; 73]).err());
+    pair("Some(UnsupportedAlgorithm)", minisign_verify::BareSignature::from_record(&[0; 74]).err());
+    // Records and comments.
+    pair(true, PublicKey::from_record(&public.to_record()).unwrap() == public && PublicKey::from_base64(&public.to_base64()).unwrap() == public);
+    pair("Some(InvalidEncoding(RECORD_TOO_SHORT))", PublicKey::from_record(&[0; 41]).err());
+    let text = public.encode("my key").unwrap();
+    pair(true, text.starts_with("untrusted comment: my key\n") && PublicKey::decode(&text).unwrap() == public);
+    pair("Err(Rejected(BAD_COMMENT))", public.encode("my\nkey"));
+    let record = key.to_record().unwrap();
+    let unopened = UnopenedKey::from_record(&*record).unwrap();
+    pair(true, unopened.to_record() == record && unopened.open(None, &Work::USUAL).unwrap().public_key().unwrap() == public);
+    pair("false Err(Rejected(KEY_NOT_SEALED))".replace(' ', "_"), Shown(format!("{} {:?}", unopened.is_encrypted(), unopened.check(&Work::USUAL)).replace(' ', "_")));
+    let text = unopened.encode("my secret").unwrap();
+    pair(true, text.starts_with("untrusted comment: my secret\n") && UnopenedKey::decode(&text).unwrap().to_record() == record);
+    pair("Some(Rejected(BAD_COMMENT))", unopened.encode("my\nsecret").err());
+    let limits = Work::new(524288, 1 << 24);
+    let sealed = key.encode_with_comment(&Sodium, Some("pass word"), &limits, "sealed").unwrap();
+    let unopened = UnopenedKey::decode(&sealed).unwrap();
+    pair(true, sealed.starts_with("untrusted comment: sealed\n") && unopened.is_encrypted() && unopened.check(&Work::USUAL).is_ok());
+    pair("Err(Rejected(WORK_TOO_HIGH))", unopened.check(&Work::USUAL.most_rows((1 << 14) - 1)));
+    pair("Ok(())", unopened.check(&Work::USUAL.most_rows(1 << 14)));
+    pair("Some(Rejected(EMPTY_PASSWORD))", key.encode(&Sodium, Some(""), &limits).err());
+    let empty = key.encode(&Sodium, Some(""), &limits.allow_empty_password(true)).unwrap();
+    pair(true, SecretKey::decode(&empty, Some(""), &Work::USUAL).unwrap().key_id() == public.key_id());
+    pair("[Verify, Io, Kdf, Misuse, None]", [Reason::SIGNATURE_REFUSED, Reason::MISSING_SIGNATURE, Reason::WORK_TOO_HIGH, Reason::BAD_COMMENT, Reason::OK].map(Reason::kind));
+    let _: Kind = Reason::OK.kind();
+}
+
+/// Prints a text without quotes.
+struct Shown(String);
+
+impl std::fmt::Debug for Shown {
+    fn fmt(&self, f: &mut std::fmt::Formatter) -> std::fmt::Result {
+        f.write_str(&self.0)
+    }
 }
 
 fn main() {
@@ -243,10 +353,12 @@ fn main() {
         ["comment"] => lines().iter().for_each(|case| println!("{}", answer(verify_comment(case)))),
         ["reader"] => lines().iter().for_each(|case| println!("{}", answer(verify_reader(case)))),
         ["shown"] => shown(),
+        ["types"] => types(),
         ["read"] => lines().iter().for_each(|case| println!("{}", fields(case).unwrap_or_else(|error| error.to_string()))),
         ["accepts"] => {
             for vector in lines() {
-                println!("{}", Sodium.accepts(&vector[2][..].try_into().unwrap(), &vector[1], &vector[0][..].try_into().unwrap()));
+                let (key, signature) = (vector[0][..].try_into().unwrap(), vector[2][..].try_into().unwrap());
+                println!("{}", Sodium.verify(&signature, &vector[1], &key).is_ok());
             }
         }
         ["growth", count] => println!("{}", growth(&lines(), count.parse().unwrap())),

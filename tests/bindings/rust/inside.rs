@@ -1,8 +1,9 @@
-// Checks the private structs of the module that calls C. tests/bindings/rust.py appends this file to that module, with the sizes and
-// offsets that a C compiler gives the structs of the header.
+// Checks the structs of minisign-proved-sys. tests/bindings/rust.py appends this file to its declarations, with the sizes and offsets that
+// a C compiler gives the structs of the header.
 #[cfg(test)]
 mod inside {
     use super::*;
+    extern crate std;
     use std::mem::{size_of, ManuallyDrop, MaybeUninit};
     macro_rules! size {
         ($of:ty, $number:expr) => {
@@ -18,7 +19,7 @@ mod inside {
     }
     #[test]
     fn clears_dropped_key() {
-        let mut key = ManuallyDrop::new(SecretKey { mark: 1, key_id: [2; 8], secret: [3; 64] });
+        let mut key = ManuallyDrop::new(minisign_secret_key { mark: 1, key_id: [2; 8], secret: [3; 64] });
         unsafe { ManuallyDrop::drop(&mut key) };
         assert_eq!(key.secret, [0; 64]);
     }

@@ -1,13 +1,13 @@
 //! A test program for each target of rust.py. Its Ed25519 prints the messages that it has to verify, and accepts all signatures.
 
-use minisign_proved::{Ed25519, PublicKey, Signature};
+use minisign_proved::{PublicKey, SchemeError, Signature, Verify};
 
 struct Printing;
 
-impl Ed25519 for Printing {
-    fn accepts(&self, _: &[u8; 64], message: &[u8], _: &[u8; 32]) -> bool {
+impl Verify for Printing {
+    fn verify(&self, _: &[u8; 64], message: &[u8], _: &[u8; 32]) -> Result<(), SchemeError> {
         println!("{}", message.iter().map(|byte| format!("{byte:02x}")).collect::<String>());
-        true
+        Ok(())
     }
 }
 

@@ -1,11 +1,12 @@
 // SPDX-License-Identifier: MIT
-//! Declares the constants, structs and functions of `minisign.h`. Made by `tools/bindings.py`.
+//! Wraps the functions of `minisign.h`. Made by `tools/bindings.py`.
 //!
 //! Each safe function here makes one call. Its arguments are borrowed until the call returns, and
 //! the lengths that are passed are those of the slices.
 #![allow(dead_code, clippy::too_many_arguments)]
 
 use crate::Reason;
+use minisign_proved_sys as sys;
 
 impl Reason {
     /// No error.
@@ -162,6 +163,7 @@ impl Reason {
     pub const WEAK_SEALING: Reason = Reason(84);
 
     /// Returns the name in `minisign.h` without `MINISIGN_`, or "" for an unknown number.
+    #[must_use]
     pub fn name(self) -> &'static str {
         match self.0 {
             0 => "OK",
@@ -240,389 +242,98 @@ impl Reason {
     }
 }
 
-pub const VERSION_MAJOR: usize = 0;
-pub const VERSION_MINOR: usize = 3;
-pub const VERSION_PATCH: usize = 0;
-pub const ERROR_TEXT_BYTES: usize = 128;
-pub const KEEP_EVERY_ROW: usize = 1;
-pub const KEEP_FEW_ROWS: usize = 16;
-pub const USUAL_ROWS: usize = 1048576;
-pub const ANY_ROWS: u64 = 0xffffffffffffffff;
-pub const OPERATIONS_LIMIT: usize = 33554432;
-pub const MEMORY_LIMIT: usize = 1073741824;
-pub const LEAST_OPERATIONS_LIMIT: usize = 524288;
-pub const LEAST_MEMORY_LIMIT: usize = 16777216;
-pub const LEAST_LOG2_ROWS: usize = 14;
-pub const NO_PASSWORD: usize = 0;
-pub const PASSWORD: usize = 1;
-pub const ANY_PASSWORD: usize = 2;
-pub const TEXT_BYTES: usize = 240;
-pub const SECRET_KEY_BYTES: usize = 233;
-pub const PUBLIC_KEY_BYTES: usize = 77;
-pub const VERSION_TEXT: &str = "0.3.0";
-pub const SIGNATURE_COMMENT: &str = "signature from minisign secret key";
-pub const TRUSTED_COMMENT_FORMAT: &str = "timestamp:%llu\tfile:%s\thashed";
-pub const SECRET_KEY_COMMENT: &str = "minisign encrypted secret key";
-pub const PUBLIC_KEY_COMMENT: &str = "minisign public key ";
-pub const ANSWER_YES: u32 = 7955827;
-pub const ANSWER_NO: u32 = 28271;
+pub const VERSION_MAJOR: usize = sys::MINISIGN_VERSION_MAJOR;
+pub const VERSION_MINOR: usize = sys::MINISIGN_VERSION_MINOR;
+pub const VERSION_PATCH: usize = sys::MINISIGN_VERSION_PATCH;
+pub const ERROR_TEXT_BYTES: usize = sys::MINISIGN_ERROR_TEXT_BYTES;
+pub const KEEP_EVERY_ROW: usize = sys::MINISIGN_KEEP_EVERY_ROW;
+pub const KEEP_FEW_ROWS: usize = sys::MINISIGN_KEEP_FEW_ROWS;
+pub const USUAL_ROWS: usize = sys::MINISIGN_USUAL_ROWS;
+pub const ANY_ROWS: u64 = sys::MINISIGN_ANY_ROWS;
+pub const OPERATIONS_LIMIT: usize = sys::MINISIGN_OPERATIONS_LIMIT;
+pub const MEMORY_LIMIT: usize = sys::MINISIGN_MEMORY_LIMIT;
+pub const LEAST_OPERATIONS_LIMIT: usize = sys::MINISIGN_LEAST_OPERATIONS_LIMIT;
+pub const LEAST_MEMORY_LIMIT: usize = sys::MINISIGN_LEAST_MEMORY_LIMIT;
+pub const LEAST_LOG2_ROWS: usize = sys::MINISIGN_LEAST_LOG2_ROWS;
+pub const NO_PASSWORD: usize = sys::MINISIGN_NO_PASSWORD;
+pub const PASSWORD: usize = sys::MINISIGN_PASSWORD;
+pub const ANY_PASSWORD: usize = sys::MINISIGN_ANY_PASSWORD;
+pub const TEXT_BYTES: usize = sys::MINISIGN_TEXT_BYTES;
+pub const SECRET_KEY_BYTES: usize = sys::MINISIGN_SECRET_KEY_BYTES;
+pub const PUBLIC_KEY_BYTES: usize = sys::MINISIGN_PUBLIC_KEY_BYTES;
+pub const VERSION_TEXT: &str = sys::MINISIGN_VERSION_TEXT;
+pub const SIGNATURE_COMMENT: &str = sys::MINISIGN_SIGNATURE_COMMENT;
+pub const TRUSTED_COMMENT_FORMAT: &str = sys::MINISIGN_TRUSTED_COMMENT_FORMAT;
+pub const SECRET_KEY_COMMENT: &str = sys::MINISIGN_SECRET_KEY_COMMENT;
+pub const PUBLIC_KEY_COMMENT: &str = sys::MINISIGN_PUBLIC_KEY_COMMENT;
+pub const ANSWER_YES: u32 = sys::MINISIGN_ANSWER_YES;
+pub const ANSWER_NO: u32 = sys::MINISIGN_ANSWER_NO;
 
-#[derive(Clone, Debug)]
-#[repr(C)]
-pub struct State {
-    pub opaque: [u64; 64],
-}
+pub type State = sys::minisign_state;
+pub type PublicKey = sys::minisign_public_key;
+pub type Signature = sys::minisign_signature;
+pub type Questions = sys::minisign_questions;
+pub type UnopenedKey = sys::minisign_unopened_key;
+pub type SecretKey = sys::minisign_secret_key;
+pub type NewKey = sys::minisign_new_key;
+pub type SignedParts = sys::minisign_signed_parts;
+pub type Sealing = sys::minisign_sealing;
 
-impl State {
-    pub const ZEROS: Self = Self { opaque: [0; 64] };
-}
-
-#[derive(Clone, Debug, Eq, PartialEq, Ord, PartialOrd, Hash)]
-#[repr(C)]
-pub struct PublicKey {
-    pub mark: u64,
-    pub key: [u8; 32],
-    pub key_id: [u8; 8],
-}
-
-impl PublicKey {
-    pub const ZEROS: Self = Self {
-        mark: 0,
-        key: [0; 32],
-        key_id: [0; 8],
-    };
-}
-
-#[derive(Clone, Debug, Eq, PartialEq, Ord, PartialOrd, Hash)]
-#[repr(C)]
-pub struct Signature {
-    pub mark: u64,
-    pub key_id: [u8; 8],
-    pub signature: [u8; 64],
-    pub comment_signature: [u8; 64],
-    pub comment_offset: u64,
-    pub comment_len: u64,
-    pub text_digest: [u8; 32],
-    pub algorithm: [u8; 2],
-    pub legacy: u8,
-    pub whole: u8,
-    pub reserved: u32,
-}
-
-impl Signature {
-    pub const ZEROS: Self = Self {
-        mark: 0,
-        key_id: [0; 8],
-        signature: [0; 64],
-        comment_signature: [0; 64],
-        comment_offset: 0,
-        comment_len: 0,
-        text_digest: [0; 32],
-        algorithm: [0; 2],
-        legacy: 0,
-        whole: 0,
-        reserved: 0,
-    };
-}
-
-#[derive(Clone, Debug)]
-#[repr(C)]
-pub struct Questions {
-    pub public_key: [u8; 32],
-    pub digest: [u8; 64],
-    pub signature: [u8; 64],
-    pub comment_signature: [u8; 64],
-    pub message_len: u64,
-    pub comment_offset: u64,
-    pub comment_len: u64,
-    pub legacy: u32,
-    pub reserved: u32,
-}
-
-impl Questions {
-    pub const ZEROS: Self = Self {
-        public_key: [0; 32],
-        digest: [0; 64],
-        signature: [0; 64],
-        comment_signature: [0; 64],
-        message_len: 0,
-        comment_offset: 0,
-        comment_len: 0,
-        legacy: 0,
-        reserved: 0,
-    };
-}
-
-#[repr(C)]
-pub struct UnopenedKey {
-    pub mark: u64,
-    pub bytes: [u8; 158],
-    pub is_sealed: u8,
-    pub log2_rows: u8,
-    pub work: u32,
-    pub reserved: u32,
-}
-
-impl UnopenedKey {
-    pub const ZEROS: Self = Self {
-        mark: 0,
-        bytes: [0; 158],
-        is_sealed: 0,
-        log2_rows: 0,
-        work: 0,
-        reserved: 0,
-    };
-}
-
-/// Clears the secret.
-impl Drop for UnopenedKey {
-    fn drop(&mut self) {
-        clear(&mut self.bytes);
-    }
-}
-
-#[repr(C)]
-pub struct SecretKey {
-    pub mark: u64,
-    pub key_id: [u8; 8],
-    pub secret: [u8; 64],
-}
-
-impl SecretKey {
-    pub const ZEROS: Self = Self {
-        mark: 0,
-        key_id: [0; 8],
-        secret: [0; 64],
-    };
-}
-
-/// Clears the secret.
-impl Drop for SecretKey {
-    fn drop(&mut self) {
-        clear(&mut self.secret);
-    }
-}
-
-#[repr(C)]
-pub struct NewKey {
-    pub key_id: [u8; 8],
-    pub secret: [u8; 64],
-}
-
-impl NewKey {
-    pub const ZEROS: Self = Self {
-        key_id: [0; 8],
-        secret: [0; 64],
-    };
-}
-
-/// Clears the secret.
-impl Drop for NewKey {
-    fn drop(&mut self) {
-        clear(&mut self.secret);
-    }
-}
-
-#[repr(C)]
-pub struct SignedParts {
-    pub signature: [u8; 64],
-    pub comment_signature: [u8; 64],
-    pub trusted_comment: *const u8,
-    pub trusted_comment_len: usize,
-    pub untrusted_comment: *const u8,
-    pub untrusted_comment_len: usize,
-}
-
-#[repr(C)]
-pub struct Sealing {
-    pub salt: [u8; 32],
-    pub operations_limit: u64,
-    pub memory_limit: u64,
-}
-
-impl Sealing {
-    pub const ZEROS: Self = Self {
-        salt: [0; 32],
-        operations_limit: 0,
-        memory_limit: 0,
-    };
-}
-
-extern "C" {
-    fn minisign_version() -> u32;
-    fn minisign_error_text(error: u32, text: *mut u8, room: usize) -> usize;
-    fn minisign_init(state: *mut State);
-    fn minisign_update(state: *mut State, data: *const u8, len: usize) -> u32;
-    fn minisign_digest(state: *mut State, digest: &mut [u8; 64]) -> u32;
-    fn minisign_clear(value: *mut u8, size: usize);
-    fn minisign_read_public_key(pk_text: *const u8, pk_text_len: usize, key: *mut PublicKey)
-        -> u32;
-    fn minisign_read_bare_public_key(
-        base64: *const u8,
-        base64_len: usize,
-        key: *mut PublicKey,
-    ) -> u32;
-    fn minisign_read_signature(
-        sig_text: *const u8,
-        sig_text_len: usize,
-        signature: *mut Signature,
-    ) -> u32;
-    fn minisign_ask(
-        state: *mut State,
-        key: *const PublicKey,
-        signature: *const Signature,
-        sig_text: *const u8,
-        sig_text_len: usize,
-        allow_legacy: u32,
-        questions: *mut Questions,
-        message: *mut u8,
-        room: usize,
-    ) -> u32;
-    fn minisign_comment_verdict(state: *const State, second: u32) -> u32;
-    fn minisign_verdict(state: *mut State, first: u32, second: u32) -> u32;
-    fn minisign_read_secret_key(
-        sk_text: *const u8,
-        sk_text_len: usize,
-        unopened: *mut UnopenedKey,
-    ) -> u32;
-    fn minisign_open_unsealed_key(unopened: *const UnopenedKey, key: *mut SecretKey) -> u32;
-    fn minisign_open_sealed_key(
-        unopened: *const UnopenedKey,
-        password: *const u8,
-        password_len: usize,
-        keep_every: u64,
-        most_rows: u64,
-        key: *mut SecretKey,
-    ) -> u32;
-    fn minisign_opening_memory(
-        unopened: *const UnopenedKey,
-        keep_every: u64,
-        most_rows: u64,
-        words_wanted: *mut u64,
-        bytes_wanted: *mut u64,
-    );
-    fn minisign_open_sealed_key_in_place(
-        unopened: *const UnopenedKey,
-        password: *const u8,
-        password_len: usize,
-        keep_every: u64,
-        most_rows: u64,
-        words: *mut u32,
-        words_len: usize,
-        bytes: *mut u8,
-        bytes_len: usize,
-        key: *mut SecretKey,
-    ) -> u32;
-    fn minisign_take_secret_key(new_key: *const NewKey, key: *mut SecretKey);
-    fn minisign_public_key_of(key: *const SecretKey, public_key: *mut PublicKey) -> u32;
-    fn minisign_comment_message(
-        first: &[u8; 64],
-        trusted: *const u8,
-        trusted_len: usize,
-        message: *mut u8,
-        room: usize,
-    ) -> u32;
-    fn minisign_signed_text(
-        key: *const PublicKey,
-        parts: *const SignedParts,
-        text: *mut u8,
-        room: usize,
-        text_len: *mut usize,
-    ) -> u32;
-    fn minisign_secret_key_text(
-        key: *const SecretKey,
-        with_password: u32,
-        password: *const u8,
-        password_len: usize,
-        sealing: *const Sealing,
-        keep_every: u64,
-        comment: *const u8,
-        comment_len: usize,
-        text: *mut u8,
-        room: usize,
-        text_len: *mut usize,
-    ) -> u32;
-    fn minisign_secret_key_text_with_any_limits(
-        key: *const SecretKey,
-        with_password: u32,
-        password: *const u8,
-        password_len: usize,
-        sealing: *const Sealing,
-        keep_every: u64,
-        comment: *const u8,
-        comment_len: usize,
-        text: *mut u8,
-        room: usize,
-        text_len: *mut usize,
-    ) -> u32;
-    fn minisign_public_key_text(
-        key: *const SecretKey,
-        comment: *const u8,
-        comment_len: usize,
-        text: *mut u8,
-        room: usize,
-        text_len: *mut usize,
-    ) -> u32;
-}
-
-/// Writes zeros, by volatile writes, which the compiler does not remove.
-pub fn clear(bytes: &mut [u8]) {
-    bytes
-        .iter_mut()
-        .for_each(|byte| unsafe { std::ptr::write_volatile(byte, 0) });
-}
-
-fn done(number: u32) -> Result<(), Reason> {
+/// Returns an error unless the number that a call returned is 0.
+pub(super) fn check(number: u32) -> Result<(), Reason> {
     Some(()).filter(|()| number == 0).ok_or(Reason(number))
 }
 
-/// Makes a string of the text that a call has written. The calls write only UTF-8.
-fn text_of(mut text: Vec<u8>, len: usize) -> Result<String, Reason> {
+/// Converts the first `len` bytes of a buffer, which a call has written, to a string. The calls
+/// write only UTF-8.
+pub(super) fn text_of(mut text: Vec<u8>, len: usize) -> Result<String, Reason> {
     text.truncate(len);
     String::from_utf8(text).map_err(|_| Reason::NOT_UTF8)
 }
 
 pub fn version() -> u32 {
-    unsafe { minisign_version() }
+    unsafe { sys::minisign_version() }
 }
 
 pub fn error_text(error: u32) -> Result<String, Reason> {
     let mut text = vec![0; ERROR_TEXT_BYTES];
-    let len = unsafe { minisign_error_text(error, text.as_mut_ptr(), text.len()) };
+    let len = unsafe { sys::minisign_error_text(error, text.as_mut_ptr(), text.len()) };
     text_of(text, len)
 }
 
 pub fn init() -> State {
     let mut state = State::ZEROS;
-    unsafe { minisign_init(&mut state) };
+    unsafe { sys::minisign_init(&mut state) };
     state
 }
 
 pub fn update(state: &mut State, data: &[u8]) -> Result<(), Reason> {
-    done(unsafe { minisign_update(state, data.as_ptr(), data.len()) })
+    check(unsafe { sys::minisign_update(state, data.as_ptr(), data.len()) })
 }
 
 pub fn digest(state: &mut State) -> Result<[u8; 64], Reason> {
     let mut digest = [0; 64];
-    done(unsafe { minisign_digest(state, &mut digest) })?;
+    check(unsafe { sys::minisign_digest(state, &mut digest) })?;
     Ok(digest)
 }
 
 pub fn read_public_key(pk_text: &[u8]) -> Result<PublicKey, Reason> {
     let mut key = PublicKey::ZEROS;
-    done(unsafe { minisign_read_public_key(pk_text.as_ptr(), pk_text.len(), &mut key) })?;
+    check(unsafe { sys::minisign_read_public_key(pk_text.as_ptr(), pk_text.len(), &mut key) })?;
     Ok(key)
 }
 
 pub fn read_bare_public_key(base64: &[u8]) -> Result<PublicKey, Reason> {
     let mut key = PublicKey::ZEROS;
-    done(unsafe { minisign_read_bare_public_key(base64.as_ptr(), base64.len(), &mut key) })?;
+    check(unsafe { sys::minisign_read_bare_public_key(base64.as_ptr(), base64.len(), &mut key) })?;
     Ok(key)
 }
 
 pub fn read_signature(sig_text: &[u8]) -> Result<Signature, Reason> {
     let mut signature = Signature::ZEROS;
-    done(unsafe { minisign_read_signature(sig_text.as_ptr(), sig_text.len(), &mut signature) })?;
+    check(unsafe {
+        sys::minisign_read_signature(sig_text.as_ptr(), sig_text.len(), &mut signature)
+    })?;
     Ok(signature)
 }
 
@@ -635,8 +346,8 @@ pub fn ask(
 ) -> Result<(Questions, Vec<u8>), Reason> {
     let mut questions = Questions::ZEROS;
     let mut message = vec![0; 64 + signature.comment_len as usize];
-    done(unsafe {
-        minisign_ask(
+    check(unsafe {
+        sys::minisign_ask(
             state,
             key,
             signature,
@@ -652,12 +363,14 @@ pub fn ask(
 }
 
 pub fn comment_verdict(state: &State, second: bool) -> Result<(), Reason> {
-    done(unsafe { minisign_comment_verdict(state, if second { ANSWER_YES } else { ANSWER_NO }) })
+    check(unsafe {
+        sys::minisign_comment_verdict(state, if second { ANSWER_YES } else { ANSWER_NO })
+    })
 }
 
 pub fn verdict(state: &mut State, first: bool, second: bool) -> Result<(), Reason> {
-    done(unsafe {
-        minisign_verdict(
+    check(unsafe {
+        sys::minisign_verdict(
             state,
             if first { ANSWER_YES } else { ANSWER_NO },
             if second { ANSWER_YES } else { ANSWER_NO },
@@ -667,13 +380,15 @@ pub fn verdict(state: &mut State, first: bool, second: bool) -> Result<(), Reaso
 
 pub fn read_secret_key(sk_text: &[u8]) -> Result<Box<UnopenedKey>, Reason> {
     let mut unopened = Box::new(UnopenedKey::ZEROS);
-    done(unsafe { minisign_read_secret_key(sk_text.as_ptr(), sk_text.len(), &mut *unopened) })?;
+    check(unsafe {
+        sys::minisign_read_secret_key(sk_text.as_ptr(), sk_text.len(), &mut *unopened)
+    })?;
     Ok(unopened)
 }
 
 pub fn open_unsealed_key(unopened: &UnopenedKey) -> Result<Box<SecretKey>, Reason> {
     let mut key = Box::new(SecretKey::ZEROS);
-    done(unsafe { minisign_open_unsealed_key(unopened, &mut *key) })?;
+    check(unsafe { sys::minisign_open_unsealed_key(unopened, &mut *key) })?;
     Ok(key)
 }
 
@@ -684,8 +399,8 @@ pub fn open_sealed_key(
     most_rows: u64,
 ) -> Result<Box<SecretKey>, Reason> {
     let mut key = Box::new(SecretKey::ZEROS);
-    done(unsafe {
-        minisign_open_sealed_key(
+    check(unsafe {
+        sys::minisign_open_sealed_key(
             unopened,
             password.as_ptr(),
             password.len(),
@@ -699,20 +414,20 @@ pub fn open_sealed_key(
 
 pub fn take_secret_key(new_key: &NewKey) -> Box<SecretKey> {
     let mut key = Box::new(SecretKey::ZEROS);
-    unsafe { minisign_take_secret_key(new_key, &mut *key) };
+    unsafe { sys::minisign_take_secret_key(new_key, &mut *key) };
     key
 }
 
 pub fn public_key_of(key: &SecretKey) -> Result<PublicKey, Reason> {
     let mut public_key = PublicKey::ZEROS;
-    done(unsafe { minisign_public_key_of(key, &mut public_key) })?;
+    check(unsafe { sys::minisign_public_key_of(key, &mut public_key) })?;
     Ok(public_key)
 }
 
 pub fn comment_message(first: &[u8; 64], trusted: &[u8]) -> Result<Vec<u8>, Reason> {
     let mut message = vec![0; 64 + trusted.len()];
-    done(unsafe {
-        minisign_comment_message(
+    check(unsafe {
+        sys::minisign_comment_message(
             first,
             trusted.as_ptr(),
             trusted.len(),
@@ -732,8 +447,8 @@ pub fn signed_text(
 ) -> Result<String, Reason> {
     let mut text = vec![0; TEXT_BYTES + trusted_comment.len() + untrusted_comment.len()];
     let mut len = 0;
-    done(unsafe {
-        minisign_signed_text(
+    check(unsafe {
+        sys::minisign_signed_text(
             key,
             &SignedParts {
                 signature: *signature,
@@ -761,8 +476,8 @@ pub fn secret_key_text(
     let (with_password, password) = (password.is_some().into(), password.unwrap_or_default());
     let mut text = vec![0; SECRET_KEY_BYTES + comment.len()];
     let mut len = 0;
-    done(unsafe {
-        minisign_secret_key_text(
+    check(unsafe {
+        sys::minisign_secret_key_text(
             key,
             with_password,
             password.as_ptr(),
@@ -782,8 +497,8 @@ pub fn secret_key_text(
 pub fn public_key_text(key: &SecretKey, comment: &[u8]) -> Result<String, Reason> {
     let mut text = vec![0; PUBLIC_KEY_BYTES + comment.len()];
     let mut len = 0;
-    done(unsafe {
-        minisign_public_key_text(
+    check(unsafe {
+        sys::minisign_public_key_text(
             key,
             comment.as_ptr(),
             comment.len(),

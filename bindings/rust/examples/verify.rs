@@ -1,5 +1,6 @@
-//! Shows how an updater in Rust verifies a file, with the crate in `bindings/rust`:
-//! `minisign-verify PUBLIC_KEY DATA SIGNATURE`.
+// SPDX-License-Identifier: MIT
+//! Shows how an updater in Rust verifies a file:
+//! `cargo run --example verify -- PUBLIC_KEY DATA SIGNATURE`.
 //!
 //! If the signature is valid, it prints the trusted comment and exits with status 0. Otherwise the
 //! exit status is 1, or 2 if a file cannot be read. Legacy signatures, which sign the data itself
@@ -22,7 +23,7 @@ fn main() -> ExitCode {
     let verdict = match &words[..] {
         [key, data, signature] => verify(key, data, signature),
         _ => {
-            eprintln!("usage: minisign-verify PUBLIC_KEY DATA SIGNATURE");
+            eprintln!("usage: verify PUBLIC_KEY DATA SIGNATURE");
             return ExitCode::from(2);
         }
     };

@@ -1,0 +1,130 @@
+// SPDX-License-Identifier: MIT
+//! Errors with the kinds and texts of the crate `minisign`.
+
+use minisign_proved::{Error, Kind};
+use std::{error, fmt, io, process, result};
+
+/// A result of this crate.
+pub type Result<T> = result::Result<T, PError>;
+
+/// The kind of an error.
+#[derive(Clone, Copy, Debug, Eq, PartialEq)]
+pub enum ErrorKind {
+    /// Key generation.
+    Generate,
+    /// Signing.
+    Sign,
+    /// Verifying a signature or a checksum.
+    Verify,
+    /// Input or output, or a malformed file.
+    Io,
+    /// Anything else.
+    Misc,
+    /// Hashing.
+    Hash,
+    /// Deriving a key from a password.
+    KDF,
+    /// Generating random bytes.
+    RNG,
+    /// Bytes that are not UTF-8, or a text that is not base64.
+    Encoding,
+    /// An encrypted secret key that would have to be decrypted first.
+    EncryptedKey,
+}
+
+/// An error of this crate. `Display` prints a sentence.
+#[derive(Debug)]
+pub struct PError {
+    kind: ErrorKind,
+    err: Box<dyn error::Error + Send + Sync>,
+}
+
+impl PError {
+    /// Makes an error.
+    pub fn new<E>(kind: ErrorKind, err: E) -> PError
+    where
+        E: Into<Box<dyn error::Error + Send + Sync>>,
+    {
+        let err = err.into();
+        PError { kind, err }
+    }
+
+    /// Prints the error to standard error, and exits the program with status 1.
+    pub fn exit(&self) -> ! {
+        eprintln!("{self}");
+        process::exit(1)
+    }
+
+    /// Returns the kind of the error.
+    #[must_use]
+    pub fn kind(&self) -> &ErrorKind {
+        &self.kind
+    }
+}
+
+impl fmt::Display for PError {
+    fn fmt(&self, f: &mut fmt::Formatter<'_>) -> fmt::Result {
+        self.err.fmt(f)
+    }
+}
+
+impl error::Error for PError {
+    fn description(&self) -> &str {
+        match self.kind {
+            ErrorKind::Generate => "generate error",
+            ErrorKind::Sign => "sign error",
+            ErrorKind::Verify => "verify error",
+            ErrorKind::Io => "io error",
+            ErrorKind::Misc => "misc error",
+            ErrorKind::Hash => "hash error",
+            ErrorKind::KDF => "key derivation error",
+            ErrorKind::RNG => "random number generator error",
+            ErrorKind::Encoding => "encoding error",
+            ErrorKind::EncryptedKey => "encrypted key error",
+        }
+    }
+}
+
+impl From<io::Error> for PError {
+    fn from(err: io::Error) -> PError {
+        PError::new(ErrorKind::Io, err)
+    }
+}
+
+impl From<fmt::Error> for PError {
+    fn from(err: fmt::Error) -> PError {
+        PError::new(ErrorKind::Io, err)
+    }
+}
+
+impl From<std::string::FromUtf8Error> for PError {
+    fn from(err: std::string::FromUtf8Error) -> PError {
+        PError::new(ErrorKind::Encoding, err)
+    }
+}
+
+/// The kind and the text are those of the library's error code.
+impl From<Error> for PError {
+    fn from(error: Error) -> PError {
+        let reason = match (error.reason().copied(), error) {
+            (Some(reason), _) => reason,
+            (None, Error::IoError(error)) => return error.into(),
+            (None, other) => return PError::new(ErrorKind::Misc, other),
+        };
+        let kind = match reason.kind() {
+            Kind::Generate => ErrorKind::Generate,
+            Kind::Sign => ErrorKind::Sign,
+            Kind::Verify => ErrorKind::Verify,
+            Kind::Io => ErrorKind::Io,
+            Kind::Hash => ErrorKind::Hash,
+            Kind::Kdf => ErrorKind::KDF,
+            Kind::Rng => ErrorKind::RNG,
+            Kind::Encoding => ErrorKind::Encoding,
+            Kind::EncryptedKey => ErrorKind::EncryptedKey,
+            // Callers can misuse the library only by a comment that could not be read back.
+            Kind::Misuse => ErrorKind::Sign,
+            _ => ErrorKind::Misc,
+        };
+        PError::new(kind, reason)
+    }
+}

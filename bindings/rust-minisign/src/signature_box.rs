@@ -1,0 +1,216 @@
+// SPDX-License-Identifier: MIT
+//! Signatures, with and without comments.
+
+use crate::{ErrorKind, PError, PublicKey, Result};
+use minisign_proved::{BareSignature, Error, Signature, Sodium, StreamVerifier};
+use std::{fs, path::Path};
+
+const UNTRUSTED: &str = "untrusted comment: ";
+
+/// A parsed signature: that of a signature file, with comments, or a bare one. Parsing verifies
+/// nothing.
+#[derive(Clone)]
+pub struct SignatureBox(Form);
+
+#[derive(Clone)]
+enum Form {
+    File(Signature),
+    Bare(BareSignature),
+}
+
+impl SignatureBox {
+    /// Returns true if this is a bare signature.
+    pub(crate) fn is_bare(&self) -> bool {
+        matches!(self.0, Form::Bare(_))
+    }
+
+    /// Verifies data with a legacy signature.
+    pub(crate) fn verify_legacy(
+        &self,
+        pk: &PublicKey,
+        data: &[u8],
+    ) -> std::result::Result<(), Error> {
+        match &self.0 {
+            Form::File(signature) => pk.key.verify(data, signature, true),
+            Form::Bare(signature) => pk.key.verify_bare_with(&Sodium, data, signature, true),
+        }
+    }
+
+    /// Begins to verify data in pieces.
+    pub(crate) fn verify_stream(
+        &self,
+        pk: &PublicKey,
+    ) -> std::result::Result<StreamVerifier<'_>, Error> {
+        match &self.0 {
+            Form::File(signature) => pk.key.verify_stream(signature),
+            Form::Bare(signature) => pk.key.verify_bare_stream_with(&Sodium, signature),
+        }
+    }
+
+    /// Returns true if the signature signs the digest of the data, and not the data itself.
+    #[must_use]
+    pub fn is_prehashed(&self) -> bool {
+        match &self.0 {
+            Form::File(signature) => !signature.is_legacy(),
+            Form::Bare(signature) => !signature.is_legacy(),
+        }
+    }
+
+    /// Returns the comment that is not signed. That of a bare signature is empty.
+    ///
+    /// # Errors
+    ///
+    /// None.
+    pub fn untrusted_comment(&self) -> Result<String> {
+        Ok(match &self.0 {
+            Form::File(signature) => signature.untrusted_comment()[UNTRUSTED.len()..].into(),
+            Form::Bare(_) => String::new(),
+        })
+    }
+
+    /// Returns the comment that is signed with the data. Trust it only after the signature was
+    /// verified.
+    ///
+    /// # Errors
+    ///
+    /// `Misc` for a bare signature.
+    pub fn trusted_comment(&self) -> Result<String> {
+        match &self.0 {
+            Form::File(signature) => Ok(signature.trusted_comment().into()),
+            Form::Bare(_) => Err(PError::new(
+                ErrorKind::Misc,
+                "trusted comment is not present",
+            )),
+        }
+    }
+
+    /// Returns the 8 bytes of the key ID of the signer's key.
+    #[must_use]
+    pub fn keynum(&self) -> &[u8] {
+        match &self.0 {
+            Form::File(signature) => signature.key_id(),
+            Form::Bare(signature) => signature.key_id(),
+        }
+    }
+
+    /// Parses the content of a signature file, such as `data.minisig`: four lines.
+    ///
+    /// # Errors
+    ///
+    /// `Io` if a line is missing or is not base64; `Verify` if a comment line does not begin as it
+    /// must, or the algorithm is not supported.
+    pub fn from_string(s: &str) -> Result<SignatureBox> {
+        Ok(Signature::decode(s)?.into())
+    }
+
+    /// Returns the content of the signature file.
+    ///
+    /// # Panics
+    ///
+    /// Panics for a bare signature.
+    #[allow(clippy::inherent_to_string)]
+    #[must_use]
+    pub fn to_string(&self) -> String {
+        match &self.0 {
+            Form::File(signature) => signature.encode(),
+            Form::Bare(_) => panic!("Incomplete SignatureBox: trusted comment is missing"),
+        }
+    }
+
+    /// Returns the content of the signature file.
+    ///
+    /// # Panics
+    ///
+    /// Panics for a bare signature.
+    #[must_use]
+    pub fn into_string(self) -> String {
+        self.to_string()
+    }
+
+    /// Returns the bytes of the content of the signature file.
+    ///
+    /// # Panics
+    ///
+    /// Panics for a bare signature.
+    #[must_use]
+    pub fn to_bytes(&self) -> Vec<u8> {
+        self.to_string().into_bytes()
+    }
+
+    /// Reads a signature file.
+    ///
+    /// # Errors
+    ///
+    /// `Io` if the file cannot be read or is not UTF-8, and the errors of `from_string`.
+    pub fn from_file<P>(sig_path: P) -> Result<SignatureBox>
+    where
+        P: AsRef<Path>,
+    {
+        Self::from_string(&fs::read_to_string(sig_path)?)
+    }
+}
+
+impl From<Signature> for SignatureBox {
+    fn from(signature: Signature) -> SignatureBox {
+        SignatureBox(Form::File(signature))
+    }
+}
+
+/// Panics for a bare signature.
+impl From<SignatureBox> for String {
+    fn from(sig_box: SignatureBox) -> String {
+        sig_box.into_string()
+    }
+}
+
+/// Panics if the content is malformed. `SignatureBox::from_string` returns an error instead.
+impl From<String> for SignatureBox {
+    fn from(s: String) -> SignatureBox {
+        SignatureBox::from_string(&s).unwrap()
+    }
+}
+
+/// A signature without comments, which is stored as bytes.
+#[derive(Clone)]
+pub struct SignatureBones(BareSignature);
+
+impl SignatureBones {
+    /// The number of bytes of a bare signature.
+    pub const BYTES: usize = BareSignature::RECORD_BYTES;
+
+    /// Returns true if the signature signs the digest of the data, and not the data itself.
+    #[must_use]
+    pub fn is_prehashed(&self) -> bool {
+        !self.0.is_legacy()
+    }
+
+    /// Reads a signature from its first 74 bytes, which `to_bytes` returns.
+    ///
+    /// # Errors
+    ///
+    /// `Io` if there are fewer bytes; `Verify` if the algorithm is not supported.
+    pub fn from_bytes(bytes: &[u8]) -> Result<SignatureBones> {
+        Ok(SignatureBones(BareSignature::from_record(bytes)?))
+    }
+
+    /// Returns the bytes of the signature.
+    #[must_use]
+    pub fn to_bytes(&self) -> Vec<u8> {
+        self.0.to_record().to_vec()
+    }
+}
+
+impl From<SignatureBones> for SignatureBox {
+    fn from(bones: SignatureBones) -> SignatureBox {
+        SignatureBox(Form::Bare(bones.0))
+    }
+}
+
+impl From<SignatureBox> for SignatureBones {
+    fn from(sig_box: SignatureBox) -> SignatureBones {
+        SignatureBones(match sig_box.0 {
+            Form::File(signature) => signature.to_bare(),
+            Form::Bare(signature) => signature,
+        })
+    }
+}

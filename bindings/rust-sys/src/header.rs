@@ -1,0 +1,419 @@
+// SPDX-License-Identifier: MIT
+//! Declares the constants, structs and functions of `minisign.h`. Made by `tools/bindings.py`.
+#![allow(missing_docs, non_camel_case_types)]
+
+pub const MINISIGN_OK: u32 = 0;
+pub const MINISIGN_NOT_BEGUN: u32 = 1;
+pub const MINISIGN_ALREADY_ASKED: u32 = 2;
+pub const MINISIGN_NOT_ASKED: u32 = 3;
+pub const MINISIGN_BAD_ANSWER: u32 = 4;
+pub const MINISIGN_NO_ROOM: u32 = 5;
+pub const MINISIGN_BAD_LEGACY_FLAG: u32 = 6;
+pub const MINISIGN_OUT_OF_MEMORY: u32 = 7;
+pub const MINISIGN_NOT_UTF8: u32 = 8;
+pub const MINISIGN_BAD_COMMENT: u32 = 9;
+pub const MINISIGN_BAD_PASSWORD_FLAG: u32 = 10;
+pub const MINISIGN_UNREADABLE_COMMENT: u32 = 11;
+pub const MINISIGN_NOT_DUE: u32 = 12;
+pub const MINISIGN_BAD_OPTION: u32 = 13;
+pub const MINISIGN_BAD_NUMBERING: u32 = 14;
+pub const MINISIGN_KEY_NOT_OPENED: u32 = 15;
+pub const MINISIGN_MISSING_PUBLIC_KEY_COMMENT: u32 = 16;
+pub const MINISIGN_MISSING_PUBLIC_KEY: u32 = 17;
+pub const MINISIGN_PUBLIC_KEY_LENGTH: u32 = 18;
+pub const MINISIGN_PUBLIC_KEY_NOT_BASE64: u32 = 19;
+pub const MINISIGN_RECORD_TOO_SHORT: u32 = 20;
+pub const MINISIGN_MISSING_UNTRUSTED_COMMENT: u32 = 21;
+pub const MINISIGN_MISSING_SIGNATURE: u32 = 22;
+pub const MINISIGN_MISSING_TRUSTED_COMMENT: u32 = 23;
+pub const MINISIGN_MISSING_COMMENT_SIGNATURE: u32 = 24;
+pub const MINISIGN_UNTRUSTED_COMMENT_PREFIX: u32 = 25;
+pub const MINISIGN_SIGNATURE_NOT_BASE64: u32 = 26;
+pub const MINISIGN_TRUSTED_COMMENT_PREFIX: u32 = 27;
+pub const MINISIGN_UNSUPPORTED_ALGORITHM: u32 = 28;
+pub const MINISIGN_DIFFERENT_KEY_IDS: u32 = 29;
+pub const MINISIGN_LEGACY_NOT_ACCEPTED: u32 = 30;
+pub const MINISIGN_SIGNATURE_REFUSED: u32 = 31;
+pub const MINISIGN_COMMENT_SIGNATURE_REFUSED: u32 = 32;
+pub const MINISIGN_MISSING_SECRET_KEY_COMMENT: u32 = 33;
+pub const MINISIGN_MISSING_SECRET_KEY: u32 = 34;
+pub const MINISIGN_SECRET_KEY_NOT_BASE64: u32 = 35;
+pub const MINISIGN_KEY_SEALED: u32 = 36;
+pub const MINISIGN_KEY_CORRUPTED: u32 = 37;
+pub const MINISIGN_KEY_NOT_SEALED: u32 = 38;
+pub const MINISIGN_UNSUPPORTED_KEY_DERIVATION: u32 = 39;
+pub const MINISIGN_PARAMETERS_TOO_HIGH: u32 = 40;
+pub const MINISIGN_INVALID_PARAMETERS: u32 = 41;
+pub const MINISIGN_WRONG_PASSWORD: u32 = 42;
+pub const MINISIGN_WORK_TOO_HIGH: u32 = 43;
+pub const MINISIGN_BARE_PUBLIC_KEY_LENGTH: u32 = 44;
+pub const MINISIGN_BARE_PUBLIC_KEY_NOT_BASE64: u32 = 45;
+pub const MINISIGN_TARGET_IN_USE: u32 = 46;
+pub const MINISIGN_NO_RECORD: u32 = 47;
+pub const MINISIGN_DAMAGED_RECORD: u32 = 48;
+pub const MINISIGN_OTHER_FILE: u32 = 49;
+pub const MINISIGN_NO_NUMBER: u32 = 50;
+pub const MINISIGN_OLDER_UPDATE: u32 = 51;
+pub const MINISIGN_DIRECTORY_NOT_SYNCED: u32 = 52;
+pub const MINISIGN_KEPT_BY_TIMESTAMP: u32 = 53;
+pub const MINISIGN_KEPT_BY_VERSION: u32 = 54;
+pub const MINISIGN_EXPIRED: u32 = 55;
+pub const MINISIGN_BAD_EXPIRY: u32 = 56;
+pub const MINISIGN_SAME_NUMBER: u32 = 57;
+pub const MINISIGN_NO_EXPIRY: u32 = 58;
+pub const MINISIGN_BAD_SIZE: u32 = 59;
+pub const MINISIGN_OTHER_SIZE: u32 = 60;
+pub const MINISIGN_OTHER_SIGNATURE_TEXT: u32 = 61;
+pub const MINISIGN_SIGNATURE_NOT_READ: u32 = 62;
+pub const MINISIGN_KEY_NOT_READ: u32 = 63;
+pub const MINISIGN_READING_FAILED: u32 = 64;
+pub const MINISIGN_WRITING_FAILED: u32 = 65;
+pub const MINISIGN_RANDOM_SOURCE_FAILED: u32 = 67;
+pub const MINISIGN_WEAK_ED25519: u32 = 81;
+pub const MINISIGN_PUBLIC_KEY_NOT_READ: u32 = 82;
+pub const MINISIGN_EMPTY_PASSWORD: u32 = 83;
+pub const MINISIGN_WEAK_SEALING: u32 = 84;
+
+pub const MINISIGN_VERSION_MAJOR: usize = 0;
+pub const MINISIGN_VERSION_MINOR: usize = 3;
+pub const MINISIGN_VERSION_PATCH: usize = 0;
+pub const MINISIGN_ERROR_TEXT_BYTES: usize = 128;
+pub const MINISIGN_KEEP_EVERY_ROW: usize = 1;
+pub const MINISIGN_KEEP_FEW_ROWS: usize = 16;
+pub const MINISIGN_USUAL_ROWS: usize = 1048576;
+pub const MINISIGN_ANY_ROWS: u64 = 0xffffffffffffffff;
+pub const MINISIGN_OPERATIONS_LIMIT: usize = 33554432;
+pub const MINISIGN_MEMORY_LIMIT: usize = 1073741824;
+pub const MINISIGN_LEAST_OPERATIONS_LIMIT: usize = 524288;
+pub const MINISIGN_LEAST_MEMORY_LIMIT: usize = 16777216;
+pub const MINISIGN_LEAST_LOG2_ROWS: usize = 14;
+pub const MINISIGN_NO_PASSWORD: usize = 0;
+pub const MINISIGN_PASSWORD: usize = 1;
+pub const MINISIGN_ANY_PASSWORD: usize = 2;
+pub const MINISIGN_TEXT_BYTES: usize = 240;
+pub const MINISIGN_SECRET_KEY_BYTES: usize = 233;
+pub const MINISIGN_PUBLIC_KEY_BYTES: usize = 77;
+pub const MINISIGN_VERSION_TEXT: &str = "0.3.0";
+pub const MINISIGN_SIGNATURE_COMMENT: &str = "signature from minisign secret key";
+pub const MINISIGN_TRUSTED_COMMENT_FORMAT: &str = "timestamp:%llu\tfile:%s\thashed";
+pub const MINISIGN_SECRET_KEY_COMMENT: &str = "minisign encrypted secret key";
+pub const MINISIGN_PUBLIC_KEY_COMMENT: &str = "minisign public key ";
+pub const MINISIGN_ANSWER_YES: u32 = 7955827;
+pub const MINISIGN_ANSWER_NO: u32 = 28271;
+
+#[derive(Clone, Debug)]
+#[repr(C)]
+pub struct minisign_state {
+    pub opaque: [u64; 64],
+}
+
+impl minisign_state {
+    pub const ZEROS: Self = Self { opaque: [0; 64] };
+}
+
+#[derive(Clone, Debug, Eq, PartialEq, Ord, PartialOrd, Hash)]
+#[repr(C)]
+pub struct minisign_public_key {
+    pub mark: u64,
+    pub key: [u8; 32],
+    pub key_id: [u8; 8],
+}
+
+impl minisign_public_key {
+    pub const ZEROS: Self = Self {
+        mark: 0,
+        key: [0; 32],
+        key_id: [0; 8],
+    };
+}
+
+#[derive(Clone, Debug, Eq, PartialEq, Ord, PartialOrd, Hash)]
+#[repr(C)]
+pub struct minisign_signature {
+    pub mark: u64,
+    pub key_id: [u8; 8],
+    pub signature: [u8; 64],
+    pub comment_signature: [u8; 64],
+    pub comment_offset: u64,
+    pub comment_len: u64,
+    pub text_digest: [u8; 32],
+    pub algorithm: [u8; 2],
+    pub legacy: u8,
+    pub whole: u8,
+    pub reserved: u32,
+}
+
+impl minisign_signature {
+    pub const ZEROS: Self = Self {
+        mark: 0,
+        key_id: [0; 8],
+        signature: [0; 64],
+        comment_signature: [0; 64],
+        comment_offset: 0,
+        comment_len: 0,
+        text_digest: [0; 32],
+        algorithm: [0; 2],
+        legacy: 0,
+        whole: 0,
+        reserved: 0,
+    };
+}
+
+#[derive(Clone, Debug)]
+#[repr(C)]
+pub struct minisign_questions {
+    pub public_key: [u8; 32],
+    pub digest: [u8; 64],
+    pub signature: [u8; 64],
+    pub comment_signature: [u8; 64],
+    pub message_len: u64,
+    pub comment_offset: u64,
+    pub comment_len: u64,
+    pub legacy: u32,
+    pub reserved: u32,
+}
+
+impl minisign_questions {
+    pub const ZEROS: Self = Self {
+        public_key: [0; 32],
+        digest: [0; 64],
+        signature: [0; 64],
+        comment_signature: [0; 64],
+        message_len: 0,
+        comment_offset: 0,
+        comment_len: 0,
+        legacy: 0,
+        reserved: 0,
+    };
+}
+
+#[repr(C)]
+pub struct minisign_unopened_key {
+    pub mark: u64,
+    pub bytes: [u8; 158],
+    pub is_sealed: u8,
+    pub log2_rows: u8,
+    pub work: u32,
+    pub reserved: u32,
+}
+
+impl minisign_unopened_key {
+    pub const ZEROS: Self = Self {
+        mark: 0,
+        bytes: [0; 158],
+        is_sealed: 0,
+        log2_rows: 0,
+        work: 0,
+        reserved: 0,
+    };
+}
+
+/// Clears the secret.
+impl Drop for minisign_unopened_key {
+    fn drop(&mut self) {
+        clear(&mut self.bytes);
+    }
+}
+
+#[repr(C)]
+pub struct minisign_secret_key {
+    pub mark: u64,
+    pub key_id: [u8; 8],
+    pub secret: [u8; 64],
+}
+
+impl minisign_secret_key {
+    pub const ZEROS: Self = Self {
+        mark: 0,
+        key_id: [0; 8],
+        secret: [0; 64],
+    };
+}
+
+/// Clears the secret.
+impl Drop for minisign_secret_key {
+    fn drop(&mut self) {
+        clear(&mut self.secret);
+    }
+}
+
+#[repr(C)]
+pub struct minisign_new_key {
+    pub key_id: [u8; 8],
+    pub secret: [u8; 64],
+}
+
+impl minisign_new_key {
+    pub const ZEROS: Self = Self {
+        key_id: [0; 8],
+        secret: [0; 64],
+    };
+}
+
+/// Clears the secret.
+impl Drop for minisign_new_key {
+    fn drop(&mut self) {
+        clear(&mut self.secret);
+    }
+}
+
+#[repr(C)]
+pub struct minisign_signed_parts {
+    pub signature: [u8; 64],
+    pub comment_signature: [u8; 64],
+    pub trusted_comment: *const u8,
+    pub trusted_comment_len: usize,
+    pub untrusted_comment: *const u8,
+    pub untrusted_comment_len: usize,
+}
+
+#[repr(C)]
+pub struct minisign_sealing {
+    pub salt: [u8; 32],
+    pub operations_limit: u64,
+    pub memory_limit: u64,
+}
+
+impl minisign_sealing {
+    pub const ZEROS: Self = Self {
+        salt: [0; 32],
+        operations_limit: 0,
+        memory_limit: 0,
+    };
+}
+
+extern "C" {
+    pub fn minisign_version() -> u32;
+    pub fn minisign_error_text(error: u32, text: *mut u8, room: usize) -> usize;
+    pub fn minisign_init(state: *mut minisign_state);
+    pub fn minisign_update(state: *mut minisign_state, data: *const u8, len: usize) -> u32;
+    pub fn minisign_digest(state: *mut minisign_state, digest: &mut [u8; 64]) -> u32;
+    pub fn minisign_clear(value: *mut u8, size: usize);
+    pub fn minisign_read_public_key(
+        pk_text: *const u8,
+        pk_text_len: usize,
+        key: *mut minisign_public_key,
+    ) -> u32;
+    pub fn minisign_read_bare_public_key(
+        base64: *const u8,
+        base64_len: usize,
+        key: *mut minisign_public_key,
+    ) -> u32;
+    pub fn minisign_read_signature(
+        sig_text: *const u8,
+        sig_text_len: usize,
+        signature: *mut minisign_signature,
+    ) -> u32;
+    pub fn minisign_ask(
+        state: *mut minisign_state,
+        key: *const minisign_public_key,
+        signature: *const minisign_signature,
+        sig_text: *const u8,
+        sig_text_len: usize,
+        allow_legacy: u32,
+        questions: *mut minisign_questions,
+        message: *mut u8,
+        room: usize,
+    ) -> u32;
+    pub fn minisign_comment_verdict(state: *const minisign_state, second: u32) -> u32;
+    pub fn minisign_verdict(state: *mut minisign_state, first: u32, second: u32) -> u32;
+    pub fn minisign_read_secret_key(
+        sk_text: *const u8,
+        sk_text_len: usize,
+        unopened: *mut minisign_unopened_key,
+    ) -> u32;
+    pub fn minisign_open_unsealed_key(
+        unopened: *const minisign_unopened_key,
+        key: *mut minisign_secret_key,
+    ) -> u32;
+    pub fn minisign_open_sealed_key(
+        unopened: *const minisign_unopened_key,
+        password: *const u8,
+        password_len: usize,
+        keep_every: u64,
+        most_rows: u64,
+        key: *mut minisign_secret_key,
+    ) -> u32;
+    pub fn minisign_opening_memory(
+        unopened: *const minisign_unopened_key,
+        keep_every: u64,
+        most_rows: u64,
+        words_wanted: *mut u64,
+        bytes_wanted: *mut u64,
+    );
+    pub fn minisign_open_sealed_key_in_place(
+        unopened: *const minisign_unopened_key,
+        password: *const u8,
+        password_len: usize,
+        keep_every: u64,
+        most_rows: u64,
+        words: *mut u32,
+        words_len: usize,
+        bytes: *mut u8,
+        bytes_len: usize,
+        key: *mut minisign_secret_key,
+    ) -> u32;
+    pub fn minisign_take_secret_key(
+        new_key: *const minisign_new_key,
+        key: *mut minisign_secret_key,
+    );
+    pub fn minisign_public_key_of(
+        key: *const minisign_secret_key,
+        public_key: *mut minisign_public_key,
+    ) -> u32;
+    pub fn minisign_comment_message(
+        first: &[u8; 64],
+        trusted: *const u8,
+        trusted_len: usize,
+        message: *mut u8,
+        room: usize,
+    ) -> u32;
+    pub fn minisign_signed_text(
+        key: *const minisign_public_key,
+        parts: *const minisign_signed_parts,
+        text: *mut u8,
+        room: usize,
+        text_len: *mut usize,
+    ) -> u32;
+    pub fn minisign_secret_key_text(
+        key: *const minisign_secret_key,
+        with_password: u32,
+        password: *const u8,
+        password_len: usize,
+        sealing: *const minisign_sealing,
+        keep_every: u64,
+        comment: *const u8,
+        comment_len: usize,
+        text: *mut u8,
+        room: usize,
+        text_len: *mut usize,
+    ) -> u32;
+    pub fn minisign_secret_key_text_with_any_limits(
+        key: *const minisign_secret_key,
+        with_password: u32,
+        password: *const u8,
+        password_len: usize,
+        sealing: *const minisign_sealing,
+        keep_every: u64,
+        comment: *const u8,
+        comment_len: usize,
+        text: *mut u8,
+        room: usize,
+        text_len: *mut usize,
+    ) -> u32;
+    pub fn minisign_public_key_text(
+        key: *const minisign_secret_key,
+        comment: *const u8,
+        comment_len: usize,
+        text: *mut u8,
+        room: usize,
+        text_len: *mut usize,
+    ) -> u32;
+}
+
+/// Writes zeros, by volatile writes, which the compiler does not remove.
+pub fn clear(bytes: &mut [u8]) {
+    bytes
+        .iter_mut()
+        .for_each(|byte| unsafe { core::ptr::write_volatile(byte, 0) });
+}
