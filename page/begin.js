@@ -5,7 +5,7 @@
 // The shortest module with a 32-bit memory and a function that takes a 64-bit number.
 const SHORTEST = Uint8Array.of(0, 97, 115, 109, 1, 0, 0, 0, 1, 5, 1, 96, 1, 126, 0, 5, 3, 1, 0, 1);
 
-const FROM_DISK = "Save the page and open it from disk, or open it by https.";
+const FROM_DISK = "Save the page and open it from disk";
 
 // Returns what the browser lacks, in words.
 async function lackingParts() {
@@ -13,7 +13,7 @@ async function lackingParts() {
   const parts = hasWebAssembly ? [] : ["WebAssembly"];
   if (!await hasEd25519()) {
     parts.push(isSecureContext ? "Ed25519 in WebCrypto"
-      : "Ed25519 here, since this page was not opened from disk or by https");
+      : "Ed25519 for pages that are not opened from disk or by https");
   }
   return parts;
 }
@@ -25,10 +25,11 @@ function showUnusable(words) {
 }
 
 async function begin(script) {
+  keepSource(script);
   const parts = await lackingParts();
   if (parts.length > 0) {
     showUnusable(`This browser lacks ${parts.join(", and ")}, so this page cannot verify anything in it. ` +
-      (isSecureContext ? "A newer browser may have it." : FROM_DISK));
+      (isSecureContext ? "Use a newer browser, or the program minisign." : `${FROM_DISK}, or open it by https.`));
     return;
   }
   const module = bytesOfBase64(MODULE);
@@ -36,12 +37,13 @@ async function begin(script) {
     library = await Library.load(module);
   } catch (why) {
     const isPolicy = why instanceof WebAssembly.CompileError && WebAssembly.validate(module);
-    showUnusable(isPolicy ? `The server of this page forbids WebAssembly, so the page cannot verify anything. ${FROM_DISK}`
-      : "This browser cannot run the proved library, so this page cannot verify anything. A newer browser may run it.");
+    showUnusable(isPolicy ? `The server of this page forbids WebAssembly, so the page cannot verify anything. ${FROM_DISK}.`
+      : "This browser cannot run the proved library, so this page cannot verify anything. Use a newer browser, or the program minisign.");
     return;
   }
   engineBegun = beginEngine(script);
   takePresets();
+  listRelease();
   hideAnswered();
   listen();
   byId("lacking").hidden = true;
@@ -75,6 +77,8 @@ function listen() {
       take(files);
     });
   }
+  byId("own-title").value = document.title;
+  byId("own-save").addEventListener("click", saveOwnPage);
   byId("key-remove").addEventListener("click", () => inTurnOfKey(removeKey));
   byId("clear").addEventListener("click", () => inTurn(clearList));
   // A site that opened this page can change the part of the address after #. Then the page starts again.
@@ -87,6 +91,10 @@ function listen() {
   }
   addEventListener("drop", event => {
     const {files, hasDirectories} = droppedFiles(event.dataTransfer);
+    if (byId("own").contains(event.target)) {
+      byId("own-signatures").files = event.dataTransfer.files;
+      return;
+    }
     const section = [...document.querySelectorAll("section")].find(each => each.contains(event.target));
     if (files.length === 0 && !hasDirectories) {
       takeDroppedText(section?.querySelector("textarea"), event.dataTransfer.getData("text/plain"));

@@ -2,27 +2,35 @@
 # SPDX-License-Identifier: MIT
 """Builds the page that verifies a download: one HTML file that loads nothing.
 
-    page/build.py [OUT] [--key LETTERS [--signature FILE.minisig ..]] [--title TITLE] [--from PAGE]
+    page/build.py [OUT] [--key KEY [--signature FILE.minisig .. [--name NAME] [--version VERSION] [--link FILE=ADDRESS ..]]]
+                  [--title TITLE] [--from PAGE | --prove]
     page/build.py [OUT] --package [--from PAGE]
 
 OUT is the page; the default is `page/minisign.html`. It contains the script, the style, the module, and a content
-security policy that allows only these. The script proves the crate minisign_page for 64-bit WebAssembly and builds it.
-Then wasm-opt turns the result into a module with 32-bit memory, which more browsers run.
+security policy that allows only these. The module is that of an existing page, by default `dist/minisign.html`.
 
-    --key LETTERS      build in this public key, a line of 56 letters and digits; the page then accepts no other key
-    --signature FILE   build in these signatures too; the page then only asks for the download
+    --key KEY          build in this public key, its file or its 56 characters; the page then accepts no other key
+    --signature FILE   build in these signatures of a release too; the page then only asks for the download
+    --name NAME        the name of the program that is released
+    --version VERSION  the version of the release
+    --link FILE=ADDRESS
+                       link from this file of the release to an address that begins with https:// or is relative
     --title TITLE      the heading of the page
-    --from PAGE        use the module of an existing page; this needs neither the kit nor wasm-opt
+    --from PAGE        use the module of this page
+    --prove            prove and build the module: the crate minisign_page for 64-bit WebAssembly, which wasm-opt turns into a
+                       module with 32-bit memory, because more browsers run it
     --package          write the module as a JavaScript module for the package in bindings/javascript, and no page
 
 The same sources give the same bytes; their SHA-256 sum is printed. The page shows its version. If `dist/PROVED` records
 the module and the sum of the sources (`tools/sources.sh page`), the page shows this sum too. Otherwise it says that
 nothing is known about its proof.
 
-The command `rt` can only prove for the processor on which it runs, so this script calls the prover itself. It uses
+The button "Save the page" of a page without a built-in key makes the same page from the same input, byte for byte.
+
+The command `rt` can only prove for the processor on which it runs, so `--prove` calls the prover itself. It uses
 libraries that are already proved, and proves the others first (`tests/shared/proved.py`).
 
-Needs Python 3.9 or later, the kit, and Debian's binaryen.
+Needs Python 3.9 or later; with `--prove` also the kit, and Debian's binaryen.
 """
 
 import argparse
@@ -51,7 +59,7 @@ MEMORY = 6 * 1048576
 PACKAGE = "bindings/javascript"
 # The scripts, in their order: modules of the JavaScript package, and then those of the page.
 SCRIPTS = (*(f"{PACKAGE}/{name}" for name in ("calls.js", "ed25519.js", "verification.js")),
-           *(f"page/{name}" for name in ("engine.js", "texts.js", "words.js", "page.js", "rows.js", "begin.js")))
+           *(f"page/{name}" for name in ("engine.js", "texts.js", "words.js", "page.js", "rows.js", "release.js", "begin.js")))
 TITLE = "Verify a download"
 KEY_LETTERS = 56
 KEY_BYTES = 42
@@ -129,7 +137,7 @@ def version():
 def proved_module():
     """Proves the library and builds it. Returns the 64-bit module."""
     if shutil.which("rt") is None:
-        raise NotPossible("building the module needs the kit of Rattle, but there is no command rt; use --from to take the module of a page")
+        raise NotPossible("--prove needs the command rt of the Rattle kit; without --prove, the module of dist/minisign.html is used")
     print("page: building its module, after proving what is not proved yet", flush=True)
     with tempfile.TemporaryDirectory(prefix="minisign-page-") as directory:
         archive, linked = f"{directory}/lib{CRATE}.a", f"{directory}/{CRATE}.wasm"
@@ -168,7 +176,7 @@ def taken_from(path):
         raise NotPossible(f"{path} cannot be read: {why}") from None
     module, by = re.search(r'^const MODULE = "(.*)";$', text, re.M), re.search(r"^const LOWERED_BY = (\".*\");$", text, re.M)
     if module is None or by is None:
-        raise NotPossible(f"{path} is no page that page/build.py has built")
+        raise NotPossible(f"{path} was not built by page/build.py")
     return base64.b64decode(module[1]), json.loads(by[1])
 
 
@@ -190,6 +198,22 @@ def policy(script, style):
     ])
 
 
+def given_key(word):
+    """Returns the key that was passed as --key: its 56 characters, or a file with them on its second line or as its only line."""
+    if not os.path.isfile(word):
+        return checked_key(word)
+    try:
+        with open(word, encoding="utf-8") as file:
+            lines = [line.strip() for line in file.read(65536).split("\n")]
+    except (OSError, UnicodeDecodeError) as why:
+        raise NotPossible(f"{word} cannot be read: {why}") from None
+    is_whole = lines[0].startswith("untrusted comment:")
+    try:
+        return checked_key(lines[1] if is_whole and len(lines) > 1 else lines[0])
+    except NotPossible:
+        raise NotPossible(f"{word} is not a public key file") from None
+
+
 def checked_key(letters):
     """Returns the key if it has the form of a public key."""
     try:
@@ -197,7 +221,7 @@ def checked_key(letters):
     except (binascii.Error, ValueError):
         record = b""
     if len(letters) != KEY_LETTERS or len(record) != KEY_BYTES or record[:2] != b"Ed":
-        raise NotPossible(f"{letters!r:.80} is not a public key: a key is one line of {KEY_LETTERS} letters and digits that begins with RW")
+        raise NotPossible(f"{letters!r:.80} is not a public key: a key is one line of {KEY_LETTERS} characters that begins with RW, or its file")
     return letters
 
 
@@ -207,11 +231,61 @@ def checked_signatures(paths, key):
     for path in paths:
         name = os.path.basename(path)
         if not name.endswith(SIGNATURE_ENDING) or name == SIGNATURE_ENDING:
-            raise NotPossible(f"{path} is not named as a signature, FILE{SIGNATURE_ENDING}; if it is the page to write, put it first")
+            raise NotPossible(f"{path} is not named FILE{SIGNATURE_ENDING}; if it is the page to write, put it before --signature")
         if name in found:
             raise NotPossible(f"two signatures are named {name}, so both would be for the same file")
         found[name] = checked_signature(path, key)
-    return list(found.items())
+    return sorted(found.items(), key=utf16)
+
+
+def utf16(pair):
+    """Returns the name of a pair in UTF-16, in whose order the page sorts names."""
+    return pair[0].encode("utf-16-be", "surrogatepass")
+
+
+# The characters of a link, and those that a title and names must not contain, because they are invisible or change the direction of
+# other text. page/release.js has the same rules.
+LINK = re.compile(r"[\w.~:/?#\[\]@!$&'()*+,;=%-]+", re.ASCII)
+MISLEADING = re.compile("[\x00-\x1f\x7f-\x9f\xad\u061c\u180e\u200b-\u200f\u2028-\u202e\u2060-\u206f\ufeff\ufff9-\ufffb]")
+
+
+def is_safe_link(link):
+    """Returns true if a link is relative, or begins with https and names a host."""
+    scheme = re.match(r"([^/?#]*):", link)
+    is_right = not link.startswith("//") if scheme is None else scheme[1] == "https" and re.match(r"https://[^/?#]", link)
+    return bool(LINK.fullmatch(link) and is_right)
+
+
+def checked_text(text, what):
+    """Returns a title or a name without white space at its ends, if it has no misleading characters."""
+    if MISLEADING.search(text.strip()):
+        raise NotPossible(f"the {what} contains a character that is invisible or changes the direction of text")
+    return text.strip()
+
+
+def name_in_release(name, text):
+    """Returns the name of the file of a release that a signature is for: the signed one, or that of the signature file without its ending."""
+    comment = text.split("\n")[2].strip().replace("trusted comment: ", "", 1)
+    names = [field[len("file:"):] for field in comment.split("\t") if field.startswith("file:")]
+    return re.split(r"[\\/]", names[0])[-1] if len(names) == 1 else name[:-len(SIGNATURE_ENDING)]
+
+
+def checked_release(name, version, links, signatures):
+    """Returns the name, the version and the links of a release, whose signatures are pairs of name and text."""
+    if not signatures and (name or version or links):
+        raise NotPossible("--name, --version and --link describe a release, so they need --signature")
+    names, found = [name_in_release(*signature) for signature in signatures], {}
+    for word in links:
+        file = next((each for each in names if word.startswith(f"{each}=")), None)
+        link = word[len(file) + 1:] if file is not None else ""
+        if file is None:
+            raise NotPossible(f"--link {word}: there is no --signature for this file, but only for {', '.join(names)}")
+        if not is_safe_link(link):
+            raise NotPossible(f"--link {word}: the address has to begin with https://, or be relative")
+        if file in found:
+            raise NotPossible(f"{file} has two links")
+        found[file] = link
+    return {"name": checked_text(name, "name"), "version": checked_text(version, "version"), "links": sorted(found.items(), key=utf16)}
 
 
 def checked_signature(path, key):
@@ -225,10 +299,10 @@ def checked_signature(path, key):
     try:
         records = {at: base64.b64decode(lines[at], validate=True) for at in RECORDS}
     except (IndexError, binascii.Error, ValueError):
-        raise NotPossible(f"{path} is no signature") from None
+        raise NotPossible(f"{path} is not a signature file") from None
     has_records = all(records[at].startswith(begin) and len(records[at]) == length for at, (begin, length) in RECORDS.items())
     if not has_records or not all(lines[at].startswith(begin) for at, begin in COMMENTS.items()):
-        raise NotPossible(f"{path} is no signature")
+        raise NotPossible(f"{path} is not a signature file")
     if records[1][2:10] != base64.b64decode(key)[2:10]:
         raise NotPossible(f"{path} was made with another key")
     return text
@@ -236,25 +310,27 @@ def checked_signature(path, key):
 
 def constant(name, value):
     """Returns a line of the script that defines a constant. It contains no `<`, so that it cannot end the script."""
-    return f"const {name} = {json.dumps(value)};".replace("<", "\\u003c")
+    return f"const {name} = {json.dumps(value, separators=(',', ':'))};".replace("<", "\\u003c")
 
 
 def made_from(module, by, sums):
     """Returns what the page says about its sources and its proof. `sums` are those of the module and the sources in dist/PROVED."""
     if sums != (sum_of(module), sources_sum()):
-        return "This page and the library inside are not those that dist/PROVED of the sources names, so nothing is said of their proof."
+        return "This page was not made from the sources and the library that dist/PROVED names, so it makes no claim about proofs."
     return (f'Made from the sources with the SHA-256 sum <span class="letters" translate="no">{sums[1]}</span>. The library inside is '
-            f"proved as it was built for 64-bit WebAssembly; {html.escape(by)} made the module for 32 bits of it, and this and the page "
-            "around it are tested.")
+            f"proved as built for 64-bit WebAssembly. Its conversion to 32 bits by {html.escape(by)}, and the page around it, are tested but "
+            "not proved.")
 
 
-def page(module, by, key="", title=TITLE, signatures=(), sums=None):
-    """Returns the page with a 32-bit module, which the tool `by` made, and with a built-in key and signatures, as pairs of name and
-    text. `sums` are those of the module and the sources that are proved; the default is those in dist/PROVED."""
+def page(module, by, key="", title=TITLE, signatures=(), release=None, sums=None):
+    """Returns the page with a 32-bit module, which the tool `by` made, and with a built-in key, signatures, as pairs of name and text,
+    and release, as checked_release returns it. `sums` are those of the module and the sources that are proved; the default is those in
+    dist/PROVED."""
     constants = [constant("MODULE", base64.b64encode(module).decode()), constant("LOWERED_BY", by),
-                 constant("BUILT_IN_KEY", key and checked_key(key)), constant("BUILT_IN_SIGNATURES", signatures)]
+                 constant("BUILT_IN_KEY", key and checked_key(key)), constant("BUILT_IN_SIGNATURES", signatures),
+                 constant("BUILT_IN_RELEASE", release or checked_release("", "", [], []))]
     script = "\n".join(['"use strict";', *constants, *map(script_of, SCRIPTS)])
-    parts = {"policy": policy(script, style()), "style": style(), "script": script, "title": html.escape(title),
+    parts = {"policy": policy(script, style()), "style": style(), "script": script, "title": html.escape(title, quote=False),
              "licence": read("LICENSE").strip(), "version": version(), "made": made_from(module, by, sums or named_sums())}
     return re.sub(r"\{\{(\w+)\}\}", lambda found: parts[found[1]], read("page/page.html"))
 
@@ -278,12 +354,19 @@ def write(out, text):
 def options(words):
     """Parses the command line."""
     parser = argparse.ArgumentParser(prog="page/build.py", description="Writes the page that verifies a download.")
-    parser.add_argument("--key", default="", metavar="LETTERS", help="build in this public key, a line of 56 letters and digits")
+    parser.add_argument("--key", default="", metavar="KEY", help="build in this public key, its file or its 56 characters")
     parser.add_argument("--signature", default=[], nargs="+", action="extend", metavar="FILE.minisig",
-                        help="build in these signatures too, so that the page only asks for the download")
+                        help="build in these signatures too, so that the page asks only for the download")
+    parser.add_argument("--name", default="", help="the name of the program that is released")
+    parser.add_argument("--version", default="", help="the version of the release")
+    parser.add_argument("--link", default=[], nargs="+", action="extend", metavar="FILE=ADDRESS",
+                        help="link from this file of the release to an address that begins with https:// or is relative")
     parser.add_argument("--title", default=TITLE, metavar="TITLE", help="the heading of the page")
-    parser.add_argument("--from", dest="built", metavar="PAGE", help="use the module of this existing page")
-    parser.add_argument("--package", action="store_true", help="write the module of the JavaScript package, and no page")
+    module = parser.add_mutually_exclusive_group()
+    module.add_argument("--from", dest="built", default=os.path.join(TOP, "dist", "minisign.html"), metavar="PAGE",
+                        help="use the module of this page (default: dist/minisign.html)")
+    module.add_argument("--prove", action="store_true", help="prove and build the module, which needs the Rattle kit")
+    parser.add_argument("--package", action="store_true", help="write the module of the JavaScript package instead of a page")
     parser.add_argument("out", nargs="?", metavar="OUT", help="the page or the module to write")
     return parser.parse_args(words)
 
@@ -292,15 +375,18 @@ def main(words):
     given = options(words)
     try:
         if given.package:
-            module, by = taken_from(given.built or os.path.join(TOP, "dist", "minisign.html"))
+            module, by = taken_from(given.built)
             write(os.path.abspath(given.out or os.path.join(TOP, PACKAGE, "module.js")), package_module(module, by))
             return 0
-        key = given.key and checked_key(given.key)
+        key = given.key and given_key(given.key)
         if given.signature and not key:
-            raise NotPossible("a page with signatures has a key, too: use --key")
+            raise NotPossible("--signature needs --key, the key that made the signatures")
         signatures = checked_signatures(given.signature, key)
-        module, by = taken_from(given.built) if given.built else (lowered(proved_module()), lowering())
-        write(os.path.abspath(given.out or os.path.join(HERE, "minisign.html")), page(module, by, key, given.title, signatures))
+        release, title = checked_release(given.name, given.version, given.link, signatures), checked_text(given.title, "title")
+        if title == "":
+            raise NotPossible("the title is empty")
+        module, by = (lowered(proved_module()), lowering()) if given.prove else taken_from(given.built)
+        write(os.path.abspath(given.out or os.path.join(HERE, "minisign.html")), page(module, by, key, title, signatures, release))
     except (NotPossible, needs.Missing, proved.NotBuilt, OSError) as why:
         print(f"page/build.py: {why}", file=sys.stderr)
         return 1

@@ -32,15 +32,15 @@ let pasted = null, pastedCount = 0;
 let lastTurn = Promise.resolve();
 // For each unfinished action, a function that returns true for the downloads that the action may change.
 const unfinished = new Set();
-// The last action of the visitor. isAnswered is true once a verdict that it caused was shown.
-let lastAct = {isAnswered: false};
+// The last action of the visitor. isAnswered is true once a verdict that it caused was shown, and hasBad once a bad one was.
+let lastAct = {isAnswered: false, hasBad: false};
 
 // Runs an action after all earlier ones. The downloads that it may change become unverified at once, and stay so until it has ended,
 // because reading a key, a file or a signature from a slow disk takes seconds.
 function inTurn(act, mayChange = () => false) {
   const isChanging = download => mayChange(download);
   const begin = () => {
-    lastAct = {isAnswered: false};
+    lastAct = {isAnswered: false, hasBad: false};
     return act();
   };
   const showPending = () => {
@@ -160,7 +160,8 @@ function takePresets() {
   const {keys, letters, signatures} = partsOfLink(location.hash.slice(1));
   const take = (name, text, isBuiltIn) => {
     if (kindOfText(text) === "signature") {
-      presetSignatures.push({file: new File([text], name), names: [nameOfSigned(name), ...namesIn(text)], isBuiltIn});
+      const names = [nameOfSigned(name), ...namesIn(text)];
+      presetSignatures.push({file: new File([text], name), names, isBuiltIn, releaseName: nameInRelease(name, text)});
     } else {
       sayOfFiles(NO_SIGNATURE_IN_ADDRESS);
     }
@@ -325,7 +326,7 @@ async function takeKeysAmongFiles(files) {
     // On a page that only needs the download, the key is shown below.
     const side = byId("key").nextElementSibling ? "above" : "below";
     for (const file of files) {
-      const reason = key ? [`the key ${side} is kept, `, lettersBox(key.keyId), "."] : [`the text in the field ${side} ${NO_KEY_IN_FIELD}`];
+      const reason = key ? [`this page uses the key ${side}, `, lettersBox(key.keyId), "."] : [`the text in the field ${side} ${NO_KEY_IN_FIELD}`];
       sayOfFiles(nameOf(file.name), " came with the files and was ignored: ", ...reason);
     }
   } else if (files.length > 1) {
@@ -350,7 +351,7 @@ function clearMessages() {
 function takeDownload(file, name, part) {
   if (!downloads.has(name)) {
     const row = element("li", "");
-    downloads.set(name, {name, data: null, signature: null, pastedAt: 0, tried: null, row, run: null, act: null});
+    downloads.set(name, {name, bareName: bareName(name), data: null, signature: null, pastedAt: 0, tried: null, row, run: null, act: null});
     byId("verdicts").append(downloads.get(name).row);
   }
   const download = downloads.get(name);
@@ -410,9 +411,10 @@ function reviewAll() {
   work();
 }
 
-// Returns true if a download has everything that is needed to verify it.
-function isComplete(download) {
-  return key !== null && download.data !== null && signaturesOf(download).length > 0;
+// Returns the names of PARTS that a download lacks.
+function missingParts(download) {
+  const isMissing = [download.data === null, signaturesOf(download).length === 0, key === null];
+  return PARTS.filter((_, at) => isMissing[at]);
 }
 
 // Removes the next download that can be verified from `changed`, and returns it, or undefined. A download that an unfinished action may
@@ -421,7 +423,7 @@ function takeChanged() {
   for (const download of changed) {
     if (!isHeld(download)) {
       changed.delete(download);
-      if (isComplete(download)) {
+      if (missingParts(download).length === 0) {
         return download;
       }
     }
@@ -461,10 +463,10 @@ function rejected(number, keyIds) {
 
 // Returns the verdict for the first valid signature of a download, or for all of them if none is valid, or null if the run was stopped.
 async function verdictOn(download, run) {
-  const signatures = signaturesOf(download), isRelease = signatures[0].isBuiltIn, failed = [];
+  const signatures = signaturesOf(download), isRelease = signatures[0].isBuiltIn, failed = [], reading = new Reading(download.data);
   for (const signature of signatures) {
     download.tried = signature.file;
-    const verdict = await verdictBy(signature.file, download, run);
+    const verdict = await verdictBy(signature.file, download, run, reading);
     if (verdict === null) {
       return null;
     }
@@ -513,7 +515,30 @@ function failedVerdict(failed, isRelease) {
   return failed.length === 1 ? failed[0] : {verdict: "bad", why: NONE_FITS};
 }
 
-async function verdictBy(signature, download, run) {
+// The data of a download. It is read once for all prehashed signatures that are tried, because reading a file takes much longer than
+// checking a signature, and at most once more for all legacy ones, which also need the data itself.
+class Reading {
+  constructor(file) {
+    Object.assign(this, {file, library, state: null, legacyData: null, isRead: false});
+  }
+
+  // Reads the file, unless it was read before. Returns false if it cannot be read, or if reportProgress returned false.
+  async read(isLegacy, engine, reportProgress) {
+    if (!this.isRead || isLegacy && this.legacyData === null) {
+      this.state = library.begin();
+      this.legacyData = isLegacy ? [] : null;
+      this.isRead = await engine.feedFile(this.file, this, reportProgress);
+    }
+    return this.isRead;
+  }
+
+  feed(bytes) {
+    library.feed(this.state, bytes);
+    this.legacyData?.push(bytes);
+  }
+}
+
+async function verdictBy(signature, download, run, reading) {
   const {data} = download;
   // Shows the number of bytes that were read. Returns false if the run was stopped.
   const reportProgress = done => {
@@ -525,7 +550,7 @@ async function verdictBy(signature, download, run) {
   reportProgress(0);
   const text = await textOfFile(signature);
   if (text === null) {
-    return {verdict: "bad", why: "The signature file cannot be read, or is too large for a signature."};
+    return {verdict: "bad", why: "The signature file cannot be read, or is too large to be a signature. Get the signature again."};
   }
   // The key and the signature are checked before any data is read.
   const read = library.readSignature(text), keyIds = {publicKeyId: run.key.keyId, signatureKeyId: read.keyId};
@@ -538,13 +563,14 @@ async function verdictBy(signature, download, run) {
   }
   const engine = read.isLegacy || data.size <= MAX_NEAR_BYTES ? new NearEngine() : await engineBegun;
   // A stopped run must not use the threads of the next one.
-  const isRead = !run.isStopped && await engine.feedFile(data, verification, reportProgress);
+  const isRead = !run.isStopped && await reading.read(read.isLegacy, engine, reportProgress);
   if (run.isStopped) {
     return null;
   }
   if (!isRead) {
-    return {verdict: "bad", why: "The file could not be read, or it changed while it was read."};
+    return {verdict: "bad", why: "The file could not be read, or it changed while it was read. Choose it again."};
   }
+  verification.takeFed(reading.state, reading.legacyData ?? []);
   const {number, first} = await verification.end();
   if (number === 0) {
     return {verdict: "good", number, keyIds, comment: verification.comment()};

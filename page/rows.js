@@ -18,10 +18,14 @@ function verdictBox(verdict, ...more) {
 // The maximum number of files that the band names. page.css cuts off names for which there is no space.
 const MAX_NAMED = 20;
 
-// Shows at the top of the window the worst verdict, the files that have it, and the next step.
+// Shows at the top of the window the worst verdict, the files that have it, and the next step. Also shows what is said once for all
+// files.
 function showBand() {
   const all = [...downloads.values()], verdictsOf = download => download.row.dataset.verdict;
   const found = new Set(all.map(verdictsOf));
+  orderRows(all);
+  showWhose(all);
+  showRelease(all);
   const verdict = [...VERDICTS.keys()].find(each => found.has(each));
   byId("band").hidden = verdict === undefined;
   if (verdict === undefined) {
@@ -30,9 +34,39 @@ function showBand() {
   const files = all.filter(download => verdictsOf(download) === verdict);
   const count = all.length > 1 ? ` (${files.length} of ${all.length} files)` : "";
   // A file that is being read may be the missing one.
-  const step = verdict === "waiting" && unfinished.size > 0 ? "reading" : verdict;
+  const isReading = verdict === "waiting" && unfinished.size > 0, [, , ...steps] = VERDICTS.get(isReading ? "reading" : verdict);
+  const step = steps.length > 0 ? steps[files.length > 1 ? 1 : 0] : missingStep(new Set(files.flatMap(missingParts)));
   byId("band").dataset.verdict = verdict;
-  byId("band").replaceChildren(element("p", "", verdictBox(verdict, `${count}: `, ...namesOf(files))), element("p", "", VERDICTS.get(step)[2]));
+  byId("band").replaceChildren(element("p", "", verdictBox(verdict, `${count}: `, ...namesOf(files))), element("p", "", step));
+}
+
+// Moves the rows of bad files to the beginning of the list. Otherwise rows are in the order in which the files came. A row that is
+// moved keeps the focus.
+function orderRows(all) {
+  const isBad = ({row}) => row.dataset.verdict === "bad", focused = document.activeElement;
+  let next = byId("verdicts").firstChild;
+  for (const {row} of [...all.filter(isBad), ...all.filter(download => !isBad(download))]) {
+    if (row === next) {
+      next = row.nextSibling;
+    } else {
+      byId("verdicts").insertBefore(row, next);
+    }
+  }
+  if (byId("verdicts").contains(focused)) {
+    focused.focus({preventScroll: true});
+  }
+}
+
+// Shows above the list whose key the results are about. It is said once, and not for each file.
+function showWhose(all) {
+  const has = (name, value) => all.some(({row}) => row.dataset[name] === value);
+  const {isGiven = true, fits = "", fails = ""} = SOURCES.get(key?.source.kind) ?? {};
+  const words = has("number", "0") ? fits : has("verdict", "bad") ? fails : "";
+  // A screen reader reads the sentence when it changes.
+  if (byId("whose").textContent !== words) {
+    byId("whose").textContent = words;
+    byId("whose").className = words === "" || isGiven ? "" : "caution";
+  }
 }
 
 // Returns the names of files, each of which is cut if it is long, with commas between them.
@@ -53,6 +87,8 @@ function partsLine({name, data, signature, tried}) {
 // The functions that draw rows that have changed, the time at which rows were last drawn, and the timer for the next time.
 const undrawn = new Map();
 let drawnAt = -Infinity, drawing;
+// The row that has to be scrolled into view after all rows were drawn, or null.
+let rowToView = null;
 
 // Schedules the drawing of a row, at least `after` milliseconds after rows were last drawn. Many rows are drawn less often.
 function draw(download, show, after = 0) {
@@ -66,6 +102,8 @@ function drawAll() {
   undrawn.clear();
   shows.forEach(show => show());
   showBand();
+  rowToView?.scrollIntoView({block: "nearest"});
+  rowToView = null;
   drawnAt = performance.now();
 }
 
@@ -85,13 +123,16 @@ function fill(download, verdict, ...inside) {
 
 // Shows for what an unverified download waits.
 function showWaiting(download) {
-  const {name, data} = download;
-  const [state, ...why] = isHeld(download) ? ["queued", "It waits until the files that you added last have been read."]
-    : !data ? ["waiting", "The file itself is missing. Choose or drop it, or both together."]
-      : signaturesOf(download).length === 0
-        ? ["waiting", "Its signature is missing. Choose or drop ", nameOf(name + SIGNATURE_ENDING), ", or both together."]
-        : key ? ["queued", "It waits for the files before it."] : ["waiting", "The public key is missing."];
-  fill(download, state, partsLine(download), element("p", "", ...why));
+  const missing = missingParts(download);
+  const linesOfParts = new Map([
+    ["file", ["The file itself is missing. Choose or drop it."]],
+    ["signature", ["Its signature is missing. Choose or drop ", nameOf(download.name + SIGNATURE_ENDING), "."]],
+    ["public key", ["The public key is missing. Paste it, or choose its file."]],
+  ]);
+  const [state, lines] = isHeld(download) ? ["queued", [["It will be verified once this page has read the files that you added last."]]]
+    : missing.length === 0 ? ["queued", [["It will be verified after the files before it."]]]
+      : ["waiting", missing.map(part => linesOfParts.get(part))];
+  fill(download, state, partsLine(download), ...lines.map(line => element("p", "", ...line)));
 }
 
 function showProgress(download, done) {
@@ -116,25 +157,38 @@ function stopByHand(download) {
   say(download, `${VERDICTS.get("stopped")[1]}.`);
 }
 
-// Shows a verdict. If nobody gave the key on purpose, it is never "good". The first verdict after an action is scrolled into view.
+// Shows a verdict. If nobody gave the key on purpose, it is never "good". The first verdict after an action is scrolled into view, and
+// later the first bad one, if any.
 function showVerdict(download, verdict, source) {
   const {why, number, keyIds, comment, otherNames = []} = verdict, isSigned = comment !== undefined;
-  const {isGiven, fits, fails} = SOURCES.get(source.kind);
-  const name = isSigned && !isGiven ? "unchecked" : verdict.verdict;
-  const ofKey = isSigned ? fits : fails, warning = name === "unlisted" ? UNLISTED : "";
-  fill(download, name, ...(ofKey ? [element("p", isGiven ? "" : "caution", ofKey)] : []),
-    ...(warning ? [element("p", "caution", warning)] : []), partsLine(download),
-    ...(isSigned ? signedLines(verdict, source) : badLines(verdict)));
+  const name = isSigned && !SOURCES.get(source.kind).isGiven ? "unchecked" : verdict.verdict;
+  const warning = name === "unlisted" ? UNLISTED : "";
+  fill(download, name, ...(warning ? [element("p", "caution", warning)] : []), partsLine(download),
+    ...(isSigned ? signedLines(verdict, source) : badLines(verdict)), ...(name === "unsupported" ? commandLines(download) : []));
   if (number !== undefined) {
     download.row.dataset.number = number;
   }
   const [, words] = VERDICTS.get(name);
   const names = otherNames.map(other => `The signature is for a file named ${withCodes(other)}.`);
-  say(download, [`${words}.`, isSigned ? `The key is ${keyIds.publicKeyId}.` : why, warning, ...names, ofKey].filter(each => each).join(" "));
-  if (!download.act.isAnswered) {
-    download.act.isAnswered = true;
-    download.row.scrollIntoView({block: "nearest"});
+  say(download, [`${words}.`, isSigned ? `The key is ${keyIds.publicKeyId}.` : why, warning, ...names].filter(each => each).join(" "));
+  const {act, row} = download, isFirstBad = name === "bad" && !act.hasBad;
+  if (!act.isAnswered || isFirstBad) {
+    act.isAnswered = true;
+    act.hasBad ||= isFirstBad;
+    rowToView = row;
   }
+}
+
+// A file name that a shell takes as one word and not as an option.
+const PLAIN_NAME = /^[A-Za-z0-9_][A-Za-z0-9_.+-]*$/;
+
+// Returns the lines with the command that verifies a file which this page cannot verify. FILE stands for a name that a shell may
+// misinterpret.
+function commandLines({name, tried}) {
+  const file = PLAIN_NAME.test(name) ? name : "FILE", signature = tried?.name ?? "";
+  const option = signature === name + SIGNATURE_ENDING ? "" : ` -x ${PLAIN_NAME.test(signature) ? signature : `FILE${SIGNATURE_ENDING}`}`;
+  return [element("p", "", "In the folder of the file and its signature, run:"),
+    element("p", "", lettersBox(`minisign -Vm ${file}${option} -P ${key.letters}`))];
 }
 
 // Returns the lines for a file with a valid signature.
@@ -160,7 +214,7 @@ function signedLines({keyIds, comment, signedNames, otherNames}, source) {
 function nameLine(name, isOther) {
   const line = element("p", isOther ? "caution" : "", "The signature is for a file named ", nameOf(name), ".");
   if (isOther) {
-    line.append(" This may be a different file, or an older one.");
+    line.append(" The file that you have may be a different one, or an older version.");
   }
   return line;
 }

@@ -11,54 +11,54 @@ const UNKNOWN_ALGORITHM = 28, OTHER_KEY = 29, LEGACY_NOT_ACCEPTED = 30, COMMENT_
 
 const WHY_NO_KEY = new Map([
   [UNKNOWN_ALGORITHM, `This is not a Minisign public key: those begin with RW. ${NO_KEY}`],
-  [8, `The public key is not text in UTF-8. ${NO_KEY}`],
+  [8, `The public key is not UTF-8 text. ${NO_KEY}`],
   [16, `The public key is empty. ${NO_KEY}`],
   [17, `The public key file has no second line. ${NO_KEY}`],
-  [18, `The second line of the public key file does not have 56 letters and digits. ${NO_KEY}`],
-  [19, `The second line of the public key file has a character that a key cannot have. ${NO_KEY}`],
+  [18, `The second line of the public key file is not 56 characters long. ${NO_KEY}`],
+  [19, `The second line of the public key file contains a character that is not allowed in a key. ${NO_KEY}`],
   [20, `The public key is too short. ${NO_KEY}`],
-  [44, `This does not have the 56 letters and digits of a public key. ${NO_KEY}`],
-  [45, `The public key has a character that a key cannot have. ${NO_KEY}`],
+  [44, `A public key has 56 characters. This text is longer or shorter. ${NO_KEY}`],
+  [45, `The public key contains a character that is not allowed in a key. ${NO_KEY}`],
 ]);
 
 const WHY_NOT = new Map([
-  [8, `The signature is not text in UTF-8. ${DAMAGED}`],
+  [8, `The signature is not UTF-8 text. ${DAMAGED}`],
   [20, `The signature is too short. ${DAMAGED}`],
   [21, `The signature is empty. ${DAMAGED}`],
   [22, `The signature has no second line. ${DAMAGED}`],
   [23, `The signature has no third line. ${DAMAGED}`],
   [24, `The signature has no fourth line. ${DAMAGED}`],
   [25, `The first line of the signature does not begin with “untrusted comment:”. ${DAMAGED}`],
-  [26, `The second or fourth line of the signature has a character that a signature cannot have. ${DAMAGED}`],
+  [26, `The second or fourth line of the signature contains a character that is not allowed there. ${DAMAGED}`],
   [27, `The third line of the signature does not begin with “trusted comment:”. ${DAMAGED}`],
-  [UNKNOWN_ALGORITHM, `The signature has an algorithm that Minisign does not know. ${DAMAGED}`],
-  [OTHER_KEY, "The signature was made with another key than this public key."],
-  [LEGACY_NOT_ACCEPTED, "The signature is in Minisign's legacy format, which this page verifies only for files of up to 64 MiB. " +
-    "Verify the file with the program minisign instead."],
+  [UNKNOWN_ALGORITHM, `The signature uses an algorithm that Minisign does not support. ${DAMAGED}`],
+  [OTHER_KEY, "The signature was made with another key, so the public key on this page cannot verify it."],
+  [LEGACY_NOT_ACCEPTED, "The signature is in Minisign's legacy format. This page can verify such a signature only if the file has at most " +
+    "64 MiB. Verify the file with the program minisign instead."],
   [31, "This file is not the one that was signed, or the signature was not made with this key. Do not use the file."],
-  [COMMENT_NOT_SIGNED, "The trusted comment is not the one that was signed with the file. Do not use the file."],
+  [COMMENT_NOT_SIGNED, "The trusted comment was changed after the file was signed. Do not use the file."],
   [81, "The public key or the signature is weak or malformed, so it proves nothing about any file. Do not use the file."],
 ]);
 
 // For a comment that differs from the signed one only in white space at its beginning or end, which the library ignores.
-const WHY_NOT_ENDS = "The file is the one that was signed, but its trusted comment was signed with other white space at " +
-  "its beginning or end, and this page accepts only comments without such white space. This need not be an attack: ask the " +
-  "signer for a signature with a comment that begins and ends without white space.";
+const WHY_NOT_ENDS = "The file is the one that was signed, but the signer's trusted comment has white space at its beginning or end, " +
+  "and this page rejects such comments. This is probably a mistake and not an attack. Ask the signer for a new signature, with a " +
+  "comment that neither begins nor ends with white space.";
 
-const WENT_WRONG = "This page failed, so the file was not verified.";
-const TOO_LONG_A_KEY = "No public key: this file cannot be read, or is too large for a public key.";
+const WENT_WRONG = "An internal error occurred, so the file was not verified. Reload the page and try again.";
+const TOO_LONG_A_KEY = "No public key: this file cannot be read, or is too large to be a public key.";
 
 // Hints for other input in the field for the key, by the results of hintOf.
 const HINTS = new Map([
   ["secret key", "This is a secret key. Nobody but its owner may see it, and no web page needs it. " +
     "The public key is in another file, usually minisign.pub."],
-  ["signature", "This is a signature, not a key. Choose or drop it together with its file."],
+  ["signature", "This is a signature, not a key. Add it together with its file, as a download."],
   ["cut signature", "This is part of a signature, not a key. A public key begins with RW."],
   ["key", `This is a public key, not a signature.${BUILT_IN_KEY ? "" : " Paste it into the field for the key."}`],
   ["PGP", "This is a PGP key or signature, which this page cannot verify. The name of a Minisign signature ends in .minisig, and a " +
     "Minisign key begins with RW."],
   ["link", "This is a link to a page like this one. Whoever made the link chose the key in it. Paste the key that the project publishes."],
-  ["command", "This is a command line. Paste only the key in it: the 56 letters and digits after -P, which begin with RW."],
+  ["command", "This is a command line. Paste only its key: the 56 characters after -P, which begin with RW."],
   ["words", "There are other words, quotes or invisible characters around the key. Paste only the key:"],
   ["broken", "The key is broken over several lines. Paste it as one line:"],
   ["alone", "This is only the key, without the first line of a public key file. Paste it into the field:"],
@@ -67,48 +67,67 @@ const HINTS = new Map([
 const HINTS_WITH_KEY = ["command", "words", "broken", "alone"];
 const NO_SIGNATURE = "This is not a signature. A signature has four lines, and the first one begins with “untrusted comment:”.";
 
-const HAS_DIRECTORIES = "A directory cannot be verified. Open it and drop the files in it.";
-const SEVERAL_KEYS = "No public key: these are several keys. Choose or drop only one.";
-const NO_KEY_IN_ADDRESS = "No public key: in the link to this page, what follows # is not the 56 letters and digits of a key.";
-const OTHER_KEY_IN_ADDRESS = "The link to this page names another key, or something else, which is ignored.";
-const NO_SIGNATURE_IN_ADDRESS = "The link to this page has no complete signature after sig=. It may have been cut short.";
-const NONE_FITS = "None of the signatures here is for this file. Do not use the file.";
-const NOT_OF_RELEASE = "It is not a file of this release either: none of the signatures that are built into this page is for it.";
+const HAS_DIRECTORIES = "This page cannot verify a folder. Open the folder, select the files in it, and drop those here.";
+const SEVERAL_KEYS = "No public key: you added several keys. Add only one.";
+const NO_KEY_IN_ADDRESS = "No public key: the link to this page has no key of 56 characters after #.";
+const OTHER_KEY_IN_ADDRESS = "The link to this page contains another key or other text, which this page ignores. It accepts only its built-in key.";
+const NO_SIGNATURE_IN_ADDRESS = "The link to this page has no complete signature after sig=. It may have been cut off.";
+const NONE_FITS = "None of this page's signatures is for this file. Do not use the file.";
+const NOT_OF_RELEASE = "The file is not part of this release either: none of the signatures that are built into this page is for it.";
 const UNLISTED = "The signature of this file is not built into this page. It came with the file or with the link. " +
   "The file may be from an older release, or something else that the owner of the key has signed.";
-const NO_KEY_IN_FIELD = "is kept, but it is not a key. Correct it, or empty the field.";
-const WHOSE = "This page cannot know whose key it is. Compare its 56 letters and digits with the key that the project publishes.";
+const NO_KEY_IN_FIELD = "is not a key. Correct that text, or clear the field.";
+const WHOSE = "This page cannot know who owns the key. Compare all of its 56 characters with the key that the project publishes.";
 const WITH_FILES = "The key came with the files, so whoever made the files may have made the key.";
-const BY_LINK = "The key came with the link to this page, so whoever made the link chose it.";
-const PASTE = "Before you use the file, get the key from where the project publishes it, and paste it into the field for the key.";
+const BY_LINK = "The key came with the link to this page, so whoever made the link chose the key.";
+const PASTE = "Before you use a file, get the key from where the project publishes it, and paste it into the field for the key.";
+const WAIT = ["Wait until this page has read the file.", "Wait until this page has read the files."];
 
-// The verdicts, and the states before a verdict, from worst to best: symbol, words and next step. Their colours are in page.css.
-// A file that is being read comes before one that waits for input, so that nobody is asked for a file that is being read.
+// The verdicts, and the states before a verdict, from worst to best: symbol, words, and next step for one file and for several.
+// Their colours are in page.css. A file that is being read comes before one that waits for input, so that nobody is asked for a
+// file that is being read. The next step of a file that waits for input is in missingStep.
 const VERDICTS = new Map([
-  ["bad", ["✗", "NOT verified", `Do not use the file: get it${BUILT_IN_KEY ? "" : ", its signature and the key"} again from the project.`]],
-  ["unchecked", ["?", "Signed, by a key that you have not checked", "Before you use the file, paste the key that the project publishes."]],
-  ["unlisted", ["!", "Signed by this key, but not part of this release", "Get the file of this release from the project."]],
-  ["renamed", ["!", "Signed, but under another name", "Compare the two names, below, before you use the file."]],
-  ["unsupported", ["?", "This page cannot verify it", "Verify the file with the program minisign."]],
-  ["stopped", ["–", "Stopped before it was verified", "Verify it again, below."]],
-  ["reading", ["…", "Not verified yet", "Wait until it has been read."]],
-  ["queued", ["…", "Not verified yet", "Wait until it has been read."]],
-  ["waiting", ["…", "Not verified yet", "Add what is missing, below."]],
-  ["good", ["✓", "Verified", `You can use the file, if ${BUILT_IN_KEY ? "this page" : "the key"} is the project's own.`]],
+  ["bad", ["✗", "NOT verified", ...BUILT_IN_KEY
+    ? ["Do not use this file. Download it again from the project.", "Do not use these files. Download them again from the project."]
+    : ["Do not use this file. Get it, its signature and the key again from the project.",
+      "Do not use these files. Get them, their signatures and the key again from the project."]]],
+  ["unchecked", ["?", "Signed, by a key that you have not checked", "Before you use the file, paste the key that the project publishes.",
+    "Before you use the files, paste the key that the project publishes."]],
+  ["unlisted", ["!", "Signed by this key, but not part of this release", "Download the file of this release from the project.",
+    "Download the files of this release from the project."]],
+  ["renamed", ["!", "Signed, but for a different file name", "Check that this is the file you wanted: its signed name is shown below.",
+    "Check that these are the files you wanted: their signed names are shown below."]],
+  ["unsupported", ["?", "This page cannot verify this file", "Verify the file with the program minisign, as shown below.",
+    "Verify the files with the program minisign, as shown below."]],
+  ["stopped", ["–", "Stopped before it was verified", "To verify the file, press “Verify it again”, below.",
+    "To verify the files, press “Verify it again” below each of them."]],
+  ["reading", ["…", "Not verified yet", ...WAIT]],
+  ["queued", ["…", "Not verified yet", ...WAIT]],
+  ["waiting", ["…", "Not verified yet"]],
+  ["good", ["✓", "Verified", ...["file", "files"].map(each => `You can use the ${each} if ${BUILT_IN_KEY ? "this page" : "the key"} is the project's own.`)]],
 ]);
 
+// The parts without which a download cannot be verified, in the order in which they are named.
+const PARTS = ["file", "signature", "public key"];
+
+// Returns the next step if these parts are missing.
+function missingStep(parts) {
+  const names = PARTS.filter(part => parts.has(part)).map(part => `the ${part}`);
+  return `Add what is missing: ${names.join(", ").replace(/, ([^,]*)$/, " and $1")}.`;
+}
+
 // The sources of a key. `from` completes a sentence after "the key .."; NAME stands for the name of its file. `isGiven` is true if
-// the visitor or the builder of the page gave the key on purpose. `fits` and `fails` are shown with a valid signature and with
-// one that is not.
+// the visitor or the builder of the page gave the key on purpose. `fits` and `fails` are shown once above the list: `fits` if there
+// is a valid signature, otherwise `fails` if there is one that is not valid.
 const SOURCES = new Map([
   ["typed", {from: ["which you pasted or typed"], isGiven: true, fits: WHOSE, fails: ""}],
   ["chosen", {from: ["which you chose as the file ", "NAME"], isGiven: true, fits: WHOSE, fails: ""}],
   ["files", {from: ["which came with the files as ", "NAME"], isGiven: false, fits: `${WITH_FILES} ${PASTE}`, fails: WITH_FILES}],
-  ["link", {from: ["which the link to this page had"], isGiven: false, fits: `${BY_LINK} ${PASTE}`, fails: BY_LINK}],
+  ["link", {from: ["which came with the link to this page"], isGiven: false, fits: `${BY_LINK} ${PASTE}`, fails: BY_LINK}],
   ["page", {
     from: ["which is built into this page"],
     isGiven: true,
-    fits: "The key is built into this page, so you can trust the verdict as much as the place where you got the page.",
+    fits: "The key is built into this page, so trust the result only as much as the place where you got this page.",
     fails: "",
   }],
 ]);

@@ -4,11 +4,16 @@
 
 import { TEXT_BYTES } from "./calls.js";
 
+// Returns a TypeError with this message. Its code is INVALID_ARGUMENT.
+export function argumentError(message) {
+  return Object.assign(new TypeError(message), { code: "INVALID_ARGUMENT" });
+}
+
 // Throws a TypeError that names the argument and its type, unless `isValid`.
 export function mustBe(isValid, name, expected, value) {
   if (!isValid) {
     const kind = value === null ? "null" : typeof value;
-    throw new TypeError(`${name} must be ${expected}, not ${kind}`);
+    throw argumentError(`${name} must be ${expected}, not ${kind}`);
   }
 }
 
@@ -35,9 +40,9 @@ export function bytesOf(value) {
 export function textOf(value, name) {
   const isText = typeof value === "string";
   const bytes = isText ? new TextEncoder().encode(value) : bytesOf(value);
-  mustBe(bytes !== null, name, "a text, as a string or bytes", value);
+  mustBe(bytes !== null, name, "a string or bytes", value);
   if (bytes.length >= TEXT_BYTES) {
-    throw new TypeError(`${name} must have fewer than ${TEXT_BYTES} bytes`);
+    throw argumentError(`${name} must have fewer than ${TEXT_BYTES} bytes`);
   }
   return bytes;
 }
@@ -53,15 +58,17 @@ export function clearCopy(bytes, text) {
 // The types of the options, by name. An option that is not here is a text,
 // which `textOf` checks when it is used. The table has no prototype, because a
 // property of Object.prototype would be an entry.
-const TEXT = ["a text, as a string or bytes", (value) => value !== null];
+const TEXT = ["a string or bytes", (value) => value !== null];
 const BOOLEAN = ["true or false", (value) => typeof value === "boolean"];
 const isFunction = (value) => typeof value === "function";
 const isRowCount = (value) => Number.isSafeInteger(value) && value > 0;
+const isMode = (value) => Number.isInteger(value) && (value & ~0o777) === 0;
 const OPTIONS = {
   __proto__: null,
   allowLegacy: BOOLEAN,
   lowMemory: BOOLEAN,
-  mostRows: ["a number of rows", isRowCount],
+  mode: ["an integer from 0 to 0o777", isMode],
+  mostRows: ["a positive integer", isRowCount],
   progress: ["a function", isFunction],
   signal: ["an AbortSignal", (value) => isFunction(value?.addEventListener)],
 };
@@ -90,12 +97,12 @@ export function optionsOf(options, ...known) {
   const isObject = typeof options === "object" && options !== null;
   mustBe(isObject, "options", "a plain object", options);
   if (!isPlain(options)) {
-    throw new TypeError(NOT_PLAIN);
+    throw argumentError(NOT_PLAIN);
   }
   const copy = { __proto__: null };
   for (const name of Reflect.ownKeys(options)) {
     if (!known.includes(name)) {
-      throw new TypeError(`unknown option ${String(name)}`);
+      throw argumentError(`unknown option ${String(name)}`);
     }
     const value = options[name];
     const [expected, isValid] = OPTIONS[name] ?? TEXT;

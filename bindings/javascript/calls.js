@@ -38,7 +38,7 @@ const QUESTIONS = {
   legacy: 248,
 };
 
-// ---- What is made ends here ----
+// ---- End of the generated part ----
 
 // Formats the eight bytes of a key ID as the program minisign prints it: one
 // little-endian number in upper-case hexadecimal digits, without leading zeros.
@@ -66,7 +66,8 @@ export class Library {
     const texts = Math.floor((this.memory.length - end) / TEXT_BYTES);
     this.pieceBytes = Math.min(MAX_PIECE_BYTES, texts * TEXT_BYTES);
     if (this.pieceBytes < TEXT_BYTES) {
-      throw new Error("the WebAssembly module is out of memory");
+      const why = new Error("the WebAssembly module is out of memory");
+      throw Object.assign(why, { code: "OUT_OF_MEMORY" });
     }
   }
 
@@ -79,7 +80,8 @@ export class Library {
   // the address and the length, as the functions of the module take them.
   put(address, size, bytes) {
     if (bytes.length > size) {
-      throw new Error("the buffer of the WebAssembly module is too small");
+      const why = new Error("the WebAssembly module's buffer is too small");
+      throw Object.assign(why, { code: "NO_ROOM" });
     }
     this.memory.set(bytes, address);
     return [BigInt(address), BigInt(bytes.length)];

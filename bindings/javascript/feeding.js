@@ -2,9 +2,9 @@
 // Reads data of any kind in pieces, and feeds it to a verifier or signer.
 // Cancels a stream that is not read to its end.
 
-import { bytesOf, mustBe, optionsOf } from "./arguments.js";
+import { argumentError, bytesOf, mustBe, optionsOf } from "./arguments.js";
 import { ERRORS } from "./errors.js";
-import { checked } from "./loaded.js";
+import { checked, platformError } from "./loaded.js";
 
 // Data is fed in slices of at most this size, which takes a few milliseconds of
 // hashing. Other tasks run between two slices.
@@ -17,26 +17,69 @@ const SLICE_BYTES = 1048576;
 export function takingPieces(library, feed, end, more = () => ({})) {
   let bytesFed = 0;
   let isEnded = false;
+  let writable;
+  // The result for the data of `writable`, once it is closed or aborted.
+  let streamed;
   const checkNotEnded = () =>
     checked(library, { number: isEnded ? ERRORS.NOT_BEGUN : 0 });
+  const update = (piece) => {
+    checkNotEnded();
+    const bytes = bytesOf(piece);
+    mustBe(bytes !== null, "a piece of data", "bytes", piece);
+    feed(bytes);
+    bytesFed += bytes.length;
+  };
+  const endOnce = async () => {
+    checkNotEnded();
+    isEnded = true;
+    return end();
+  };
+  const fail = (why) => {
+    isEnded = true;
+    streamed = Promise.reject(why);
+    // It is not an unhandled rejection, because the stream reports the error.
+    streamed.catch(() => {});
+  };
+  const sink = {
+    async write(piece) {
+      try {
+        for await (const slice of piecesOf([piece])) {
+          update(slice);
+        }
+      } catch (why) {
+        fail(why);
+        throw why;
+      }
+    },
+    async close() {
+      streamed = endOnce();
+      await streamed;
+    },
+    abort: fail,
+  };
   return Object.freeze({
     ...more(checkNotEnded),
     get bytes() {
       return bytesFed;
     },
-    update(piece) {
-      checkNotEnded();
-      const bytes = bytesOf(piece);
-      mustBe(bytes !== null, "a piece of data", "bytes", piece);
-      feed(bytes);
-      bytesFed += bytes.length;
+    get writable() {
+      writable ??= new (webStreams())(sink);
+      return writable;
     },
+    update,
     async end() {
-      checkNotEnded();
-      isEnded = true;
-      return end();
+      return streamed ?? endOnce();
     },
   });
+}
+
+// Returns the platform's WritableStream.
+function webStreams() {
+  const { WritableStream } = globalThis;
+  if (WritableStream === undefined) {
+    throw platformError("this platform has no WritableStream");
+  }
+  return WritableStream;
 }
 
 // Feeds all data to a verifier or signer, and resolves to the result of its
@@ -53,7 +96,7 @@ export async function feedAll(data, options, known, begin) {
     // Like the result of `readOptions`, this object has no prototype.
     const consumer = await begin({ __proto__: null, ...rest });
     for await (const piece of piecesOf(source, signal)) {
-      consumer.update(piece);
+      await consumer.update(piece);
       progress?.(consumer.bytes, total);
     }
     return consumer.end();
@@ -96,7 +139,7 @@ function* slicesOf(piece) {
     // neither verified nor signed.
     if (slice.length !== Math.min(SLICE_BYTES, length - begin)) {
       const message = "the data was detached or shortened while it was read";
-      throw new TypeError(message);
+      throw argumentError(message);
     }
     yield slice;
   }

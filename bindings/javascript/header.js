@@ -62,6 +62,9 @@ export const STRUCTS = {
   },
 };
 
+// An instance of the module with more memory than this is not kept.
+const KEPT_BYTES = 8 * 1048576;
+
 // No bytes: passed if there is no password.
 const NOTHING = new Uint8Array(0);
 
@@ -100,6 +103,9 @@ function cut(text, length) {
 // rejects with a MinisignError.
 export class SigningCalls {
   static #compiling;
+  // The instance of the module that no call uses, and its memory before the
+  // first call. Calls do not overlap, so there is at most one.
+  static #unused;
 
   static async load() {
     const library = await loaded();
@@ -110,11 +116,35 @@ export class SigningCalls {
     return Object.assign(new this(), { library, module });
   }
 
-  // Makes a call in a new instance of the module, whose memory is cleared at
-  // the end. Arguments that are bytes are copied in, and copied out again after
-  // the call.
+  // Takes the unused instance, or makes one. An instance reserves gigabytes of
+  // addresses, so there must not be one for each signature.
+  static #take(module) {
+    const taken = this.#unused;
+    this.#unused = undefined;
+    if (taken) {
+      return taken;
+    }
+    const { exports } = new WebAssembly.Instance(module, {});
+    return { exports, begin: new Uint8Array(exports.memory.buffer).slice() };
+  }
+
+  // Clears the memory of an instance, which may contain secrets, and keeps the
+  // instance for the next call, unless it has memory for scrypt.
+  static #giveBack(instance) {
+    const memory = new Uint8Array(instance.exports.memory.buffer);
+    memory.fill(0);
+    if (memory.length <= KEPT_BYTES) {
+      memory.set(instance.begin);
+      this.#unused = instance;
+    }
+  }
+
+  // Makes a call in an instance of the module, whose memory is cleared at the
+  // end. Arguments that are bytes are copied in, and copied out again after the
+  // call.
   async make(name, ...passed) {
-    const { exports } = await WebAssembly.instantiate(this.module, {});
+    const instance = SigningCalls.#take(this.module);
+    const { exports } = instance;
     let end = Number(exports.__heap_base.value);
     const addresses = passed.map((argument) => {
       const address = Math.ceil(end / 16) * 16;
@@ -138,7 +168,7 @@ export class SigningCalls {
         bytes.set(memory.subarray(address, address + bytes.length)),
       );
     } finally {
-      new Uint8Array(exports.memory.buffer).fill(0);
+      SigningCalls.#giveBack(instance);
     }
   }
 

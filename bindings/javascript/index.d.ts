@@ -4,6 +4,10 @@
 
 import type { ErrorCode } from "./errors.js";
 
+// Makes types different that have the same properties, so that a secret key is
+// not accepted as a public one.
+declare const kind: unique symbol;
+
 export type { ErrorCode };
 
 /** Bytes: an ArrayBuffer of any realm, or a view of one. */
@@ -77,6 +81,7 @@ export interface Options extends VerifierOptions {
 
 /** A parsed signature file. Nothing is verified yet. */
 export interface Signature {
+  readonly [kind]: "signature";
   /** The key ID of the signer's key, in the form of `PublicKey.keyId`. */
   readonly keyId: string;
   /** True for a legacy signature, which signs the data, not its digest. */
@@ -85,6 +90,7 @@ export interface Signature {
 
 /** A parsed public key. */
 export interface PublicKey {
+  readonly [kind]: "public key";
   /**
    * The key ID as the program minisign prints it: a number of 64 bits in
    * upper-case hexadecimal digits without leading zeros. Anybody can make a key
@@ -93,13 +99,60 @@ export interface PublicKey {
   readonly keyId: string;
 }
 
+/**
+ * The fields of a trusted comment, which tabs separate. A field that is missing
+ * or occurs more than once is undefined, and so is a number with anything but
+ * decimal digits or above 2^53 - 1.
+ */
+export interface CommentFields {
+  /** The field `timestamp:`, in seconds since 1970. */
+  readonly timestamp?: number;
+  /** The field `file:`, the name of the signed file. */
+  readonly file?: string;
+  /** The field `version:`. */
+  readonly version?: string;
+  /** The field `expires:`, in seconds since 1970. */
+  readonly expires?: number;
+  /** The field `size:`, in bytes. */
+  readonly size?: number;
+  /** True if the comment contains the word `hashed`. */
+  readonly hashed: boolean;
+}
+
+/**
+ * Parses a trusted comment. Anybody can write a comment, so parse only one that
+ * was verified, such as that of `Verifier.trustedComment`.
+ */
+export function parseTrustedComment(comment: string): CommentFields;
+
 export interface Verified {
   /** The trusted comment, which is signed with the data. It may be empty. */
   trustedComment: string;
+  /** The fields of the trusted comment. */
+  fields: CommentFields;
   /** The key ID of the public key. */
   keyId: string;
   /** True if the signature is a legacy one. */
   isLegacy: boolean;
+}
+
+/** A writer of a web stream. */
+export interface ByteWriter {
+  readonly closed: Promise<undefined>;
+  readonly desiredSize: number | null;
+  readonly ready: Promise<undefined>;
+  abort(reason?: any): Promise<void>;
+  close(): Promise<void>;
+  releaseLock(): void;
+  write(piece?: any): Promise<void>;
+}
+
+/** A `WritableStream`, for `pipeTo`. */
+export interface ByteSink {
+  readonly locked: boolean;
+  abort(reason?: any): Promise<void>;
+  close(): Promise<void>;
+  getWriter(): ByteWriter;
 }
 
 /** Verifies data that arrives in pieces. */
@@ -123,10 +176,18 @@ export interface Verifier {
    */
   update(piece: Bytes): void;
   /**
+   * A WritableStream that adds what is written to it, for `pipeTo`. Closing it
+   * verifies the data, so `pipeTo` rejects if the signature is not valid. After
+   * that, `end` returns the result. If the stream is aborted, `end` rejects
+   * with the reason. Throws an Error with the code UNSUPPORTED_PLATFORM if the
+   * platform has no WritableStream.
+   */
+  readonly writable: ByteSink;
+  /**
    * Resolves if the signature is valid for all of the data, and otherwise
    * rejects with a MinisignError: SIGNATURE_REFUSED or
    * COMMENT_SIGNATURE_REFUSED. Then use none of the data. Call it once: a
-   * second call rejects with NOT_BEGUN.
+   * second call rejects with NOT_BEGUN, unless `writable` was closed.
    */
   end(): Promise<Verified>;
 }
@@ -139,11 +200,13 @@ export interface Verifier {
  * one line with the 56 base64 characters of the key, after which white space is
  * ignored; or an object of `readPublicKey`.
  *
- * Rejects with a TypeError, which names the argument, for an argument or option
- * of a wrong type; with an Error if WebCrypto has no Ed25519, as in a page that
- * was loaded over http; with a MinisignError if the key, the signature or the
- * data is rejected, and before any data is read if this does not depend on the
- * data; with the error of the stream if it fails; and with the signal's reason.
+ * Rejects with a TypeError, which names the argument and has the code
+ * INVALID_ARGUMENT, for an argument or option of a wrong type; with an Error
+ * with the code UNSUPPORTED_PLATFORM if WebCrypto has no Ed25519, as in a page
+ * that was loaded over http; with a MinisignError if the key, the signature or
+ * the data is rejected, and before any data is read if this does not depend on
+ * the data; with the error of the stream if it fails; and with the signal's
+ * reason.
  * If it rejects, a stream of Node is destroyed, a web stream is cancelled, and
  * `return` of an iterator is called.
  */
@@ -179,6 +242,7 @@ export function readPublicKey(key: Text): Promise<PublicKey>;
  * in memory until `clearSecretKey`, or until the object is garbage-collected.
  */
 export interface SecretKey {
+  readonly [kind]: "secret key";
   /** The key ID, which is also that of the public key. */
   readonly keyId: string;
   /**
@@ -229,6 +293,8 @@ export interface SigningOptions extends SignerOptions {
 
 /** Signs data that arrives in pieces. */
 export interface Signer {
+  /** A WritableStream that adds what is written to it. Closing it signs. */
+  readonly writable: ByteSink;
   /** The number of bytes that were passed to `update` so far. */
   readonly bytes: number;
   /** Adds the next piece of the data, of any length. Throws as a Verifier's. */

@@ -2,10 +2,12 @@
 // Verifies and makes Minisign signatures, as index.d.ts says.
 
 import { optionsOf, textOf } from "./arguments.js";
+import { parseTrustedComment } from "./comments.js";
 import { feedAll, takingPieces } from "./feeding.js";
 import { checked, loaded } from "./loaded.js";
 import { Verification } from "./verification.js";
 
+export { parseTrustedComment };
 export * from "./errors.js";
 export * from "./signing.js";
 
@@ -67,7 +69,9 @@ export async function createVerifier(signature, key, options = {}) {
   const feed = (piece) => verification.feed(piece);
   const end = async () => {
     checked(library, await verification.end());
-    return { trustedComment: verification.comment(), keyId, isLegacy };
+    const trustedComment = verification.comment();
+    const fields = parseTrustedComment(trustedComment);
+    return { trustedComment, fields, keyId, isLegacy };
   };
   return takingPieces(library, feed, end, (checkNotEnded) => ({
     keyId,

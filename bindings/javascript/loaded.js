@@ -14,9 +14,15 @@ export function decoded(base64) {
   return Uint8Array.from(atob(base64), (letter) => letter.charCodeAt(0));
 }
 
+// Returns an error for a platform that lacks something. Its code is
+// UNSUPPORTED_PLATFORM.
+export function platformError(message) {
+  return Object.assign(new Error(message), { code: "UNSUPPORTED_PLATFORM" });
+}
+
 async function load() {
   if (!(await hasEd25519())) {
-    throw new Error("WebCrypto does not support Ed25519 here");
+    throw platformError("WebCrypto does not support Ed25519 here");
   }
   return Library.load(decoded(MODULE));
 }

@@ -1,8 +1,15 @@
 // SPDX-License-Identifier: MIT
-// Declares the function that needs Node. Like index.d.ts, this file uses only
+// Declares the functions that need Node. Like index.d.ts, this file uses only
 // types of the language.
 
-import type { Text } from "./index.js";
+import type {
+  Data,
+  Options,
+  PublicKey,
+  Signature,
+  Text,
+  Verified,
+} from "./index.js";
 
 /** The path of a file: a string, or a `URL` of the scheme `file:`. */
 export type Path =
@@ -19,3 +26,33 @@ export type Path =
  * no file. On Windows the file inherits the permissions of its directory.
  */
 export function writeNew(path: Path, text: Text): Promise<void>;
+
+export interface SavingOptions extends Options {
+  /**
+   * The permissions of the file, such as 0o755. The default is those of the
+   * existing file, or 0o644 if there is none.
+   */
+  mode?: number;
+}
+
+/**
+ * Verifies data, and saves it as a file. The data is first written to a
+ * temporary file in the same directory, which only its owner can read. Only if
+ * the signature is valid for all of it, the temporary file is synced and
+ * renamed, which replaces an existing file in one step. Resolves when the
+ * directory is synced too.
+ *
+ * Rejects as `verify` does; with a TypeError with the code INVALID_ARGUMENT if
+ * the path exists and is not a regular file; and with an error of Node if a
+ * file cannot be written. After an error the path is unchanged, and there is no
+ * temporary file, unless only syncing the directory failed: then the new file
+ * is in place. A process that is killed may leave a file with a name like
+ * `.minisign-0123456789abcdef.tmp`.
+ */
+export function saveVerified(
+  data: Data,
+  path: Path,
+  signature: Text | Signature,
+  key: Text | PublicKey,
+  options?: SavingOptions,
+): Promise<Verified>;

@@ -4,6 +4,7 @@
 // use.
 
 import {
+  argumentError,
   bytesOf,
   clearCopy,
   mustBe,
@@ -31,7 +32,7 @@ const secretKeys = new WeakMap();
 
 function bytesOfKey(secretKey) {
   const bytes = secretKeys.get(secretKey);
-  mustBe(bytes, "secretKey", "a secret key that was read", secretKey);
+  mustBe(bytes, "secretKey", "a secret key from this package", secretKey);
   return bytes;
 }
 
@@ -105,7 +106,7 @@ export async function writeSecretKey(secretKey, password, options = {}) {
   const bytes = bytesOfKey(secretKey);
   const passwordBytes = password === null ? null : textOf(password, "password");
   if (passwordBytes?.length === 0) {
-    throw new TypeError("password must not be empty; use null for no password");
+    throw argumentError("password must not be empty; use null for no password");
   }
   const calls = await h.SigningCalls.load();
   const sealing = h.structOf("sealing", {
@@ -186,7 +187,7 @@ function decodedName(name) {
     const decoder = new TextDecoder("utf-8", { fatal: true, ignoreBOM: true });
     return typeof name === "string" ? name : decoder.decode(name);
   } catch {
-    throw new TypeError(`a file name that is not UTF-8 ${NOT_IN_COMMENT}`);
+    throw argumentError(`a file name that is not UTF-8 ${NOT_IN_COMMENT}`);
   }
 }
 
@@ -194,7 +195,7 @@ function decodedName(name) {
 // If the name is empty, the comment has no field `file:`.
 function defaultComment(name) {
   if (/[\r\n]/.test(name)) {
-    throw new TypeError(`a file name with a line break ${NOT_IN_COMMENT}`);
+    throw argumentError(`a file name with a line break ${NOT_IN_COMMENT}`);
   }
   const file = name === "" ? "" : `\tfile:${name}`;
   return `timestamp:${Math.floor(Date.now() / 1000)}${file}\thashed`;

@@ -26,6 +26,17 @@ export class Verification {
     }
   }
 
+  // Takes a copy of a state of `library.begin` to which all data was fed, so
+  // that data which is read once can be verified with many signatures.
+  // `legacyData` is the data itself, in pieces, if the signature is a legacy
+  // one.
+  takeFed(state, legacyData) {
+    this.state = state.slice();
+    this.questions = this.library.ask(this.state, ...this.askArguments);
+    checkUse(this.questions.number);
+    this.legacyData = legacyData;
+  }
+
   // Resolves to true if Ed25519 accepts the comment signature.
   acceptsComment() {
     const { publicKey, commentSignature, message } = this.questions;
@@ -79,6 +90,7 @@ function joined(pieces) {
 // Throws if a call returns an error: none can if they are made in their order.
 function checkUse(number) {
   if (number !== 0) {
-    throw new Error(`the library was misused: error ${number}`);
+    const why = new Error(`the library was misused: error ${number}`);
+    throw Object.assign(why, { code: "MISUSED" });
   }
 }

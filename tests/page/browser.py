@@ -105,6 +105,9 @@ class Chromium(Person):
             self.command("Input.dispatchDragEvent", type=kind, x=x, y=y, data={**data, "dragOperationsMask": 1})
         self.taken()
 
+    def save_into(self, directory):
+        self.command("Browser.setDownloadBehavior", behavior="allow", downloadPath=directory)
+
     def said(self):
         """Returns the messages of the browser's console: errors, and violations of the content security policy."""
         return [entry["message"] for entry in self.order("Log", type="browser")]

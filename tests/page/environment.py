@@ -6,6 +6,8 @@ import os
 import re
 
 from help_texts import STATES, served
+from project_page import ZIP, Release
+from releases import LINK, built
 from views import NARROW
 
 
@@ -73,8 +75,8 @@ def check_keyboard_and_screen_reader(person):
     person.open()
     for name, wanted in (("of-the-key", "that the key is the right one"), ("of-the-page", "that the page itself is genuine")):
         text = person.text_of(name)
-        person.check(wanted in text and text.count(".") == 1 and text.endswith("."),
-                     f"what the page does not show: {text!r}, expected one sentence with {wanted!r}")
+        person.check(wanted in text and text.endswith("."),
+                     f"what the page does not show: {text!r}, expected sentences with {wanted!r}")
     person.run("document.body.focus()")
     person.same(person.tab(), "key-text", "the first element for the keyboard")
     person.press(person.first.line)
@@ -85,8 +87,8 @@ def check_keyboard_and_screen_reader(person):
     person.choose(*person.signed("data", b"data", trusted="t"), *person.pair("bad", b"bad", person.sign(b"data", trusted="t")))
     person.settled("the keyboard")
     nodes = person.nodes()
-    wanted = {("textbox", "Paste the public key file, or its line of 56 letters and digits", None), ("button", "Clear the list", None),
-              ("main", "", None), ("heading", "3. The verdicts", 2), ("heading", "Verified data", 3), ("heading", "NOT verified bad", 3)}
+    wanted = {("textbox", "Paste the content of the public key file, or only its line of 56 characters", None), ("button", "Clear the list", None),
+              ("main", "", None), ("heading", "3. The result", 2), ("heading", "Verified data", 3), ("heading", "NOT verified bad", 3)}
     announced = {(role, name, properties.get("level")) for role, name, properties in nodes}
     person.same(wanted - announced, set(), "the nodes that are missing for screen readers")
     focusable = [(role, name.strip()) for role, name, properties in nodes if properties.get("focusable")]
@@ -104,6 +106,28 @@ def check_keyboard_and_screen_reader(person):
     person.same((person.rows(), person.focus()), ([], "files"), "a list that was cleared by the keyboard, and the focus after that")
 
 
+def check_release_for_screen_readers(person):
+    """Screen readers find the files of a release with their states and links, and each field of the form for a project's page by its name."""
+    release = Release(person)
+    person.open(built(release, "--name", "Example", "--version", "1.2.3", "--link", f"{ZIP}={LINK}"))
+    release.drop(ZIP, None, "screen readers", verdict="good")
+    found = {(role, name, properties.get("level")) for role, name, properties in person.nodes()}
+    for wanted in (("heading", "Files of Example 1.2.3", 2), ("link", ZIP, None), ("StaticText", "\u2713 Verified", None),
+                   ("region", "Files of Example 1.2.3", None)):
+        person.check(wanted in found, f"the page of a release: screen readers do not find {wanted}")
+    person.open()
+    person.run("document.getElementById('own').open = true")
+    nodes = person.nodes()
+    fields = [name for role, name, properties in nodes if properties.get("focusable") and role in ("textbox", "button", "DisclosureTriangle")]
+    for wanted in ("Save as a page for this project", "Title of the page", "Name of the program", "Version of the release", "Signatures of a release",
+                   "Links to the files", "Save the page"):
+        person.check(any(wanted in name for name in fields), f"the form: screen readers do not find {wanted!r} among {fields}")
+    person.click("own-save")
+    person.wait(lambda: person.text_of("own-said") != "")
+    person.check(any(role == "status" and properties.get("live") == "polite" for role, _, properties in person.nodes()),
+                 "the form: what is said is not read by screen readers")
+
+
 def check_dropped_directories(person):
     """The page reports a dropped directory, and removes the message when the next files come."""
     path = person.put("data", b"data")
@@ -111,7 +135,7 @@ def check_dropped_directories(person):
     for place in ("downloads", "downloads", "key"):
         person.drop(place, os.path.dirname(path))
         person.same((person.text_of("files-said"), person.rows()),
-                    ("A directory cannot be verified. Open it and drop the files in it.", []),
+                    ("This page cannot verify a folder. Open the folder, select the files in it, and drop those here.", []),
                     f"a directory that is dropped on {place}")
     person.drop("downloads", path)
     person.same((person.text_of("files-said"), len(person.rows())), ("", 1), "the message after the next files")

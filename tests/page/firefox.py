@@ -92,5 +92,8 @@ class Firefox(Person):
         self.send("dropped", *paths)
         self.act("dropFrom", place, "dropped")
 
+    def save_into(self, directory):
+        self.see_in_window("saveInto", directory)
+
     def drop_text(self, place, text):
         self.act("dropText", place, text)

@@ -18,3 +18,7 @@ user_pref("browser.safebrowsing.malware.enabled", false);
 user_pref("network.dns.localDomains", "page.test");
 user_pref("browser.safebrowsing.phishing.enabled", false);
 user_pref("network.proxy.type", 0);
+user_pref("browser.download.folderList", 2);
+user_pref("browser.download.useDownloadDir", true);
+user_pref("browser.download.always_ask_before_handling_new_types", false);
+user_pref("browser.download.alwaysOpenPanel", false);

@@ -161,15 +161,16 @@ def check_page_that_cannot_start(person):
         person.check(not is_early or milliseconds > 1400,
                      f"the page says after {milliseconds} ms that it has not started, expected after 1400 ms or later")
         person.wait(lambda: person.run(seen)[1])
-        person.says("lacking", what, "has not started")
+        person.says("lacking", what, "has not started", "Allow JavaScript")
         person.same([*map(person.is_shown, STATES)], [True, False], f"{what}: if {STATES} are shown")
-    for policy, at, is_secure, has in (
-            ("script-src 'unsafe-inline'", 0, True, ["The server of this page forbids WebAssembly"]),
-            ("", 1, False, ["was not opened from disk or by https", "Save the page and open it from disk"])):
+    for policy, at, is_secure, has, lacks in (
+            ("script-src 'unsafe-inline'", 0, True,
+             ["The server of this page forbids WebAssembly", "Save the page and open it from disk."], ["https"]),
+            ("", 1, False, ["are not opened from disk or by https", "Save the page and open it from disk, or open it by https."], [])):
         what = f"the policy {policy!r}, and by https or from this machine: {is_secure}"
         with served(person.page, Content_Security_Policy=policy) as addresses:
             person.open(addresses[at])
-        person.says("lacking", what, *has, lacks=["newer browser"])
+        person.says("lacking", what, *has, lacks=["newer browser", *lacks])
         shown = person.run("return isSecureContext"), *map(person.is_shown, STATES), person.run(seen)[1]
         person.same(shown, (is_secure, True, False, True),
                     f"{what}: a secure context, if {STATES} are shown, and if the message is visible")

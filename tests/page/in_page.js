@@ -23,9 +23,12 @@ function band() {
   return band?.checkVisibility() ? [band.dataset.verdict, ...Array.from(band.children, line => line.innerText)] : null;
 }
 
-// Returns the rows, the band, and true if this is a project's page, which has no field for a key.
+// Returns the rows, the band, true if this is a project's page, which has no field for a key, what is said once about the key with true
+// if it is a warning, and what the page says of its source.
 function state() {
-  return [rows(), band(), !document.getElementById("key-text").checkVisibility()];
+  const whose = document.getElementById("whose");
+  return [rows(), band(), !document.getElementById("key-text").checkVisibility(),
+    [whose.innerText, whose.checkVisibility() && whose.classList.contains("caution")], document.getElementById("key-said").innerText];
 }
 
 // Returns the error number of what was given as a key, 0 for a valid key, or null if nothing was given.
@@ -235,6 +238,13 @@ function middleOf(name) {
   return [left + width / 2, top + Math.min(height, innerHeight) / 2];
 }
 
+// Returns the heading of the files of the release, and for each of them its name, its state, the words of that, and its link, if any.
+function releaseList() {
+  return [document.getElementById("release-head").innerText, all("#release-files > li").map(row => [
+    row.querySelector(".name").innerText, row.dataset.verdict, row.querySelector(".state").innerText,
+    row.querySelector("a")?.getAttribute("href") ?? null])];
+}
+
 // ---- Actions for which Firefox has no command ----
 
 // Sets the size of the page within the browser's window. Without a width the page fills the window.
@@ -252,6 +262,11 @@ function printIn(isPrinted) {
 
 function forceColours(isForced) {
   Services.prefs.setIntPref("browser.display.document_color_use", isForced ? 2 : 0);
+}
+
+// Sets the directory for downloads.
+function saveInto(directory) {
+  Services.prefs.setStringPref("browser.download.dir", directory);
 }
 
 // Adds a file field. dropFrom drops its files on another element.
@@ -279,6 +294,20 @@ function dropData(place, dataTransfer) {
 }
 
 // ---- Breaking the page ----
+
+// Counts in window.readings how often the page begins to read a file of this name, in its own thread or in others.
+function countReadings(name) {
+  const {prototype} = Worker, {postMessage} = prototype, {bytesOfFile} = window;
+  window.readings = 0;
+  prototype.postMessage = function (message) {
+    window.readings += message.file?.name === name && message.begin === 0 ? 1 : 0;
+    postMessage.call(this, message);
+  };
+  window.bytesOfFile = (file, begin, end) => {
+    window.readings += file.name === name && begin === 0 ? 1 : 0;
+    return bytesOfFile(file, begin, end);
+  };
+}
 
 // Makes the next call of a function of the page hang.
 function hangOnce(name) {

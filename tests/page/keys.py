@@ -2,13 +2,11 @@
 the page reads in trusted comments.
 """
 
-from person import Key
+from person import WITH_FILES, Key
 from texts import lines, record_of, with_line, with_record
 
-WITH_FILES = "The key came with the files, so whoever made the files may have made the key."
-OF_PERSON = "This page cannot know whose key it is. Compare its 56 letters and digits with the key that the project publishes."
 NAMED = "The signature is for a file named "
-OTHER_FILE = "This may be a different file, or an older one."
+OTHER_FILE = "The file that you have may be a different one, or an older version."
 
 
 def with_key_id_of(own, foreign):
@@ -38,9 +36,9 @@ def check_given_key_is_kept(person):
         person.drop("downloads", *theirs)
         person.only(f"{what}, and another among the files", number=31, cautions=[])
         person.uses(own, what)
-        person.says("files-said", what, begins="minisign.pub came with the files and was ignored: the key above is kept")
+        person.says("files-said", what, begins="minisign.pub came with the files and was ignored: this page uses the key above, ")
         person.choose(*person.pair("update.zip", b"update", good))
-        person.only(what, number=0, verdict="good", cautions=[], has=[words, f"\n{OF_PERSON}\n"])
+        person.only(what, number=0, verdict="good", cautions=[], has=[words])
         person.same(person.text_of("files-said"), "", f"{what}: the message about new files")
 
 
@@ -56,13 +54,12 @@ def check_key_with_files(person):
     what = "a key with the files"
     person.begin(anew=False)
     person.drop("downloads", *theirs)
-    person.only(what, verdict="unchecked", has=[WITH_FILES, "came with the files as minisign.pub"])
+    person.only(what, verdict="unchecked", cautions=[], has=["came with the files as minisign.pub"])
     person.uses(foreign, what)
     log = person.log()
-    person.check(WITH_FILES in log[0] and log[0].startswith("Signed, by a key that you have not checked"),
-                 f"{what}: the log for screen readers: {log}")
+    person.check(log[0].startswith("Signed, by a key that you have not checked"), f"{what}: the log for screen readers: {log}")
     person.choose(*person.pair("other.zip", b"other", good))
-    person.named("other.zip", "another file", number=31, has=[WITH_FILES])
+    person.named("other.zip", "another file", number=31)
     # When the project's key is chosen instead, the results with the other key are discarded.
     person.choose_key(my_key)
     person.named("update.zip", "the project's key instead", number=31)
@@ -94,12 +91,13 @@ def check_key_field(person):
             person.only(what, verdict="waiting", number=None)
             seen = person.text_of("key-text", "value"), person.text_of("key-said"), person.is_shown("key-whole")
             person.same(seen, (text, said, False), f"{what}: the field")
-            ignored = "{} came with the files and was ignored: the text in the field above is kept, but it is not a key."
+            ignored = "{} came with the files and was ignored: the text in the field above is not a key. Correct that text, or clear the field."
             person.says("files-said", what, *(ignored.format(name) for name in ("minisign.pub", "other.pub")[:len(given)]))
     # White space counts as an empty field, because the user cannot see it.
     person.type_key(" \n")
     person.drop("downloads", keys[0])
-    person.only("an empty field", verdict="unchecked", has=[WITH_FILES])
+    person.only("an empty field", verdict="unchecked")
+    person.says("whose", "an empty field", WITH_FILES)
     # The user pastes the key that came with the files.
     person.type_key(own.line)
     person.only("a key with the files that is pasted then", verdict="good", cautions=[])
@@ -112,14 +110,14 @@ def check_keys_in_links(person):
     escaped = first.replace("+", "%2B").replace("/", "%2F")
     for part in (escaped, f"key={first}", f"key={escaped}", f"key={first}&later=more", f"later=more&key={first}"):
         person.open(f"{person.address}#{part}")
-        person.says("key-said", f"#{part}", ends="which the link to this page had.")
+        person.says("key-said", f"#{part}", ends="which came with the link to this page.")
         person.uses(person.first, f"#{part}")
     for part in (f"Verified%20by%20the%20project:%20{first}", f"untrusted%20comment:%20Verified%0A{first}",
                  f"key=Verified%0A{first}", f"{first}%20", f"{first}x", first[:-1], f"key={first}&key={second}",
                  f"{first}&{second}", f"other={first}", "key=", "%", person.sign(b"x").decode().split("\n")[1][:56].replace("+", "%2B")):
         person.open(f"{person.address}#{part}")
         person.says("key-said", f"#{part}",
-                    begins="No public key: in the link to this page, what follows # is not the 56 letters and digits of a key.")
+                    begins="No public key: the link to this page has no key of 56 characters after #.")
         seen = person.is_shown("key-whole"), person.text_of("key-text", "value"), "Verified" in person.run("return document.body.innerText")
         person.same(seen, (False, "", False), f"#{part}: a key, and words of the link, are shown")
     what = "an address that changes"
@@ -129,7 +127,7 @@ def check_keys_in_links(person):
     person.wait(lambda: person.run("return document.documentElement?.dataset.older === undefined"))
     person.wait(lambda: person.see("isReady"))
     person.expect_each("verdict", {}, what)
-    person.says("key-said", what, "which the link to this page had")
+    person.says("key-said", what, "which came with the link to this page")
     person.uses(person.second, what)
 
 
@@ -168,7 +166,7 @@ def check_signed_names(person):
     # If the user did not give the key, this is said first.
     what = "another name, under a key that came with the files"
     person.begin("", *person.signed("b.zip", data, trusted="file:a.zip"), person.put("minisign.pub", person.first.text), anew=False)
-    person.only(what, verdict="unchecked", number=0, has=[WITH_FILES, f"{NAMED}a.zip. {OTHER_FILE}"])
+    person.only(what, verdict="unchecked", number=0, has=[f"{NAMED}a.zip. {OTHER_FILE}"])
     person.type_key(person.first.line)
     person.only(f"{what}, which is pasted then", verdict="renamed", number=0)
 

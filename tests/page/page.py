@@ -5,7 +5,8 @@
 
 PAGE is by default the one of `dist/`; `tools/dist.py --check` compares that with what `page/build.py` builds, and wide_module.py
 compares its module with the proved one. The modules of this directory contain the tests. With words, only the steps run whose
-names contain one of them. It prints a line for each failure; the last line is `N passed, M failed`.
+names contain one of them. To test changed sources of the page, pass a PAGE that `page/build.py` has built from them; it needs no kit. The
+patches of the directory `mutants` each break one thing in the sources; a step has to detect each of them. It prints a line for each failure; the last line is `N passed, M failed`.
 
 Needs Python 3.9 or later, chromium, chromium-driver, firefox-esr, binaryen, clang, a C compiler, make, libsodium with its header and
 minisign 0.11. It installs what is missing if it may.
@@ -24,6 +25,7 @@ sys.path += [os.path.join(HERE, "..", directory) for directory in ("shared", "ve
 import build
 import ending
 import needs
+import page_mutants
 import page_sources
 import selected
 import static_library
@@ -33,7 +35,7 @@ from firefox import Firefox
 from minisign_cases import Minisign
 
 # The modules with tests, in the order in which they run. Those of IN_CHROMIUM need Chromium's DevTools protocol.
-IN_BOTH = ("verdicts", "keys", "views", "random_actions", "replaced_inputs", "project_page", "help_texts", "hostile", "robustness")
+IN_BOTH = ("verdicts", "keys", "views", "random_actions", "replaced_inputs", "project_page", "releases", "saved_page", "next_steps", "help_texts", "hostile", "robustness")
 IN_CHROMIUM = ("environment", "flags")
 
 
@@ -65,7 +67,7 @@ def run_step(person, step, begin):
 
 
 def run_in(begin):
-    """Starts a browser by `begin` and runs all selected steps."""
+    """Starts a browser by `begin` and runs all selected steps. The mutants are tried in Chromium."""
     person = begin()
     try:
         for what, step in steps_in(person):
@@ -78,6 +80,8 @@ def run_in(begin):
                 traceback.print_exc()
                 person.check(False, f"{person.name}, {what}: ended early: {why!r:.300}")
             print(f"page: {person.name}, {what}, {time.monotonic() - begun:.1f} s", flush=True)
+        if person.is_chromium:
+            page_mutants.check_mutants(person, lambda name: selected.is_selected(f"{person.name}, {name}"))
     finally:
         person.quit()
 

@@ -21,30 +21,50 @@ ELSEWHERE = "page.test"
 IN_PAGE = read(os.path.dirname(os.path.realpath(__file__)), "in_page.js").decode()
 # The heading of a row for each verdict, or state before a verdict, with the worst first.
 HEADINGS = {"bad": "\u2717 NOT verified", "unchecked": "? Signed, by a key that you have not checked",
-          "unlisted": "! Signed by this key, but not part of this release", "renamed": "! Signed, but under another name",
-          "unsupported": "? This page cannot verify it", "stopped": "\u2013 Stopped before it was verified",
+          "unlisted": "! Signed by this key, but not part of this release", "renamed": "! Signed, but for a different file name",
+          "unsupported": "? This page cannot verify this file", "stopped": "\u2013 Stopped before it was verified",
           "reading": "\u2026 Not verified yet", "queued": "\u2026 Not verified yet", "waiting": "\u2026 Not verified yet",
           "good": "\u2713 Verified"}
-# The verdicts of a file with a valid signature, and those of them if the user or the project gave the key.
-SIGNED, UNDER_GIVEN = ("good", "unchecked", "unlisted", "renamed"), ("good", "unlisted", "renamed")
-# The next step that the page recommends for each verdict, on the general page, and on a project's page.
-PASTE = "Before you use the file, get the key from where the project publishes it, and paste it into the field for the key."
-NEXT = {"bad": "Do not use the file: get it, its signature and the key again from the project.",
-        "unchecked": "Before you use the file, paste the key that the project publishes.",
-        "unlisted": "Get the file of this release from the project.", "renamed": "Compare the two names, below, before you use the file.",
-        "unsupported": "Verify the file with the program minisign.", "stopped": "Verify it again, below.",
-        "reading": "Wait until it has been read.", "queued": "Wait until it has been read.", "waiting": "Add what is missing, below.",
-        "good": "You can use the file, if the key is the project's own."}
-OWN_NEXT = {**NEXT, "bad": "Do not use the file: get it again from the project.",
-            "good": "You can use the file, if this page is the project's own."}
+# The verdicts of a file with a valid signature.
+SIGNED = ("good", "unchecked", "unlisted", "renamed")
+# The next step that the page recommends for each verdict, on the general page, and on a project's page: for one file, and for several.
+# For files that wait for input, it names what is missing.
+WAIT = ("Wait until this page has read the file.", "Wait until this page has read the files.")
+NEXT = {"bad": ("Do not use this file. Get it, its signature and the key again from the project.",
+                "Do not use these files. Get them, their signatures and the key again from the project."),
+        "unchecked": ("Before you use the file, paste the key that the project publishes.",
+                      "Before you use the files, paste the key that the project publishes."),
+        "unlisted": ("Download the file of this release from the project.", "Download the files of this release from the project."),
+        "renamed": ("Check that this is the file you wanted: its signed name is shown below.",
+                    "Check that these are the files you wanted: their signed names are shown below."),
+        "unsupported": ("Verify the file with the program minisign, as shown below.",
+                        "Verify the files with the program minisign, as shown below."),
+        "stopped": ("To verify the file, press \u201cVerify it again\u201d, below.",
+                    "To verify the files, press \u201cVerify it again\u201d below each of them."),
+        "reading": WAIT, "queued": WAIT,
+        "good": ("You can use the file if the key is the project's own.", "You can use the files if the key is the project's own.")}
+OWN_NEXT = {**NEXT, "bad": ("Do not use this file. Download it again from the project.",
+                            "Do not use these files. Download them again from the project."),
+            "good": ("You can use the file if this page is the project's own.", "You can use the files if this page is the project's own.")}
+# The words of a row for each missing part, in the order in which the next step names them.
+MISSING = {"The file itself is missing.": "the file", "Its signature is missing.": "the signature",
+           "The public key is missing.": "the public key"}
+# What is said once above the list, by what the page says of the source of the key: with a valid signature, and with none but an invalid
+# one.
+WHOSE = "This page cannot know who owns the key. Compare all of its 56 characters with the key that the project publishes."
+PASTE = "Before you use a file, get the key from where the project publishes it, and paste it into the field for the key."
+WITH_FILES = "The key came with the files, so whoever made the files may have made the key."
+BY_LINK = "The key came with the link to this page, so whoever made the link chose the key."
+OF_KEY = {"which you pasted or typed": (WHOSE, ""), "which you chose as the file": (WHOSE, ""),
+          "which came with the files": (f"{WITH_FILES} {PASTE}", WITH_FILES), "which came with the link": (f"{BY_LINK} {PASTE}", BY_LINK),
+          "which is built into this page": (
+              "The key is built into this page, so trust the result only as much as the place where you got this page.", "")}
 # The smallest contrast of a text to its background that is easy to read (WCAG 2, level AA).
 MIN_CONTRAST = 4.5
 # The number of files that the band at the top names, the length of a name there, and how much of that is the end of a longer name.
 MAX_NAMED, MAX_NAME, NAME_END = 20, 40, 16
-# The beginnings of the sentence about the key in a row: if the user did not give the key, and otherwise.
-CAME, GIVEN = "The key came with ", ("This page cannot know whose key it is.", "The key is built into this page, so ")
 
-# A public key: its file, and the line of 56 letters and digits in it.
+# A public key: its file, and the line of 56 characters in it.
 Key = namedtuple("Key", "text line")
 
 
@@ -59,23 +79,35 @@ def band_of(rows, is_own):
     names = [shortened(row.name) for row in rows if row.verdict == worst]
     count = f" ({len(names)} of {len(rows)} files)" if len(rows) > 1 else ""
     more = f" and {len(names) - MAX_NAMED} more" if len(names) > MAX_NAMED else ""
-    return worst and [worst, f"{HEADINGS[worst]}{count}: {', '.join(names[:MAX_NAMED])}{more}", (OWN_NEXT if is_own else NEXT)[worst]]
+    return worst and [worst, f"{HEADINGS[worst]}{count}: {', '.join(names[:MAX_NAMED])}{more}",
+                      next_step(worst, [row for row in rows if row.verdict == worst], is_own)]
+
+
+def next_step(verdict, rows, is_own=False):
+    """Returns the next step for the rows with this verdict."""
+    if verdict != "waiting":
+        return (OWN_NEXT if is_own else NEXT)[verdict][len(rows) > 1]
+    parts = [part for words, part in MISSING.items() if any(words in row.text for row in rows)]
+    return f"Add what is missing: {' and '.join(', '.join(parts).rsplit(', ', 1))}."
+
+
+def whose_of(rows, said):
+    """Returns what the page must say above the list about the key, of which it says `said`, and true if that is a warning."""
+    source = next((each for each in OF_KEY if each in said), None)
+    fits, fails = OF_KEY.get(source, ("", ""))
+    words = fits if any(row.number == 0 for row in rows) else fails if any(row.verdict == "bad" for row in rows) else ""
+    return [words, bool(words) and source in ("which came with the files", "which came with the link")]
 
 
 def is_right(row):
-    """Returns true if a row is consistent.
-
-    It states its verdict and, with a valid signature, whose key it is. If the user did not give the key, a warning says so right after
-    the verdict and the name, with what to do if the signature is valid. Only a good verdict says "Verified". Only the verdict and the
-    warnings are bold."""
+    """Returns true if a row is consistent: it begins with its verdict, only a good verdict says "Verified" and has no warnings, only the
+    verdict and the warnings are bold, and what is said once above the list is not in the row."""
     lines = [line for line in row.text.split("\n") if line]
-    came = [line for line in lines if line.startswith(CAME)]
-    is_signed, is_unchecked = row.verdict in SIGNED, row.verdict == "unchecked"
+    sentences = [sentence for both in OF_KEY.values() for sentence in both if sentence]
     return (row.head == lines[0] == HEADINGS[row.verdict] and row.bold == [row.head, *row.cautions]
-            and (row.number == 0) == is_signed and (row.comment is None or row.number == 0)
-            and sum(line.startswith(GIVEN) and line not in row.cautions for line in lines) == (row.verdict in UNDER_GIVEN)
-            and (not came or came == lines[2:3] == row.cautions[:1] and row.verdict not in UNDER_GIVEN)
-            and (not is_unchecked or PASTE in "".join(came)) and (row.verdict == "good" or "Verified" not in row.text.replace(row.name, ""))
+            and (row.number == 0) == (row.verdict in SIGNED) and (row.comment is None or row.number == 0)
+            and not any(sentence in row.text for sentence in sentences)
+            and (row.verdict == "good" or "Verified" not in row.text.replace(row.name, ""))
             and (row.verdict != "good" or not row.cautions))
 
 
@@ -99,6 +131,7 @@ class Person:
     - `run`, which runs a script in the page and returns its result, or the value of a promise;
     - `send`, which chooses files in a field; `drop` and `drop_text`, which drop files or a text on an element;
     - `resize`, which sets the size of the page, or uses the whole window;
+    - `save_into`, which sets the directory for downloads;
     - `force_colours`, which turns forced colours on or off, and `print_out`, which switches to the printed view or back;
     - `SHOWS_PAGE`, a part of the command line of processes that show a page."""
 
@@ -316,11 +349,14 @@ class Person:
     def settled(self, what):
         """Waits until nothing is being verified, checks that each row and the band at the top are consistent, and returns the rows."""
         self.wait_seen("work")
-        seen, band, is_own = self.see("state")
+        seen, band, is_own, whose, said = self.see("state")
         rows = [SimpleNamespace(**row) for row in seen]
         for row in rows:
             self.check(is_right(row), f"{what}: the texts of a row do not fit its verdict: {row}")
         self.same(band, band_of(rows, is_own), f"{what}: the band at the top of the window")
+        self.same(whose, whose_of(rows, said), f"{what}: what is said once about the key, and if it is a warning")
+        verdicts = [row.verdict == "bad" for row in rows]
+        self.same(verdicts, sorted(verdicts, reverse=True), f"{what}: if rows are bad, in their order")
         return rows
 
     def only(self, what, **wanted):

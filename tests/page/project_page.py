@@ -22,11 +22,10 @@ TITLE = "Verify a download of <b>Example & \"others\"</b>"
 # The elements that ask for more than the download, and words about keys, which a project's page must not show.
 ASKED = ("signature-text", "key-text", "key-remove", "of-the-key")
 TOLD = ("publishes", "website", "documentation", "minisign.pub", ".minisig", "paste", "1.", "2.", "3.")
-BY_LINK = "The key came with the link to this page, so whoever made the link chose it."
 UNLISTED = ("The signature of this file is not built into this page. It came with the file or with the link. The file "
             "may be from an older release, or something else that the owner of the key has signed.")
-NOT_OF_RELEASE = "It is not a file of this release either: none of the signatures that are built into this page is for it."
-OTHER_KEY = "The link to this page names another key, or something else, which is ignored."
+NOT_OF_RELEASE = "The file is not part of this release either: none of the signatures that are built into this page is for it."
+OTHER_KEY = "The link to this page contains another key or other text, which this page ignores. It accepts only its built-in key."
 ZIP, TAR = "app-1.0.zip", "app-1.0.tar.gz"
 
 
@@ -89,6 +88,8 @@ def check_asks_for_download_only(person, release):
             person.same(person.tab(), "files", f"{what}: the first element for the keyboard")
             person.same([part for part in ASKED if person.is_shown(part)], [], f"{what}: elements that ask for more")
             shown = person.run("return document.body.innerText").partition("What this page does not show")[0]
+            for file in release.files:
+                shown = shown.replace(file, "FILE")
             person.same([part for part in TOLD if part in shown], [], f"{what}: words about keys")
             person.same(person.see("titles"), [TITLE, TITLE], f"{what}: the project's page")
             person.expect_each("verdict", {}, f"{what}: before the download")
@@ -110,7 +111,7 @@ def check_signature_by_name(person, release):
         what = f"{name}, number {number}"
         person.click("clear")
         row = release.drop(name, data, what, verdict=verdict, number=number,
-                           has=["None of the signatures here is for this file. Do not use the file."] if number is None else [])
+                           has=["None of this page's signatures is for this file. Do not use the file."] if number is None else [])
         person.expect(row, what, **{"has": [f"{NAMED}{signed_name}."]} if signed_name else {"lacks": [NAMED]})
         wanted = [f"{NAMED}{signed_name}. {OTHER_FILE}"] if verdict == "renamed" else []
         person.same(row.cautions, wanted, f"{what}: the warnings")
@@ -128,7 +129,7 @@ def check_signature_by_name(person, release):
     tampered = with_line(release.signatures[ZIP], 2, b"trusted comment: file:other")
     of_tampered = release.build_own(person.put(f"{ZIP}.minisig", tampered), release.paths[1])
     release.drop("download", zipped, "an unknown name, and a changed comment", of_tampered, number=32,
-                 has=["trusted comment is not the one"])
+                 has=["trusted comment was changed"])
     # Several downloads, one after the other and together.
     person.open(release.own)
     paths = [person.put(name, release.files[name]) for name in (ZIP, TAR)]
@@ -156,7 +157,7 @@ def check_given_signatures(person, release):
             ("an older file with a legacy signature", ZIP, b"older", person.sign(b"older", trusted=f"file:{ZIP}", legacy=True), older),
             ("another file, and the older signature", ZIP, b"x", old, {"number": 31, "has": ["not the one that was signed"]}),
             ("an older file, and a foreign signature", ZIP, b"older", other_key, {"number": 29, "has": ["made with another key"]}),
-            ("an older file, and a signature of an unknown kind", ZIP, b"older", signature, {"number": 28, "has": ["does not know"]}),
+            ("an older file, and a signature of an unknown kind", ZIP, b"older", signature, {"number": 28, "has": ["does not support"]}),
             ("an older file, and another comment", ZIP, b"older", with_line(old, 2, b"trusted comment: x"), {"number": 32}),
             ("a file with an unknown name, and a foreign signature", "x.zip", b"x", other_key, {"number": 29, "has": ["another key"]})):
         for is_together in (True, False):
@@ -181,7 +182,7 @@ def check_given_signatures(person, release):
     person.drop("downloads", *person.pair(ZIP, release.files[ZIP], old), person.put("second.pub", person.second.text))
     person.only(what, verdict="good")
     person.uses(person.first, what)
-    person.says("files-said", what, "second.pub came with the files and was ignored: the key below is kept, ")
+    person.says("files-said", what, "second.pub came with the files and was ignored: this page uses the key below, ")
 
 
 def check_links(person, release):
@@ -198,9 +199,9 @@ def check_links(person, release):
         person.open(f"{person.address}#{link}")
         person.same([person.is_shown(part) for part in ASKED], [False, True, True, True], f"{what}: the elements {ASKED} are shown")
         person.check(person.see("isPlaceSeen"), f"{what}: the place for the download is out of view")
-        person.says("key-said", what, ends="which the link to this page had.")
+        person.says("key-said", what, ends="which came with the link to this page.")
         person.uses(person.first, what)
-        release.drop(ZIP, data, what, verdict="unchecked", has=[BY_LINK], lacks=["with the signature"])
+        release.drop(ZIP, data, what, verdict="unchecked", lacks=["with the signature"])
     person.resize()
     for typed, verdict, number in ((person.second.line, "bad", 29), (key, "good", 0)):
         person.type_key(typed)
@@ -299,15 +300,15 @@ def check_build_errors(person, release):
     with_key = lambda *words: [*page, "--key", line, "--signature", *words]
     unknown_kind = with_record(sig, 1, b"XX" + record_of(sig)[2:])
     for words, why in (
-            ([], "the kit of Rattle"), (["--from", os.path.join(build.HERE, "page.js")], "no page that page/build.py has built"),
-            *(([*page, f"--key={key}"], "one line of 56 letters and digits") for key in (
+            (["--prove"], "the Rattle kit"), (["--from", os.path.join(build.HERE, "page.js")], "was not built by page/build.py"),
+            *(([*page, f"--key={key}"], "one line of 56 characters") for key in (
                 "RWQ", "x", line[:-1], f"{line}A", f"-{line[1:]}", base64.b64encode(b"ED" + bytes(40)).decode())),
-            (["--from", f"{path}.absent.html"], "cannot be read"), ([*page, "--signature", path], "has a key, too"),
+            (["--from", f"{path}.absent.html"], "cannot be read"), ([*page, "--signature", path], "needs --key"),
             ([*page, "--key", person.second.line, "--signature", path], "was made with another key"),
             (with_key(path, put(sig, f"{ZIP}.minisig")), "two signatures are named"),
-            (with_key(path, "later.html"), "is not named as a signature"), (with_key(put(sig, ".minisig")), "is not named as a signature"),
+            (with_key(path, "later.html"), "is not named FILE.minisig"), (with_key(put(sig, ".minisig")), "is not named FILE.minisig"),
             (with_key(f"{path}.absent.minisig"), "cannot be read"), (with_key(put(b"\xff" + sig)), "cannot be read"),
-            *((with_key(put(text)), "is no signature") for text in (
+            *((with_key(put(text)), "is not a signature file") for text in (
                 b"", b"untrusted comment: x\n", with_line(sig, 0, b"comment"), with_line(sig, 1, b"RWQ"), with_line(sig, 2, b"comment"),
                 b"\n".join(lines(sig)[:3]), with_line(sig, 3, b"RWQ="), with_line(sig, 3, b"-"), person.first.text, unknown_kind))):
         # PATH is empty, so that the kit is not found.
@@ -318,7 +319,7 @@ def check_build_errors(person, release):
     try:
         person.check(not build.checked_key("") and False, "build.py accepts an empty key")
     except build.NotPossible as why:
-        person.check("one line of 56 letters and digits" in str(why), f"an empty key: {why}")
+        person.check("one line of 56 characters" in str(why), f"an empty key: {why}")
     release.build_own(*release.paths)
     built_in = re.search(rb"^const BUILT_IN_SIGNATURES = (.*);$", read(release.out), re.M)[1]
     person.same(built_in.count(b".minisig"), 3, "the number of built-in signatures")

@@ -54,7 +54,8 @@ def check_random_actions(person):
             continue
         what = f"action {count}, after {done[-4:]}"
         rows = [(row.name, row.verdict, row.number) for row in person.settled(what)]
-        person.same(rows, [(name, *model.verdict(**parts)) for name, parts in model.downloads.items()], what)
+        wanted = [(name, *model.verdict(**parts)) for name, parts in model.downloads.items()]
+        person.same(rows, sorted(wanted, key=lambda row: row[1] != "bad"), what)
         whole = f"In full: {keys[model.key].line}" if model.key else ""
         person.same(person.text_of("key-whole") if person.is_shown("key-whole") else "", whole, f"{what}: the key")
 

@@ -2,15 +2,15 @@
 while the replacement is still being read, and that the page never asks for an input that is being read.
 """
 
-from person import NEXT
+from person import NEXT, WAIT as WAITS
 from robustness import HOW_FAR, LONG_BYTES
 
-WAIT, MISSING = "Wait until it has been read.", "Its signature is missing"
+MISSING = "Its signature is missing"
 
 
 def verdicts(person):
     """Returns the current verdict of each row by name, and the next step that the band shows."""
-    rows, band, _ = person.see("state")
+    rows, band, *_ = person.see("state")
     return {row["name"]: row["verdict"] for row in rows}, band and band[2]
 
 
@@ -43,7 +43,8 @@ def check_replaced_files(person):
             # A row may already be read. Neither state is a verdict.
             seen = {name: "queued" if verdict == "reading" else verdict for name, verdict in seen.items()}
             person.same(seen, at_once, f"{what} is replaced, and being read")
-            wanted = WAIT if "queued" in at_once.values() else NEXT["good"]
+            several = sum(verdict == "queued" for verdict in at_once.values()) > 1
+            wanted = WAITS[several] if "queued" in at_once.values() else NEXT["good"][1]
             person.same(step, wanted, f"{what} is replaced, and being read: the next step")
             if at_once is both and "key" in what:
                 person.check(not person.is_shown("key-whole"), f"{what} is replaced: the old key is still shown")
@@ -69,7 +70,7 @@ def check_queued_actions(person):
             person.drop("downloads", slow)
             person.same(verdicts(person)[0], {"a.zip": "good"}, "while another file is read")
             act(*given)
-            person.same(verdicts(person), ({"a.zip": "queued"}, WAIT), f"{what}, while another file is read")
+            person.same(verdicts(person), ({"a.zip": "queued"}, WAITS[0]), f"{what}, while another file is read")
         person.expect_each("verdict", after, f"{what}, after another file was read")
 
 
@@ -85,7 +86,7 @@ def check_while_verifying(person):
         person.expect_each("verdict", {"small": "good", "lone.txt": "waiting"}, "before the large file")
         person.choose(*paths)
         person.wait(lambda: person.run("return (document.querySelector('progress')?.value ?? 0) > 0"))
-        person.check(person.see("band") == ["reading", "\u2026 Not verified yet (1 of 3 files): long", WAIT] or person.run(HOW_FAR) is True,
+        person.check(person.see("band") == ["reading", "\u2026 Not verified yet (1 of 3 files): long", WAITS[0]] or person.run(HOW_FAR) is True,
                      f"the band while a large file is read: {person.see('band')}")
 
     begin()

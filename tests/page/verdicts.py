@@ -171,7 +171,7 @@ def check_errors(person):
     person.type_key(person.first.line)
     person.only("a file that is gone", verdict="bad", has=["could not be read"])
     person.begin(person.first.line, *person.pair("data", b"data", person.sign(b"data") + b"x" * 65536), anew=False)
-    person.only("a long signature", verdict="bad", has=["too large for a signature"])
+    person.only("a long signature", verdict="bad", has=["too large to be a signature"])
 
 
 def check_matching(person):

@@ -72,7 +72,7 @@ async function readAnswers(cases, options) {
       const results = [await answerOf(data, signature, key, options), await answerOf(data, signature, publicKey, options)];
       answers.push(`${publicKey.keyId} ${signature.keyId} ${signature.isLegacy} ${results[0] === results[1] ? results[0] : results}`);
     } catch (why) {
-      answers.push(`rejected ${why.code ?? why.name}`);
+      answers.push(`rejected ${why?.code === "INVALID_ARGUMENT" ? why.name : why.code ?? why.name}`);
     }
   }
   return answers;
@@ -155,7 +155,7 @@ async function growth(count, [[key, data, signature], [, other]]) {
 
 // The beginnings of messages about arguments of wrong types.
 const DATA = "data must be bytes, a Blob, a stream or pieces of bytes, not";
-const SIGNATURE = "signature must be a text, as a string or bytes, not", KEY = "key must be a text, as a string or bytes, not";
+const SIGNATURE = "signature must be a string or bytes, not", KEY = "key must be a string or bytes, not";
 
 // Makes calls that must reject with a TypeError, which names the argument.
 async function wrongAnswers([[key, data, signature]]) {
@@ -185,7 +185,7 @@ async function wrongAnswers([[key, data, signature]]) {
 
 // Checks the properties and methods of a verifier, step by step.
 async function verifierAnswers([[key, data, signature]]) {
-  const answers = [], tell = async (wanted, run) => answers.push(`${wanted}\t${await (async () => run())().catch(why => why.code ?? why.name)}`);
+  const answers = [], tell = async (wanted, run) => answers.push(`${wanted}\t${await (async () => run())().catch(why => why?.code === "INVALID_ARGUMENT" ? why.name : why.code ?? why.name)}`);
   const verifier = await createVerifier(signature, key), reported = [];
   await tell("E7620F1842B4E81F false 0", () => `${verifier.keyId} ${verifier.isLegacy} ${verifier.bytes}`);
   await tell("TypeError", () => verifier.update("text"));
@@ -194,7 +194,8 @@ async function verifierAnswers([[key, data, signature]]) {
   }
   await tell(data.length, () => verifier.bytes);
   const trustedComment = "timestamp:1556193335\tfile:test";
-  await tell(JSON.stringify({trustedComment, keyId: "E7620F1842B4E81F", isLegacy: false}), () => verifier.end().then(JSON.stringify));
+  const fields = {hashed: false, file: "test", timestamp: 1556193335};
+  await tell(JSON.stringify({trustedComment, fields, keyId: "E7620F1842B4E81F", isLegacy: false}), () => verifier.end().then(JSON.stringify));
   for (const call of [() => verifier.end(), () => verifier.update(data), () => verifier.trustedComment()]) {
     await tell("NOT_BEGUN", call);
   }

@@ -62,7 +62,7 @@ async function names() {
   return lines.map(line => line.map(JSON.stringify));
 }
 
-const result = promise => promise.then(() => "written", why => why.code ?? why.name);
+const result = promise => promise.then(() => "written", why => why?.code === "INVALID_ARGUMENT" ? why.name : why.code ?? why.name);
 const modeOf = path => (statSync(path).mode & 0o7777).toString(8);
 
 async function newFiles([directory]) {

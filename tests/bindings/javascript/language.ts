@@ -1,11 +1,11 @@
 // Checks the types of the package with only the types of the language. `tests/bindings/javascript.py` compiles this program.
 
 import {
-  clearSecretKey, createSigner, createVerifier, ERRORS, generateSecretKey, MinisignError, readPublicKey, readSecretKey, readSignature, sign, verify,
+  clearSecretKey, createSigner, createVerifier, ERRORS, generateSecretKey, MinisignError, parseTrustedComment, readPublicKey, readSecretKey, readSignature, sign, verify,
   writePublicKey, writeSecretKey,
 } from "minisign-proved";
-import type { Data, ErrorCode, SecretKey, Verified } from "minisign-proved";
-import { writeNew } from "minisign-proved/node";
+import type { CommentFields, Data, ErrorCode, SecretKey, Verified } from "minisign-proved";
+import { saveVerified, writeNew } from "minisign-proved/node";
 
 async function* pieces(): AsyncGenerator<Uint8Array> {
   yield new Uint8Array(1);
@@ -26,6 +26,17 @@ export async function all(text: string): Promise<Verified> {
   }
   // @ts-expect-error: a number is not data
   await verify(7, signature, key);
+  // @ts-expect-error: a secret key is not a public one
+  await verify(forms[0], signature, await generateSecretKey());
+  // @ts-expect-error: a public key is not a secret one
+  await sign(forms[0], key);
+  // @ts-expect-error: a signature is not a key
+  await verify(forms[0], signature, signature);
+  const saved = await saveVerified(forms[0], "app", signature, key, { mode: 0o755, allowLegacy: true });
+  const { timestamp, file, version }: CommentFields = parseTrustedComment(saved.trustedComment);
+  const words: string = `${(timestamp ?? 0) + 1} ${file?.length} ${version?.length} ${saved.fields.hashed && 1}`;
+  // @ts-expect-error: an unknown option
+  await saveVerified(forms[0], words, signature, key, { umask: 0 });
   return verifier.end();
 }
 

@@ -17,7 +17,7 @@ const MIB = 1048576;
 const LONG = 512 * MIB;
 const GONE = Object.assign(new Error(), {code: "GONE"});
 
-const result = promise => promise.then(() => "accepted", why => why.code ?? why.name);
+const result = promise => promise.then(() => "accepted", why => why?.code === "INVALID_ARGUMENT" ? why.name : why.code ?? why.name);
 
 // Forms of long data that can be read without waiting.
 const forms = data => ({

@@ -15,7 +15,7 @@ import {createSigner, createVerifier, generateSecretKey, readSecretKey, sign, ve
 const [what, ...paths] = process.argv.slice(2);
 const [key, data, legacy] = paths.map(path => readFileSync(path));
 
-const result = promise => promise.then(() => "accepted", why => why.code ?? why.name);
+const result = promise => promise.then(() => "accepted", why => why?.code === "INVALID_ARGUMENT" ? why.name : why.code ?? why.name);
 
 class Options {
   allowLegacy = true;

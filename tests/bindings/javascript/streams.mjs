@@ -28,7 +28,7 @@ const REJECTED = [["no signature", key], [signature, "no key"], [7, key], [signa
 
 // Resolves to how a promise ends, in a word: "nothing" if it does not end.
 function ending(promise) {
-  return Promise.race([promise.then(() => "accepted", why => why?.code ?? why?.name ?? why), wait(CLOSING, "nothing", {ref: false})]);
+  return Promise.race([promise.then(() => "accepted", why => why?.code === "INVALID_ARGUMENT" ? why.name : why?.code ?? why?.name ?? why), wait(CLOSING, "nothing", {ref: false})]);
 }
 
 const descriptors = () => readdirSync("/proc/self/fd").length;
@@ -55,7 +55,7 @@ function webStream(pieces) {
   const noted = {cancelled: "not cancelled"};
   const stream = new ReadableStream({
     pull: controller => pieces.length > 0 ? controller.enqueue(pieces.shift()) : undefined,
-    cancel: why => { noted.cancelled = why?.code ?? why?.name; },
+    cancel: why => { noted.cancelled = why?.code === "INVALID_ARGUMENT" ? why.name : why?.code ?? why?.name; },
   });
   return {stream, noted};
 }

@@ -1,0 +1,32 @@
+// SPDX-License-Identifier: MIT
+// What the functions that write files in Node have in common.
+
+import { open } from "node:fs/promises";
+import { fileURLToPath } from "node:url";
+
+import { mustBe } from "./arguments.js";
+
+// The errors of syncing a directory on systems that do not support it.
+const NOT_SYNCED = ["EINVAL", "EPERM"];
+
+// Returns the path that the caller passed as a string, or as a `URL`.
+export function pathOf(path) {
+  const isPath = typeof path === "string" || typeof path?.href === "string";
+  mustBe(isPath, "path", "a string or a URL", path);
+  return typeof path === "string" ? path : fileURLToPath(path);
+}
+
+// Syncs a directory, so that the new file survives a crash. Does nothing if the
+// directory cannot be opened or synced on this system.
+export async function syncDirectory(name) {
+  const directory = await open(name, "r").catch(() => null);
+  try {
+    await directory?.sync();
+  } catch (why) {
+    if (!NOT_SYNCED.includes(why.code)) {
+      throw why;
+    }
+  } finally {
+    await directory?.close();
+  }
+}
