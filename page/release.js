@@ -141,7 +141,7 @@ function ownLinks(text, names) {
     return [name, link];
   });
   if (new Set(links.map(([name]) => name)).size < links.length) {
-    throw new NotPossible("Two lines have links for the same file.");
+    throw new NotPossible("A file has two links.");
   }
   return links.sort(inOrder);
 }

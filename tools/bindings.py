@@ -49,8 +49,12 @@ def name_of(constant):
 
 
 # Calls that are declared but get no function: the packages let the library allocate the memory of scrypt, clear values in their own
-# language, and never seal with limits below the minimum.
-DECLARED_ALONE = ("minisign_opening_memory", "minisign_open_sealed_key_in_place", "minisign_clear", "minisign_secret_key_text_with_any_limits")
+# language, and never seal with limits below the minimum. Only the Rust packages use records, bare signatures, the kinds of errors and
+# the check of a sealed key; they call the declarations of header.rs.
+DECLARED_ALONE = ("minisign_opening_memory", "minisign_open_sealed_key_in_place", "minisign_clear", "minisign_secret_key_text_with_any_limits",
+                  "minisign_error_kind", "minisign_read_public_key_record", "minisign_public_key_record", "minisign_encode_public_key",
+                  "minisign_read_signature_record", "minisign_signature_record", "minisign_ask_bare", "minisign_bare_verdict",
+                  "minisign_read_secret_key_record", "minisign_secret_key_record", "minisign_encode_unopened_key", "minisign_test_sealed_key")
 
 
 # ---- The calls as functions of a package ----
@@ -316,9 +320,9 @@ def go_call(call, header):
     is_flat = any(parameter.kind in header.in_parts for parameter in call.parameters)
     expression = f"C.{'flat_' * is_flat}{call.name}({', '.join(arguments)})"
     if call.answer == "enum minisign_error":
-        lines, types = [f"return {', '.join([*results, 'errorOf(err)'])}"], [*types, "error"]
+        lines, types = [f"return {', '.join([*results, 'done(err)'])}"], [*types, "error"]
         expression = f"err := {expression}" if results else expression
-        lines = [expression, *lines] if results else [f"return errorOf({expression})"]
+        lines = [expression, *lines] if results else [f"return done({expression})"]
     elif call.answer != "void" and not results:
         lines, types = [f"return {expression}"], [f"C.{call.answer.removeprefix('enum ')}"]
     elif call.answer != "void":
@@ -365,7 +369,7 @@ SIGNING = ("read_secret_key", "open_unsealed_key", "open_sealed_key", "take_secr
 JAVASCRIPT_STRUCTS = ("public_key", "unopened_key", "secret_key", "new_key", "sealing")
 WIDTHS = {"uint8_t": 1, "uint32_t": 4, "uint64_t": 8}
 # The marks of the generated part of calls.js, and the fields that it reads.
-JAVASCRIPT_MADE, JAVASCRIPT_END = "made by tools/bindings.py ----\n\n", "// ---- End of the generated part ----"
+JAVASCRIPT_MADE, JAVASCRIPT_END = "made by tools/bindings.py ----\n\n", "// ---- What is made ends here ----"
 READ_OF = {"public_key": ("key", "key_id"), "signature": ("key_id", "legacy"),
            "questions": ("public_key", "digest", "signature", "comment_signature", "message_len", "comment_offset", "comment_len", "legacy")}
 
@@ -531,7 +535,7 @@ def rust_call(call, header):
     result_type = {"void": result, "uint32_t": "u32"}.get(call.answer, f"Result<{result}, Reason>")
     if call.answer == "enum minisign_error":
         ok_value = value if result == "String" else f"Ok({value})"
-        lines = [call_between("check(", ")?;"), ok_value] if value else [call_between("check(", ")")]
+        lines = [call_between("done(", ")?;"), ok_value] if value else [call_between("done(", ")")]
     elif call.answer == "size_t":
         lines = [call_between("let len = ", ";"), value]
     else:
@@ -605,7 +609,7 @@ def rust_header(header):
     text += "".join(f'            {error.number} => "{error.name}",\n' for error in header.errors) + '            _ => "",\n        }\n    }\n'
     text += "}\n\n" + "".join(f"pub const {name}: {kind} = sys::MINISIGN_{name};\n" for name, kind, value in rust_constants(header)) + "\n"
     text += "".join(f"pub type {name_of(struct)} = sys::{struct};\n" for struct in header.structs)
-    text += by_hand(RUST, "\n/// Returns an error unless", "Reason::NOT_UTF8)\n}\n")
+    text += by_hand(RUST, "\npub(super) fn done", "Reason::NOT_UTF8)\n}\n")
     return text + "".join(rust_call(call, header) for call in header.calls if call.name not in DECLARED_ALONE)
 
 

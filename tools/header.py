@@ -27,6 +27,7 @@ from sources import ROOT, Unfit, read
 FORMATS = "docs/FORMATS.md"
 
 FAULTS = "crates/minisign_base/src/faults.rt"
+KINDS = "crates/minisign_base/src/errors.rt"
 FAULT_ROWS = "crates/minisign_base/specs/Faults.antt"
 NUMBERS = "crates/minisign_external/src/numbers.rt"
 INSTALL = "crates/minisign_install"
@@ -163,6 +164,14 @@ def enum_text(enum, numbers, prefix="", first=()):
     return f"enum minisign_{enum} {{\n" + ",\n".join([*first, *members]) + "\n};\n"
 
 
+def kinds_text():
+    """Returns the enum of the kinds of errors. Two of them are not among those of the crate: none, and API misuse."""
+    misuse = re.search(r"^misuse_kind = (\d+)$", read("crates/minisign_external/specs/Numbers.antt"), re.M)
+    first = ["    /* The number is 0, or it has no meaning in this header. */\n    MINISIGN_KIND_NONE = 0",
+             f"    /* API misuse. */\n    MINISIGN_KIND_MISUSE = {misuse[1]}"]
+    return enum_text("kind", numbers_of(comments_of(KINDS, "ErrorKind"), "crates/minisign_external/specs/Numbers.antt", "kind_number"), "KIND_", first)
+
+
 def choice_text(choice):
     """Returns a generated enum of minisign_install.h."""
     name = choice.prefix.lower()
@@ -260,8 +269,8 @@ def generated_files():
     rows, comments = [*fault_rows(), weak, *install_rows(install_comments)], comments | install_comments | {weak[0]: weak_comment}
     numbers = all_numbers(rows, comments)
     # Each header is parsed by itself for its attributes, because these do not depend on structs of the other one.
-    header = header_text(HEADER, {"Numbers": enum_text("error", numbers, first=["    MINISIGN_OK = 0"]), "Answers": answers_text(numbers),
-                                  "Attributes": attributes_text(parsed(read(HEADER)))})
+    header = header_text(HEADER, {"Numbers": enum_text("error", numbers, first=["    MINISIGN_OK = 0"]), "Kinds": kinds_text(),
+                                  "Answers": answers_text(numbers), "Attributes": attributes_text(parsed(read(HEADER)))})
     installing = header_text(INSTALLING, {**{choice.place: choice_text(choice) for choice in CHOICES},
                                           "Attributes": attributes_text(parsed(read(INSTALLING)))})
     yield HEADER, header

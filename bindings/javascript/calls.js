@@ -38,7 +38,7 @@ const QUESTIONS = {
   legacy: 248,
 };
 
-// ---- End of the generated part ----
+// ---- What is made ends here ----
 
 // Formats the eight bytes of a key ID as the program minisign prints it: one
 // little-endian number in upper-case hexadecimal digits, without leading zeros.

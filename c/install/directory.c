@@ -124,7 +124,7 @@ static enum presence find(struct directory *directory, const struct part *part, 
                                            : "this is not a regular file";
         hint = part != &directory->target || !(S_ISLNK(status->st_mode) || S_ISDIR(status->st_mode))
                    ? "remove it or move it away"
-               : S_ISLNK(status->st_mode) ? "use the path that it points to"
+               : S_ISLNK(status->st_mode) ? "give the path that it leads to"
                                           : "give the path of a file in it";
     } else if (errno == ENOENT) {
         return ABSENT;
@@ -263,8 +263,7 @@ static enum minisign_error open_part(struct directory *directory, const struct p
         if (*fd < 0 && errno != ENOENT && errno != ELOOP) {
             return errno == EACCES && part != &directory->target
                        ? fails_for(directory, part, "only the owner of this file can open it",
-                                   "use chown to change its owner to that of the installed file",
-                                   MINISIGN_READING_FAILED)
+                                   "give it the same owner as the installed file", MINISIGN_READING_FAILED)
                        : fails(directory, part, MINISIGN_READING_FAILED);
         }
         presence = *fd < 0 ? ABSENT : leads_to(directory, part, *fd);
@@ -561,8 +560,7 @@ static enum minisign_error give(struct directory *directory, struct permissions 
         return MINISIGN_OK;
     }
     is_denied = errno == EPERM || errno == EACCES;
-    snprintf(directory->words, sizeof directory->words, "the system does not allow the mode %03o for this file",
-             (unsigned) mode);
+    snprintf(directory->words, sizeof directory->words, "the mode %03o is not allowed here", (unsigned) mode);
     return fails_for(directory, &directory->stages, is_denied ? directory->words : NULL,
                      is_denied ? "use --mode to choose another mode" : NULL, MINISIGN_WRITING_FAILED);
 }

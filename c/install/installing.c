@@ -19,17 +19,17 @@ static void must(enum minisign_error error)
     }
 }
 
-struct installing *begin_installing(const struct run_options *options)
+struct installing *begin_installing(const struct wanted *wanted)
 {
     struct installing *run = calloc(1, sizeof *run);
 
-    if (run == NULL || !name_directory(&run->directory, options->target)) {
+    if (run == NULL || !name_directory(&run->directory, wanted->target)) {
         free(run);
         return NULL;
     }
-    run->directory.has_mode = options->has_mode;
-    run->directory.mode = options->mode;
-    run->options = options;
+    run->directory.has_mode = wanted->has_mode;
+    run->directory.mode = wanted->mode;
+    run->wanted = wanted;
     run->held.fd = -1;
     return run;
 }
@@ -56,7 +56,7 @@ static void tell(struct installing *run, enum minisign_error error)
 
 const char *wanted_name(const struct installing *run)
 {
-    return run->options->name == NULL ? run->directory.target.name : run->options->name;
+    return run->wanted->name == NULL ? run->directory.target.name : run->wanted->name;
 }
 
 const uint8_t *vouched_comment(const struct installing *run, size_t *len)
@@ -73,7 +73,7 @@ static uint64_t now(struct installing *run)
     struct timespec shown = { .tv_sec = -1 };
 
     clock_gettime(CLOCK_REALTIME, &shown);
-    run->is_clock_behind = run->record.is_there && run->record.written > 0 && !run->options->is_first
+    run->is_clock_behind = run->record.is_there && run->record.written > 0 && !run->wanted->is_first
                            && (shown.tv_sec < 0 || (uint64_t) shown.tv_sec < run->record.written);
     return shown.tv_sec < 0 ? UINT64_MAX : (uint64_t) shown.tv_sec;
 }
@@ -87,7 +87,7 @@ static void blame_clock(struct installing *run)
 
     if (gmtime_r(&written, &parts) != NULL
         && strftime(directory->words, sizeof directory->words,
-                    "written at %Y-%m-%d %H:%M:%S UTC, which is later than the system clock", &parts) > 0) {
+                    "it was written at %Y-%m-%d %H:%M:%S UTC, but the system clock is behind", &parts) > 0) {
         directory->trouble = (struct trouble) { directory->record.shown, directory->words, EINVAL,
                                                 "set the system clock" };
     }
@@ -96,20 +96,18 @@ static void blame_clock(struct installing *run)
 /* Passes on the signature file and the results of the Ed25519 checks. */
 static void answer_questions(struct installing *run)
 {
-    const struct run_options *options = run->options;
+    const struct wanted *wanted = run->wanted;
     const char *name = wanted_name(run);
     minisign_questions *q = &run->questions;
-    enum minisign_error error = minisign_install_ask(&run->machine, options->signature, options->signature_len,
+    enum minisign_error error = minisign_install_ask(&run->machine, wanted->signature, wanted->signature_len,
                                                      (const uint8_t *) name, strlen(name), now(run), q, run->message,
                                                      TEXT_BYTES);
 
     if (error == MINISIGN_OK) {
-        enum minisign_answer data_answer =
-            options->answer(q->signature, q->digest, sizeof q->digest, q->public_key);
-        enum minisign_answer comment_answer =
-            options->answer(q->comment_signature, run->message, q->message_len, q->public_key);
+        enum minisign_answer first = wanted->answer(q->signature, q->digest, sizeof q->digest, q->public_key);
+        enum minisign_answer second = wanted->answer(q->comment_signature, run->message, q->message_len, q->public_key);
 
-        error = minisign_install_answer(&run->machine, data_answer, comment_answer);
+        error = minisign_install_answer(&run->machine, first, second);
         if (error == MINISIGN_EXPIRED && run->is_clock_behind) {
             blame_clock(run);
         }
@@ -124,7 +122,7 @@ static void answer_questions(struct installing *run)
 
 static enum minisign_error data_fails(struct installing *run, const char *cause)
 {
-    run->directory.trouble = (struct trouble) { run->options->data_name, cause, errno, NULL };
+    run->directory.trouble = (struct trouble) { run->wanted->shown, cause, errno, NULL };
     return MINISIGN_READING_FAILED;
 }
 
@@ -132,23 +130,23 @@ static enum minisign_error data_fails(struct installing *run, const char *cause)
  * received first. */
 static void begin_with(struct installing *run, const minisign_public_key *key, const minisign_public_key *other)
 {
-    const struct run_options *options = run->options;
-    minisign_install_options machine_options = {
-        .numbering = options->numbering, .is_first = options->is_first, .again = options->again,
-        .is_check = options->is_check, .is_waiting = !run->is_file && run->held.fd < 0,
-        .must_expire = options->must_expire
+    const struct wanted *wanted = run->wanted;
+    minisign_install_options options = {
+        .numbering = wanted->numbering, .is_first = wanted->is_first, .again = wanted->again,
+        .is_check = wanted->is_check, .is_waiting = !run->is_file && run->held.fd < 0,
+        .must_expire = wanted->must_expire
     };
 
-    must(minisign_install_init(&run->machine, key, other, &machine_options));
+    must(minisign_install_init(&run->machine, key, other, &options));
 }
 
 /* Starts again with the second key if it has the key ID of the first, and the first has not signed the comment: of two
  * keys with one ID, the machine checks only the first. Nothing was created by then. */
 static bool asks_second_key(struct installing *run)
 {
-    const minisign_public_key *keys = run->options->keys;
+    const minisign_public_key *keys = run->wanted->keys;
 
-    if (run->is_second_key || run->options->key_count < MAX_KEYS || run->error != MINISIGN_COMMENT_SIGNATURE_REFUSED
+    if (run->is_second_key || run->wanted->key_count < MAX_KEYS || run->error != MINISIGN_COMMENT_SIGNATURE_REFUSED
         || run->directory.update.fd >= 0 || memcmp(keys[0].key_id, keys[1].key_id, sizeof keys[0].key_id) != 0) {
         return false;
     }
@@ -159,14 +157,14 @@ static bool asks_second_key(struct installing *run)
 
 static void begin(struct installing *run)
 {
-    const struct run_options *options = run->options;
+    const struct wanted *wanted = run->wanted;
     struct stat status = { 0 };
-    bool is_open = options->is_check || AGAIN(fstat(options->data, &status)) == 0;
+    bool is_open = wanted->is_check || AGAIN(fstat(wanted->data, &status)) == 0;
 
     run->is_file = S_ISREG(status.st_mode);
-    run->data = options->data;
+    run->data = wanted->data;
     run->data_size = run->is_file ? (uint64_t) status.st_size : 0;
-    begin_with(run, &options->keys[0], &options->keys[options->key_count - 1]);
+    begin_with(run, &wanted->keys[0], &wanted->keys[wanted->key_count - 1]);
     if (!is_open) {
         tell(run, data_fails(run, NULL));
     }
@@ -181,7 +179,7 @@ static enum minisign_error move_piece(struct installing *run, struct stage *to, 
     if (n < 0) {
         return data_fails(run, NULL);
     }
-    if ((uint64_t) n > run->options->max_size - run->done) {
+    if ((uint64_t) n > run->wanted->most - run->done) {
         run->is_too_long = true;
         return data_fails(run, "the data is larger than the limit");
     }
@@ -228,12 +226,12 @@ static void copy_piece(struct installing *run)
  * check first looks for what would make a run fail when it takes the lock. */
 static void read_record_whole(struct installing *run)
 {
-    const struct run_options *options = run->options;
+    const struct wanted *wanted = run->wanted;
     struct record *record = &run->record;
     enum minisign_error error = open_directory(&run->directory);
 
     record->is_there = false;
-    if (error == MINISIGN_OK && options->is_check) {
+    if (error == MINISIGN_OK && wanted->is_check) {
         error = expect_regular_files(&run->directory);
     }
     error = error == MINISIGN_OK ? read_record(&run->directory, record) : error;
@@ -241,8 +239,8 @@ static void read_record_whole(struct installing *run)
         must(record->is_there ? minisign_install_record(&run->machine, record->text, record->len, record->written)
                               : minisign_install_no_record(&run->machine));
     }
-    if (record->is_there && minisign_install_due(&run->machine) == MINISIGN_DUE_JUDGE && !options->is_first
-        && !options->is_check && memchr(record->text, ':', record->len) != NULL) {
+    if (record->is_there && minisign_install_due(&run->machine) == MINISIGN_DUE_JUDGE && !wanted->is_first
+        && !wanted->is_check && memchr(record->text, ':', record->len) != NULL) {
         error = renew_record(&run->directory, record);
     }
     if (error != MINISIGN_OK) {
@@ -285,7 +283,7 @@ static void lock(struct installing *run)
     enum minisign_error error = lock_target(&run->directory);
     bool is_received = run->is_file || run->held.fd >= 0;
 
-    if (error == MINISIGN_TARGET_IN_USE && is_received && run->waited < (uint64_t) run->options->wait * WAITS) {
+    if (error == MINISIGN_TARGET_IN_USE && is_received && run->waited < (uint64_t) run->wanted->wait * WAITS) {
         run->waited++;
         nanosleep(&pause, NULL);
         return;

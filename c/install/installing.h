@@ -26,16 +26,16 @@ typedef enum minisign_answer ed25519_answer(const uint8_t signature[64], const u
                                             const uint8_t public_key[32]);
 
 /* The options of a run. They must not change until it ends. */
-struct run_options {
-    /* The target path. With `is_check`, the run installs nothing, and determines what an installation would do. */
+struct wanted {
+    /* The path to install to; and whether to install nothing, but to say what an installation would do. */
     const char *target;
     bool is_check;
     /* The file name that the trusted comment must contain, or NULL for the last part of `target`. */
     const char *name;
-    /* The data: its name in messages, its descriptor, and its maximum size in bytes. A check has no data. */
-    const char *data_name;
+    /* The data: its name in messages, its descriptor, and its maximum size. A check has no data. */
+    const char *shown;
     int data;
-    uint64_t max_size;
+    uint64_t most;
     /* True if there need not be a record. */
     bool is_first;
     /* True if an update with the recorded version number is installed even if another update with that number is
@@ -73,7 +73,7 @@ struct installing {
     uint64_t size;
     /* `directory.trouble` is the first error, also of the data. */
     struct directory directory;
-    const struct run_options *options;
+    const struct wanted *wanted;
     /* The record, and whether the clock shows less than its modification time. */
     struct record record;
     bool is_clock_behind;
@@ -95,9 +95,9 @@ struct installing {
 
 #pragma GCC visibility push(default)
 
-/* Begins a run. The data, keys and signature of `options` may be filled in later. Returns NULL with errno EINVAL if the
+/* Begins a run. The data, keys and signature of `wanted` may be filled in later. Returns NULL with errno EINVAL if the
  * target does not end with a file name, or with ENOMEM. */
-struct installing *begin_installing(const struct run_options *options);
+struct installing *begin_installing(const struct wanted *wanted);
 
 /* Makes the call that is due, or handles one piece of data. Returns true if there is another call. */
 bool make_call(struct installing *run);

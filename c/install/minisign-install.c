@@ -75,10 +75,10 @@ static void say_library_error(const char *file, enum minisign_error error)
 }
 
 /* Prints what a file is and what to do, if it is not of the expected kind. */
-static void explain_text(const char *file, const struct long_text *text, enum text_kind expected_kind)
+static void explain_text(const char *file, const struct long_text *text, enum text_kind wanted)
 {
     if (text->len > 0) {
-        explain_other_kind(file, text->bytes, text->len, expected_kind, ORDER_HINT);
+        explain_other_kind(file, text->bytes, text->len, wanted, ORDER_HINT);
     }
 }
 
@@ -96,22 +96,22 @@ static void must_be_key(const char *shown, const struct long_text *text, enum mi
 static void read_texts(struct request *request)
 {
     static struct long_text text;
-    struct run_options *options = &request->options;
+    struct wanted *wanted = &request->wanted;
 
-    for (int i = 0; i < options->key_count; i++) {
+    for (int i = 0; i < wanted->key_count; i++) {
         const char *base64 = request->keys[i];
 
         must_be_key(base64, &text, minisign_read_bare_public_key((const uint8_t *) base64, strlen(base64), &keys[i]));
     }
-    if (options->key_count == 0) {
+    if (wanted->key_count == 0) {
         read_long_text(&text, request->key);
         must_be_key(request->key, &text, minisign_read_public_key(text.bytes, text.len, &keys[0]));
-        options->key_count = 1;
+        wanted->key_count = 1;
     }
-    options->keys = keys;
+    wanted->keys = keys;
     read_long_text(&signature_text, request->signature);
-    options->signature = signature_text.bytes;
-    options->signature_len = signature_text.len;
+    wanted->signature = signature_text.bytes;
+    wanted->signature_len = signature_text.len;
 }
 
 /* ---- The run ---- */
@@ -151,8 +151,8 @@ static void make_run(struct request *request, struct installing *run)
 {
     struct progress shown = { 0 };
 
-    if (!request->options.is_check) {
-        request->options.data = open_update(request->options.data_name);
+    if (!request->wanted.is_check) {
+        request->wanted.data = open_update(request->wanted.shown);
     }
     while (make_call(run)) {
         show_copying(&shown, run);
@@ -216,10 +216,10 @@ static void say_trouble(const struct trouble *trouble)
 /* Prints a hint for an error of the library. */
 static void hint_at(const struct request *request, const struct installing *run, const struct ending *ending)
 {
-    if (run->error == MINISIGN_NO_NUMBER && request->options.numbering == MINISIGN_NUMBERING_VERSION) {
+    if (run->error == MINISIGN_NO_NUMBER && request->wanted.numbering == MINISIGN_NUMBERING_VERSION) {
         print_hint("omit --numbering version if the comment has a field timestamp:");
     } else if (run->error == MINISIGN_OTHER_FILE) {
-        fprintf(stderr, "hint: use --name NAME if the update was signed under a name other than %s\n",
+        fprintf(stderr, "hint: use --name NAME if the update is signed under another name than %s\n",
                 escape_name(wanted_name(run)).text);
     } else if (ending->error == MINISIGN_OK) {
         explain_text(request->signature, &signature_text, SIGNATURE_TEXT);
@@ -233,13 +233,13 @@ static enum status report(const struct request *request, const struct installing
 {
     const struct ending *ending = ending_for(run->error);
     const struct directory *directory = &run->directory;
-    const char *const blamed[] = { request->signature, request->options.data_name, request->options.target,
+    const char *const blamed[] = { request->signature, request->wanted.shown, request->wanted.target,
                                    directory->record.shown };
     enum status status = ending->status;
     bool has_trouble = directory->trouble.shown != NULL
                        && (status == FAILED || status == NOT_SYNCED || status == EXPIRED);
 
-    if (status == OLDER && request->options.is_check) {
+    if (status == OLDER && request->wanted.is_check) {
         return status;
     }
     if (status != FAILED || !has_trouble) {
@@ -273,13 +273,13 @@ static bool show_update(const struct installing *run)
 }
 
 /* Warns that an installed file keeps its permissions, if --mode asks for others. */
-static void compare_mode(const struct run_options *options)
+static void compare_mode(const struct wanted *wanted)
 {
     struct stat status;
 
-    if (options->has_mode && lstat(options->target, &status) == 0 && (status.st_mode & 0777) != options->mode) {
+    if (wanted->has_mode && lstat(wanted->target, &status) == 0 && (status.st_mode & 0777) != wanted->mode) {
         fprintf(stderr, "warning: %s: already installed, so its permissions are unchanged\n",
-                escape_name(options->target).text);
+                escape_name(wanted->target).text);
         print_hint("use chmod to change them");
     }
 }
@@ -287,11 +287,11 @@ static void compare_mode(const struct run_options *options)
 /* Prints the result of the run. Returns the exit status. */
 static enum status tell_end(const struct request *request, const struct installing *run)
 {
-    if (request->options.is_check && !show_update(run)) {
+    if (request->wanted.is_check && !show_update(run)) {
         return FAILED;
     }
     switch (run->call) {
-    case MINISIGN_DUE_ALREADY: compare_mode(&request->options); return THERE_ALREADY;
+    case MINISIGN_DUE_ALREADY: compare_mode(&request->wanted); return THERE_ALREADY;
     case MINISIGN_DUE_REFUSED: return report(request, run);
     default: return INSTALLED;
     }
@@ -299,12 +299,12 @@ static enum status tell_end(const struct request *request, const struct installi
 
 /* ---- The program ---- */
 
-static struct installing *begin_run(const struct run_options *options)
+static struct installing *begin_run(const struct wanted *wanted)
 {
-    struct installing *run = begin_installing(options);
+    struct installing *run = begin_installing(wanted);
 
     if (run == NULL && errno == EINVAL) {
-        print_error(options->target, "this path does not end with a file name");
+        print_error(wanted->target, "this path does not end with a file name");
         print_hint("give the path of the file to install, not of its directory");
         exit(USAGE_ERROR);
     }
@@ -328,8 +328,8 @@ int main(int argc, char *argv[])
     signal(SIGPIPE, SIG_IGN);
     signal(SIGXFSZ, SIG_IGN);
     request = read_request(argc, argv);
-    request.options.answer = answer_of;
-    run = begin_run(&request.options);
+    request.wanted.answer = answer_of;
+    run = begin_run(&request.wanted);
     if (sodium_init() < 0) {
         print_error(NULL, "libsodium could not be initialized");
         return FAILED;

@@ -9,31 +9,29 @@
 
 enum { PATHS = 4 };
 
-/* The options. Those from MODE on take a value, and those from MODE to WAIT cannot be combined with --check. */
-enum option { IS_CHECK, IS_FIRST, MUST_EXPIRE, IS_AGAIN, MODE, MAX_SIZE, WAIT, NUMBERING, NAME, KEY, OPTIONS };
+/* The options. Those from MODE on have a value, and those from MODE to WAIT cannot be combined with --check. */
+enum option { IS_CHECK, IS_FIRST, MUST_EXPIRE, IS_AGAIN, MODE, MOST, WAIT, NUMBERING, NAME, KEY, OPTIONS };
 
-/* --most is the former name of --max-size. It is not documented, but still accepted. */
 static const struct {
     const char *word;
     enum option option;
 } words[] = {
     { "--check", IS_CHECK }, { "--first", IS_FIRST }, { "--must-expire", MUST_EXPIRE }, { "--again", IS_AGAIN },
-    { "--mode", MODE }, { "--most", MAX_SIZE }, { "--max-size", MAX_SIZE }, { "--wait", WAIT },
-    { "--numbering", NUMBERING }, { "--name", NAME }, { "--key", KEY },
+    { "--mode", MODE }, { "--most", MOST }, { "--max-size", MOST }, { "--wait", WAIT }, { "--numbering", NUMBERING },
+    { "--name", NAME }, { "--key", KEY },
 };
 
-/* The arguments: for each option its name as given and its value, or NULL; and the paths. */
+/* The parsed command line: the name and the value of each option, or NULL. */
 struct command_line {
     const char *words[OPTIONS];
     const char *values[OPTIONS];
     const char *keys[MAX_KEYS];
     int key_count;
-    /* The last element is for one path too many, which the error message names. */
+    /* One path too many is kept, for the message. */
     const char *paths[PATHS + 1];
-    int path_count;
+    int count;
 };
 
-/* Prints the help or the version, and ends the program. */
 static _Noreturn void show(const char *text, const char *more_text)
 {
     exit(fputs(text, stdout) >= 0 && fputs(more_text, stdout) >= 0 && fflush(stdout) == 0 ? INSTALLED : FAILED);
@@ -46,14 +44,14 @@ static _Noreturn void end_misuse(void)
     exit(USAGE_ERROR);
 }
 
-/* Reports what is wrong with an argument, or with the whole command line if `word` is NULL, and ends the program. */
+/* Ends the program because of an argument, or of all of them if `word` is NULL. */
 static _Noreturn void misuse(const char *word, const char *what)
 {
     print_error(word, what);
     end_misuse();
 }
 
-/* Stores an option. --key can be given twice, and each other option once. */
+/* Stores an option, which can be given once, except --key, which can be given twice. */
 static void add_option(struct command_line *line, enum option option, const char *word, const char *value)
 {
     if (option == KEY) {
@@ -70,15 +68,15 @@ static void add_option(struct command_line *line, enum option option, const char
 
 /* Ends the program if there are too many or too few paths, or if an option cannot be combined with --check. With
  * --check there is no DATA, and with --key no PK. */
-static void check_line(const struct command_line *line)
+static void judge_line(const struct command_line *line)
 {
     static const char *const paths[2][2] = { { "PK DATA SIG TARGET", "DATA SIG TARGET" },
                                              { "PK SIG TARGET", "SIG TARGET" } };
     int is_check = line->words[IS_CHECK] != NULL, has_key = line->words[KEY] != NULL;
-    int expected_count = PATHS - is_check - has_key;
+    int wanted = PATHS - is_check - has_key;
 
-    if (line->path_count > expected_count) {
-        fprintf(stderr, "error: %s: unexpected argument, expected %s\n", escape_name(line->paths[expected_count]).text,
+    if (line->count > wanted) {
+        fprintf(stderr, "error: %s: unexpected argument, expected %s\n", escape_name(line->paths[wanted]).text,
                 paths[is_check][has_key]);
         end_misuse();
     }
@@ -87,7 +85,7 @@ static void check_line(const struct command_line *line)
             misuse(line->words[option], "this option cannot be combined with --check");
         }
     }
-    if (line->path_count < expected_count) {
+    if (line->count < wanted) {
         fprintf(stderr, "error: missing arguments, expected %s\n", paths[is_check][has_key]);
         end_misuse();
     }
@@ -106,18 +104,18 @@ static enum option option_of(const char *word)
 static struct command_line read_command_line(int argc, char *argv[])
 {
     struct command_line line = { 0 };
-    bool only_paths = false;
+    bool is_ended = false;
 
     for (int i = 1; i < argc; i++) {
         const char *word = argv[i];
         enum option option = option_of(word);
 
-        if (only_paths || word[0] != '-' || word[1] == 0) {
-            if (line.path_count <= PATHS) {
-                line.paths[line.path_count++] = word;
+        if (is_ended || word[0] != '-' || word[1] == 0) {
+            if (line.count <= PATHS) {
+                line.paths[line.count++] = word;
             }
         } else if (strcmp(word, "--") == 0) {
-            only_paths = true;
+            is_ended = true;
         } else if (option == OPTIONS) {
             misuse(word, "unknown option");
         } else if (option >= MODE && ++i == argc) {
@@ -126,7 +124,7 @@ static struct command_line read_command_line(int argc, char *argv[])
             add_option(&line, option, word, argv[i]);
         }
     }
-    check_line(&line);
+    judge_line(&line);
     return line;
 }
 
@@ -158,7 +156,7 @@ static mode_t mode_of(const char *text)
     return (mode_t) strtoul(text, NULL, 8);
 }
 
-/* Returns how many bytes the suffix of a size stands for, or 1 if it is not K, M, G or T. */
+/* Returns the number of bytes for the suffix of a size, or 1 if there is none. */
 static uint64_t unit_of(const char *text)
 {
     switch (text[0]) {
@@ -200,7 +198,7 @@ static uint32_t seconds_of(const char *text)
 struct request read_request(int argc, char *argv[])
 {
     struct request request = { 0 };
-    struct run_options *options = &request.options;
+    struct wanted *wanted = &request.wanted;
     struct command_line line;
 
     for (int i = 1; i < argc; i++) {
@@ -215,25 +213,24 @@ struct request read_request(int argc, char *argv[])
         show("minisign-install " MINISIGN_VERSION_TEXT "\n", "");
     }
     line = read_command_line(argc, argv);
-    options->is_check = line.words[IS_CHECK] != NULL;
-    options->is_first = line.words[IS_FIRST] != NULL;
-    options->again = line.words[IS_AGAIN] != NULL;
-    options->must_expire = line.words[MUST_EXPIRE] != NULL;
-    options->numbering = numbering_of(line.values[NUMBERING]);
-    options->name = line.values[NAME];
-    if (options->name != NULL && *options->name == 0) {
-        reject_value("--name", "a file name", options->name);
+    wanted->is_check = line.words[IS_CHECK] != NULL;
+    wanted->is_first = line.words[IS_FIRST] != NULL;
+    wanted->again = line.words[IS_AGAIN] != NULL;
+    wanted->must_expire = line.words[MUST_EXPIRE] != NULL;
+    wanted->numbering = numbering_of(line.values[NUMBERING]);
+    wanted->name = line.values[NAME];
+    if (wanted->name != NULL && *wanted->name == 0) {
+        reject_value("--name", "a file name", wanted->name);
     }
-    options->has_mode = line.words[MODE] != NULL;
-    options->mode = options->has_mode ? mode_of(line.values[MODE]) : 0;
-    options->max_size =
-        line.words[MAX_SIZE] != NULL ? bytes_of(line.words[MAX_SIZE], line.values[MAX_SIZE]) : INT64_MAX;
-    options->wait = line.words[WAIT] != NULL ? seconds_of(line.values[WAIT]) : 0;
+    wanted->has_mode = line.words[MODE] != NULL;
+    wanted->mode = wanted->has_mode ? mode_of(line.values[MODE]) : 0;
+    wanted->most = line.words[MOST] != NULL ? bytes_of(line.words[MOST], line.values[MOST]) : INT64_MAX;
+    wanted->wait = line.words[WAIT] != NULL ? seconds_of(line.values[WAIT]) : 0;
     memcpy(request.keys, line.keys, sizeof request.keys);
-    options->key_count = line.key_count;
+    wanted->key_count = line.key_count;
     request.key = line.key_count > 0 ? NULL : line.paths[0];
-    options->data_name = options->is_check ? NULL : line.paths[line.path_count - 3];
-    request.signature = line.paths[line.path_count - 2];
-    options->target = line.paths[line.path_count - 1];
+    wanted->shown = wanted->is_check ? NULL : line.paths[line.count - 3];
+    request.signature = line.paths[line.count - 2];
+    wanted->target = line.paths[line.count - 1];
     return request;
 }

@@ -44,7 +44,7 @@ STATUSES = {
 HINTS = {
     minisign.NoRecord: "use --first for the first installation", minisign.DamagedRecord: "use --first to install anyway",
     minisign.SameNumber: "use --again to install anyway", minisign.TargetInUse: "use --wait SECONDS to wait for it",
-    minisign.OtherFile: "use --name NAME if the update was signed under a name other than {name}",
+    minisign.OtherFile: "use --name NAME if the update is signed under another name than {name}",
     minisign.KeptByVersion: "use --numbering version", minisign.KeptByTimestamp: "use --numbering timestamp",
     minisign.DifferentKeyIds: "use the public key of the signer", minisign.DirectoryNotSynced: "run the command again",
     minisign.TooLong: "use --max-size BYTES to accept larger data",
@@ -54,10 +54,10 @@ HINTS = {
 NO_NUMBER = {"version": "omit --numbering version if the comment has a field timestamp:", "timestamp": "use --numbering version if the comment has a field version:"}
 HINTS_OF_CAUSES = {
     "this directory does not exist": "create it first",
-    "only the owner of this file can open it": "use chown to change its owner to that of the installed file",
+    "only the owner of this file can open it": "give it the same owner as the installed file",
     "this file is too long for a version record": "remove it and use --first to install anyway",
     "another process removed or replaced this lock file": "run the command again",
-    "the system does not allow the mode ": "use --mode to choose another mode", "written at ": "set the system clock",
+    "the mode ": "use --mode to choose another mode", "it was written at ": "set the system clock",
     "another file is mounted": "unmount it, or give the path of another file",
 }
 
@@ -70,7 +70,7 @@ def failure(why, place):
     hint = next((hint for front, hint in HINTS_OF_CAUSES.items() if cause.startswith(front)), None)
     if cause.startswith("this is "):
         kind = cause if why.filename == place else ""
-        hint = ("use the path that it points to" if "symbolic link" in kind else "give the path of a file in it" if "directory" in kind
+        hint = ("give the path that it leads to" if "symbolic link" in kind else "give the path of a file in it" if "directory" in kind
                 else "remove it or move it away")
     return f"error: {why.filename}: {cause}" + ("" if is_own_text else f" (os error {why.errno})"), hint
 

@@ -48,12 +48,16 @@ NO_ERROR = {"LIBRARY"}
 READ_BEFORE = "minisign_read_signature has read the text, and the call compares its digest"
 KEY_READ_BEFORE = "the definition of a verdict reads the key file too, which the caller has read before"
 ASKED_BEFORE = "minisign_ask has checked it, and a state without a question is rejected"
+BARE_ASKED_BEFORE = "minisign_ask_bare has checked it, and a state without a question is rejected"
 JUDGED_APART = "minisign_judge_comment has no such argument"
 NEVER_RETURNED = {
     "minisign_ask": [("minisign_read_signature", READ_BEFORE)],
     "minisign_comment_verdict": [("minisign_read_signature", READ_BEFORE), ("DIFFERENT_KEY_IDS LEGACY_NOT_ACCEPTED", ASKED_BEFORE)],
     "minisign_verdict": [("minisign_read_signature", READ_BEFORE), ("minisign_read_public_key", KEY_READ_BEFORE),
                          ("DIFFERENT_KEY_IDS LEGACY_NOT_ACCEPTED", ASKED_BEFORE)],
+    "minisign_bare_verdict": [("COMMENT_SIGNATURE_REFUSED", "a bare signature has no comment signature"),
+                              ("DIFFERENT_KEY_IDS LEGACY_NOT_ACCEPTED", BARE_ASKED_BEFORE)],
+    "minisign_read_secret_key_record": [("PARAMETERS_TOO_HIGH INVALID_PARAMETERS", "it writes zeros in these cases")],
     "minisign_read_secret_key": [("KEY_SEALED KEY_CORRUPTED KEY_NOT_SEALED UNSUPPORTED_KEY_DERIVATION PARAMETERS_TOO_HIGH INVALID_PARAMETERS "
                                   "WORK_TOO_HIGH WRONG_PASSWORD", "it returns what opening would need, and opens nothing")],
     "minisign_opening_memory": [("PARAMETERS_TOO_HIGH INVALID_PARAMETERS", "it writes zeros in these cases")],
@@ -73,6 +77,7 @@ NAMED_APART = {
     "minisign_read_public_key": [("BARE_PUBLIC_KEY_LENGTH BARE_PUBLIC_KEY_NOT_BASE64", ONE_COMMENT)],
     "minisign_read_bare_public_key": [("MISSING_PUBLIC_KEY MISSING_PUBLIC_KEY_COMMENT PUBLIC_KEY_LENGTH PUBLIC_KEY_NOT_BASE64", ONE_COMMENT)],
     "minisign_open_sealed_key_in_place": [("OUT_OF_MEMORY", "the comment says that it is never returned")],
+    "minisign_test_sealed_key": [("NOT_UTF8 OUT_OF_MEMORY WRONG_PASSWORD", "the comment says that opening can still return them")],
     "minisign_install_init": [("COMMENT_SIGNATURE_REFUSED", "the comment says what to do at the end of an installation")],
     "minisign_secret_key_text_with_any_limits": [("WEAK_SEALING", "the comment says that it is never returned")],
 }

@@ -194,6 +194,45 @@ static void writes_keys(void)
     }
 }
 
+/* Records of exactly their sizes and of a byte less, and buffers of each size for the files of keys that were only read. */
+static void reads_and_writes_records(void)
+{
+    const minisign_public_key public_key = key_of(KEY);
+    const minisign_signature signature = signature_of(SIGNATURE);
+    minisign_unopened_key read = { 0 };
+    minisign_secret_key opened = { 0 };
+
+    CHECK(read_and_open(SECRET_KEY, NULL, &read, &opened) == MINISIGN_OK);
+    for (size_t less = 0; less < 2; less++) {
+        const enum minisign_error expected = less ? MINISIGN_RECORD_TOO_SHORT : MINISIGN_OK;
+
+        used = 0;
+        minisign_public_key *key = ALONE(minisign_public_key, public_key);
+        minisign_signature *bare = ALONE(minisign_signature, signature);
+        minisign_secret_key *secret = ALONE(minisign_secret_key, opened);
+        minisign_unopened_key *unopened = ALONE(minisign_unopened_key, read);
+        uint8_t *of_key = buffer(42), *of_signature = buffer(74), *of_secret = buffer(158);
+
+        CHECK(minisign_public_key_record(key, of_key) == MINISIGN_OK);
+        CHECK(minisign_read_public_key_record(copied(of_key, 42 - less), 42 - less, key) == expected);
+        CHECK(minisign_signature_record(bare, of_signature) == MINISIGN_OK);
+        CHECK(minisign_read_signature_record(copied(of_signature, 74 - less), 74 - less, bare) == expected);
+        CHECK(minisign_secret_key_record(secret, of_secret) == MINISIGN_OK);
+        CHECK(minisign_read_secret_key_record(copied(of_secret, 158 - less), 158 - less, unopened) == expected);
+        CHECK(minisign_test_sealed_key(unopened, 1) == MINISIGN_KEY_NOT_SEALED);
+        CHECK(minisign_ask_bare(new_state(), key, bare, 0, NEW(minisign_questions)) == MINISIGN_OK);
+    }
+    for (size_t room = 0; room <= MINISIGN_SECRET_KEY_BYTES(1); room++) {
+        used = 0;
+        size_t *text_len = NEW(size_t);
+        CHECK(minisign_encode_public_key(ALONE(minisign_public_key, public_key), copied("c", 1), 1, buffer(room), room, text_len)
+              == (room < MINISIGN_PUBLIC_KEY_BYTES(1) ? MINISIGN_NO_ROOM : MINISIGN_OK));
+        used = 1;
+        CHECK(minisign_encode_unopened_key(ALONE(minisign_unopened_key, read), copied("c", 1), 1, buffer(room), room, text_len)
+              == (room < MINISIGN_SECRET_KEY_BYTES(1) ? MINISIGN_NO_ROOM : MINISIGN_OK));
+    }
+}
+
 /* Opens a key in memory of exactly the size that is needed, and of a word or a byte less. The memory is cleared. */
 static void opens_in_place(uint64_t p)
 {
@@ -329,6 +368,7 @@ int main(void)
         asks_with_cut_texts();
         signs_with_cut_keys();
         writes_keys();
+        reads_and_writes_records();
         for (uint64_t p = IS_EMULATED ? 2 : 1; p <= 2; p++) {
             opens_in_place(p);
         }

@@ -177,7 +177,7 @@ def replaced_target(directory, is_installed):
         fresh.put("same", fresh.content())
         ran = fresh.run_stopped_before(number, lambda at: os.replace(at.path_of("same"), at.path_of(TARGET)), CALLS="fstat fstatat openat")
         fresh.expect_result(ran, ALREADY if is_installed else 0, b"")
-        return ran.reached
+        return ran.came
 
     in_turn(directory.installing.place, attempt)
 
@@ -197,7 +197,7 @@ def notices_lost_lock(directory, call, at):
 
     ran = directory.run_stopped_before(at, overtake, CALLS=LIBC_CALLS[call])
     said = f"{LOCK}: another process removed or replaced this lock file\nhint: run the command again\n".encode()
-    expect(ran.reached and ran.status == FAILED and said in ran.said, ran)
+    expect(ran.came and ran.status == FAILED and said in ran.said, ran)
     expect(directory.installed_state() == (LATER, b"7"), f"the record holds {directory.content(RECORD)}")
 
 

@@ -30,7 +30,7 @@ OTHER_DATA = error(TARGET, "this version is already recorded, but the installed 
 NO_RECORD = error(RECORD_PATH, "no version is recorded yet", "use --first for the first installation")
 DAMAGED_RECORD = error(RECORD_PATH, "the version record is damaged", "use --first to install anyway")
 OTHER_NAME = (error("new.sig", "the trusted comment does not name the file to install")
-              + f"hint: use --name NAME if the update was signed under a name other than {TARGET}\n".encode())
+              + f"hint: use --name NAME if the update is signed under another name than {TARGET}\n".encode())
 HOLDS_VERSION, HOLDS_TIMESTAMP = (
     error(RECORD_PATH, f"the version record holds a {recorded}, not a {other}", f"use --numbering {recorded}")
     for recorded, other in (("version", "timestamp"), ("timestamp", "version")))
@@ -39,7 +39,7 @@ TOO_LONG = ("the data is larger than the limit", "use --max-size BYTES to accept
 SOON = "\texpires:99999999999"
 # The date of a record that is later than any real clock, and the message about such a record.
 WRITTEN = 4000000000
-CLOCK_BEHIND = EXPIRED_AT + error(RECORD_PATH, "written at 2096-10-02 07:06:40 UTC, which is later than the system clock",
+CLOCK_BEHIND = EXPIRED_AT + error(RECORD_PATH, "it was written at 2096-10-02 07:06:40 UTC, but the system clock is behind",
                                   "set the system clock")
 BAD_EXPIRY = error("new.sig", "the trusted comment has an invalid or repeated field expires:")
 NO_EXPIRY = error("new.sig", "the trusted comment does not say when the update expires")
@@ -447,7 +447,7 @@ def removes_leftovers(directory):
 
 
 # What is put at the path of a file: a function that makes it, the error, and the hint if it is the target.
-IS_LINK, LEADS = "this is a symbolic link, which is not followed", "use the path that it points to"
+IS_LINK, LEADS = "this is a symbolic link, which is not followed", "give the path that it leads to"
 AWAY = "remove it or move it away"
 NOT_REGULAR = {
     "pipe": (os.mkfifo, "this is not a regular file", AWAY),

@@ -3,14 +3,16 @@
 #![allow(unsafe_code)]
 
 mod header;
+mod records;
 #[cfg(feature = "sodium")]
 mod sodium;
 
 pub use header::*;
-use header::{check, text_of};
+use header::{done, text_of};
 use minisign_proved_sys as sys;
+pub use records::*;
 
-/// Encodes a secret key file as `secret_key_text` does, but also accepts an empty password.
+/// Encrypts a key as `secret_key_text` does, also with an empty password.
 pub fn secret_key_text_with_any_password(
     key: &SecretKey,
     password: Option<&[u8]>,
@@ -35,6 +37,6 @@ pub fn secret_key_text_with_any_password(
             &mut len,
         )
     };
-    check(result)?;
+    done(result)?;
     text_of(text, len)
 }

@@ -106,6 +106,13 @@ size_t portable_minisign_error_text(uint32_t error, uint8_t *text, size_t room)
     return (size_t) machine_minisign_error_text(error, address(text), room);
 }
 
+uint32_t machine_minisign_error_kind(uint32_t);
+
+uint32_t portable_minisign_error_kind(uint32_t error)
+{
+    return machine_minisign_error_kind(error);
+}
+
 void machine_minisign_init(uint64_t);
 
 void portable_minisign_init(minisign_state *state)
@@ -154,6 +161,26 @@ uint32_t portable_minisign_read_bare_public_key(const uint8_t *base64, size_t ba
     return result;
 }
 
+uint32_t machine_minisign_read_public_key_record(uint64_t, uint64_t, uint64_t);
+
+uint32_t portable_minisign_read_public_key_record(const uint8_t *record, size_t record_len,
+                                                  minisign_public_key *key)
+{
+    given_minisign_public_key(key);
+    const uint32_t result = machine_minisign_read_public_key_record(address(record), record_len, address(key));
+    got_minisign_public_key(key);
+    return result;
+}
+
+uint32_t machine_minisign_public_key_record(uint64_t, uint64_t);
+
+uint32_t portable_minisign_public_key_record(const minisign_public_key *key, uint8_t *record)
+{
+    minisign_public_key key_kept;
+    const minisign_public_key *key_lent = LENT(minisign_public_key, key, &key_kept);
+    return machine_minisign_public_key_record(address(key_lent), address(record));
+}
+
 uint32_t machine_minisign_read_signature(uint64_t, uint64_t, uint64_t);
 
 uint32_t portable_minisign_read_signature(const uint8_t *sig_text, size_t sig_text_len,
@@ -163,6 +190,27 @@ uint32_t portable_minisign_read_signature(const uint8_t *sig_text, size_t sig_te
     const uint32_t result = machine_minisign_read_signature(address(sig_text), sig_text_len, address(signature));
     got_minisign_signature(signature);
     return result;
+}
+
+uint32_t machine_minisign_read_signature_record(uint64_t, uint64_t, uint64_t);
+
+uint32_t portable_minisign_read_signature_record(const uint8_t *record, size_t record_len,
+                                                 minisign_signature *signature)
+{
+    given_minisign_signature(signature);
+    const uint32_t result = machine_minisign_read_signature_record(address(record), record_len,
+                                                                   address(signature));
+    got_minisign_signature(signature);
+    return result;
+}
+
+uint32_t machine_minisign_signature_record(uint64_t, uint64_t);
+
+uint32_t portable_minisign_signature_record(const minisign_signature *signature, uint8_t *record)
+{
+    minisign_signature signature_kept;
+    const minisign_signature *signature_lent = LENT(minisign_signature, signature, &signature_kept);
+    return machine_minisign_signature_record(address(signature_lent), address(record));
 }
 
 uint32_t machine_minisign_ask(uint64_t, uint64_t, uint64_t, uint64_t, uint64_t, uint32_t, uint64_t, uint64_t,
@@ -198,6 +246,30 @@ uint32_t portable_minisign_verdict(minisign_state *state, uint32_t first, uint32
     return machine_minisign_verdict(address(state), first, second);
 }
 
+uint32_t machine_minisign_ask_bare(uint64_t, uint64_t, uint64_t, uint32_t, uint64_t);
+
+uint32_t portable_minisign_ask_bare(minisign_state *state, const minisign_public_key *key,
+                                    const minisign_signature *signature, uint32_t allow_legacy,
+                                    minisign_questions *questions)
+{
+    minisign_public_key key_kept;
+    const minisign_public_key *key_lent = LENT(minisign_public_key, key, &key_kept);
+    minisign_signature signature_kept;
+    const minisign_signature *signature_lent = LENT(minisign_signature, signature, &signature_kept);
+    given_minisign_questions(questions);
+    const uint32_t result = machine_minisign_ask_bare(address(state), address(key_lent), address(signature_lent),
+                                                      allow_legacy, address(questions));
+    got_minisign_questions(questions);
+    return result;
+}
+
+uint32_t machine_minisign_bare_verdict(uint64_t, uint32_t);
+
+uint32_t portable_minisign_bare_verdict(minisign_state *state, uint32_t first)
+{
+    return machine_minisign_bare_verdict(address(state), first);
+}
+
 uint32_t machine_minisign_read_secret_key(uint64_t, uint64_t, uint64_t);
 
 uint32_t portable_minisign_read_secret_key(const uint8_t *sk_text, size_t sk_text_len,
@@ -207,6 +279,43 @@ uint32_t portable_minisign_read_secret_key(const uint8_t *sk_text, size_t sk_tex
     const uint32_t result = machine_minisign_read_secret_key(address(sk_text), sk_text_len, address(unopened));
     got_minisign_unopened_key(unopened);
     return result;
+}
+
+uint32_t machine_minisign_read_secret_key_record(uint64_t, uint64_t, uint64_t);
+
+uint32_t portable_minisign_read_secret_key_record(const uint8_t *secret_record, size_t secret_record_len,
+                                                  minisign_unopened_key *unopened)
+{
+    given_minisign_unopened_key(unopened);
+    const uint32_t result = machine_minisign_read_secret_key_record(address(secret_record), secret_record_len,
+                                                                    address(unopened));
+    got_minisign_unopened_key(unopened);
+    return result;
+}
+
+uint32_t machine_minisign_encode_unopened_key(uint64_t, uint64_t, uint64_t, uint64_t, uint64_t, uint64_t);
+
+uint32_t portable_minisign_encode_unopened_key(const minisign_unopened_key *unopened, const uint8_t *comment,
+                                               size_t comment_len, uint8_t *text, size_t room, size_t *text_len)
+{
+    minisign_unopened_key unopened_kept;
+    const minisign_unopened_key *unopened_lent = LENT(minisign_unopened_key, unopened, &unopened_kept);
+    uint64_t text_len_kept = 0;
+    store64(address(&text_len_kept), *text_len);
+    const uint32_t result = machine_minisign_encode_unopened_key(address(unopened_lent), address(comment),
+                                                                 comment_len, address(text), room,
+                                                                 address(&text_len_kept));
+    *text_len = (size_t) load64(address(&text_len_kept));
+    return result;
+}
+
+uint32_t machine_minisign_test_sealed_key(uint64_t, uint64_t);
+
+uint32_t portable_minisign_test_sealed_key(const minisign_unopened_key *unopened, uint64_t most_rows)
+{
+    minisign_unopened_key unopened_kept;
+    const minisign_unopened_key *unopened_lent = LENT(minisign_unopened_key, unopened, &unopened_kept);
+    return machine_minisign_test_sealed_key(address(unopened_lent), most_rows);
 }
 
 uint32_t machine_minisign_open_unsealed_key(uint64_t, uint64_t);
@@ -291,6 +400,15 @@ uint32_t portable_minisign_public_key_of(const minisign_secret_key *key, minisig
     const uint32_t result = machine_minisign_public_key_of(address(key_lent), address(public_key));
     got_minisign_public_key(public_key);
     return result;
+}
+
+uint32_t machine_minisign_secret_key_record(uint64_t, uint64_t);
+
+uint32_t portable_minisign_secret_key_record(const minisign_secret_key *key, uint8_t *secret_record)
+{
+    minisign_secret_key key_kept;
+    const minisign_secret_key *key_lent = LENT(minisign_secret_key, key, &key_kept);
+    return machine_minisign_secret_key_record(address(key_lent), address(secret_record));
 }
 
 uint32_t machine_minisign_comment_message(uint64_t, uint64_t, uint64_t, uint64_t, uint64_t);
@@ -382,6 +500,21 @@ uint32_t portable_minisign_public_key_text(const minisign_secret_key *key, const
     store64(address(&text_len_kept), *text_len);
     const uint32_t result = machine_minisign_public_key_text(address(key_lent), address(comment), comment_len,
                                                              address(text), room, address(&text_len_kept));
+    *text_len = (size_t) load64(address(&text_len_kept));
+    return result;
+}
+
+uint32_t machine_minisign_encode_public_key(uint64_t, uint64_t, uint64_t, uint64_t, uint64_t, uint64_t);
+
+uint32_t portable_minisign_encode_public_key(const minisign_public_key *key, const uint8_t *comment,
+                                             size_t comment_len, uint8_t *text, size_t room, size_t *text_len)
+{
+    minisign_public_key key_kept;
+    const minisign_public_key *key_lent = LENT(minisign_public_key, key, &key_kept);
+    uint64_t text_len_kept = 0;
+    store64(address(&text_len_kept), *text_len);
+    const uint32_t result = machine_minisign_encode_public_key(address(key_lent), address(comment), comment_len,
+                                                               address(text), room, address(&text_len_kept));
     *text_len = (size_t) load64(address(&text_len_kept));
     return result;
 }

@@ -18,28 +18,39 @@ ghost use Rattle.minisign.specs.Signing.{comments_of};
 ghost use Rattle.minisign_external.specs.Questions.{IsKeyText, comment_verdict_under, read_under};
 ghost use Rattle.minisign_external.specs.Questions.{verdict_under};
 ghost use Rattle.minisign_external.specs.Numbers.{WritesCut, misuse_number, IsAnswer, answer_yes};
-ghost use Rattle.minisign_external.specs.Numbers.{fault_number, refusal_number};
+ghost use Rattle.minisign_external.specs.Numbers.{IsKindOf, fault_number, refusal_number};
 ghost use Rattle.minisign_external.specs.PublicKeys.{is_public_key, read_utf8, told_key_number};
 ghost use Rattle.minisign_external.specs.Making.{HoldsPublicKey, HoldsSecretKey, IsKeyComment};
+ghost use Rattle.minisign_external.specs.Making.{HoldsReadPublicKey, HoldsReadSecretKey, IsEncodingNumber};
 ghost use Rattle.minisign_external.specs.Making.{IsMakingRefusal};
 ghost use Rattle.minisign_external.specs.Making.{IsPublicKeyNumber};
 ghost use Rattle.minisign_external.specs.SecretKeys.{DerivesWithin, OpensAs, is_opened, opened_in_place};
 ghost use Rattle.minisign_external.specs.SecretKeys.{opened_sealed, opened_unsealed, passed_in};
 ghost use Rattle.minisign_external.specs.SecretKeys.{public_value_of, read_value, reading_number};
 ghost use Rattle.minisign_external.specs.SecretKeys.{unopened_record, taken_key, told_opened};
+ghost use Rattle.minisign_external.specs.SecretKeys.{is_read, tested_sealed};
 ghost use Rattle.minisign_external.specs.SecretKeys.{told_public_key, value_memory};
 ghost use Rattle.minisign_external.specs.Signatures.{IsReadFrom, read_signature_value, told_signature_value};
+ghost use Rattle.minisign_external.specs.Signatures.{signature_of_value};
 ghost use Rattle.minisign_external.specs.Signing.{AreReadByMinisign, HoldsText, IsWritingNumber};
 ghost use Rattle.minisign_external.specs.declared.public_keys.PublicKeyValue.{PublicKeyValue};
 ghost use Rattle.minisign_external.specs.declared.state.Refusal.{Refusal};
 ghost use Rattle.minisign_external.specs.declared.state.Refusal.TheVariants.{Refused};
 ghost use Rattle.minisign_external.specs.declared.state.Misuse.{Misuse};
 ghost use Rattle.minisign_external.specs.declared.state.Misuse.TheVariants.{BadAnswer, BadNumbering};
-ghost use Rattle.minisign_external.specs.declared.state.Misuse.TheVariants.{NoRoom, NotDue};
+ghost use Rattle.minisign_external.specs.declared.state.Misuse.TheVariants.{KeyNotRead, NoRoom, NotDue};
+ghost use Rattle.minisign_external.specs.declared.state.Misuse.TheVariants.{PublicKeyNotRead};
 ghost use Rattle.minisign_external.specs.States.{AreAsked, GivesNumber, HasAsked, HasToldDigest, IsAnswered};
 ghost use Rattle.minisign_external.specs.States.{IsBlank, IsFedState, IsMarkedFed, IsMarkedTold, KeepsAsked};
 ghost use Rattle.minisign_external.specs.States.{asking_under, comment_number, feeding_misuse};
-ghost use Rattle.minisign_external.specs.States.{told_verdict_number, verdict_number};
+ghost use Rattle.minisign_external.specs.States.{result_number, told_verdict_number, verdict_number};
+ghost use Rattle.minisign_external.specs.Bare.{AnswersBare, HasAskedBare, bare_verdict_under, judged_number};
+ghost use Rattle.minisign_external.specs.Bare.{told_bare_asking_number, told_bare_verdict_number};
+ghost use Rattle.minisign_external.specs.ValueRecords.{public_key_in, public_key_record, read_bare_value};
+ghost use Rattle.minisign_external.specs.ValueRecords.{secret_key_record, signature_record};
+ghost use Rattle.minisign_external.specs.ValueRecords.{told_record_number, told_unopened_number, unopened_in};
+ghost use Rattle.minisign_external.specs.ValueRecords.{written_public_key};
+ghost use Rattle.minisign.specs.Records.{SignatureRecord};
 ghost use Rattle.minisign_external.specs.StrictCalls.{asked_number, asked_strictly, strict_asking_number};
 ghost use Rattle.minisign_external.specs.StrictCalls.{is_strict_text};
 ghost use Rattle.minisign_install.specs.Hosted.{AnswerVouches, AnswersJudgeTarget, CallHasFailed};
@@ -64,8 +75,10 @@ ghost use Rattle.minisign_install.specs.declared.order.Due.TheVariants as ended;
 pub mod in_a_row;
 
 use minisign::Sealing;
-use minisign_external::making::{write_public_key, write_secret_key};
-use minisign_external::numbers::{ANSWER_YES, Numbered, WEAK_ED25519, is_answer};
+use minisign_external::making::{
+    encode_public_key, encode_unopened_key, write_public_key, write_secret_key,
+};
+use minisign_external::numbers::{ANSWER_YES, Numbered, WEAK_ED25519, error_kind, is_answer};
 use minisign_external::public_keys::{PublicKeyValue, tell_bare_public_key, tell_public_key};
 use minisign_external::secrets::SecretKeyValue;
 use minisign_external::signatures::SignatureValue;
@@ -73,7 +86,10 @@ use minisign_external::signed_texts::{write_comment_message, write_signed_text};
 use minisign_external::state::{Misuse, Questions, Refusal, State};
 use minisign_external::unopened_keys::{
     UnopenedKeyValue, memory_to_open, open_sealed_key, open_sealed_key_in_place, open_unsealed_key,
-    read_unopened_key,
+    read_unopened_key, read_unopened_record, test_sealed_key,
+};
+use minisign_external::value_records::{
+    read_public_key_record, write_public_key_record, write_secret_key_record,
 };
 use minisign_install::Numbering;
 use minisign_install::hosted::{Choices, Installation, write_error_text};
@@ -108,6 +124,16 @@ pub extern "C" fn minisign_error_text(error: u32, text: &mut [u8]) -> usize
     ensures room { result < 128 }
 {
     write_error_text(error, text)
+}
+
+/// Returns the number of the kind of an error.
+#[unsafe(no_mangle)]
+pub extern "C" fn minisign_error_kind(error: u32) -> u32
+    // The result is 1 for API misuse, the number of the kind for an error of the library, and 0 for 0 and
+    // for a number without a meaning here.
+    ensures { IsKindOf error result }
+{
+    error_kind(error)
 }
 
 /// Begins: the state was fed nothing.
@@ -175,6 +201,26 @@ pub extern "C" fn minisign_read_bare_public_key(base64: &[u8], key: &mut PublicK
     number_of!(tell_bare_public_key(base64, key))
 }
 
+/// Reads a public key from its record. Does not allocate.
+#[unsafe(no_mangle)]
+pub extern "C" fn minisign_read_public_key_record(bytes: &[u8], key: &mut PublicKeyValue) -> u32
+    // On success, `key` holds the key and the key ID in the first 42 bytes, and is marked as read. If there
+    // are fewer bytes, the result is the number of that error, and `key` is unchanged.
+    ensures { (result, key.new) ≡ told_key_number (public_key_in bytes.now) key.old }
+{
+    number_of!(read_public_key_record(bytes, key))
+}
+
+/// Writes the record of a public key. Does not allocate.
+#[unsafe(no_mangle)]
+pub extern "C" fn minisign_public_key_record(key: &PublicKeyValue, bytes: &mut [u8; 42]) -> u32
+    // If the public key was read, the record is its 42 bytes, with the algorithm `Ed`. Otherwise the result
+    // is the number of that error, and the record is unchanged.
+    ensures { (result, bytes.new) ≡ told_record_number (public_key_record key.now) bytes.old }
+{
+    number_of!(write_public_key_record(key, bytes))
+}
+
 /// Reads the signature of a text. Does not allocate.
 #[unsafe(no_mangle)]
 pub extern "C" fn minisign_read_signature(sig_text: &[u8], signature: &mut SignatureValue) -> u32
@@ -192,6 +238,36 @@ pub extern "C" fn minisign_read_signature(sig_text: &[u8], signature: &mut Signa
         }
         Err(fault) => Refusal::Refused(fault).number(),
     }
+}
+
+/// Reads a bare signature from its record. Does not allocate.
+#[unsafe(no_mangle)]
+pub extern "C" fn minisign_read_signature_record(
+    bytes: &[u8],
+    signature: &mut SignatureValue,
+) -> u32
+    // On success, `signature` holds the key ID, the algorithm and the signature in the first 74 bytes, and
+    // nothing about comments. Otherwise the result is the number of the first check that fails, fewer bytes
+    // and then an algorithm other than `Ed` and `ED`, and `signature` is unchanged.
+    ensures { (result, signature.new) ≡ told_signature_value (read_bare_value bytes.now) signature.old }
+{
+    match SignatureValue::read_record(bytes) {
+        Ok(read) => {
+            *signature = read;
+            0
+        }
+        Err(fault) => fault.number(),
+    }
+}
+
+/// Writes the record of a signature. Does not allocate.
+#[unsafe(no_mangle)]
+pub extern "C" fn minisign_signature_record(signature: &SignatureValue, bytes: &mut [u8; 74]) -> u32
+    // If the signature was read, from a text or from a record, the record is its 74 bytes. Otherwise the
+    // result is the number of that error, and the record is unchanged.
+    ensures { (result, bytes.new) ≡ told_record_number (signature_record signature.now) bytes.old }
+{
+    number_of!(signature.write_record(bytes))
 }
 
 /// Asks what Ed25519 has to answer before it is known whether the key and the signature vouch for the data.
@@ -305,6 +381,63 @@ pub extern "C" fn minisign_verdict(state: &mut State, first: u32, second: u32) -
     number_of!(state.verdict(first == ANSWER_YES, second == ANSWER_YES))
 }
 
+/// Asks what Ed25519 has to answer before it is known whether a bare signature is valid. Does not allocate.
+#[unsafe(no_mangle)]
+pub extern "C" fn minisign_ask_bare(
+    state: &mut State,
+    key: &PublicKeyValue,
+    signature: &SignatureValue,
+    allow_legacy: u32,
+    questions: &mut Questions,
+) -> u32
+    // If the result is 0, `questions` holds the question about the key and the signature, with zeros in
+    // place of the digest and of everything about a comment, and the state records that it was asked about
+    // a bare signature. Otherwise the state and the questions are unchanged, and the result is the number
+    // of the first error that applies: `allow_legacy` is above 1; the state was asked before or its digest
+    // returned, or it was never initialized; the public key was not read; the signature was not read; the
+    // key IDs differ; the signature is a legacy one and these are not allowed; the key or the signature is
+    // weak.
+    ensures value { (result, state.new, questions.new)
+        ≡ told_bare_asking_number state.old key.now signature.now allow_legacy questions.old }
+
+    // The data that the state was fed is unchanged. If the result is 0, the state was asked about this key
+    // and this signature.
+    ensures fed { (m : List ℕ) → IsFedState state.old m → IsFedState state.new m }
+    ensures asked { result ≡ 0
+        → HasAskedBare state.new key.now (signature_of_value signature.now) (allow_legacy == 1) }
+{
+    if allow_legacy >= 2 {
+        return Misuse::BadLegacyFlag.number();
+    }
+    match state.ask_bare(key, signature, allow_legacy == 1, questions) {
+        Ok(is_strict) => { if is_strict { 0 } else { WEAK_ED25519 } }
+        Err(refusal) => refusal.number(),
+    }
+}
+
+/// Returns the verdict on a bare signature from the answer, `ANSWER_YES` or `ANSWER_NO`, and finishes the
+/// state. Does not allocate.
+#[unsafe(no_mangle)]
+pub extern "C" fn minisign_bare_verdict(state: &mut State, first: u32) -> u32
+    // **After a successful `minisign_ask_bare` and the digest, for every scheme and every message for which
+    // `first` is the result of the check: the result is 0 exactly if the bare signature is valid for the
+    // message under the key. Otherwise it is the number of the first check that fails.**
+    ensures verdict { (v : PublicKeyValue) (s : SignatureRecord) (message : List ℕ) (legacy : Bool)
+        (accepts : Verifier) → HasAskedBare state.old v s legacy → IsMarkedTold state.old → IsAnswer first
+        → AnswersBare accepts v s message (first == answer_yes)
+        → result ≡ judged_number (bare_verdict_under accepts v s message legacy) }
+
+    // It is API misuse, and the state is unchanged, if `first` is neither 7955827 (yes) nor 28271 (no), if
+    // the state was not asked about a bare signature, or if the digest was not returned. Otherwise the
+    // state is finished, and the result is 0 exactly if `first` is yes.
+    ensures value { (result, state.new) ≡ told_bare_verdict_number state.old first }
+{
+    if !is_answer(first) {
+        return Misuse::BadAnswer.number();
+    }
+    number_of!(state.bare_verdict(first == ANSWER_YES))
+}
+
 /// Reads the text of a secret key, which is not opened yet. Does not allocate.
 #[unsafe(no_mangle)]
 pub extern "C" fn minisign_read_secret_key(sk_text: &[u8], unopened: &mut UnopenedKeyValue) -> u32
@@ -321,6 +454,63 @@ pub extern "C" fn minisign_read_secret_key(sk_text: &[u8], unopened: &mut Unopen
     ensures opens { result ≡ 0 → OpensAs unopened.new sk_text.now }
 {
     number_of!(read_unopened_key(sk_text, unopened))
+}
+
+/// Reads a secret key from its record. Does not allocate.
+#[unsafe(no_mangle)]
+pub extern "C" fn minisign_read_secret_key_record(
+    bytes: &[u8],
+    unopened: &mut UnopenedKeyValue,
+) -> u32
+    // On success, `unopened` holds the first 158 bytes and says how much work opening the key takes. If
+    // there are fewer bytes, the result is the number of that error, and `unopened` is unchanged.
+    ensures { (result, unopened.new) ≡ told_unopened_number (unopened_in bytes.now) unopened.old }
+{
+    number_of!(read_unopened_record(bytes, unopened))
+}
+
+/// Writes the text of a secret key that was read, as it is.
+#[unsafe(no_mangle)]
+pub extern "C" fn minisign_encode_unopened_key(
+    alloc: Global,
+    unopened: &UnopenedKeyValue,
+    comment: &[u8],
+    text: &mut [u8],
+    text_len: &mut usize,
+) -> u32
+    // On success, the secret key file is at the start of the buffer, as `encode_unopened_key` promises: it
+    // parses to the key as it was read, and Minisign reads the whole comment. The rest of the buffer is
+    // unchanged.
+    ensures read { result ≡ 0 → is_read unopened.now ≡ true }
+    ensures text { result ≡ 0
+        → HoldsReadSecretKey (unopened_record unopened.now) comment.now text.new text_len.new }
+    ensures readable { result ≡ 0 → IsKeyComment comment.now }
+    ensures rest { result ≡ 0 → drop text_len.new text.new ≡ drop text_len.new text.old }
+
+    // The errors are, in this order: the key was not read; the comment is not UTF-8; it has a line feed;
+    // Minisign does not read all of it; the buffer is too short; out of memory. After an error the buffer
+    // and the length are unchanged.
+    ensures refused { 0 < result
+        → IsEncodingNumber (is_read unopened.now) KeyNotRead 233 comment.now text.old result }
+    ensures kept { 0 < result → (text.new ≡ text.old) × (text_len.new ≡ text_len.old) }
+{
+    match encode_unopened_key(alloc, unopened, comment, text) {
+        Ok(encoded_len) => {
+            *text_len = encoded_len;
+            0
+        }
+        Err(refusal) => refusal.number(),
+    }
+}
+
+/// Makes all checks of a sealed key that need no password. Does not allocate.
+#[unsafe(no_mangle)]
+pub extern "C" fn minisign_test_sealed_key(unopened: &UnopenedKeyValue, most_rows: u64) -> u32
+    // The result is 0 exactly if the key was read and is encrypted with scrypt, with limits that are
+    // allowed and need at most `most_rows` rows. Otherwise it is the number of the first check that fails.
+    ensures { result ≡ result_number (tested_sealed unopened.now most_rows) }
+{
+    number_of!(test_sealed_key(unopened, most_rows))
 }
 
 /// Opens a secret key that was read and was never sealed. Does not allocate.
@@ -422,6 +612,16 @@ pub extern "C" fn minisign_take_secret_key(new_key: &NewKey, key: &mut SecretKey
     ensures { key.new ≡ taken_key new_key.now.key_id new_key.now.secret }
 {
     *key = SecretKeyValue::take(&new_key.key_id, &new_key.secret);
+}
+
+/// Writes the record of an open secret key, as one that is not sealed. Does not allocate.
+#[unsafe(no_mangle)]
+pub extern "C" fn minisign_secret_key_record(key: &SecretKeyValue, bytes: &mut [u8; 158]) -> u32
+    // If the key is open, the record is the 158 bytes of the unencrypted secret key with its key ID and its
+    // 64 secret bytes. Otherwise the result is the number of that error, and the record is unchanged.
+    ensures { (result, bytes.new) ≡ told_record_number (secret_key_record key.now) bytes.old }
+{
+    number_of!(write_secret_key_record(key, bytes))
 }
 
 /// Overwrites a value with zeros. Does not allocate.
@@ -636,6 +836,40 @@ pub extern "C" fn minisign_public_key_text(
     match write_public_key(alloc, key, comment, text) {
         Ok(public_key_len) => {
             *text_len = public_key_len;
+            0
+        }
+        Err(refusal) => refusal.number(),
+    }
+}
+
+/// Writes the text of a public key that was read, or told of a secret key.
+#[unsafe(no_mangle)]
+pub extern "C" fn minisign_encode_public_key(
+    alloc: Global,
+    key: &PublicKeyValue,
+    comment: &[u8],
+    text: &mut [u8],
+    text_len: &mut usize,
+) -> u32
+    // On success, the public key file is at the start of the buffer, as `encode_public_key` promises: it
+    // parses to this public key, with the algorithm `Ed`, and Minisign reads the whole comment. The rest of
+    // the buffer is unchanged.
+    ensures read { result ≡ 0 → is_public_key key.now ≡ true }
+    ensures text { result ≡ 0
+        → HoldsReadPublicKey (written_public_key key.now) comment.now text.new text_len.new }
+    ensures readable { result ≡ 0 → IsKeyComment comment.now }
+    ensures rest { result ≡ 0 → drop text_len.new text.new ≡ drop text_len.new text.old }
+
+    // The errors are, in this order: the key was not read; the comment is not UTF-8; it has a line feed;
+    // Minisign does not read all of it; the buffer is too short; out of memory. After an error the buffer
+    // and the length are unchanged.
+    ensures refused { 0 < result
+        → IsEncodingNumber (is_public_key key.now) PublicKeyNotRead 77 comment.now text.old result }
+    ensures kept { 0 < result → (text.new ≡ text.old) × (text_len.new ≡ text_len.old) }
+{
+    match encode_public_key(alloc, key, comment, text) {
+        Ok(encoded_len) => {
+            *text_len = encoded_len;
             0
         }
         Err(refusal) => refusal.number(),

@@ -1,13 +1,20 @@
+mod Applications
+mod Applying
+mod Checking
 mod Decisions
 mod Fields
 mod Happenings
 mod Installs
 mod Judgements
+mod Kept
 mod Meeting
 mod Obeying
 mod Orders
 mod Reasons
 mod RecordTexts
+mod RecordedNumbers
+mod Resuming
+mod SafeCalls
 mod StepArrivals
 mod StepChecks
 mod StepEnds
@@ -17,4 +24,5 @@ mod StepReasons
 mod StepRecords
 mod StepSafety
 mod StepSyncs
+mod Versions
 mod Works

@@ -121,7 +121,7 @@ module _ (numbering : Numbering) (n : ℕ) (bound : n < 2 ^ 64) (key digest : Li
       rw (lt-leb (length xs) 64 (omega (arith, len)), is_written) (ap (λ i. take i xs) at
       ∙ take_at line (mark_text key digest) (length line) refl)
 
-label_utf8 : (numbering : Numbering) → IsUtf8 (number_label numbering)
+pub label_utf8 : (numbering : Numbering) → IsUtf8 (number_label numbering)
 unfolding lib.Utf8.encode
 label_utf8 Timestamp = (codes "timestamp:", (refl, refl))
 label_utf8 Version = (codes "version:", (refl, refl))

@@ -39,8 +39,7 @@ def text_octets(name: str, value: object) -> bytes:
     try:
         return value.encode()
     except UnicodeEncodeError as why:
-        index = why.start
-        message = f"{name} has a surrogate at index {index}, which UTF-8 cannot encode"
+        message = f"{name} has a surrogate at index {why.start}, which is not UTF-8"
         raise NotUtf8(message) from None
 
 

@@ -12,6 +12,9 @@ VERSION_MAJOR = 0
 VERSION_MINOR = 3
 VERSION_PATCH = 0
 ERROR_TEXT_BYTES = 128
+PUBLIC_KEY_RECORD_BYTES = 42
+SIGNATURE_RECORD_BYTES = 74
+SECRET_KEY_RECORD_BYTES = 158
 KEEP_EVERY_ROW = 1
 KEEP_FEW_ROWS = 16
 USUAL_ROWS = 1048576
@@ -34,6 +37,20 @@ PUBLIC_KEY_COMMENT = "minisign public key "
 TEXT_BYTES = 240
 SECRET_KEY_BYTES = 233
 PUBLIC_KEY_BYTES = 77
+
+KIND_NONE = 0
+KIND_MISUSE = 1
+KIND_GENERATE = 2
+KIND_SIGN = 3
+KIND_VERIFY = 4
+KIND_IO = 5
+KIND_MISC = 6
+KIND_HASH = 7
+KIND_KDF = 8
+KIND_RNG = 9
+KIND_ENCODING = 10
+KIND_ENCRYPTED_KEY = 11
+KIND_OUT_OF_MEMORY = 12
 
 ANSWER_YES = 7955827
 ANSWER_NO = 28271
@@ -193,6 +210,8 @@ class Calls:
         library.minisign_version.argtypes = ()
         library.minisign_error_text.restype = c_size_t
         library.minisign_error_text.argtypes = (c_uint32, c_void_p, c_size_t)
+        library.minisign_error_kind.restype = c_uint32
+        library.minisign_error_kind.argtypes = (c_uint32,)
         library.minisign_init.restype = None
         library.minisign_init.argtypes = (POINTER(State),)
         library.minisign_update.restype = error
@@ -213,12 +232,28 @@ class Calls:
             c_size_t,
             POINTER(PublicKey),
         )
+        library.minisign_read_public_key_record.restype = error
+        library.minisign_read_public_key_record.argtypes = (
+            c_void_p,
+            c_size_t,
+            POINTER(PublicKey),
+        )
+        library.minisign_public_key_record.restype = error
+        library.minisign_public_key_record.argtypes = (POINTER(PublicKey), c_void_p)
         library.minisign_read_signature.restype = error
         library.minisign_read_signature.argtypes = (
             c_void_p,
             c_size_t,
             POINTER(Signature),
         )
+        library.minisign_read_signature_record.restype = error
+        library.minisign_read_signature_record.argtypes = (
+            c_void_p,
+            c_size_t,
+            POINTER(Signature),
+        )
+        library.minisign_signature_record.restype = error
+        library.minisign_signature_record.argtypes = (POINTER(Signature), c_void_p)
         library.minisign_ask.restype = error
         library.minisign_ask.argtypes = (
             POINTER(State),
@@ -235,12 +270,39 @@ class Calls:
         library.minisign_comment_verdict.argtypes = (POINTER(State), c_uint32)
         library.minisign_verdict.restype = error
         library.minisign_verdict.argtypes = (POINTER(State), c_uint32, c_uint32)
+        library.minisign_ask_bare.restype = error
+        library.minisign_ask_bare.argtypes = (
+            POINTER(State),
+            POINTER(PublicKey),
+            POINTER(Signature),
+            c_uint32,
+            POINTER(Questions),
+        )
+        library.minisign_bare_verdict.restype = error
+        library.minisign_bare_verdict.argtypes = (POINTER(State), c_uint32)
         library.minisign_read_secret_key.restype = error
         library.minisign_read_secret_key.argtypes = (
             c_void_p,
             c_size_t,
             POINTER(UnopenedKey),
         )
+        library.minisign_read_secret_key_record.restype = error
+        library.minisign_read_secret_key_record.argtypes = (
+            c_void_p,
+            c_size_t,
+            POINTER(UnopenedKey),
+        )
+        library.minisign_encode_unopened_key.restype = error
+        library.minisign_encode_unopened_key.argtypes = (
+            POINTER(UnopenedKey),
+            c_void_p,
+            c_size_t,
+            c_void_p,
+            c_size_t,
+            POINTER(c_size_t),
+        )
+        library.minisign_test_sealed_key.restype = error
+        library.minisign_test_sealed_key.argtypes = (POINTER(UnopenedKey), c_uint64)
         library.minisign_open_unsealed_key.restype = error
         library.minisign_open_unsealed_key.argtypes = (
             POINTER(UnopenedKey),
@@ -286,6 +348,8 @@ class Calls:
             POINTER(SecretKey),
             POINTER(PublicKey),
         )
+        library.minisign_secret_key_record.restype = error
+        library.minisign_secret_key_record.argtypes = (POINTER(SecretKey), c_void_p)
         library.minisign_comment_message.restype = error
         library.minisign_comment_message.argtypes = (
             c_void_p,
@@ -333,6 +397,15 @@ class Calls:
         library.minisign_public_key_text.restype = error
         library.minisign_public_key_text.argtypes = (
             POINTER(SecretKey),
+            c_void_p,
+            c_size_t,
+            c_void_p,
+            c_size_t,
+            POINTER(c_size_t),
+        )
+        library.minisign_encode_public_key.restype = error
+        library.minisign_encode_public_key.argtypes = (
+            POINTER(PublicKey),
             c_void_p,
             c_size_t,
             c_void_p,

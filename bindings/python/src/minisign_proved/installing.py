@@ -69,16 +69,16 @@ class Checked:
         return hash(self.status)
 
 
-class RunOptions(ctypes.Structure):
-    """Mirrors `struct run_options` of c/install/installing.h."""
+class Wanted(ctypes.Structure):
+    """Mirrors `struct wanted` of c/install/installing.h: the parameters of a run."""
 
     _fields_ = [
         ("target", ctypes.c_char_p),
         ("is_check", ctypes.c_bool),
         ("name", ctypes.c_char_p),
-        ("data_name", ctypes.c_char_p),
+        ("shown", ctypes.c_char_p),
         ("data", ctypes.c_int),
-        ("max_size", ctypes.c_uint64),
+        ("most", ctypes.c_uint64),
         ("is_first", ctypes.c_bool),
         ("again", ctypes.c_bool),
         ("must_expire", ctypes.c_bool),
@@ -171,7 +171,7 @@ def _receive(
     return file
 
 
-def _options_struct(
+def _wanted_struct(
     key: Keys,
     signature: Signature,
     target: Path,
@@ -179,7 +179,7 @@ def _options_struct(
     must_expire: bool,
     numbering: str,
     name: Optional[Path],
-) -> RunOptions:
+) -> Wanted:
     """Checks the parameters that `install` and `check` share, and returns the struct
     that has them."""
     keys: list[PublicKey] = list(key) if isinstance(key, Sequence) else [key]
@@ -209,7 +209,7 @@ def _options_struct(
         )
         return h.ANSWER_YES if is_valid else h.ANSWER_NO
 
-    return RunOptions(
+    return Wanted(
         target=os.fsencode(target_path),
         name=os.fsencode(file_name),
         is_first=first,
@@ -224,12 +224,12 @@ def _options_struct(
 
 
 @contextmanager
-def _run_of(options: RunOptions) -> Iterator["ctypes._Pointer[Installing]"]:
+def _run_of(wanted: Wanted) -> Iterator["ctypes._Pointer[Installing]"]:
     """Begins a run, and ends it with the block: removes its temporary files, closes
     what it opened, and unlocks the target."""
     if not HAS_INSTALLER:
         raise NotImplementedError("installing is supported only on Linux")
-    run_pointer = library.begin_installing(ctypes.byref(options))
+    run_pointer = library.begin_installing(ctypes.byref(wanted))
     if not run_pointer:
         raise MemoryError()
     try:
@@ -325,23 +325,19 @@ def install(
     source: Union[str, IO[bytes]] = (
         cast("IO[bytes]", data) if is_file(data) else path_text("data", data)
     )
-    options = _options_struct(
-        key, signature, target, first, must_expire, numbering, name
-    )
-    options.again, options.wait = again, wait
-    options.has_mode, options.mode = mode is not None, mode or 0
-    options.max_size = MAX_SIZE if most is None else min(most, MAX_SIZE)
-    directory = os.path.dirname(os.fsdecode(options.target)) or "."
+    wanted = _wanted_struct(key, signature, target, first, must_expire, numbering, name)
+    wanted.again, wanted.wait = again, wait
+    wanted.has_mode, wanted.mode = mode is not None, mode or 0
+    wanted.most = MAX_SIZE if most is None else min(most, MAX_SIZE)
+    directory = os.path.dirname(os.fsdecode(wanted.target)) or "."
     os.close(os.open(directory, os.O_RDONLY | os.O_DIRECTORY))
     # An open file can be any object with a method read, so Python reads it.
     with open(source, "rb", buffering=0) if isinstance(source, str) else _receive(
-        source, directory, options.max_size, progress
+        source, directory, wanted.most, progress
     ) as file:
-        options.data_name = os.fsencode(
-            source if isinstance(source, str) else directory
-        )
-        options.data = file.fileno()
-        with _run_of(options) as run_pointer:
+        wanted.shown = os.fsencode(source if isinstance(source, str) else directory)
+        wanted.data = file.fileno()
+        with _run_of(wanted) as run_pointer:
             run = run_pointer.contents
             while _make_call(run_pointer):
                 if progress is not None and run.call in (h.DUE_RECEIVE, h.DUE_COPY):
@@ -380,11 +376,9 @@ def check(
     `__cause__` says which call failed, or why no file could be put at the target.
     """
     check_kind("again", again, bool)
-    options = _options_struct(
-        key, signature, target, first, must_expire, numbering, name
-    )
-    options.is_check, options.again = True, again
-    with _run_of(options) as run_pointer:
+    wanted = _wanted_struct(key, signature, target, first, must_expire, numbering, name)
+    wanted.is_check, wanted.again = True, again
+    with _run_of(wanted) as run_pointer:
         run = run_pointer.contents
         while library.make_call(run_pointer):
             pass

@@ -1,11 +1,10 @@
-//! Compares the drop-in (`minisign`) with Frank Denis's crate minisign (`upstream`): sends the same random requests to both, with valid and
-//! damaged keys, signatures, passwords and data. Each crate also reads keys and signatures that the other crate wrote.
+//! Sends random requests to this crate (`minisign`) and to the crate minisign that is built from its own sources (`upstream`): whole and
+//! damaged keys, signatures, passwords and data. Each reads what the other wrote.
 //!
-//!     compare COUNT SEED
+//!     beside COUNT SEED
 //!
-//! Prints a line for each kind of difference, separated by tabs: the call, the results of the drop-in and of upstream, the number of
-//! requests, and an example. The last line is `N requests, A accepted by both`. DIFFERENCES in tests/bindings/drop_in.py lists the
-//! intended differences.
+//! It prints a line for each kind of difference, with tabs between: the call, the results of both, the number of requests, and an example.
+//! The last line is `N requests, A accepted by both`. tests/bindings/drop_in.py knows which differences are intended.
 
 use std::collections::BTreeMap;
 use std::panic::{catch_unwind, AssertUnwindSafe};
@@ -15,7 +14,7 @@ extern "C" {
     fn crypto_sign_detached(signature: *mut u8, len: *mut u64, message: *const u8, message_len: u64, secret: *const u8) -> i32;
 }
 
-/// Signs with libsodium. Neither crate makes legacy signatures.
+/// Signs with libsodium, for signatures that neither crate makes.
 fn ed25519(message: &[u8], secret: &[u8]) -> [u8; 64] {
     let mut signature = [0; 64];
     assert_eq!(secret.len(), 64);
@@ -54,16 +53,15 @@ impl Rng {
         values[self.below(values.len())]
     }
 
-    /// Returns the bytes after one to three random changes. Each change replaces, inserts or removes a byte, flips a bit, cuts off the end,
-    /// or repeats a part.
+    /// Changes, inserts, removes, truncates or repeats bytes.
     fn damaged(&mut self, bytes: &[u8]) -> Vec<u8> {
         let mut bytes = bytes.to_vec();
         for _ in 0..1 + self.below(3) {
-            let bytes_to_insert = [b'\n', b'\r', b' ', b'=', b'A', b'/', 0, b'\t', 0xc3, 0xa9, b'z', self.next() as u8];
-            let (at, byte) = (self.below(bytes.len()), self.one_of(&bytes_to_insert));
+            let other = [b'\n', b'\r', b' ', b'=', b'A', b'/', 0, b'\t', 0xc3, 0xa9, b'z', self.next() as u8];
+            let (at, other) = (self.below(bytes.len()), self.one_of(&other));
             match self.below(6) {
-                0 if !bytes.is_empty() => bytes[at] = byte,
-                1 => bytes.insert(at, byte),
+                0 if !bytes.is_empty() => bytes[at] = other,
+                1 => bytes.insert(at, other),
                 2 if !bytes.is_empty() => drop(bytes.remove(at)),
                 3 => bytes.truncate(at),
                 4 => {
@@ -83,7 +81,7 @@ impl Rng {
     }
 }
 
-/// The result of a call, as text: the returned values, or the kind and text of the error.
+/// The returned values, or the kind and text of the error.
 type Outcome = Result<String, String>;
 
 fn outcome<T>(call: impl FnOnce() -> Result<String, T>, text: impl Fn(T) -> String) -> Outcome {
@@ -97,7 +95,7 @@ pub struct Pair {
     sk_box: String,
 }
 
-/// Defines a module with the same calls of one crate.
+/// The calls of one of the two crates.
 macro_rules! calls {
     ($name:ident, $krate:ident) => {
         mod $name {
@@ -106,14 +104,13 @@ macro_rules! calls {
             use $krate::*;
 
             fn run(call: impl FnOnce() -> Result<String>) -> Outcome {
-                // The crates word errors in base64 differently.
+                // The texts of the crate for base64 are its own.
                 outcome(call, |error| format!("{:?}: {error}", error.kind()).replace("Invalid input", "invalid base64"))
             }
             pub fn pk_box(text: &str) -> Outcome {
                 run(|| {
                     let key = PublicKeyBox::from_string(text)?.into_public_key()?;
-                    // The drop-in does not keep the algorithm of a public key. So its two bytes, which are in the first three base64
-                    // letters, are left out.
+                    // Without the algorithm, which this crate does not keep: the first two bytes, in the first three letters.
                     let lines: Vec<String> = key.to_box()?.to_string().lines().map(String::from).collect();
                     Ok(format!("{:?} {:?} {} {} {}", &key.to_bytes()[2..], key.keynum(), &key.to_base64()[3..], lines[0], &lines[1][3..]))
                 })
@@ -127,10 +124,9 @@ macro_rules! calls {
             pub fn bones(bytes: &[u8]) -> Outcome {
                 run(|| {
                     let bones = SignatureBones::from_bytes(bytes)?;
-                    let signature_box = SignatureBox::from(bones.clone());
-                    let trusted = signature_box.trusted_comment().map_err(|error| error.to_string());
-                    let (keynum, untrusted) = (signature_box.keynum(), signature_box.untrusted_comment()?);
-                    Ok(format!("{:?} {} {keynum:?} {untrusted:?} {trusted:?}", bones.to_bytes(), bones.is_prehashed()))
+                    let of = SignatureBox::from(bones.clone());
+                    let trusted = of.trusted_comment().map_err(|error| error.to_string());
+                    Ok(format!("{:?} {} {:?} {:?} {trusted:?}", bones.to_bytes(), bones.is_prehashed(), of.keynum(), of.untrusted_comment()?))
                 })
             }
             pub fn signature(text: &str) -> Outcome {
@@ -141,14 +137,14 @@ macro_rules! calls {
                     Ok(format!("{:?} {} {untrusted:?} {trusted:?} {:?} {bones:?}", read.keynum(), read.is_prehashed(), read.to_string()))
                 })
             }
-            fn fields_of(key: SecretKey, comment: Option<&str>) -> Result<String> {
+            fn shown(key: SecretKey, comment: Option<&str>) -> Result<String> {
                 Ok(format!("{:?} {:?} {} {}", key.to_bytes(), key.keynum(), key.is_encrypted(), key.to_box(comment)?))
             }
             pub fn sk_plain(text: &str) -> Outcome {
-                run(|| fields_of(SecretKeyBox::from_string(text)?.into_unencrypted_secret_key()?, None))
+                run(|| shown(SecretKeyBox::from_string(text)?.into_unencrypted_secret_key()?, None))
             }
             pub fn sk_open(text: &str, password: &str) -> Outcome {
-                run(|| fields_of(SecretKeyBox::from_string(text)?.into_secret_key(Some(password.into()))?, Some("x")))
+                run(|| shown(SecretKeyBox::from_string(text)?.into_secret_key(Some(password.into()))?, Some("x")))
             }
             pub fn sk_bytes(bytes: &[u8]) -> Outcome {
                 run(|| {
@@ -177,11 +173,11 @@ macro_rules! calls {
                 })
             }
             pub fn pair(password: Option<&str>) -> Pair {
-                let key_pair = match password {
+                let made = match password {
                     None => KeyPair::generate_unencrypted_keypair(),
                     Some(password) => KeyPair::generate_encrypted_keypair(Some(password.into())),
                 };
-                let KeyPair { pk, sk } = key_pair.unwrap();
+                let KeyPair { pk, sk } = made.unwrap();
                 Pair {
                     pk: pk.to_bytes(),
                     sk: sk.to_bytes(),
@@ -202,7 +198,7 @@ struct Report {
     differences: BTreeMap<(String, String, String), (u64, String)>,
 }
 
-/// Returns the text under which equal differences are counted: `Ok`, or the error with `ID` in place of key IDs.
+/// An outcome without returned values, and with `ID` for key IDs.
 fn class(outcome: &Outcome) -> String {
     let is_key_id = |word: &str| word.len() == 16 && word.bytes().all(|byte| byte.is_ascii_hexdigit());
     let words = |text: &str| text.split(' ').map(|word| if is_key_id(word) { "ID" } else { word }.to_string()).collect::<Vec<_>>().join(" ");
@@ -216,17 +212,16 @@ impl Report {
             self.accepted += u64::from(ours.is_ok());
             return;
         }
-        // If both results are Ok, the values differ, so they are printed in full.
-        let (our_result, their_result) = match (&ours, &theirs) {
-            (Ok(our_values), Ok(their_values)) => (format!("Ok {our_values}"), format!("Ok {their_values}")),
+        // Two results that are both Ok and differ are shown in full.
+        let (one, other) = match (&ours, &theirs) {
+            (Ok(one), Ok(other)) => (format!("Ok {one}"), format!("Ok {other}")),
             _ => (class(&ours), class(&theirs)),
         };
-        let entry = self.differences.entry((call.into(), our_result, their_result)).or_insert((0, request.into()));
+        let entry = self.differences.entry((call.into(), one, other)).or_insert((0, request.into()));
         entry.0 += 1;
     }
 }
 
-/// Compares the results for an unencrypted key pair, and for damaged copies of it and of its signatures.
 fn unencrypted(report: &mut Report, rng: &mut Rng, pair: &Pair) {
     let (pk, sk) = (&pair.pk[..], &pair.sk[..]);
     let text = rng.damaged_text(&pair.pk_box);
@@ -246,28 +241,28 @@ fn unencrypted(report: &mut Report, rng: &mut Rng, pair: &Pair) {
     let data: Vec<u8> = (0..len).map(|_| rng.next() as u8).collect();
     let comments = ["a comment", "timestamp:1\tfile:x", "", "\u{e9}", " spaces ", "line\nfeed", "cr\r", "zero\0", "\ttab\t", "\u{a0}nbsp\u{a0}"];
     let (trusted, untrusted) = (rng.one_of(&comments), rng.one_of(&comments));
-    // The public key that is passed to `sign`: none, the right one, or sometimes the one of another pair.
-    let possible_pk = if rng.below(4) == 0 { theirs::pair(None).pk } else { pk.to_vec() };
-    let passed_pk = rng.one_of(&[None, Some(&possible_pk[..])]);
-    let signed = [ours::sign(passed_pk, sk, &data, trusted, untrusted), theirs::sign(passed_pk, sk, &data, trusted, untrusted)];
-    let signature = signed[rng.below(2)].clone().or_else(|_| signed[0].clone());
+    let other = if rng.below(4) == 0 { theirs::pair(None).pk } else { pk.to_vec() };
+    let named = rng.one_of(&[None, Some(&other[..])]);
+    let signed = [ours::sign(named, sk, &data, trusted, untrusted), theirs::sign(named, sk, &data, trusted, untrusted)];
+    let which = rng.below(2);
+    let written = signed[which].clone().or_else(|_| signed[0].clone());
     let [by_ours, by_theirs] = signed;
     report.add("sign", by_ours, by_theirs, &format!("{trusted:?} {untrusted:?}"));
-    if let Ok(text) = signature {
+    if let Ok(text) = written {
         signatures(report, rng, &key, &text, &data);
     }
     legacy(report, rng, pair, &data);
     let mut record = sk.to_vec();
     let at = rng.one_of(&[0, 1, 2, 3, 4, 6, 38, 46, 54, 62, 126]);
     record[at] ^= 1 + rng.below(255) as u8;
-    let (text, change) = (format!("untrusted comment: k\n{}\n", base64(&record)), format!("byte {at} of the record is changed"));
-    report.add("sign with a damaged key", ours::sign(None, &record, &data, "t", "u"), theirs::sign(None, &record, &data, "t", "u"), &change);
-    report.add("sk_plain of a damaged key", ours::sk_plain(&text), theirs::sk_plain(&text), &change);
-    report.add("sk_open of a damaged key", ours::sk_open(&text, ""), theirs::sk_open(&text, ""), &change);
-    report.add("sk_bytes of a damaged key", ours::sk_bytes(&record), theirs::sk_bytes(&record), &change);
+    let (text, what) = (format!("untrusted comment: k\n{}\n", base64(&record)), format!("byte {at} of the record is changed"));
+    report.add("sign with a damaged key", ours::sign(None, &record, &data, "t", "u"), theirs::sign(None, &record, &data, "t", "u"), &what);
+    report.add("sk_plain of a damaged key", ours::sk_plain(&text), theirs::sk_plain(&text), &what);
+    report.add("sk_open of a damaged key", ours::sk_open(&text, ""), theirs::sk_open(&text, ""), &what);
+    report.add("sk_bytes of a damaged key", ours::sk_bytes(&record), theirs::sk_bytes(&record), &what);
 }
 
-/// Compares the results for a signature that one of the crates made, and for damaged copies of it.
+/// A signature that one of the crates made, whole and damaged.
 fn signatures(report: &mut Report, rng: &mut Rng, key: &str, text: &str, data: &[u8]) {
     let (damaged, damaged_data) = (rng.damaged_text(text), rng.damaged(data));
     report.add("signature", ours::signature(text), theirs::signature(text), text);
@@ -290,7 +285,7 @@ fn signatures(report: &mut Report, rng: &mut Rng, key: &str, text: &str, data: &
     }
 }
 
-/// Compares the results for a legacy signature, and for damaged copies of it.
+/// A legacy signature, whole and damaged.
 fn legacy(report: &mut Report, rng: &mut Rng, pair: &Pair, data: &[u8]) {
     let (key, secret) = (base64(&pair.pk), &pair.sk[62..126]);
     let first = ed25519(data, secret);
@@ -306,7 +301,6 @@ fn legacy(report: &mut Report, rng: &mut Rng, pair: &Pair, data: &[u8]) {
     }
 }
 
-/// Compares the results for a new encrypted key, which alternately each crate makes.
 fn encrypted(report: &mut Report, rng: &mut Rng, number: usize) {
     let password = rng.one_of(&["pass", "", "\u{e9}\u{20ac}", "a longer password of some words"]);
     let make = if number % 2 == 0 { ours::pair } else { theirs::pair };
@@ -317,7 +311,7 @@ fn encrypted(report: &mut Report, rng: &mut Rng, number: usize) {
     report.add("sealed, no password", ours::sk_plain(text), theirs::sk_plain(text), text);
     let damaged = rng.damaged_text(text);
     let by_ours = ours::sk_open(&damaged, password);
-    // Upstream has no maximum: with damaged limits it could use any amount of memory and time.
+    // The crate would use the memory and time of any limits.
     if by_ours != Err("KDF: scrypt work too high".into()) {
         report.add("sealed, damaged", by_ours, theirs::sk_open(&damaged, password), &damaged);
     }

@@ -1,0 +1,96 @@
+//! What an updater may rely on: laws on runs of applications that perform the operations of `step`, which may
+//! fail or be cut off anywhere, also by a crash of the machine.
+
+ghost use Rattle.std.specs.Prelude.{◌≡◌, ◌≤◌, ◌+◌, ◌*◌, ℕ, List, Some, Ok, Err, true, false, is_some};
+ghost use Rattle.std.specs.Prelude.{Option, length};
+ghost use Rattle.minisign_external.specs.declared.state.Refusal.TheVariants.{Refused};
+ghost use Rattle.minisign_hash.specs.Blake2b.{blake2b_digest};
+ghost use Rattle.minisign_install.specs.Applications.{Applies, Call, LeavesAll, Moment, Others};
+ghost use Rattle.minisign_install.specs.Applications.{Performs};
+ghost use Rattle.minisign_install.specs.Comments.{Numbering};
+ghost use Rattle.minisign_install.specs.Decisions.{Options, Recorded, judge_record};
+ghost use Rattle.minisign_install.specs.Histories.{AcceptsWholeKeys, EachCall, EachEvent, Happening};
+ghost use Rattle.minisign_install.specs.Histories.{HasHappened, IsFineFor, IsOwnUpdate, IsSafeCall, IsThere};
+ghost use Rattle.minisign_install.specs.Histories.{CountsAs, EndLasts, KeepsVersion};
+ghost use Rattle.minisign_install.specs.Histories.{OthersLeaveTarget, counted_for};
+ghost use Rattle.minisign_install.specs.RecordTexts.{record_key};
+ghost use Rattle.minisign_install.specs.Step.{Installed, State, after, begin, has_ended, new_record};
+ghost use Rattle.minisign_install.specs.Step.{new_version, step};
+ghost use Rattle.minisign_install.specs.Faults.{InstallFault};
+ghost use Rattle.minisign_install.specs.StepRuns.{IsEnd, IsFine, IsGoodUpdate, IsReason, IsUpdate};
+ghost use Rattle.minisign_install.specs.StepRuns.{World};
+
+/// States what holds of every run of a lawful application, whole or cut off anywhere. This function is a law:
+/// it does nothing, and its contract is what it is for.
+pub fn any_application_is_safe()
+    // Whatever an operation leaves at the target, at once or after a crash, could be found there just before
+    // it, or is an update that a given key has signed, and then only the record of this update can be found.
+    // Whatever it leaves at the record could be found there, or is the record of such an update.
+    ensures safe { (w : World) (o : Options) (m : Moment) (calls : List Call) (t : State) (end : Moment)
+        → Applies w (begin o) m calls t end → EachCall (IsSafeCall w o) calls }
+
+    // A check changes nothing, and takes no lock.
+    ensures check { (w : World) (o : Options) (m : Moment) (calls : List Call) (t : State) (end : Moment)
+        → o.check ≡ true → Applies w (begin o) m calls t end → EachCall LeavesAll calls }
+
+    // An error that is returned is true of what the run found, or the operation failed, or the lock is in
+    // use.
+    ensures errors { (w : World) (o : Options) (m : Moment) (calls : List Call) (s : State) (end : Moment)
+        (c : Call) (fault : InstallFault) → Applies w (begin o) m calls s end → Others end c.before
+        → is_some (after s.due c.event s) ≡ true → Performs w s s.due c.event c.before c.after
+        → (step s c.event).0 ≡ Err (Refused fault) → IsReason w o s c.event fault }
+
+    // An end that is reported is true.
+    ensures ends { (w : World) (o : Options) (m : Moment) (calls : List Call) (t : State) (end : Moment)
+        → Applies w (begin o) m calls t end → IsEnd w o t.due }
+
+    // If other processes leave the target alone: at the end the update is installed and recorded, with the
+    // permissions of the file before it, no temporary files of killed runs are left, and no crash can undo
+    // this; or the update was installed before, and no crash can undo that.
+    ensures lasts { (w : World) (o : Options) (m : Moment) (calls : List Call) (t : State) (end : Moment)
+        → Applies w (begin o) m calls t end → OthersLeaveTarget m calls → EndLasts w o t.due t end }
+
+    // A run ends.
+    ensures bounded { (w : World) (o : Options) (m : Moment) (calls : List Call) (t : State) (end : Moment)
+        → Applies w (begin o) m calls t end
+        → length calls ≤ 23 + length o.keys + w.most + 2 * length w.update }
+{}
+
+/// States that updates arrive. This function is a law: it does nothing, and its contract is what it is for.
+pub fn any_good_update_arrives()
+    // If the update is good, its comment is not rejected at the time that is passed in, and no operation
+    // fails, then a run that has ended has installed it.
+    ensures installed { (w : World) (o : Options) (g : IsGoodUpdate w o) (m : Moment) (calls : List Call)
+        (t : State) (end : Moment) → Applies w (begin o) m calls t end → EachEvent (IsFine g) calls
+        → has_ended t.due ≡ true → t.due ≡ Installed }
+
+    // If the record was written for this update already, as by an interrupted run, then a run in which no
+    // operation fails ends with the update installed.
+    ensures finished { (w : World) (o : Options) (g : IsOwnUpdate w o) (m : Moment) (calls : List Call)
+        (t : State) (end : Moment) → Applies w (begin o) m calls t end → EachEvent (IsFineFor g) calls
+        → has_ended t.due ≡ true → IsThere t.due }
+
+    // The record that a run writes is its own: a later run with these options reads its version and the
+    // digest of its data.
+    ensures own { (w : World) (o : Options) → AcceptsWholeKeys w.accepts → (s : State) → IsUpdate w o s
+        → o.first ≡ false → o.new_key ≡ false
+        → judge_record o (Some (new_record s)) ≡ Ok (record {
+          version = Some (new_version s);
+          key = record_key (new_record s);
+          digest = Some (blake2b_digest 64 s.read);
+        }) }
+{}
+
+/// States that versions do not decrease over time. This function is a law: it does nothing, and its contract
+/// is what it is for.
+pub fn any_history_keeps_the_version()
+    // Over any sequence of runs, whole, failed or cut off, of crashes, and of other processes that do not
+    // decrease the recorded version, it does not decrease.
+    ensures versions { (field : Numbering) (old new : Moment) (happened : List (Happening field))
+        → HasHappened field old happened new → KeepsVersion field old new }
+
+    // Records of version 0.2 work: a record counts if it did, with the same number, with or without a label.
+    ensures old_records { (o : Options) (found : Option (List ℕ)) (kept : Option ℕ) → o.new_key ≡ false
+        → CountsAs o.numbering o.first (counted_for o found) kept
+        → (r : Recorded) × (judge_record o found ≡ Ok r) × (r.version ≡ kept) }
+{}
