@@ -315,7 +315,27 @@ enum minisign_error {
     /* The password is empty, and with_password does not allow an empty one. */
     MINISIGN_EMPTY_PASSWORD = 83,
     /* The salt is all zeros, or a scrypt limit is below the minimum of Minisign. */
-    MINISIGN_WEAK_SEALING = 84
+    MINISIGN_WEAK_SEALING = 84,
+    /* The list was not verified. */
+    MINISIGN_LIST_NOT_VERIFIED = 85,
+    /* The text is not the list that was verified. */
+    MINISIGN_OTHER_LIST_TEXT = 86,
+    /* The hash function, or the length of its digest, is not one that this call accepts. */
+    MINISIGN_BAD_HASH = 87,
+    /* The entry was not read from a list. */
+    MINISIGN_ENTRY_NOT_READ = 88,
+    /* The trusted comment does not name the list. */
+    MINISIGN_OTHER_LIST = 89,
+    /* No list can contain the name. */
+    MINISIGN_BAD_NAME = 90,
+    /* A line of the list is malformed. */
+    MINISIGN_MALFORMED_LINE = 91,
+    /* No line of the list has the name. */
+    MINISIGN_NOT_LISTED = 92,
+    /* Two lines of the list have the name. */
+    MINISIGN_LISTED_TWICE = 93,
+    /* The data does not have the listed digest. */
+    MINISIGN_DIGEST_MISMATCH = 94
 };
 /* The end of the numbers. */
 

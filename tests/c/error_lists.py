@@ -35,7 +35,7 @@ from running import read
 
 RELEASE = os.path.join(HERE, "last_release.txt")
 CRATE = "minisign_c"
-ENUMS = ("NamedFault", "Misuse", "InstallFault")
+ENUMS = ("NamedFault", "Misuse", "InstallFault", "ListFault")
 # The error that is no variant of an enum: the definition of its number, and its name.
 WEAK = ("weak_number", "WEAK_ED25519")
 # Definitions that map all errors to numbers and texts. They are not followed.
@@ -70,6 +70,9 @@ NEVER_RETURNED = {
     "minisign_install_answer": [("minisign_read_signature", READ_BEFORE), ("minisign_read_public_key", KEY_READ_BEFORE),
                                 ("DIFFERENT_KEY_IDS LEGACY_NOT_ACCEPTED NOT_BEGUN", ASKED_BEFORE)],
     "minisign_judge_comment": [("BAD_SIZE NO_EXPIRY", JUDGED_APART)],
+    "minisign_list_ask": [("minisign_read_signature", READ_BEFORE)],
+    "minisign_list_ask_any": [("minisign_read_signature", READ_BEFORE)],
+    "minisign_list_append": [("NOT_LISTED", "the name is appended in this case")],
 }
 # Errors that the comment of a call names but the call does not return, and why.
 ONE_COMMENT = "two calls share the comment"
@@ -238,7 +241,7 @@ def check_since(checks, calls, errors, version):
 
 def all_of_headers():
     """Returns the calls, the names of the errors, and the version of both headers."""
-    both = c_header.both()
+    both = c_header.every()
     numbers = dict(both.numbers)
     return {call.name: call for call in both.calls}, {error.name for error in both.errors}, f"{numbers['VERSION_MAJOR']}.{numbers['VERSION_MINOR']}"
 

@@ -39,9 +39,11 @@ ghost use Rattle.minisign_external.specs.declared.state.Refusal.TheVariants.{Ref
 ghost use Rattle.minisign_external.specs.declared.state.Misuse.{Misuse};
 ghost use Rattle.minisign_external.specs.declared.state.Misuse.TheVariants.{BadAnswer, BadNumbering};
 ghost use Rattle.minisign_external.specs.declared.state.Misuse.TheVariants.{KeyNotRead, NoRoom, NotDue};
+ghost use Rattle.minisign_external.specs.declared.state.Misuse.TheVariants.{EntryNotRead, NotBegun};
 ghost use Rattle.minisign_external.specs.declared.state.Misuse.TheVariants.{PublicKeyNotRead};
 ghost use Rattle.minisign_external.specs.States.{AreAsked, GivesNumber, HasAsked, HasToldDigest, IsAnswered};
 ghost use Rattle.minisign_external.specs.States.{IsBlank, IsFedState, IsMarkedFed, IsMarkedTold, KeepsAsked};
+ghost use Rattle.minisign_external.specs.States.{AreQuestions, asked_of};
 ghost use Rattle.minisign_external.specs.States.{asking_under, comment_number, feeding_misuse};
 ghost use Rattle.minisign_external.specs.States.{result_number, told_verdict_number, verdict_number};
 ghost use Rattle.minisign_external.specs.Bare.{AnswersBare, HasAskedBare, bare_verdict_under, judged_number};
@@ -52,7 +54,7 @@ ghost use Rattle.minisign_external.specs.ValueRecords.{told_record_number, told_
 ghost use Rattle.minisign_external.specs.ValueRecords.{written_public_key};
 ghost use Rattle.minisign.specs.Records.{SignatureRecord};
 ghost use Rattle.minisign_external.specs.StrictCalls.{asked_number, asked_strictly, strict_asking_number};
-ghost use Rattle.minisign_external.specs.StrictCalls.{is_strict_text};
+ghost use Rattle.minisign_external.specs.StrictCalls.{is_strict_text, is_strict_value};
 ghost use Rattle.minisign_install.specs.Hosted.{AnswerVouches, AnswersJudgeTarget, CallHasFailed};
 ghost use Rattle.minisign_install.specs.Hosted.{InstallationKeepsAsked, TargetIsMissing, WhereAnswered};
 ghost use Rattle.minisign_install.specs.Hosted.{WhereCommentAnswered, record_for, PieceCannotBeFed};
@@ -69,7 +71,16 @@ ghost use Rattle.minisign_c.specs.InstallCalls.{IsAnswerNumber, IsCommentNumber,
 ghost use Rattle.minisign_c.specs.InstallCalls.{IsNotDueNumber, IsRejectionNumber, are_flags, choices_of};
 ghost use Rattle.minisign_c.specs.InstallCalls.{starting_misuse};
 ghost use Rattle.minisign_c.specs.KeyTexts.{IsMakingNumber, is_weak, password_misuse, sealing_misuse};
+ghost use Rattle.minisign_c.specs.ListCalls.{IsCallKind, IsCallMeaning, all_entries_number};
+ghost use Rattle.minisign_c.specs.ListCalls.{appending_number, finding_number, line_at_fault, list_result};
+ghost use Rattle.minisign_c.specs.ListCalls.{told_list_number};
 ghost use Rattle.minisign_c.specs.StateCalls.{CommentIsAnswered};
+ghost use Rattle.minisign_lists.specs.Digests.{has_digest};
+ghost use Rattle.minisign_lists.specs.declared.digests.ListedDigest.{ListedDigest};
+ghost use Rattle.minisign_lists.specs.Faults.{is_own, list_number, list_row};
+ghost use Rattle.minisign_lists.specs.Values.{IsFedValue, IsFinished, asked_list, compared, entry_digest};
+ghost use Rattle.minisign_lists.specs.Values.{file_mark, given_digest, long_numbered};
+ghost use Rattle.minisign_lists.specs.declared.faults.ListFault.TheVariants.{DigestMismatch};
 ghost use Rattle.minisign_install.specs.declared.order.Due.TheVariants as ended;
 
 pub mod in_a_row;
@@ -78,7 +89,9 @@ use minisign::Sealing;
 use minisign_external::making::{
     encode_public_key, encode_unopened_key, write_public_key, write_secret_key,
 };
-use minisign_external::numbers::{ANSWER_YES, Numbered, WEAK_ED25519, error_kind, is_answer};
+use minisign_external::numbers::{
+    ANSWER_YES, Numbered, WEAK_ED25519, error_kind, is_answer, kind_number, write_cut,
+};
 use minisign_external::public_keys::{PublicKeyValue, tell_bare_public_key, tell_public_key};
 use minisign_external::secrets::SecretKeyValue;
 use minisign_external::signatures::SignatureValue;
@@ -94,6 +107,9 @@ use minisign_external::value_records::{
 use minisign_install::Numbering;
 use minisign_install::hosted::{Choices, Installation, write_error_text};
 use minisign_install::hosted_judging::judge_comment;
+use minisign_lists::values::{EntryValue, FileValue, ListValue, given_digest};
+use minisign_lists::writing::append_entry;
+use minisign_lists::{ListFault, LongDigest};
 use std::alloc::Global;
 
 // The lowest limits with which Minisign encrypts a key.
@@ -115,25 +131,44 @@ macro_rules! number_of {
 /// Returns the length of the whole text.
 #[unsafe(no_mangle)]
 pub extern "C" fn minisign_error_text(error: u32, text: &mut [u8]) -> usize
-    // The text is that of the API misuse, of the installation error or of the library's error that has this
-    // number, without key IDs. For 0 it is "no error", and for a number without a meaning "unknown error". It
-    // has fewer than 128 bytes. The buffer holds as much of it as fits before a terminating 0 byte, and the
-    // bytes after the 0 are unchanged. The result is the length of the whole text.
-    ensures written { (meaning : List ℕ) × IsHostMeaning error meaning × (result ≡ length meaning)
+    // The text is that of the API misuse, of the error of an installation or a list, or of the library's
+    // error that has this number, without key IDs. For 0 it is "no error", and for a number without a meaning
+    // "unknown error". It has fewer than 128 bytes. The buffer holds as much of it as fits before a
+    // terminating 0 byte, and the bytes after the 0 are unchanged. The result is the length of the whole text.
+    ensures written { (meaning : List ℕ) × IsCallMeaning error meaning × (result ≡ length meaning)
         × WritesCut meaning text.old text.new }
     ensures room { result < 128 }
 {
-    write_error_text(error, text)
+    match ListFault::of_number(error) {
+        Some(fault) => write_list_error(&fault, text),
+        None => write_error_text(error, text),
+    }
+}
+
+// Writes the text of an error of lists.
+fn write_list_error(fault: &ListFault, text: &mut [u8]) -> usize
+    requires { is_own fault.now ≡ true }
+    ensures written { (result ≡ length (list_row fault.now).summary)
+        × WritesCut (list_row fault.now).summary text.old text.new }
+    ensures room { result < 128 }
+{
+    match fault.row() {
+        Ok((_, _, meaning)) => write_cut(meaning, text),
+        Err(_) => 0,
+    }
 }
 
 /// Returns the number of the kind of an error.
 #[unsafe(no_mangle)]
 pub extern "C" fn minisign_error_kind(error: u32) -> u32
-    // The result is 1 for API misuse, the number of the kind for an error of the library, and 0 for 0 and
-    // for a number without a meaning here.
-    ensures { IsKindOf error result }
+    // The result is 1 for API misuse, the number of the kind for an error of the library or of lists, and 0
+    // for 0 and for a number without a meaning here.
+    ensures { IsCallKind error result }
 {
-    error_kind(error)
+    match ListFault::of_number(error) {
+        Some(fault) => kind_number(fault.kind()),
+        None => error_kind(error),
+    }
 }
 
 /// Begins: the state was fed nothing.
@@ -1277,5 +1312,264 @@ pub extern "C" fn minisign_judge_comment(
             0
         }
         Err(fault) => fault.number(),
+    }
+}
+
+// Converts the result of asking to a number.
+fn asked_number(answer: Result<bool, Refusal>) -> u32
+    ensures { result ≡ asked_number answer }
+{
+    match answer {
+        Ok(true) => 0,
+        Ok(false) => WEAK_ED25519,
+        Err(refusal) => refusal.number(),
+    }
+}
+
+/// Asks what Ed25519 has to answer before it is known whether the signature of a list is valid. Its trusted
+/// comment must name the list. Does not allocate.
+#[unsafe(no_mangle)]
+pub extern "C" fn minisign_list_ask(
+    list: &mut ListValue,
+    key: &PublicKeyValue,
+    signature: &SignatureValue,
+    sig_text: &[u8],
+    list_name: &[u8],
+    text: &[u8],
+    questions: &mut Questions,
+    message: &mut [u8],
+) -> u32
+    // Errors are checked in this order: the public key was not read; the signature was not read; the text is
+    // not the one that it was read from; the key IDs differ; the signature is a legacy one; the buffer is too
+    // short; the key or a signature is weak. If none of them applies, the result is 0.
+    ensures number { result ≡ asked_number (asked_strictly (is_strict_value key.now signature.now)
+        (asked_of key.now signature.now sig_text.now false (length message.old))) }
+
+    // **On success, if the signature was read from this text, `questions` holds the two questions about the
+    // key and the text, with the digest of the list, and `list` records that digest, whether the comment
+    // signature has its 64 bytes, and whether the trusted comment names the list.**
+    ensures asked { result ≡ 0 → (t : SignatureTextRecord) → IsReadFrom signature.now sig_text.now t
+        → (read_under key.now false sig_text.now ≡ Ok t) × AreQuestions questions.new message.new key.now t
+        × (questions.new.digest ≡ blake2b_digest 64 text.now) × (list.new ≡ asked_list key.now signature.now
+        (Some list_name.now) text.now t.comments.trusted) }
+
+    // On success, the buffer after the message is unchanged. After an error, the list, the questions and the
+    // buffer are unchanged.
+    ensures rest { result ≡ 0 → drop questions.new.message_len message.new
+        ≡ drop questions.new.message_len message.old }
+    ensures kept { 0 < result → (list.new ≡ list.old) × (questions.new ≡ questions.old)
+        × (message.new ≡ message.old) }
+{
+    asked_number(list.ask(
+        key,
+        signature,
+        sig_text,
+        Some(list_name),
+        text,
+        questions,
+        message,
+    ))
+}
+
+/// Asks as `minisign_list_ask` does. The trusted comment need not name the list.
+#[unsafe(no_mangle)]
+pub extern "C" fn minisign_list_ask_any(
+    list: &mut ListValue,
+    key: &PublicKeyValue,
+    signature: &SignatureValue,
+    sig_text: &[u8],
+    text: &[u8],
+    questions: &mut Questions,
+    message: &mut [u8],
+) -> u32
+    // The clauses are those of `minisign_list_ask`, but every trusted comment names the list.
+    ensures number { result ≡ asked_number (asked_strictly (is_strict_value key.now signature.now)
+        (asked_of key.now signature.now sig_text.now false (length message.old))) }
+    ensures asked { result ≡ 0 → (t : SignatureTextRecord) → IsReadFrom signature.now sig_text.now t
+        → (read_under key.now false sig_text.now ≡ Ok t) × AreQuestions questions.new message.new key.now t
+        × (questions.new.digest ≡ blake2b_digest 64 text.now) × (list.new ≡ asked_list key.now signature.now
+        None text.now t.comments.trusted) }
+    ensures rest { result ≡ 0 → drop questions.new.message_len message.new
+        ≡ drop questions.new.message_len message.old }
+    ensures kept { 0 < result → (list.new ≡ list.old) × (questions.new ≡ questions.old)
+        × (message.new ≡ message.old) }
+{
+    asked_number(list.ask(key, signature, sig_text, None, text, questions, message))
+}
+
+/// The verdict on a list from what Ed25519 answered to the two questions.
+#[unsafe(no_mangle)]
+pub extern "C" fn minisign_list_verdict(list: &mut ListValue, first: u32, second: u32) -> u32
+    // It is API misuse if a result is neither 7955827 (yes) nor 28271 (no), or if nothing was asked; then the
+    // list is unchanged. Otherwise the result is 0 and the list is verified exactly if `first` is yes, the
+    // comment signature has its 64 bytes and `second` is yes, and the trusted comment names the list if it
+    // must. After an error the list is not verified.
+    ensures { (result, list.new) ≡ told_list_number list.old first second }
+{
+    if !is_answer(first) || !is_answer(second) {
+        return Misuse::BadAnswer.number();
+    }
+    number_of!(list.verdict(first == ANSWER_YES, second == ANSWER_YES))
+}
+
+/// Finds the only entry of a name in a verified list.
+#[unsafe(no_mangle)]
+pub extern "C" fn minisign_list_find(
+    list: &ListValue,
+    text: &[u8],
+    long_digest: u32,
+    name: &[u8],
+    entry: &mut EntryValue,
+    line: &mut u64,
+) -> u32
+    // **The result is 0 exactly if the list was verified and this is its text, every line is well formed, and
+    // exactly one entry has the name.** Then `entry` is that entry, and `line` is 0. Otherwise the result is
+    // the number of the first check that fails, `entry` is unchanged, and `line` is the number of the line at
+    // fault, or 0 if no line is at fault.
+    ensures { (result, (entry.new, line.new))
+        ≡ finding_number (long_numbered long_digest) list.now text.now name.now entry.old }
+{
+    *line = 0;
+    let Some(long) = LongDigest::of_number(long_digest) else {
+        return Misuse::BadHash.number();
+    };
+    match list.find(text, long, name, entry) {
+        Ok(()) => 0,
+        Err(refusal) => {
+            *line = line_of(&refusal);
+            refusal.number()
+        }
+    }
+}
+
+/// Writes all entries of a verified list.
+#[unsafe(no_mangle)]
+pub extern "C" fn minisign_list_entries(
+    list: &ListValue,
+    text: &[u8],
+    long_digest: u32,
+    entries: &mut [EntryValue],
+    count: &mut usize,
+    line: &mut u64,
+) -> u32
+    // The result is 0 exactly if the list was verified and this is its text, every line is well formed, and
+    // the buffer has room for all entries. Then the buffer begins with them, in the order of their lines, its
+    // rest is unchanged, and `count` is their number. Otherwise the result is the number of the first check
+    // that fails, and the buffer and `count` are unchanged. `line` is the number of the line at fault, or 0.
+    ensures { (result, (entries.new, (count.new, line.new)))
+        ≡ all_entries_number (long_numbered long_digest) list.now text.now entries.old count.old }
+{
+    *line = 0;
+    let Some(long) = LongDigest::of_number(long_digest) else {
+        return Misuse::BadHash.number();
+    };
+    match list.entries(text, long, entries) {
+        Ok(found) => {
+            *count = found;
+            0
+        }
+        Err(refusal) => {
+            *line = line_of(&refusal);
+            refusal.number()
+        }
+    }
+}
+
+// Returns the number of the line at fault, or 0 if no line is at fault.
+fn line_of(refusal: &Refusal<ListFault>) -> u64
+    ensures { result ≡ line_at_fault refusal.now }
+{
+    match refusal {
+        Refusal::WrongUse(_) => 0,
+        Refusal::Refused(fault) => fault.line(),
+    }
+}
+
+/// Begins a check of data against the digest of an entry.
+#[unsafe(no_mangle)]
+pub extern "C" fn minisign_list_begin(entry: &EntryValue, file: &mut FileValue) -> u32
+    // If the entry was read, the result is 0, and the state compares with the digest of the entry and was fed
+    // no data. Otherwise the result is the number of that error, and the state is unchanged.
+    ensures begun { (d : ListedDigest) → entry_digest entry.now ≡ Ok d
+        → (result ≡ 0) × IsFedValue file.new d [] }
+    ensures refused { 0 < result → (entry_digest entry.now ≡ Err EntryNotRead)
+        × (result ≡ misuse_number EntryNotRead) × (file.new ≡ file.old) }
+{
+    match FileValue::begin(entry) {
+        Ok(begun) => {
+            *file = begun;
+            0
+        }
+        Err(misuse) => misuse.number(),
+    }
+}
+
+/// Feeds the next bytes of the data.
+#[unsafe(no_mangle)]
+pub extern "C" fn minisign_list_update(file: &mut FileValue, piece: &[u8]) -> u32
+    // On success, the piece is appended to the data that the state was fed. The call fails only if no check
+    // was begun. Then the result is the number of that error, and the state is unchanged.
+    ensures fed { (d : ListedDigest) (m : List ℕ) → IsFedValue file.old d m
+        → (result ≡ 0) × IsFedValue file.new d (m ++ piece.now) }
+    ensures begun { result ≡ 0 → file.old.mark ≡ file_mark }
+    ensures refused { 0 < result → (result ≡ misuse_number NotBegun) × (file.new ≡ file.old) }
+{
+    number_of!(file.update(piece))
+}
+
+/// Returns whether the data that was fed has the digest of the entry. It finishes the state.
+#[unsafe(no_mangle)]
+pub extern "C" fn minisign_list_finish(file: &mut FileValue) -> u32
+    // **The result is 0 exactly if all data that the state was fed has the digest of the entry. Otherwise it
+    // is the number of the error for another digest.**
+    ensures fed { (d : ListedDigest) (m : List ℕ) → IsFedValue file.old d m
+        → result ≡ (if has_digest d m then 0 else list_number DigestMismatch) }
+
+    // The state is finished, unless no check was begun: then the result is the number of that error, and the
+    // state is unchanged.
+    ensures finished { result ≢ misuse_number NotBegun → IsFinished file.old file.new }
+    ensures refused { result ≡ misuse_number NotBegun → file.new ≡ file.old }
+{
+    number_of!(file.finish())
+}
+
+/// Compares the digest of an entry with one that the caller computed, which is trusted.
+#[unsafe(no_mangle)]
+pub extern "C" fn minisign_list_compare_trusting_your_hash(
+    entry: &EntryValue,
+    hash: u32,
+    digest: &[u8],
+) -> u32
+    // The result is 0 exactly if the entry was read, this is its hash function, and these bytes are its
+    // digest. Otherwise it is the number of the first check that fails. Nothing is said about any data.
+    ensures { result ≡ list_result (compared entry.now hash digest.now) }
+{
+    number_of!(entry.compare_trusting_your_hash(hash, digest))
+}
+
+/// Appends an entry to a list.
+#[unsafe(no_mangle)]
+pub extern "C" fn minisign_list_append(
+    hash: u32,
+    digest: &[u8],
+    name: &[u8],
+    text: &mut [u8],
+    text_len: &mut usize,
+) -> u32
+    // On success, the line of the entry is written behind the list, the rest of the buffer is unchanged, and
+    // `text_len` is the new length of the list. Otherwise the result is the number of the first check that
+    // fails, and the buffer and `text_len` are unchanged.
+    ensures { (result, (text.new, text_len.new))
+        ≡ appending_number (given_digest hash digest.now) text.old text_len.old name.now }
+{
+    let Some(digest) = given_digest(hash, digest) else {
+        return Misuse::BadHash.number();
+    };
+    match append_entry(text, *text_len, digest, name) {
+        Ok(len) => {
+            *text_len = len;
+            0
+        }
+        Err(refusal) => refusal.number(),
     }
 }

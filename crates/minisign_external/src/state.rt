@@ -115,6 +115,14 @@ pub enum Misuse {
     EmptyPassword,
     /// The salt is all zeros, or a scrypt limit is below the minimum of Minisign.
     WeakSealing,
+    /// The list was not verified.
+    ListNotVerified,
+    /// The text is not the list that was verified.
+    OtherListText,
+    /// The hash function, or the length of its digest, is not one that this call accepts.
+    BadHash,
+    /// The entry was not read from a list.
+    EntryNotRead,
 }
 
 /// Why a call failed: API misuse, or an error, usually one of the library.
