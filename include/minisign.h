@@ -143,7 +143,7 @@ extern "C" {
  *   key or R that is not canonically encoded: its y coordinate is not below 2^255 - 19, or x is 0 and its sign bit is
  *   set. Third, a number S in the last 32 bytes of a signature that is not below the group order, 2^252 +
  *   27742317777372353535851937790883648493. minisign_ask rejects all three kinds, and so does
- *   crypto_sign_verify_detached of libsodium. minisign_install_ask rejects none of them, so there your Ed25519
+ *   crypto_sign_verify_detached of libsodium. minisign_install_question rejects none of them, so there your Ed25519
  *   implementation must. If small orders were accepted, anybody could forge signatures under such a key: with OpenSSL
  *   3.0, 64 zero bytes are a valid signature of one message in four under a public key of 32 zero bytes, which
  *   minisign_read_bare_public_key reads from 56 letters A. If a larger S were accepted, anybody could change a valid
@@ -175,9 +175,9 @@ enum minisign_error {
     MINISIGN_OK = 0,
     /* The state is not initialized, or its verdict was already returned. */
     MINISIGN_NOT_BEGUN = 1,
-    /* minisign_ask, minisign_ask_bare, minisign_install_ask or minisign_digest was already called. */
+    /* minisign_ask, minisign_ask_bare or minisign_digest was already called. */
     MINISIGN_ALREADY_ASKED = 2,
-    /* minisign_ask, minisign_ask_bare, minisign_install_ask or minisign_digest was not called yet. */
+    /* minisign_ask, minisign_ask_bare or minisign_digest was not called yet. */
     MINISIGN_NOT_ASKED = 3,
     /* The result of an Ed25519 check is neither MINISIGN_ANSWER_YES nor MINISIGN_ANSWER_NO. */
     MINISIGN_BAD_ANSWER = 4,
@@ -315,27 +315,7 @@ enum minisign_error {
     /* The password is empty, and with_password does not allow an empty one. */
     MINISIGN_EMPTY_PASSWORD = 83,
     /* The salt is all zeros, or a scrypt limit is below the minimum of Minisign. */
-    MINISIGN_WEAK_SEALING = 84,
-    /* The list was not verified. */
-    MINISIGN_LIST_NOT_VERIFIED = 85,
-    /* The text is not the list that was verified. */
-    MINISIGN_OTHER_LIST_TEXT = 86,
-    /* The hash function, or the length of its digest, is not one that this call accepts. */
-    MINISIGN_BAD_HASH = 87,
-    /* The entry was not read from a list. */
-    MINISIGN_ENTRY_NOT_READ = 88,
-    /* The trusted comment does not name the list. */
-    MINISIGN_OTHER_LIST = 89,
-    /* No list can contain the name. */
-    MINISIGN_BAD_NAME = 90,
-    /* A line of the list is malformed. */
-    MINISIGN_MALFORMED_LINE = 91,
-    /* No line of the list has the name. */
-    MINISIGN_NOT_LISTED = 92,
-    /* Two lines of the list have the name. */
-    MINISIGN_LISTED_TWICE = 93,
-    /* The data does not have the listed digest. */
-    MINISIGN_DIGEST_MISMATCH = 94
+    MINISIGN_WEAK_SEALING = 84
 };
 /* The end of the numbers. */
 

@@ -138,8 +138,8 @@ def in_words(call, header, table, kind_of, length_of, field_of=str):
 
 # ---- Python, and the errors of Go ----
 
-C_TYPES = {"uint8_t": "c_ubyte", "char": "c_ubyte", "uint32_t": "c_uint32", "uint64_t": "c_uint64", "size_t": "c_size_t",
-           "void": "None"}
+C_TYPES = {"uint8_t": "c_ubyte", "char": "c_ubyte", "uint32_t": "c_uint32", "uint64_t": "c_uint64", "int64_t": "c_int64",
+           "size_t": "c_size_t", "void": "None"}
 
 PYTHON_ROLES = {
     "password": ("{name}: Optional[bytes]", "", '0 if {name} is None else 1, {name}, len({name} or b"")', "", ""),
@@ -253,11 +253,12 @@ def python_header(header):
 def python_call(call, header):
     """Returns a method that makes a call and returns its results."""
     parameters, before, arguments, types, results = in_words(call, header, PYTHON_ROLES, ctype, "len({})".format)
-    lines, results = [f"self._library.{call.name}({', '.join(arguments)})"], [f"return {', '.join(results)}"] if results else []
+    lines = [f"self._library.{call.name}({', '.join(arguments)})"]
     if call.answer == "size_t":
         lines[0] = f"length = {lines[0]}"
     elif call.answer == "uint32_t" or call.answer == "enum minisign_due":
-        lines[0], types, results = f"number: int = {lines[0]}", ["int"], ["return number"]
+        lines[0], types, results = f"number: int = {lines[0]}", ["int", *types], ["number", *results]
+    results = [f"return {', '.join(results)}"] if results else []
     result = f"Tuple[{', '.join(types)}]" if len(types) > 1 else "".join(types) or "None"
     lines = "\n".join(before + lines + results).split("\n")
     inside = "".join(f"{python_line(f'        {line}')}\n" for line in lines)

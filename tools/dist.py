@@ -105,7 +105,7 @@ def built_calls(directory, is_check):
         print(f"dist: {name}, after proving what is not proved yet", flush=True)
         verdict = proved.build_archive(CALLS, archive, *flags, *incremental, compilers=compilers if name == C_CALLS_OF else None)
         yield Built(name, read(archive), {name: verdict, "sources of the calls": build.sources_sum("calls")})
-    names = [call.name for call in boundary.proved_calls(c_header.every())]
+    names = [call.name for call in boundary.proved_calls(c_header.both())]
     line = f"{C_CALLS}, by tools/wasm_to_c.py, which is tested and not proved; sum of the bitcode {hashlib.sha256(read(bitcode)).hexdigest()}"
     yield Built(C_CALLS, portable_calls.text(bitcode, names, directory).encode(), {TRANSLATED: line})
 

@@ -5,7 +5,7 @@
     tools/header.py --check    fails if a file is not up to date; the last line is `N passed, M failed`
 
 From the crates come the numbers, names and comments of errors, steps and numberings in `include/minisign.h` and
-`include/minisign_install.h`, those of hash functions in `include/minisign_list.h`, and the tables of errors in docs/FORMATS.md. From the headers come their attributes for gcc
+`include/minisign_install.h`, and the tables of errors in docs/FORMATS.md. From the headers come their attributes for gcc
 and clang, the boundary in front of the proved calls (`boundary.py`), and the manual pages (`manual.py`).
 
 The name of a number in C is its name in the crate, in capitals after `MINISIGN_`, unless `NAMES` has another one. Its
@@ -21,7 +21,7 @@ from collections import namedtuple
 import boundary
 import manual
 import sources
-from c_header import FILE as HEADER, INSTALLING, LISTS, parsed
+from c_header import FILE as HEADER, INSTALLING, parsed
 from sources import ROOT, Unfit, read
 
 FORMATS = "docs/FORMATS.md"
@@ -32,7 +32,6 @@ FAULT_ROWS = "crates/minisign_base/specs/Faults.antt"
 NUMBERS = "crates/minisign_external/src/numbers.rt"
 INSTALL = "crates/minisign_install"
 INSTALL_NUMBERS = f"{INSTALL}/specs/Hosted.antt"
-OF_LISTS = "crates/minisign_lists"
 
 # The named errors that no call of the headers returns. All others have a name in C. tests/c/error_lists.py checks this list.
 UNANSWERED = {"GoingBackFailed", "EndOfInput", "PasswordTooLong", "PasswordsDiffer", "EncryptedKeyRefused", "RefusedByGivenKey",
@@ -65,17 +64,13 @@ class Number(namedtuple("Number", "number variant comment")):
         return NAMES.get(self.variant, re.sub(r"(?<=[a-z0-9])(?=[A-Z])", "_", self.variant).upper())
 
 
-# The other enums that are generated: the words in their marks, the prefix of their members, the name and the file of the
-# enum in the crate, and the file of the definition of its numbers.
-Choice = namedtuple("Choice", "place prefix enum file numbers")
-CHOICES = (
-    Choice("Calls of installing", "DUE", "Due", f"{INSTALL}/src/order.rt", f"{INSTALL}/specs/Order.antt"),
-    Choice("Numberings", "NUMBERING", "Numbering", f"{INSTALL}/src/comments.rt", INSTALL_NUMBERS),
-)
-HASHES = Choice("Hashes", "HASH", "Algorithm", f"{OF_LISTS}/src/digests.rt", f"{OF_LISTS}/specs/Numbers.antt")
-# The members that no crate has, by their prefix.
-FIRST = {"DUE": "    /* Nothing: the installation was not initialized. */\n    MINISIGN_DUE_NOTHING = 0",
-         "HASH": "    /* None: a line with 128 digits must name its hash function. */\n    MINISIGN_HASH_NONE = 0"}
+# The enums of minisign_install.h that are generated: the words in their marks, the prefix of their members, and the name and the file of
+# the enum in the crate.
+Choice = namedtuple("Choice", "place prefix enum file")
+DUE = Choice("Operations", "DUE", "Operation", f"{INSTALL}/src/installation.rt")
+NUMBERING = Choice("Numberings", "NUMBERING", "Numbering", f"{INSTALL}/src/comments.rt")
+# The list of the operations, whose numbers are their positions.
+OPERATIONS = f"{INSTALL}/specs/Step.antt"
 
 
 def item_text(file, what, path):
@@ -147,14 +142,6 @@ def install_rows(comments):
     return rows
 
 
-def list_rows(comments):
-    """Returns the errors that only lists have, in the form of `fault_rows`."""
-    rows = re.findall(r'^list_row \(?(\w+)(?: \w+\))? = row (\d+) (\w+) \(codes "([^"]*)"\)$', read(f"{OF_LISTS}/specs/Faults.antt"), re.M)
-    if {name for name, *_ in rows} != {*comments} - {"Library"}:
-        raise Unfit("list_row must have one row for each error of lists")
-    return rows
-
-
 def all_numbers(rows, comments):
     """Returns the errors that calls of the headers return, in the order of their numbers."""
     if UNANSWERED - {name for name, *_ in rows}:
@@ -185,11 +172,20 @@ def kinds_text():
     return enum_text("kind", numbers_of(comments_of(KINDS, "ErrorKind"), "crates/minisign_external/specs/Numbers.antt", "kind_number"), "KIND_", first)
 
 
-def choice_text(choice):
-    """Returns a generated enum other than that of errors."""
-    name = choice.prefix.lower()
-    numbers = numbers_of(comments_of(choice.file, choice.enum), choice.numbers, f"{name}_number")
-    return enum_text(name, numbers, f"{choice.prefix}_", [FIRST[choice.prefix]] if choice.prefix in FIRST else [])
+def operations(comments):
+    """Returns the members of the enum of operations, with the numbers from the list of the definitions."""
+    listed = re.search(r"(?m)^operations =\n((?:    .*\n)+)", read(OPERATIONS))
+    names = re.findall(r"\w+", listed[1] if listed else "")
+    if sorted(names) != sorted(comments):
+        raise Unfit(f"{OPERATIONS}: operations must list each of {', '.join(sorted(comments))}")
+    return [Number(number, name, comments[name]) for number, name in enumerate(names)]
+
+
+def choices_texts():
+    """Yields the places and the texts of the generated enums of minisign_install.h."""
+    yield DUE.place, enum_text("due", operations(comments_of(DUE.file, DUE.enum)), f"{DUE.prefix}_")
+    numbers = numbers_of(comments_of(NUMBERING.file, NUMBERING.enum), INSTALL_NUMBERS, "numbering_number")
+    yield NUMBERING.place, enum_text("numbering", numbers, f"{NUMBERING.prefix}_")
 
 
 # With these attributes gcc and clang warn about NULL, and gcc about a length that is greater than its buffer. clang has no attribute
@@ -277,26 +273,21 @@ def formats_text(numbers, rows, comments):
 def generated_files():
     """Yields the paths and texts of the generated files."""
     comments, install_comments = comments_of(FAULTS, "NamedFault"), comments_of(f"{INSTALL}/src/faults.rt", "InstallFault")
-    list_comments = comments_of(f"{OF_LISTS}/src/faults.rt", "ListFault")
     weak, weak_comment = weak_row()
-    rows = [*fault_rows(), weak, *install_rows(install_comments), *list_rows(list_comments)]
-    comments = comments | install_comments | list_comments | {weak[0]: weak_comment}
+    rows, comments = [*fault_rows(), weak, *install_rows(install_comments)], comments | install_comments | {weak[0]: weak_comment}
     numbers = all_numbers(rows, comments)
     # Each header is parsed by itself for its attributes, because these do not depend on structs of the other one.
     header = header_text(HEADER, {"Numbers": enum_text("error", numbers, first=["    MINISIGN_OK = 0"]), "Kinds": kinds_text(),
                                   "Answers": answers_text(numbers), "Attributes": attributes_text(parsed(read(HEADER)))})
-    installing = header_text(INSTALLING, {**{choice.place: choice_text(choice) for choice in CHOICES},
-                                          "Attributes": attributes_text(parsed(read(INSTALLING)))})
-    of_lists = header_text(LISTS, {HASHES.place: choice_text(HASHES), "Attributes": attributes_text(parsed(read(LISTS)))})
+    installing = header_text(INSTALLING, {**dict(choices_texts()), "Attributes": attributes_text(parsed(read(INSTALLING)))})
     yield HEADER, header
     yield INSTALLING, installing
-    yield LISTS, of_lists
-    calls = parsed(header, installing, of_lists)
+    calls = parsed(header, installing)
     yield boundary.FILE, boundary.boundary_text(calls)
     yield boundary.POINTERS, boundary.pointers_text(calls)
     yield "c/library/names", boundary.names_text(calls)
     version = dict(calls.texts)["VERSION_TEXT"].strip('"')
-    for file, page, examples in ((HEADER, header, manual.EXAMPLES), (INSTALLING, installing, {}), (LISTS, of_lists, {})):
+    for file, page, examples in ((HEADER, header, manual.EXAMPLES), (INSTALLING, installing, {})):
         yield manual.page_of(file), manual.manual_text(manual.page_of(file), page, version, examples)
     yield FORMATS, formats_text(numbers, rows, comments)
 

@@ -5,7 +5,7 @@
     tools/page_contracts.py --check    fails if that would change the file
 
 An export is copied from its docstring to the brace that opens its body; the bodies are written by hand. Two names differ: the prefix of
-the exports, and the meaning of an error number, because the page has no errors of installations or lists. The last line is
+the exports, and the meaning of an error number, because the page has no installation errors. The last line is
 `N passed, M failed`.
 
 Needs Python 3.9 or later.
@@ -20,7 +20,7 @@ PAGE, LIBRARY = "crates/minisign_page/src/lib.rt", "crates/minisign_c/src/lib.rt
 # The name and the head of each export: docstring, attribute, signature and contract.
 EXPORT = r'(?m)^(?:///.*\n)*#\[unsafe\(no_mangle\)\]\npub extern "C" fn {prefix}_(\w+)\((?:.*\n)*?\{{$'
 CALL = re.compile(r"\bminisign_(\w+)(?=[(`])")
-RENAMED = (("IsCallMeaning", "IsMeaning"), (", of the error of an installation or a list, or of", " or of"))
+RENAMED = (("IsHostMeaning", "IsMeaning"), (", of the installation error or of", " or of"))
 
 
 def heads(text, prefix):

@@ -124,13 +124,15 @@ static enum minisign_answer answer_of(const uint8_t signature[64], const uint8_t
     return result == 0 ? MINISIGN_ANSWER_YES : MINISIGN_ANSWER_NO;
 }
 
-/* Returns what a call does with the data, for the progress, or NULL. */
-static const char *work_of(enum minisign_due call)
+/* Returns what the run is doing with the data, for the progress, or NULL. */
+static const char *work_of(const struct installing *run)
 {
-    switch (call) {
-    case MINISIGN_DUE_LOOK: return "compared";
-    case MINISIGN_DUE_RECEIVE: return "received";
-    case MINISIGN_DUE_COPY: return "copied";
+    if (run->is_receiving) {
+        return "received";
+    }
+    switch (run->call) {
+    case MINISIGN_DUE_READ_TARGET: return "compared";
+    case MINISIGN_DUE_COPY_DATA: return "copied";
     case MINISIGN_DUE_READ_BACK: return "verified";
     default: return NULL;
     }
@@ -138,7 +140,7 @@ static const char *work_of(enum minisign_due call)
 
 static void show_copying(struct progress *shown, const struct installing *run)
 {
-    const char *work = work_of(run->call);
+    const char *work = work_of(run);
 
     if (shown->label != work) {
         end_progress(shown);
@@ -237,7 +239,7 @@ static enum status report(const struct request *request, const struct installing
                                    directory->record.shown };
     enum status status = ending->status;
     bool has_trouble = directory->trouble.shown != NULL
-                       && (status == FAILED || status == NOT_SYNCED || status == EXPIRED);
+                       && (status == FAILED || status == NOT_SYNCED);
 
     if (status == OLDER && request->wanted.is_check) {
         return status;
@@ -262,10 +264,10 @@ static enum status report(const struct request *request, const struct installing
 static bool show_update(const struct installing *run)
 {
     size_t len;
-    const uint8_t *comment = vouched_comment(run, &len);
+    const uint8_t *comment = signed_comment(run, &len);
 
     if (comment != NULL) {
-        printf("%" PRIu64 "\n", minisign_install_number(&run->machine));
+        printf("%" PRIu64 "\n", minisign_install_version(&run->machine));
         write_escaped(stdout, comment, len);
         putchar('\n');
     }
@@ -291,8 +293,8 @@ static enum status tell_end(const struct request *request, const struct installi
         return FAILED;
     }
     switch (run->call) {
-    case MINISIGN_DUE_ALREADY: compare_mode(&request->wanted); return THERE_ALREADY;
-    case MINISIGN_DUE_REFUSED: return report(request, run);
+    case MINISIGN_DUE_ALREADY_INSTALLED: compare_mode(&request->wanted); return THERE_ALREADY;
+    case MINISIGN_DUE_REJECTED: return report(request, run);
     default: return INSTALLED;
     }
 }

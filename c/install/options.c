@@ -10,13 +10,14 @@
 enum { PATHS = 4 };
 
 /* The options. Those from MODE on have a value, and those from MODE to WAIT cannot be combined with --check. */
-enum option { IS_CHECK, IS_FIRST, MUST_EXPIRE, IS_AGAIN, MODE, MOST, WAIT, NUMBERING, NAME, KEY, OPTIONS };
+enum option { IS_CHECK, IS_FIRST, MUST_EXPIRE, IS_AGAIN, NEW_KEY, ROLL_BACK, MODE, MOST, WAIT, NUMBERING, NAME, KEY, OPTIONS };
 
 static const struct {
     const char *word;
     enum option option;
 } words[] = {
     { "--check", IS_CHECK }, { "--first", IS_FIRST }, { "--must-expire", MUST_EXPIRE }, { "--again", IS_AGAIN },
+    { "--new-key", NEW_KEY }, { "--roll-back", ROLL_BACK },
     { "--mode", MODE }, { "--most", MOST }, { "--max-size", MOST }, { "--wait", WAIT }, { "--numbering", NUMBERING },
     { "--name", NAME }, { "--key", KEY },
 };
@@ -66,8 +67,8 @@ static void add_option(struct command_line *line, enum option option, const char
     line->values[option] = value;
 }
 
-/* Ends the program if there are too many or too few paths, or if an option cannot be combined with --check. With
- * --check there is no DATA, and with --key no PK. */
+/* Ends the program if there are too many or too few paths, or if options cannot be combined. With --check there is no
+ * DATA, and with --key no PK. */
 static void judge_line(const struct command_line *line)
 {
     static const char *const paths[2][2] = { { "PK DATA SIG TARGET", "DATA SIG TARGET" },
@@ -83,6 +84,11 @@ static void judge_line(const struct command_line *line)
     for (int option = MODE; line->words[IS_CHECK] != NULL && option <= WAIT; option++) {
         if (line->words[option] != NULL) {
             misuse(line->words[option], "this option cannot be combined with --check");
+        }
+    }
+    for (int option = NEW_KEY; line->words[IS_FIRST] != NULL && option <= ROLL_BACK; option++) {
+        if (line->words[option] != NULL) {
+            misuse(line->words[option], "this option cannot be combined with --first");
         }
     }
     if (line->count < wanted) {
@@ -217,6 +223,8 @@ struct request read_request(int argc, char *argv[])
     wanted->is_first = line.words[IS_FIRST] != NULL;
     wanted->again = line.words[IS_AGAIN] != NULL;
     wanted->must_expire = line.words[MUST_EXPIRE] != NULL;
+    wanted->new_key = line.words[NEW_KEY] != NULL;
+    wanted->roll_back = line.words[ROLL_BACK] != NULL;
     wanted->numbering = numbering_of(line.values[NUMBERING]);
     wanted->name = line.values[NAME];
     if (wanted->name != NULL && *wanted->name == 0) {

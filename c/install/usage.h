@@ -21,6 +21,11 @@
     "                     version record was made under another key.\n" \
     "  --again            Install an update of the recorded version even if another\n" \
     "                     update of that version is installed.\n" \
+    "  --new-key          Ignore a version record that was made under a key other\n" \
+    "                     than the given ones. A missing or damaged record is still\n" \
+    "                     an error.\n" \
+    "  --roll-back        Install an update even if it is older than the recorded\n" \
+    "                     version.\n" \
     "  --check            Install nothing. The exit status says what an installation\n" \
     "                     would do. Print the version number and the trusted comment\n" \
     "                     of the update. Give no DATA. Of the other options,\n" \

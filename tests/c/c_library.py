@@ -16,7 +16,6 @@ WORD selects the libraries and the programs whose name contains it.
 - random_calls.c: random calls against a model;
 - allocations.c: memory, which is cleared before it is freed;
 - threads.c: several threads at once;
-- signed_lists.c: files that are checked against signed lists;
 - out_of_memory.c: failing allocations.
 
 The library is built over `dist/` (static_library.py), once more only with the copy of the calls for processors without
@@ -47,7 +46,7 @@ WRAPPED = ["-Wl,--wrap=malloc", "-Wl,--wrap=realloc", "-Wl,--wrap=free"]
 
 # The programs, with linker flags.
 PROGRAMS = {"usage_errors": [], "weak_ed25519": [], "asked_texts": WRAPPED, "records": WRAPPED, "error_texts": [], "installations": WRAPPED, "guard_pages": [], "random_calls": [],
-            "allocations": [*WRAPPED, "-Wl,--wrap=madvise"], "threads": ["-pthread"], "signed_lists": ["-pthread"],
+            "allocations": [*WRAPPED, "-Wl,--wrap=madvise"], "threads": ["-pthread"],
             "out_of_memory": [*WRAPPED, "-Wl,--wrap=madvise", "-Wl,--wrap=pthread_create"]}
 programs_named = lambda *names: {name: PROGRAMS[name] for name in names}
 # With this flag the programs do less of what takes long.

@@ -268,13 +268,11 @@ static void opens_in_place(uint64_t p)
     }
 }
 
-/* Asks about the signature, and answers yes. */
-static enum minisign_error ask_and_answer(minisign_installation *i)
+/* Passes on the signature. */
+static enum minisign_error pass_signature(minisign_installation *i)
 {
-    enum minisign_error error = minisign_install_ask(i, bytes_of(SIGNATURE), sizeof SIGNATURE - 1, copied("test", 4), 4, 0,
-                                                     NEW(minisign_questions), buffer(MESSAGE_LEN), MESSAGE_LEN);
-
-    return error == MINISIGN_OK ? minisign_install_answer(i, YES, YES) : error;
+    return minisign_install_signature(i, bytes_of(SIGNATURE), sizeof SIGNATURE - 1, copied("test", 4), 4, 0, buffer(MESSAGE_LEN),
+                                      MESSAGE_LEN, NEW(size_t));
 }
 
 /* Returns an installation at which this is due. */
@@ -286,10 +284,11 @@ static minisign_installation *installing(uint32_t due)
 
     while (error == MINISIGN_OK && minisign_install_due(i) != due) {
         switch (minisign_install_due(i)) {
-        case MINISIGN_DUE_READ_RECORD: error = minisign_install_record(i, copied("5", 1), 1, 0); break;
+        case MINISIGN_DUE_READ_RECORD: error = minisign_install_record(i, copied("5", 1), 1); break;
         case MINISIGN_DUE_READ_BACK: error = minisign_install_piece(i, buffer(0), 0); break;
-        case MINISIGN_DUE_JUDGE:
-        case MINISIGN_DUE_ANSWER: error = ask_and_answer(i); break;
+        case MINISIGN_DUE_READ_SIGNATURE: error = pass_signature(i); break;
+        case MINISIGN_DUE_CHECK_COMMENT:
+        case MINISIGN_DUE_CHECK_DATA: error = minisign_install_answer(i, YES); break;
         default: error = minisign_install_done(i);
         }
     }
@@ -297,13 +296,13 @@ static minisign_installation *installing(uint32_t due)
     return i;
 }
 
-/* Asks to install with the first bytes of a signature file, and a message buffer of this size. */
-static enum minisign_error ask_to_install(size_t len, size_t room)
+/* Passes on the first bytes of a signature file, with a message buffer of this size. */
+static enum minisign_error pass_to_install(size_t len, size_t room)
 {
     used = 0;
-    minisign_installation *i = installing(MINISIGN_DUE_JUDGE);
+    minisign_installation *i = installing(MINISIGN_DUE_READ_SIGNATURE);
     used = 2;
-    return minisign_install_ask(i, copied(SIGNATURE, len), len, copied("test", 4), 4, 0, NEW(minisign_questions), buffer(room), room);
+    return minisign_install_signature(i, copied(SIGNATURE, len), len, copied("test", 4), 4, 0, buffer(room), room, NEW(size_t));
 }
 
 /* Records, names and comments of each length, and buffers of each size for the message and the record. */
@@ -315,17 +314,22 @@ static void installs(void)
     for (size_t size = 0; size <= MINISIGN_RECORD_TEXT_BYTES; size++) {
         used = 0;
         minisign_installation *i = installing(MINISIGN_DUE_READ_RECORD);
-        CHECK(minisign_install_record(i, filled(size, '0'), size, 0) == MINISIGN_OK);
-        CHECK(minisign_install_due(i) == (0 < size && size <= 64 ? MINISIGN_DUE_JUDGE : MINISIGN_DUE_REFUSED));
+        CHECK(minisign_install_record(i, filled(size, '0'), size) == (0 < size && size <= 64 ? MINISIGN_OK : MINISIGN_DAMAGED_RECORD));
     }
     for (size_t room = 0; room <= MESSAGE_LEN; room++) {
-        CHECK(ask_to_install(len, room) == (room < MESSAGE_LEN ? MINISIGN_NO_ROOM : MINISIGN_OK));
+        CHECK(pass_to_install(len, room) == (room < MESSAGE_LEN ? MINISIGN_NO_ROOM : MINISIGN_OK));
     }
     for (size_t size = 0; size < len; size++) {
         minisign_signature read;
+        enum minisign_error error = minisign_read_signature(bytes_of(SIGNATURE), size, &read);
 
-        CHECK(ask_to_install(size, MESSAGE_LEN) == minisign_read_signature(bytes_of(SIGNATURE), size, &read));
+        /* A comment signature that is cut off can be read, but is too short. */
+        CHECK(pass_to_install(size, MESSAGE_LEN) == (error == MINISIGN_OK ? MINISIGN_COMMENT_SIGNATURE_REFUSED : error));
     }
+    used = 0;
+    minisign_installation *checked = installing(MINISIGN_DUE_CHECK_DATA);
+    CHECK(minisign_install_question(checked, buffer(32), buffer(64), buffer(64)) == MINISIGN_OK);
+    CHECK(minisign_install_size(checked, NEW(uint64_t)) == 0);
     for (size_t room = 0; room <= MINISIGN_RECORD_TEXT_BYTES; room++) {
         used = 0;
         minisign_installation *i = installing(MINISIGN_DUE_WRITE_RECORD);

@@ -38,10 +38,9 @@ README = os.path.join(HERE, "..", "..", "README.md")
 STRICT = ["-Wall", "-Wextra", "-Wpedantic", "-Werror"]
 
 # The installed files, except the shared library, whose name has its version.
-FILES = ["bin/minisign", "bin/minisign-install", "bin/minisign-check", "include/minisign.h", "include/minisign_install.h",
-         "include/minisign_list.h", "include/minisign_stream.h",
+FILES = ["bin/minisign", "bin/minisign-install", "include/minisign.h", "include/minisign_install.h", "include/minisign_stream.h",
          "lib/libminisign.a", "lib/libminisign.so", "lib/pkgconfig/minisign.pc", "share/man/man1/minisign.1",
-         "share/man/man1/minisign-install.1", "share/man/man1/minisign-check.1", "share/man/man3/minisign.3", "share/man/man3/minisign_install.3"]
+         "share/man/man1/minisign-install.1", "share/man/man3/minisign.3", "share/man/man3/minisign_install.3"]
 # C that drops a result.
 DROPPED = b"#include <minisign.h>\nint main(void) { minisign_state s; minisign_init(&s); minisign_update(&s, 0, 0); return 0; }\n"
 COMMENT = "version 2 \u00e9"
@@ -353,8 +352,8 @@ def check_agent(checks, over):
 
 
 def check_programs(checks, over):
-    """The installed programs are those that were built, which command_line.py, real_installing.py and check_program.py test."""
-    for name, flag in (("minisign", "-v"), ("minisign-install", "--version"), ("minisign-check", "--version")):
+    """The installed programs are those that were built, which command_line.py and real_installing.py test."""
+    for name, flag in (("minisign", "-v"), ("minisign-install", "--version")):
         checks.check(read(over.root, "bin", name) == read(over.room, "out", name), f"the installed {name} is not the one that was built")
         checks.ended(f"{name}, installed", run([f"{over.root}/bin/{name}", flag]), says=name)
 

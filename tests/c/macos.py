@@ -45,7 +45,7 @@ MACH_O, PROCESSORS = 0xfeedfacf, {"x86_64": 0x1000007, "arm64": 0x100000c}
 PROGRAM, LIBRARY = 2, 6
 # Functions that macos_headers.py does not take from Rust's crate: those of macOS's manual pages, and those of ISO C and POSIX.
 BY_MANUAL = {"acl_free", "acl_init", "acl_set_fd", "getentropy", "strsep"}
-STANDARD = {"atexit", "pthread_create", "putc", "putchar", "qsort", "strftime", "vfprintf", "vsnprintf"}
+STANDARD = {"atexit", "pthread_create", "putc", "putchar", "strftime", "vfprintf", "vsnprintf"}
 FEWEST_CONSTANTS = 50
 
 
@@ -58,7 +58,7 @@ def headers(checks, room):
     needs.need(lambda: os.path.exists(macos_headers.GO) or None, "Go's package for system calls", "golang-golang-x-sys-dev")
     needs.need(lambda: glob.glob(f"{macos_headers.CRATES}/libc-*") or None, "Rust's crate libc", "librust-libc-dev")
     place = os.path.join(room, "macos")
-    compared, unchecked = macos_headers.write(place, sources("minisign", "install", "check", "shared", "library", "library/portable"))
+    compared, unchecked = macos_headers.write(place, sources("minisign", "install", "shared", "library", "library/portable"))
     checks.check(compared >= FEWEST_CONSTANTS, f"only {compared} constants are compared between Rust's crate and Go's package")
     checks.check(set(unchecked) <= BY_MANUAL | STANDARD, f"macOS is not known to have {sorted({*unchecked} - BY_MANUAL - STANDARD)}")
     return place, ["-nostdlibinc", "-isystem", place, "-isystem", emulated.headers_of_sodium(room)]
@@ -66,7 +66,7 @@ def headers(checks, room):
 
 def check_types(checks, room, given):
     clang = [needs.program("clang", "clang"), *WARNINGS, *given, "-I", C, "-I", INCLUDE, "-fsyntax-only"]
-    programs = sources("minisign", "install", "check", "shared", endings="c")
+    programs = sources("minisign", "install", "shared", endings="c")
     checks.check(len(programs) > 25, f"the programs have only these files: {programs}")
     for target in TARGETS:
         checks.ended(f"the programs for {target}", run([*clang, f"--target={target}", *programs]))
@@ -89,7 +89,7 @@ def check_linking(checks, room, place, given):
     needs.need(lambda: glob.glob("/usr/lib/llvm-*/bin/ld64.lld") or None, "ld64.lld", "lld")
     write(place, "libsodium.tbd", macos_headers.STUB.format(symbols=", ".join(
         f"_{name}" for name in sorted({*re.findall(r"\b(?:crypto_|sodium_|randombytes_)\w+(?=\()", "".join(
-            macos_headers.read_text(path) for path in sources("minisign", "install", "check", "shared", "library")))})))
+            macos_headers.read_text(path) for path in sources("minisign", "install", "shared", "library")))})))
         .replace("/usr/lib/libSystem.B.dylib", "libsodium.23.dylib").replace("dyld_stub_binder, ", "").encode())
     # (GNU ar writes no index of the symbols of these objects)
     ar, nm = (needs.need(lambda: needs.which(name) or needs.which(f"{name}-14"), name, "llvm") for name in ("llvm-ar", "llvm-nm"))
@@ -104,7 +104,7 @@ def check_linking(checks, room, place, given):
         wanted = {"lib/libminisign.a", *(f"lib/libminisign{part}.dylib" for part in ("", f".{version[2]}", f".{version[1]}"))}
         checks.check(libraries == wanted, f"{target}: {sorted(libraries)} are installed, wanted {sorted(wanted)}")
         check_linked(checks, f"{root}/usr/local/lib/libminisign.{version[1]}.dylib", target, LIBRARY)
-        for name in ("minisign", "minisign-install", "minisign-check"):
+        for name in ("minisign", "minisign-install"):
             check_linked(checks, f"{root}/usr/local/bin/{name}", target, PROGRAM)
         status, said = run([nm, "-gUj", f"{out}/libminisign.dylib"])
         names = re.findall(r"(?m)^(\w+)$", macos_headers.read_text(f"{C}/library/names"))

@@ -33,7 +33,7 @@ from process import run
 from proved import ROOT as TOP
 from running import read, write
 
-PROGRAMS = ("minisign", "minisign-install", "minisign-check")
+PROGRAMS = ("minisign", "minisign-install")
 # The packages that a reader on Debian needs. The documents must name packages that install these without recommended
 # packages, which containers leave out: gcc, for example, only recommends libc6-dev.
 BUILDING = {"gcc", "libc6-dev", "make", "binutils"}

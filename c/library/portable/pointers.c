@@ -9,7 +9,6 @@
 #include "machine.h"
 
 #include "minisign_install.h"
-#include "minisign_list.h"
 
 /* Passes a struct that the call must not change: a copy, if its numbers have to be converted. */
 #define LENT(kind, lent, kept) (IS_LITTLE_ENDIAN || (lent) == NULL ? (lent) : (*(kept) = *(lent), given_##kind(kept), (kept)))
@@ -96,42 +95,9 @@ static inline void given_minisign_install_options(minisign_install_options *lent
     store32(address(&lent->is_first), lent->is_first);
     store32(address(&lent->again), lent->again);
     store32(address(&lent->is_check), lent->is_check);
-    store32(address(&lent->is_waiting), lent->is_waiting);
     store32(address(&lent->must_expire), lent->must_expire);
-}
-
-static inline void given_minisign_list(minisign_list *lent)
-{
-    store64(address(&lent->mark), lent->mark);
-    store32(address(&lent->whole), lent->whole);
-    store32(address(&lent->is_named), lent->is_named);
-}
-
-static inline void got_minisign_list(minisign_list *lent)
-{
-    lent->mark = load64(address(&lent->mark));
-    lent->whole = load32(address(&lent->whole));
-    lent->is_named = load32(address(&lent->is_named));
-}
-
-static inline void given_minisign_list_entry(minisign_list_entry *lent)
-{
-    store64(address(&lent->mark), lent->mark);
-    store64(address(&lent->line), lent->line);
-    store64(address(&lent->name_offset), lent->name_offset);
-    store64(address(&lent->name_len), lent->name_len);
-    store32(address(&lent->hash), lent->hash);
-    store32(address(&lent->is_escaped), lent->is_escaped);
-}
-
-static inline void got_minisign_list_entry(minisign_list_entry *lent)
-{
-    lent->mark = load64(address(&lent->mark));
-    lent->line = load64(address(&lent->line));
-    lent->name_offset = load64(address(&lent->name_offset));
-    lent->name_len = load64(address(&lent->name_len));
-    lent->hash = load32(address(&lent->hash));
-    lent->is_escaped = load32(address(&lent->is_escaped));
+    store32(address(&lent->new_key), lent->new_key);
+    store32(address(&lent->roll_back), lent->roll_back);
 }
 
 uint64_t machine_minisign_error_text(uint32_t, uint64_t, uint64_t);
@@ -583,11 +549,11 @@ uint32_t portable_minisign_install_done(minisign_installation *installation)
     return machine_minisign_install_done(address(installation));
 }
 
-uint32_t machine_minisign_install_more(uint64_t, uint64_t);
+uint32_t machine_minisign_install_copied(uint64_t, uint64_t);
 
-uint32_t portable_minisign_install_more(minisign_installation *installation, size_t piece_len)
+uint32_t portable_minisign_install_copied(minisign_installation *installation, size_t piece_len)
 {
-    return machine_minisign_install_more(address(installation), piece_len);
+    return machine_minisign_install_copied(address(installation), piece_len);
 }
 
 uint32_t machine_minisign_install_failed(uint64_t, uint32_t);
@@ -597,12 +563,12 @@ uint32_t portable_minisign_install_failed(minisign_installation *installation, u
     return machine_minisign_install_failed(address(installation), why);
 }
 
-uint32_t machine_minisign_install_record(uint64_t, uint64_t, uint64_t, uint64_t);
+uint32_t machine_minisign_install_record(uint64_t, uint64_t, uint64_t);
 
 uint32_t portable_minisign_install_record(minisign_installation *installation, const uint8_t *record,
-                                          size_t record_len, uint64_t written)
+                                          size_t record_len)
 {
-    return machine_minisign_install_record(address(installation), address(record), record_len, written);
+    return machine_minisign_install_record(address(installation), address(record), record_len);
 }
 
 uint32_t machine_minisign_install_no_record(uint64_t);
@@ -627,40 +593,61 @@ uint32_t portable_minisign_install_no_target(minisign_installation *installation
     return machine_minisign_install_no_target(address(installation));
 }
 
-uint32_t machine_minisign_install_ask(uint64_t, uint64_t, uint64_t, uint64_t, uint64_t, uint64_t, uint64_t,
-                                      uint64_t, uint64_t);
+uint32_t machine_minisign_install_signature(uint64_t, uint64_t, uint64_t, uint64_t, uint64_t, uint64_t, uint64_t,
+                                            uint64_t, uint64_t);
 
-uint32_t portable_minisign_install_ask(minisign_installation *installation, const uint8_t *sig_text,
-                                       size_t sig_text_len, const uint8_t *file, size_t file_len, uint64_t now,
-                                       minisign_questions *questions, uint8_t *message, size_t room)
+uint32_t portable_minisign_install_signature(minisign_installation *installation, const uint8_t *sig_text,
+                                             size_t sig_text_len, const uint8_t *file, size_t file_len,
+                                             int64_t now, uint8_t *message, size_t room, size_t *message_len)
 {
-    given_minisign_questions(questions);
-    const uint32_t result = machine_minisign_install_ask(address(installation), address(sig_text), sig_text_len,
-                                                         address(file), file_len, now, address(questions),
-                                                         address(message), room);
-    got_minisign_questions(questions);
+    uint64_t message_len_kept = 0;
+    store64(address(&message_len_kept), *message_len);
+    const uint32_t result = machine_minisign_install_signature(address(installation), address(sig_text),
+                                                               sig_text_len, address(file), file_len, now,
+                                                               address(message), room, address(&message_len_kept));
+    *message_len = (size_t) load64(address(&message_len_kept));
     return result;
 }
 
-uint32_t machine_minisign_install_answer(uint64_t, uint32_t, uint32_t);
+uint32_t machine_minisign_install_question(uint64_t, uint64_t, uint64_t, uint64_t);
 
-uint32_t portable_minisign_install_answer(minisign_installation *installation, uint32_t first, uint32_t second)
+uint32_t portable_minisign_install_question(const minisign_installation *installation, uint8_t *public_key,
+                                            uint8_t *signature, uint8_t *digest)
 {
-    return machine_minisign_install_answer(address(installation), first, second);
+    return machine_minisign_install_question(address(installation), address(public_key), address(signature),
+                                             address(digest));
 }
 
-uint32_t machine_minisign_install_is_vouched(uint64_t);
+uint32_t machine_minisign_install_answer(uint64_t, uint32_t);
 
-uint32_t portable_minisign_install_is_vouched(const minisign_installation *installation)
+uint32_t portable_minisign_install_answer(minisign_installation *installation, uint32_t answer)
 {
-    return machine_minisign_install_is_vouched(address(installation));
+    return machine_minisign_install_answer(address(installation), answer);
 }
 
-uint64_t machine_minisign_install_number(uint64_t);
+uint32_t machine_minisign_install_is_signed(uint64_t);
 
-uint64_t portable_minisign_install_number(const minisign_installation *installation)
+uint32_t portable_minisign_install_is_signed(const minisign_installation *installation)
 {
-    return machine_minisign_install_number(address(installation));
+    return machine_minisign_install_is_signed(address(installation));
+}
+
+uint64_t machine_minisign_install_version(uint64_t);
+
+uint64_t portable_minisign_install_version(const minisign_installation *installation)
+{
+    return machine_minisign_install_version(address(installation));
+}
+
+uint32_t machine_minisign_install_size(uint64_t, uint64_t);
+
+uint32_t portable_minisign_install_size(const minisign_installation *installation, uint64_t *size)
+{
+    uint64_t size_kept = 0;
+    store64(address(&size_kept), *size);
+    const uint32_t result = machine_minisign_install_size(address(installation), address(&size_kept));
+    *size = (uint64_t) load64(address(&size_kept));
+    return result;
 }
 
 uint64_t machine_minisign_install_record_text(uint64_t, uint64_t, uint64_t);
@@ -689,162 +676,5 @@ uint32_t portable_minisign_judge_comment(const uint8_t *comment, size_t comment_
     const uint32_t result = machine_minisign_judge_comment(address(comment), comment_len, address(file), file_len,
                                                            numbering, now, kept, address(&number_kept));
     *number = (uint64_t) load64(address(&number_kept));
-    return result;
-}
-
-uint32_t machine_minisign_list_ask(uint64_t, uint64_t, uint64_t, uint64_t, uint64_t, uint64_t, uint64_t, uint64_t,
-                                   uint64_t, uint64_t, uint64_t, uint64_t);
-
-uint32_t portable_minisign_list_ask(minisign_list *list, const minisign_public_key *key,
-                                    const minisign_signature *signature, const uint8_t *sig_text,
-                                    size_t sig_text_len, const uint8_t *list_name, size_t list_name_len,
-                                    const uint8_t *text, size_t text_len, minisign_questions *questions,
-                                    uint8_t *message, size_t room)
-{
-    minisign_public_key key_kept;
-    const minisign_public_key *key_lent = LENT(minisign_public_key, key, &key_kept);
-    minisign_signature signature_kept;
-    const minisign_signature *signature_lent = LENT(minisign_signature, signature, &signature_kept);
-    given_minisign_list(list);
-    given_minisign_questions(questions);
-    const uint32_t result = machine_minisign_list_ask(address(list), address(key_lent), address(signature_lent),
-                                                      address(sig_text), sig_text_len, address(list_name),
-                                                      list_name_len, address(text), text_len, address(questions),
-                                                      address(message), room);
-    got_minisign_list(list);
-    got_minisign_questions(questions);
-    return result;
-}
-
-uint32_t machine_minisign_list_ask_any(uint64_t, uint64_t, uint64_t, uint64_t, uint64_t, uint64_t, uint64_t,
-                                       uint64_t, uint64_t, uint64_t);
-
-uint32_t portable_minisign_list_ask_any(minisign_list *list, const minisign_public_key *key,
-                                        const minisign_signature *signature, const uint8_t *sig_text,
-                                        size_t sig_text_len, const uint8_t *text, size_t text_len,
-                                        minisign_questions *questions, uint8_t *message, size_t room)
-{
-    minisign_public_key key_kept;
-    const minisign_public_key *key_lent = LENT(minisign_public_key, key, &key_kept);
-    minisign_signature signature_kept;
-    const minisign_signature *signature_lent = LENT(minisign_signature, signature, &signature_kept);
-    given_minisign_list(list);
-    given_minisign_questions(questions);
-    const uint32_t result = machine_minisign_list_ask_any(address(list), address(key_lent),
-                                                          address(signature_lent), address(sig_text), sig_text_len,
-                                                          address(text), text_len, address(questions),
-                                                          address(message), room);
-    got_minisign_list(list);
-    got_minisign_questions(questions);
-    return result;
-}
-
-uint32_t machine_minisign_list_verdict(uint64_t, uint32_t, uint32_t);
-
-uint32_t portable_minisign_list_verdict(minisign_list *list, uint32_t first, uint32_t second)
-{
-    given_minisign_list(list);
-    const uint32_t result = machine_minisign_list_verdict(address(list), first, second);
-    got_minisign_list(list);
-    return result;
-}
-
-uint32_t machine_minisign_list_find(uint64_t, uint64_t, uint64_t, uint32_t, uint64_t, uint64_t, uint64_t,
-                                    uint64_t);
-
-uint32_t portable_minisign_list_find(const minisign_list *list, const uint8_t *text, size_t text_len,
-                                     uint32_t long_digest, const uint8_t *name, size_t name_len,
-                                     minisign_list_entry *entry, uint64_t *line)
-{
-    minisign_list list_kept;
-    const minisign_list *list_lent = LENT(minisign_list, list, &list_kept);
-    uint64_t line_kept = 0;
-    given_minisign_list_entry(entry);
-    store64(address(&line_kept), *line);
-    const uint32_t result = machine_minisign_list_find(address(list_lent), address(text), text_len, long_digest,
-                                                       address(name), name_len, address(entry),
-                                                       address(&line_kept));
-    got_minisign_list_entry(entry);
-    *line = (uint64_t) load64(address(&line_kept));
-    return result;
-}
-
-uint32_t machine_minisign_list_entries(uint64_t, uint64_t, uint64_t, uint32_t, uint64_t, uint64_t, uint64_t,
-                                       uint64_t);
-
-uint32_t portable_minisign_list_entries(const minisign_list *list, const uint8_t *text, size_t text_len,
-                                        uint32_t long_digest, minisign_list_entry *entries, size_t entries_len,
-                                        size_t *count, uint64_t *line)
-{
-    minisign_list list_kept;
-    const minisign_list *list_lent = LENT(minisign_list, list, &list_kept);
-    uint64_t count_kept = 0;
-    uint64_t line_kept = 0;
-    if (!IS_LITTLE_ENDIAN) {
-        for (size_t i = 0; i < entries_len; i++) {
-            given_minisign_list_entry(&entries[i]);
-        }
-    }
-    store64(address(&count_kept), *count);
-    store64(address(&line_kept), *line);
-    const uint32_t result = machine_minisign_list_entries(address(list_lent), address(text), text_len, long_digest,
-                                                          address(entries), entries_len, address(&count_kept),
-                                                          address(&line_kept));
-    if (!IS_LITTLE_ENDIAN) {
-        for (size_t i = 0; i < entries_len; i++) {
-            got_minisign_list_entry(&entries[i]);
-        }
-    }
-    *count = (size_t) load64(address(&count_kept));
-    *line = (uint64_t) load64(address(&line_kept));
-    return result;
-}
-
-uint32_t machine_minisign_list_begin(uint64_t, uint64_t);
-
-uint32_t portable_minisign_list_begin(const minisign_list_entry *entry, minisign_list_file *file)
-{
-    minisign_list_entry entry_kept;
-    const minisign_list_entry *entry_lent = LENT(minisign_list_entry, entry, &entry_kept);
-    return machine_minisign_list_begin(address(entry_lent), address(file));
-}
-
-uint32_t machine_minisign_list_update(uint64_t, uint64_t, uint64_t);
-
-uint32_t portable_minisign_list_update(minisign_list_file *file, const uint8_t *data, size_t len)
-{
-    return machine_minisign_list_update(address(file), address(data), len);
-}
-
-uint32_t machine_minisign_list_finish(uint64_t);
-
-uint32_t portable_minisign_list_finish(minisign_list_file *file)
-{
-    return machine_minisign_list_finish(address(file));
-}
-
-uint32_t machine_minisign_list_compare_trusting_your_hash(uint64_t, uint32_t, uint64_t, uint64_t);
-
-uint32_t portable_minisign_list_compare_trusting_your_hash(const minisign_list_entry *entry, uint32_t hash,
-                                                           const uint8_t *digest, size_t digest_len)
-{
-    minisign_list_entry entry_kept;
-    const minisign_list_entry *entry_lent = LENT(minisign_list_entry, entry, &entry_kept);
-    return machine_minisign_list_compare_trusting_your_hash(address(entry_lent), hash, address(digest),
-                                                            digest_len);
-}
-
-uint32_t machine_minisign_list_append(uint32_t, uint64_t, uint64_t, uint64_t, uint64_t, uint64_t, uint64_t,
-                                      uint64_t);
-
-uint32_t portable_minisign_list_append(uint32_t hash, const uint8_t *digest, size_t digest_len,
-                                       const uint8_t *name, size_t name_len, uint8_t *text, size_t room,
-                                       size_t *text_len)
-{
-    uint64_t text_len_kept = 0;
-    store64(address(&text_len_kept), *text_len);
-    const uint32_t result = machine_minisign_list_append(hash, address(digest), digest_len, address(name),
-                                                         name_len, address(text), room, address(&text_len_kept));
-    *text_len = (size_t) load64(address(&text_len_kept));
     return result;
 }

@@ -4,8 +4,8 @@
 
 #![tactic(auto)]
 
-ghost use Rattle.std.specs.Prelude.{◌≡◌, ◌≢◌, if◌then◌else◌, ◌==◌, ◌⊎◌, ◌<◌, ◌≤◌, ◌+◌, ◌++◌, ℕ, Bool, List};
-ghost use Rattle.std.specs.Prelude.{[], Some, None, Ok, Err, true, MatchOption, length, option_copied};
+ghost use Rattle.std.specs.Prelude.{◌≡◌, if◌then◌else◌, ◌==◌, ◌⊎◌, ◌<◌, ◌≤◌, ◌+◌, ◌++◌, ℕ, Bool, List};
+ghost use Rattle.std.specs.Prelude.{[], Some, None, Ok, Err, true, length, option_copied};
 ghost use Rattle.std.specs.Prelude.{replicate, take, drop};
 ghost use Rattle.std.specs.Str.{IsUtf8};
 ghost use Rattle.minisign_base.specs.Fault.{Fault, Named};
@@ -38,12 +38,10 @@ ghost use Rattle.minisign_external.specs.declared.state.Refusal.{Refusal};
 ghost use Rattle.minisign_external.specs.declared.state.Refusal.TheVariants.{Refused};
 ghost use Rattle.minisign_external.specs.declared.state.Misuse.{Misuse};
 ghost use Rattle.minisign_external.specs.declared.state.Misuse.TheVariants.{BadAnswer, BadNumbering};
-ghost use Rattle.minisign_external.specs.declared.state.Misuse.TheVariants.{KeyNotRead, NoRoom, NotDue};
-ghost use Rattle.minisign_external.specs.declared.state.Misuse.TheVariants.{EntryNotRead, NotBegun};
+ghost use Rattle.minisign_external.specs.declared.state.Misuse.TheVariants.{KeyNotRead, NoRoom};
 ghost use Rattle.minisign_external.specs.declared.state.Misuse.TheVariants.{PublicKeyNotRead};
 ghost use Rattle.minisign_external.specs.States.{AreAsked, GivesNumber, HasAsked, HasToldDigest, IsAnswered};
 ghost use Rattle.minisign_external.specs.States.{IsBlank, IsFedState, IsMarkedFed, IsMarkedTold, KeepsAsked};
-ghost use Rattle.minisign_external.specs.States.{AreQuestions, asked_of};
 ghost use Rattle.minisign_external.specs.States.{asking_under, comment_number, feeding_misuse};
 ghost use Rattle.minisign_external.specs.States.{result_number, told_verdict_number, verdict_number};
 ghost use Rattle.minisign_external.specs.Bare.{AnswersBare, HasAskedBare, bare_verdict_under, judged_number};
@@ -54,44 +52,22 @@ ghost use Rattle.minisign_external.specs.ValueRecords.{told_record_number, told_
 ghost use Rattle.minisign_external.specs.ValueRecords.{written_public_key};
 ghost use Rattle.minisign.specs.Records.{SignatureRecord};
 ghost use Rattle.minisign_external.specs.StrictCalls.{asked_number, asked_strictly, strict_asking_number};
-ghost use Rattle.minisign_external.specs.StrictCalls.{is_strict_text, is_strict_value};
-ghost use Rattle.minisign_install.specs.Hosted.{AnswerVouches, AnswersJudgeTarget, CallHasFailed};
-ghost use Rattle.minisign_install.specs.Hosted.{InstallationKeepsAsked, TargetIsMissing, WhereAnswered};
-ghost use Rattle.minisign_install.specs.Hosted.{WhereCommentAnswered, record_for, PieceCannotBeFed};
-ghost use Rattle.minisign_install.specs.Hosted.{StageGivesUpdate, InstallationHasAskedAbout, PieceWasRead};
-ghost use Rattle.minisign_install.specs.Hosted.{RecordWasRead, PieceWasTaken, IsDoneRefusal, IsMoreRefusal};
-ghost use Rattle.minisign_install.specs.Hosted.{IsAskRefusal, IsBegun, IsDue, IsHostMeaning, IsNumberOf};
-ghost use Rattle.minisign_install.specs.Hosted.{IsUnused, CallWasDone, due_of, failure, going_on};
-ghost use Rattle.minisign_install.specs.Hosted.{is_vouched, numbering_number, said_by, told_number};
+ghost use Rattle.minisign_external.specs.StrictCalls.{is_strict_text};
+ghost use Rattle.minisign_install.specs.Hosted.{IsHostMeaning};
+ghost use Rattle.minisign_install.specs.Hosted.{numbering_number, said_by};
 ghost use Rattle.minisign_install.specs.Comments.{CommentSays};
-ghost use Rattle.minisign_install.specs.Order.{due_number};
-ghost use Rattle.minisign_install.specs.declared.order.Due.TheVariants.{Answer, Judge, JudgeTarget, Look};
-ghost use Rattle.minisign_install.specs.declared.order.Due.TheVariants.{ReadRecord, WriteRecord};
-ghost use Rattle.minisign_c.specs.InstallCalls.{IsAnswerNumber, IsCommentNumber, IsJudgedNumber};
-ghost use Rattle.minisign_c.specs.InstallCalls.{IsNotDueNumber, IsRejectionNumber, are_flags, choices_of};
-ghost use Rattle.minisign_c.specs.InstallCalls.{starting_misuse};
+ghost use Rattle.minisign_c.specs.InstallCalls.{IsJudgedNumber};
 ghost use Rattle.minisign_c.specs.KeyTexts.{IsMakingNumber, is_weak, password_misuse, sealing_misuse};
-ghost use Rattle.minisign_c.specs.ListCalls.{IsCallKind, IsCallMeaning, all_entries_number};
-ghost use Rattle.minisign_c.specs.ListCalls.{appending_number, finding_number, line_at_fault, list_result};
-ghost use Rattle.minisign_c.specs.ListCalls.{told_list_number};
 ghost use Rattle.minisign_c.specs.StateCalls.{CommentIsAnswered};
-ghost use Rattle.minisign_lists.specs.Digests.{has_digest};
-ghost use Rattle.minisign_lists.specs.declared.digests.ListedDigest.{ListedDigest};
-ghost use Rattle.minisign_lists.specs.Faults.{is_own, list_number, list_row};
-ghost use Rattle.minisign_lists.specs.Values.{IsFedValue, IsFinished, asked_list, compared, entry_digest};
-ghost use Rattle.minisign_lists.specs.Values.{file_mark, given_digest, long_numbered};
-ghost use Rattle.minisign_lists.specs.declared.faults.ListFault.TheVariants.{DigestMismatch};
-ghost use Rattle.minisign_install.specs.declared.order.Due.TheVariants as ended;
 
 pub mod in_a_row;
+pub mod installing;
 
 use minisign::Sealing;
 use minisign_external::making::{
     encode_public_key, encode_unopened_key, write_public_key, write_secret_key,
 };
-use minisign_external::numbers::{
-    ANSWER_YES, Numbered, WEAK_ED25519, error_kind, is_answer, kind_number, write_cut,
-};
+use minisign_external::numbers::{ANSWER_YES, Numbered, WEAK_ED25519, error_kind, is_answer};
 use minisign_external::public_keys::{PublicKeyValue, tell_bare_public_key, tell_public_key};
 use minisign_external::secrets::SecretKeyValue;
 use minisign_external::signatures::SignatureValue;
@@ -105,11 +81,8 @@ use minisign_external::value_records::{
     read_public_key_record, write_public_key_record, write_secret_key_record,
 };
 use minisign_install::Numbering;
-use minisign_install::hosted::{Choices, Installation, write_error_text};
+use minisign_install::hosted::write_error_text;
 use minisign_install::hosted_judging::judge_comment;
-use minisign_lists::values::{EntryValue, FileValue, ListValue, given_digest};
-use minisign_lists::writing::append_entry;
-use minisign_lists::{ListFault, LongDigest};
 use std::alloc::Global;
 
 // The lowest limits with which Minisign encrypts a key.
@@ -131,44 +104,25 @@ macro_rules! number_of {
 /// Returns the length of the whole text.
 #[unsafe(no_mangle)]
 pub extern "C" fn minisign_error_text(error: u32, text: &mut [u8]) -> usize
-    // The text is that of the API misuse, of the error of an installation or a list, or of the library's
-    // error that has this number, without key IDs. For 0 it is "no error", and for a number without a meaning
-    // "unknown error". It has fewer than 128 bytes. The buffer holds as much of it as fits before a
-    // terminating 0 byte, and the bytes after the 0 are unchanged. The result is the length of the whole text.
-    ensures written { (meaning : List ℕ) × IsCallMeaning error meaning × (result ≡ length meaning)
+    // The text is that of the API misuse, of the installation error or of the library's error that has this
+    // number, without key IDs. For 0 it is "no error", and for a number without a meaning "unknown error". It
+    // has fewer than 128 bytes. The buffer holds as much of it as fits before a terminating 0 byte, and the
+    // bytes after the 0 are unchanged. The result is the length of the whole text.
+    ensures written { (meaning : List ℕ) × IsHostMeaning error meaning × (result ≡ length meaning)
         × WritesCut meaning text.old text.new }
     ensures room { result < 128 }
 {
-    match ListFault::of_number(error) {
-        Some(fault) => write_list_error(&fault, text),
-        None => write_error_text(error, text),
-    }
-}
-
-// Writes the text of an error of lists.
-fn write_list_error(fault: &ListFault, text: &mut [u8]) -> usize
-    requires { is_own fault.now ≡ true }
-    ensures written { (result ≡ length (list_row fault.now).summary)
-        × WritesCut (list_row fault.now).summary text.old text.new }
-    ensures room { result < 128 }
-{
-    match fault.row() {
-        Ok((_, _, meaning)) => write_cut(meaning, text),
-        Err(_) => 0,
-    }
+    write_error_text(error, text)
 }
 
 /// Returns the number of the kind of an error.
 #[unsafe(no_mangle)]
 pub extern "C" fn minisign_error_kind(error: u32) -> u32
-    // The result is 1 for API misuse, the number of the kind for an error of the library or of lists, and 0
-    // for 0 and for a number without a meaning here.
-    ensures { IsCallKind error result }
+    // The result is 1 for API misuse, the number of the kind for an error of the library, and 0 for 0 and
+    // for a number without a meaning here.
+    ensures { IsKindOf error result }
 {
-    match ListFault::of_number(error) {
-        Some(fault) => kind_number(fault.kind()),
-        None => error_kind(error),
-    }
+    error_kind(error)
 }
 
 /// Begins: the state was fed nothing.
@@ -974,314 +928,6 @@ pub extern "C" fn minisign_signed_text(
     }
 }
 
-/// The options of an installation, 24 bytes with the layout of C. Each but the first is 0 or 1.
-#[repr(C)]
-#[derive(Clone, Copy)]
-pub struct InstallOptions {
-    /// The number of the field that has the number of an update.
-    pub numbering: u32,
-    /// 1 to install an update even if no number is recorded.
-    pub is_first: u32,
-    /// 1 to replace other data of the recorded number.
-    pub again: u32,
-    /// 1 to learn only what a run would do.
-    pub is_check: u32,
-    /// 1 if the data may stand still, and is received first.
-    pub is_waiting: u32,
-    /// 1 if the comment has to say when the update expires.
-    pub must_expire: u32,
-}
-
-/// Begins an installation: the lock is due, or of a check the record.
-#[unsafe(no_mangle)]
-pub extern "C" fn minisign_install_init(
-    installation: &mut Installation,
-    key: &PublicKeyValue,
-    other: &PublicKeyValue,
-    options: &InstallOptions,
-) -> u32
-    // On success, the first call is due: reading the record for a check, and taking the lock otherwise. Both
-    // public keys were read. The keys and the options are stored, where 1 means yes. The installation was fed
-    // no data, and holds no version number, no error, no record and no judged comment.
-    ensures begun { result ≡ 0 → (field : Numbering) × (options.now.numbering ≡ numbering_number field)
-        × IsBegun key.now other.now (choices_of options.now field) installation.new }
-    ensures unused { result ≡ 0 → IsUnused installation.new }
-
-    // The errors are, in this order: an option is neither 0 nor 1; the numbering is neither the timestamp nor
-    // the version; a public key was not read. If none of them applies, the result is 0. After an error the
-    // installation is unchanged.
-    ensures number { MatchOption (starting_misuse key.now other.now options.now) (result ≡ 0)
-        (λ m. result ≡ misuse_number m) }
-    ensures kept { 0 < result → installation.new ≡ installation.old }
-{
-    if !are_flags(options) {
-        return Misuse::BadOption.number();
-    }
-    let Some(numbering) = Numbering::of_number(options.numbering) else {
-        return Misuse::BadNumbering.number();
-    };
-    if !(key.is_public_key() && other.is_public_key()) {
-        return Misuse::PublicKeyNotRead.number();
-    }
-    *installation = Installation::new(key, other, choices_by(options, numbering));
-    0
-}
-
-// Returns true if each option but the numbering is 0 or 1.
-fn are_flags(options: &InstallOptions) -> bool
-    ensures { result ≡ are_flags options.now }
-{
-    options.is_first < 2
-        && options.again < 2
-        && options.is_check < 2
-        && options.is_waiting < 2
-        && options.must_expire < 2
-}
-
-// Returns the choices of these options, where 1 means yes.
-fn choices_by(options: &InstallOptions, numbering: Numbering) -> Choices
-    ensures { result ≡ choices_of options.now numbering }
-{
-    Choices {
-        is_first: options.is_first == 1,
-        again: options.again == 1,
-        is_check: options.is_check == 1,
-        is_waiting: options.is_waiting == 1,
-        must_expire: options.must_expire == 1,
-        numbering,
-    }
-}
-
-/// The number of the call that is due.
-#[unsafe(no_mangle)]
-pub extern "C" fn minisign_install_due(installation: &Installation) -> u32
-    // The result is the number of the call that is due, or 0 if none is, for example because the installation
-    // was not begun.
-    ensures { MatchOption (due_of installation.now) (result ≡ 0) (λ due. result ≡ due_number due) }
-{
-    installation.due_number()
-}
-
-/// The call that was due was done.
-#[unsafe(no_mangle)]
-pub extern "C" fn minisign_install_done(installation: &mut Installation) -> u32
-    // On success, the call that comes next (`Due::next`) is due, and the count of bytes starts again at 0. If
-    // the call that is due cannot be reported as done, the result is API misuse, and nothing changes. If data
-    // was received or copied and does not have the size that the signed comment says, the run is rejected.
-    ensures gone { result ≡ 0 → CallWasDone installation.old installation.new }
-    ensures refused { 0 < result
-        → IsRejectionNumber (IsDoneRefusal installation.old installation.new) result }
-{
-    number_of!(installation.done())
-}
-
-/// A piece of so many bytes was copied or received, and there may be more.
-#[unsafe(no_mangle)]
-pub extern "C" fn minisign_install_more(installation: &mut Installation, piece_len: usize) -> u32
-    // On success, receiving or copying is still due, and the bytes of the piece are counted if the signed
-    // comment says the size. If neither is due, the result is API misuse, and nothing changes. If the data
-    // has more bytes than the signed comment says, the run is rejected.
-    ensures gone { result ≡ 0 → PieceWasTaken piece_len installation.old installation.new }
-    ensures refused { 0 < result
-        → IsRejectionNumber (IsMoreRefusal piece_len installation.old installation.new) result }
-{
-    number_of!(installation.more(piece_len))
-}
-
-/// The call that was due failed for the error of this number.
-#[unsafe(no_mangle)]
-pub extern "C" fn minisign_install_failed(installation: &mut Installation, why: u32) -> u32
-    // On success, the call that comes after this failure (`Due::next`) is due or, if the lock was due and
-    // data from a slow source was still to be received, receiving it. If the call that is due cannot fail
-    // with this error, the result is API misuse, and nothing changes.
-    ensures failed { result ≡ 0 → CallHasFailed why installation.old installation.new }
-    ensures refused { 0 < result
-        → IsNotDueNumber (λ due. failure due why ≡ None) installation.old installation.new result }
-{
-    number_of!(installation.failed(why))
-}
-
-/// The record holds these bytes, and was last written at this moment.
-#[unsafe(no_mangle)]
-pub extern "C" fn minisign_install_record(
-    installation: &mut Installation,
-    bytes: &[u8],
-    written: u64,
-) -> u32
-    // On success, judging the comment is due, and the recorded version for the field is stored with the
-    // digest and the time of the record; or, if the record holds no version for the field and this is not the
-    // first installation, the run is rejected. If reading the record is not due, the result is API misuse,
-    // and nothing changes.
-    ensures read { result ≡ 0 → RecordWasRead (Some bytes.now) written installation.old installation.new }
-    ensures refused { 0 < result
-        → IsNotDueNumber (λ due. due ≢ ReadRecord) installation.old installation.new result }
-{
-    number_of!(installation.record(Some(bytes), written))
-}
-
-/// There is no record.
-#[unsafe(no_mangle)]
-pub extern "C" fn minisign_install_no_record(installation: &mut Installation) -> u32
-    // On success, judging the comment is due if this is the first installation; otherwise the run is rejected
-    // because there is no record. If reading the record is not due, the result is API misuse, and nothing
-    // changes.
-    ensures read { result ≡ 0 → RecordWasRead None 0 installation.old installation.new }
-    ensures refused { 0 < result
-        → IsNotDueNumber (λ due. due ≢ ReadRecord) installation.old installation.new result }
-{
-    number_of!(installation.record(None, 0))
-}
-
-/// The next bytes of what the stage holds were read back; none at its end.
-#[unsafe(no_mangle)]
-pub extern "C" fn minisign_install_piece(installation: &mut Installation, piece: &[u8]) -> u32
-    // On success, the piece is added to what was read of the installed file or of the temporary file. After
-    // an empty piece, which means the end, the scheme's answers about the file are due. If no file is being
-    // read, the result is API misuse, and nothing changes.
-    ensures read { result ≡ 0 → PieceWasRead piece.now installation.old installation.new }
-    ensures refused { 0 < result → (installation.new ≡ installation.old)
-        × (m : Misuse) × (result ≡ misuse_number m) × PieceCannotBeFed installation.old m }
-{
-    number_of!(installation.piece(piece))
-}
-
-/// No file stands at the target.
-#[unsafe(no_mangle)]
-pub extern "C" fn minisign_install_no_target(installation: &mut Installation) -> u32
-    // On success, the run continues without an installed file, and the next file that is read is hashed from
-    // its start. If reading the installed file is not due, the result is API misuse, and nothing changes.
-    ensures gone { result ≡ 0 → TargetIsMissing installation.old installation.new }
-    ensures refused { 0 < result → (result ≡ misuse_number NotDue) × (installation.new ≡ installation.old)
-        × ((kept : ℕ) → ¬ (IsDue installation.old (Look kept))) }
-{
-    number_of!(installation.no_target())
-}
-
-/// Reads the text of the signature, asks what Ed25519 has to answer before it is known whether one of the
-/// keys and the text vouch, and judges the signed comment.
-#[unsafe(no_mangle)]
-pub extern "C" fn minisign_install_ask(
-    installation: &mut Installation,
-    sig_text: &[u8],
-    file: &[u8],
-    now: u64,
-    questions: &mut Questions,
-    message: &mut [u8],
-) -> u32
-    // On success, the questions are those about the signature file under the key that must have signed,
-    // chosen by its key ID, as `Installation::ask` promises. The trusted comment is judged against the
-    // recorded version.
-    ensures asked { result ≡ 0 → InstallationHasAskedAbout sig_text.now file.now now questions.new
-        message.new installation.old installation.new }
-
-    // The options are always unchanged.
-    ensures chosen { installation.new.chosen ≡ installation.old.chosen }
-
-    // The errors are those of `Installation::ask`. API misuse changes nothing. After any other error the run
-    // is rejected. After every error the questions and the buffer are unchanged. On success, the buffer after
-    // the message is unchanged.
-    ensures refused { 0 < result → IsRejectionNumber (IsAskRefusal installation.old installation.new
-        sig_text.now file.now (length message.old)) result }
-    ensures kept { 0 < result → (questions.new ≡ questions.old) × (message.new ≡ message.old) }
-    ensures rest { result ≡ 0 → drop questions.new.message_len message.new
-        ≡ drop questions.new.message_len message.old }
-{
-    number_of!(installation.ask(sig_text, file, now, questions, message))
-}
-
-/// Ed25519 answered so, `ANSWER_YES` or `ANSWER_NO` to each of the two questions.
-#[unsafe(no_mangle)]
-pub extern "C" fn minisign_install_answer(
-    installation: &mut Installation,
-    first: u32,
-    second: u32,
-) -> u32
-    // **For every scheme and every file content for which `first` and `second` are the results of the two
-    // checks: the result is 0, or the number of the first check that fails, as `Installation::answer`
-    // promises for the comment, for the installed file and for the temporary file that was read back.**
-    ensures comment { IsAnswer first × IsAnswer second
-        → WhereCommentAnswered (second == answer_yes) installation.old (λ accepts key terms k.
-        IsCommentNumber accepts key terms k first installation.old installation.new result) }
-    ensures target { IsAnswer first × IsAnswer second → WhereAnswered JudgeTarget (first == answer_yes)
-        (second == answer_yes) installation.old (λ accepts terms k m. IsNumberOf
-        (AnswersJudgeTarget accepts terms k m installation.old installation.new) result) }
-    ensures stage { IsAnswer first × IsAnswer second → WhereAnswered Answer (first == answer_yes)
-        (second == answer_yes) installation.old (λ accepts terms k m. IsNumberOf
-        (StageGivesUpdate accepts terms k m installation.new) result) }
-
-    // If the run continues, or the installed file is to be read, the next file that is read is hashed from
-    // its start.
-    ensures fed { (kept : ℕ) → IsDue installation.old (Judge kept) → result ≡ 0
-        → IsFedState installation.new.state [] }
-    ensures again { (kept : ℕ) → IsDue installation.old (JudgeTarget kept) → result ≡ 0
-        → IsDue installation.new (going_on installation.old kept) → IsFedState installation.new.state [] }
-
-    // It is API misuse if a result is neither 7955827 (yes) nor 28271 (no), if no answers are due or if
-    // nothing was asked. API misuse changes nothing. After any other error the run is rejected.
-    ensures refused { 0 < result → IsAnswerNumber first second installation.old installation.new result }
-
-    // The trusted comment counts as signed exactly if the key signed it.
-    ensures vouched { IsAnswer first × IsAnswer second
-        → AnswerVouches (second == answer_yes) installation.old installation.new }
-
-    // The options, what was asked about, and what was found in the comment are unchanged.
-    ensures chosen { InstallationKeepsAsked installation.old installation.new }
-{
-    if !(is_answer(first) && is_answer(second)) {
-        return Misuse::BadAnswer.number();
-    }
-    number_of!(installation.answer(first == ANSWER_YES, second == ANSWER_YES))
-}
-
-/// Whether a key was found to have signed the comment that was asked about last: 1 or 0.
-#[unsafe(no_mangle)]
-pub extern "C" fn minisign_install_is_vouched(installation: &Installation) -> u32
-    // The result is 1 if `minisign_install_answer` found that the key signed the comment that was last asked
-    // about, and otherwise 0.
-    ensures { result ≡ (if is_vouched installation.now then 1 else 0) }
-{
-    u32::from(installation.is_vouched())
-}
-
-/// The number of the comment, where that is vouched for and has one; otherwise 0.
-#[unsafe(no_mangle)]
-pub extern "C" fn minisign_install_number(installation: &Installation) -> u64
-    // If `minisign_install_is_vouched` returns 1, the result is the version number that was found in the
-    // signed comment. Otherwise it is 0.
-    ensures { result ≡ told_number installation.now }
-{
-    installation.number()
-}
-
-/// Writes the record as it is to be written, and returns how long that is.
-#[unsafe(no_mangle)]
-pub extern "C" fn minisign_install_record_text(
-    installation: &Installation,
-    text: &mut [u8],
-) -> usize
-    // If writing the record is due and the buffer is long enough, the record is at its start, and the result
-    // is the length of the record. Otherwise the result is 0 and nothing is written. The rest of the buffer
-    // is unchanged.
-    ensures written { 0 < result → (n : ℕ) × IsDue installation.now (WriteRecord n)
-        × (result ≤ length text.new) × (take result text.new ≡ record_for installation.now n) }
-    ensures rest { drop result text.new ≡ drop result text.old }
-    ensures unwritten { result ≡ 0 → (text.new ≡ text.old)
-        × ((n : ℕ) → IsDue installation.now (WriteRecord n)
-        → length text.old < length (record_for installation.now n)) }
-{
-    installation.write_record(text)
-}
-
-/// The number of the error that the run was rejected for.
-#[unsafe(no_mangle)]
-pub extern "C" fn minisign_install_error(installation: &Installation) -> u32
-    // If the run was rejected, the result is the number of the error that is the reason. Otherwise it is 0.
-    ensures refused { (e : ℕ) → IsDue installation.now (ended.Refused e) → result ≡ e }
-    ensures none { ((e : ℕ) → ¬ (IsDue installation.now (ended.Refused e))) → result ≡ 0 }
-{
-    installation.refused_for()
-}
-
 /// Judges a signed comment by itself: tells its number.
 #[unsafe(no_mangle)]
 pub extern "C" fn minisign_judge_comment(
@@ -1312,264 +958,5 @@ pub extern "C" fn minisign_judge_comment(
             0
         }
         Err(fault) => fault.number(),
-    }
-}
-
-// Converts the result of asking to a number.
-fn asked_number(answer: Result<bool, Refusal>) -> u32
-    ensures { result ≡ asked_number answer }
-{
-    match answer {
-        Ok(true) => 0,
-        Ok(false) => WEAK_ED25519,
-        Err(refusal) => refusal.number(),
-    }
-}
-
-/// Asks what Ed25519 has to answer before it is known whether the signature of a list is valid. Its trusted
-/// comment must name the list. Does not allocate.
-#[unsafe(no_mangle)]
-pub extern "C" fn minisign_list_ask(
-    list: &mut ListValue,
-    key: &PublicKeyValue,
-    signature: &SignatureValue,
-    sig_text: &[u8],
-    list_name: &[u8],
-    text: &[u8],
-    questions: &mut Questions,
-    message: &mut [u8],
-) -> u32
-    // Errors are checked in this order: the public key was not read; the signature was not read; the text is
-    // not the one that it was read from; the key IDs differ; the signature is a legacy one; the buffer is too
-    // short; the key or a signature is weak. If none of them applies, the result is 0.
-    ensures number { result ≡ asked_number (asked_strictly (is_strict_value key.now signature.now)
-        (asked_of key.now signature.now sig_text.now false (length message.old))) }
-
-    // **On success, if the signature was read from this text, `questions` holds the two questions about the
-    // key and the text, with the digest of the list, and `list` records that digest, whether the comment
-    // signature has its 64 bytes, and whether the trusted comment names the list.**
-    ensures asked { result ≡ 0 → (t : SignatureTextRecord) → IsReadFrom signature.now sig_text.now t
-        → (read_under key.now false sig_text.now ≡ Ok t) × AreQuestions questions.new message.new key.now t
-        × (questions.new.digest ≡ blake2b_digest 64 text.now) × (list.new ≡ asked_list key.now signature.now
-        (Some list_name.now) text.now t.comments.trusted) }
-
-    // On success, the buffer after the message is unchanged. After an error, the list, the questions and the
-    // buffer are unchanged.
-    ensures rest { result ≡ 0 → drop questions.new.message_len message.new
-        ≡ drop questions.new.message_len message.old }
-    ensures kept { 0 < result → (list.new ≡ list.old) × (questions.new ≡ questions.old)
-        × (message.new ≡ message.old) }
-{
-    asked_number(list.ask(
-        key,
-        signature,
-        sig_text,
-        Some(list_name),
-        text,
-        questions,
-        message,
-    ))
-}
-
-/// Asks as `minisign_list_ask` does. The trusted comment need not name the list.
-#[unsafe(no_mangle)]
-pub extern "C" fn minisign_list_ask_any(
-    list: &mut ListValue,
-    key: &PublicKeyValue,
-    signature: &SignatureValue,
-    sig_text: &[u8],
-    text: &[u8],
-    questions: &mut Questions,
-    message: &mut [u8],
-) -> u32
-    // The clauses are those of `minisign_list_ask`, but every trusted comment names the list.
-    ensures number { result ≡ asked_number (asked_strictly (is_strict_value key.now signature.now)
-        (asked_of key.now signature.now sig_text.now false (length message.old))) }
-    ensures asked { result ≡ 0 → (t : SignatureTextRecord) → IsReadFrom signature.now sig_text.now t
-        → (read_under key.now false sig_text.now ≡ Ok t) × AreQuestions questions.new message.new key.now t
-        × (questions.new.digest ≡ blake2b_digest 64 text.now) × (list.new ≡ asked_list key.now signature.now
-        None text.now t.comments.trusted) }
-    ensures rest { result ≡ 0 → drop questions.new.message_len message.new
-        ≡ drop questions.new.message_len message.old }
-    ensures kept { 0 < result → (list.new ≡ list.old) × (questions.new ≡ questions.old)
-        × (message.new ≡ message.old) }
-{
-    asked_number(list.ask(key, signature, sig_text, None, text, questions, message))
-}
-
-/// The verdict on a list from what Ed25519 answered to the two questions.
-#[unsafe(no_mangle)]
-pub extern "C" fn minisign_list_verdict(list: &mut ListValue, first: u32, second: u32) -> u32
-    // It is API misuse if a result is neither 7955827 (yes) nor 28271 (no), or if nothing was asked; then the
-    // list is unchanged. Otherwise the result is 0 and the list is verified exactly if `first` is yes, the
-    // comment signature has its 64 bytes and `second` is yes, and the trusted comment names the list if it
-    // must. After an error the list is not verified.
-    ensures { (result, list.new) ≡ told_list_number list.old first second }
-{
-    if !is_answer(first) || !is_answer(second) {
-        return Misuse::BadAnswer.number();
-    }
-    number_of!(list.verdict(first == ANSWER_YES, second == ANSWER_YES))
-}
-
-/// Finds the only entry of a name in a verified list.
-#[unsafe(no_mangle)]
-pub extern "C" fn minisign_list_find(
-    list: &ListValue,
-    text: &[u8],
-    long_digest: u32,
-    name: &[u8],
-    entry: &mut EntryValue,
-    line: &mut u64,
-) -> u32
-    // **The result is 0 exactly if the list was verified and this is its text, every line is well formed, and
-    // exactly one entry has the name.** Then `entry` is that entry, and `line` is 0. Otherwise the result is
-    // the number of the first check that fails, `entry` is unchanged, and `line` is the number of the line at
-    // fault, or 0 if no line is at fault.
-    ensures { (result, (entry.new, line.new))
-        ≡ finding_number (long_numbered long_digest) list.now text.now name.now entry.old }
-{
-    *line = 0;
-    let Some(long) = LongDigest::of_number(long_digest) else {
-        return Misuse::BadHash.number();
-    };
-    match list.find(text, long, name, entry) {
-        Ok(()) => 0,
-        Err(refusal) => {
-            *line = line_of(&refusal);
-            refusal.number()
-        }
-    }
-}
-
-/// Writes all entries of a verified list.
-#[unsafe(no_mangle)]
-pub extern "C" fn minisign_list_entries(
-    list: &ListValue,
-    text: &[u8],
-    long_digest: u32,
-    entries: &mut [EntryValue],
-    count: &mut usize,
-    line: &mut u64,
-) -> u32
-    // The result is 0 exactly if the list was verified and this is its text, every line is well formed, and
-    // the buffer has room for all entries. Then the buffer begins with them, in the order of their lines, its
-    // rest is unchanged, and `count` is their number. Otherwise the result is the number of the first check
-    // that fails, and the buffer and `count` are unchanged. `line` is the number of the line at fault, or 0.
-    ensures { (result, (entries.new, (count.new, line.new)))
-        ≡ all_entries_number (long_numbered long_digest) list.now text.now entries.old count.old }
-{
-    *line = 0;
-    let Some(long) = LongDigest::of_number(long_digest) else {
-        return Misuse::BadHash.number();
-    };
-    match list.entries(text, long, entries) {
-        Ok(found) => {
-            *count = found;
-            0
-        }
-        Err(refusal) => {
-            *line = line_of(&refusal);
-            refusal.number()
-        }
-    }
-}
-
-// Returns the number of the line at fault, or 0 if no line is at fault.
-fn line_of(refusal: &Refusal<ListFault>) -> u64
-    ensures { result ≡ line_at_fault refusal.now }
-{
-    match refusal {
-        Refusal::WrongUse(_) => 0,
-        Refusal::Refused(fault) => fault.line(),
-    }
-}
-
-/// Begins a check of data against the digest of an entry.
-#[unsafe(no_mangle)]
-pub extern "C" fn minisign_list_begin(entry: &EntryValue, file: &mut FileValue) -> u32
-    // If the entry was read, the result is 0, and the state compares with the digest of the entry and was fed
-    // no data. Otherwise the result is the number of that error, and the state is unchanged.
-    ensures begun { (d : ListedDigest) → entry_digest entry.now ≡ Ok d
-        → (result ≡ 0) × IsFedValue file.new d [] }
-    ensures refused { 0 < result → (entry_digest entry.now ≡ Err EntryNotRead)
-        × (result ≡ misuse_number EntryNotRead) × (file.new ≡ file.old) }
-{
-    match FileValue::begin(entry) {
-        Ok(begun) => {
-            *file = begun;
-            0
-        }
-        Err(misuse) => misuse.number(),
-    }
-}
-
-/// Feeds the next bytes of the data.
-#[unsafe(no_mangle)]
-pub extern "C" fn minisign_list_update(file: &mut FileValue, piece: &[u8]) -> u32
-    // On success, the piece is appended to the data that the state was fed. The call fails only if no check
-    // was begun. Then the result is the number of that error, and the state is unchanged.
-    ensures fed { (d : ListedDigest) (m : List ℕ) → IsFedValue file.old d m
-        → (result ≡ 0) × IsFedValue file.new d (m ++ piece.now) }
-    ensures begun { result ≡ 0 → file.old.mark ≡ file_mark }
-    ensures refused { 0 < result → (result ≡ misuse_number NotBegun) × (file.new ≡ file.old) }
-{
-    number_of!(file.update(piece))
-}
-
-/// Returns whether the data that was fed has the digest of the entry. It finishes the state.
-#[unsafe(no_mangle)]
-pub extern "C" fn minisign_list_finish(file: &mut FileValue) -> u32
-    // **The result is 0 exactly if all data that the state was fed has the digest of the entry. Otherwise it
-    // is the number of the error for another digest.**
-    ensures fed { (d : ListedDigest) (m : List ℕ) → IsFedValue file.old d m
-        → result ≡ (if has_digest d m then 0 else list_number DigestMismatch) }
-
-    // The state is finished, unless no check was begun: then the result is the number of that error, and the
-    // state is unchanged.
-    ensures finished { result ≢ misuse_number NotBegun → IsFinished file.old file.new }
-    ensures refused { result ≡ misuse_number NotBegun → file.new ≡ file.old }
-{
-    number_of!(file.finish())
-}
-
-/// Compares the digest of an entry with one that the caller computed, which is trusted.
-#[unsafe(no_mangle)]
-pub extern "C" fn minisign_list_compare_trusting_your_hash(
-    entry: &EntryValue,
-    hash: u32,
-    digest: &[u8],
-) -> u32
-    // The result is 0 exactly if the entry was read, this is its hash function, and these bytes are its
-    // digest. Otherwise it is the number of the first check that fails. Nothing is said about any data.
-    ensures { result ≡ list_result (compared entry.now hash digest.now) }
-{
-    number_of!(entry.compare_trusting_your_hash(hash, digest))
-}
-
-/// Appends an entry to a list.
-#[unsafe(no_mangle)]
-pub extern "C" fn minisign_list_append(
-    hash: u32,
-    digest: &[u8],
-    name: &[u8],
-    text: &mut [u8],
-    text_len: &mut usize,
-) -> u32
-    // On success, the line of the entry is written behind the list, the rest of the buffer is unchanged, and
-    // `text_len` is the new length of the list. Otherwise the result is the number of the first check that
-    // fails, and the buffer and `text_len` are unchanged.
-    ensures { (result, (text.new, text_len.new))
-        ≡ appending_number (given_digest hash digest.now) text.old text_len.old name.now }
-{
-    let Some(digest) = given_digest(hash, digest) else {
-        return Misuse::BadHash.number();
-    };
-    match append_entry(text, *text_len, digest, name) {
-        Ok(len) => {
-            *text_len = len;
-            0
-        }
-        Err(refusal) => refusal.number(),
     }
 }

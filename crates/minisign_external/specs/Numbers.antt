@@ -17,8 +17,7 @@ use Rattle.minisign_external.specs.declared.state.Misuse.TheVariants.{Unreadable
 use Rattle.minisign_external.specs.declared.state.Misuse.TheVariants.{BadNumbering, KeyNotOpened, KeyNotRead}
 use Rattle.minisign_external.specs.declared.state.Misuse.TheVariants.{SignatureNotRead, OtherSignatureText}
 use Rattle.minisign_external.specs.declared.state.Misuse.TheVariants.{EmptyPassword, PublicKeyNotRead}
-use Rattle.minisign_external.specs.declared.state.Misuse.TheVariants.{WeakSealing, ListNotVerified}
-use Rattle.minisign_external.specs.declared.state.Misuse.TheVariants.{OtherListText, BadHash, EntryNotRead}
+use Rattle.minisign_external.specs.declared.state.Misuse.TheVariants.{WeakSealing}
 use Rattle.minisign_external.specs.declared.state.Refusal.{Refusal}
 use Rattle.minisign_external.specs.declared.state.Refusal.TheVariants.{WrongUse, Refused}
 
@@ -42,10 +41,6 @@ misuse_number OtherSignatureText = 61
 misuse_number PublicKeyNotRead = 82
 misuse_number EmptyPassword = 83
 misuse_number WeakSealing = 84
-misuse_number ListNotVerified = 85
-misuse_number OtherListText = 86
-misuse_number BadHash = 87
-misuse_number EntryNotRead = 88
 
 abbrev pub misuse_text : Misuse → List ℕ
 misuse_text NotBegun = codes
@@ -77,10 +72,6 @@ misuse_text OtherSignatureText = codes
 misuse_text PublicKeyNotRead = codes "no public key was read: call minisign_read_public_key first"
 misuse_text EmptyPassword = codes "the password must not be empty"
 misuse_text WeakSealing = codes "the salt is all zeros, or a scrypt limit is below Minisign's minimum"
-misuse_text ListNotVerified = codes "the list has not been verified"
-misuse_text OtherListText = codes "the text is not the list that was verified"
-misuse_text BadHash = codes "the hash function or the length of its digest is not accepted here"
-misuse_text EntryNotRead = codes "the entry has not been read from a list"
 
 -- The numbers by which a caller passes in a result of its signature scheme: the letters "yes" and "no", each
 -- letter a byte. They are neither 0 nor 1, nor an error number, so that no such number is taken for a result.

@@ -70,7 +70,7 @@ impl<F: Numbered> Refusal<F> {
 
 impl Misuse {
     /// All kinds of API misuse.
-    pub const ALL: [Misuse; 23] = [
+    pub const ALL: [Misuse; 19] = [
         Misuse::NotBegun,
         Misuse::AlreadyAsked,
         Misuse::NotAsked,
@@ -90,14 +90,10 @@ impl Misuse {
         Misuse::PublicKeyNotRead,
         Misuse::EmptyPassword,
         Misuse::WeakSealing,
-        Misuse::ListNotVerified,
-        Misuse::OtherListText,
-        Misuse::BadHash,
-        Misuse::EntryNotRead,
     ];
 
     /// Returns the error number of the API misuse, which the table gives: 1 to 6, 9 to 15, 61 to 63, or 82 to
-    /// 88.
+    /// 84.
     pub fn number(&self) -> u32
         ensures { result ≡ misuse_number self.now }
     {
@@ -121,10 +117,6 @@ impl Misuse {
             Misuse::PublicKeyNotRead => 82,
             Misuse::EmptyPassword => 83,
             Misuse::WeakSealing => 84,
-            Misuse::ListNotVerified => 85,
-            Misuse::OtherListText => 86,
-            Misuse::BadHash => 87,
-            Misuse::EntryNotRead => 88,
         }
     }
 
@@ -180,10 +172,6 @@ impl Misuse {
             Misuse::WeakSealing => {
                 "the salt is all zeros, or a scrypt limit is below Minisign's minimum"
             }
-            Misuse::ListNotVerified => "the list has not been verified",
-            Misuse::OtherListText => "the text is not the list that was verified",
-            Misuse::BadHash => "the hash function or the length of its digest is not accepted here",
-            Misuse::EntryNotRead => "the entry has not been read from a list",
         }
     }
 }

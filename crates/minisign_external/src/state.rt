@@ -76,9 +76,9 @@ pub struct Questions {
 pub enum Misuse {
     /// The state is not initialized, or its verdict was already returned.
     NotBegun,
-    /// `minisign_ask`, `minisign_ask_bare`, `minisign_install_ask` or `minisign_digest` was already called.
+    /// `minisign_ask`, `minisign_ask_bare` or `minisign_digest` was already called.
     AlreadyAsked,
-    /// `minisign_ask`, `minisign_ask_bare`, `minisign_install_ask` or `minisign_digest` was not called yet.
+    /// `minisign_ask`, `minisign_ask_bare` or `minisign_digest` was not called yet.
     NotAsked,
     /// The result of an Ed25519 check is neither `MINISIGN_ANSWER_YES` nor `MINISIGN_ANSWER_NO`.
     BadAnswer,
@@ -115,14 +115,6 @@ pub enum Misuse {
     EmptyPassword,
     /// The salt is all zeros, or a scrypt limit is below the minimum of Minisign.
     WeakSealing,
-    /// The list was not verified.
-    ListNotVerified,
-    /// The text is not the list that was verified.
-    OtherListText,
-    /// The hash function, or the length of its digest, is not one that this call accepts.
-    BadHash,
-    /// The entry was not read from a list.
-    EntryNotRead,
 }
 
 /// Why a call failed: API misuse, or an error, usually one of the library.

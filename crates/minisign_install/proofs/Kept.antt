@@ -1,30 +1,47 @@
 -- The struct and its state after each event.
 use Rattle.std.specs.Prelude.{◌≡◌, ◌<◌, ◌==◌, ◌++◌, ℕ, Bool, true, false, List, Option, Some, None, Result}
 use Rattle.std.specs.Prelude.{Ok, Err}
-use Rattle.std.specs.Prelude.{if◌then◌else◌, ◌≢◌, ◌&&◌, not, is_some, IfSome}
+use Rattle.std.specs.Prelude.{if◌then◌else◌, ◌≢◌, ◌&&◌, not, is_some, IfSome, [], ◌∷◌, option_map, ◌≤◌}
+use Rattle.std.specs.Prelude.{length, take, drop, ◌^◌}
+use Rattle.std.specs.Option.{unwrap_or}
 use Rattle.std.proofs.Common.{refl, sym, ap, ◌∙◌, arith, lit<, true≢false, subst}
+use Rattle.std.proofs.lemmas.Option.{none-some, same_Some}
 use Rattle.minisign_base.specs.Fault.{Fault, Named, Worded}
 use Rattle.minisign_base.specs.Faults.{fault_row}
 use Rattle.minisign_base.specs.declared.faults.NamedFault.{NamedFault}
 use Rattle.minisign_base.specs.declared.faults.NamedFault.TheVariants.{OutOfMemory, SignatureRefused}
 use Rattle.minisign_external.specs.Numbers.{fault_number}
+use Rattle.minisign_external.specs.declared.public_keys.PublicKeyValue.{PublicKeyValue}
 use Rattle.minisign_external.specs.declared.state.Misuse.TheVariants.{NotDue}
 use Rattle.minisign_external.specs.declared.state.Refusal.{Refusal}
 use Rattle.minisign_external.specs.declared.state.Refusal.TheVariants.{Refused, WrongUse}
+use Rattle.minisign_install.specs.Comments.{Numbering}
+use Rattle.minisign_install.specs.Decisions.{Recorded, is_below, judge_record}
 use Rattle.minisign_install.specs.Faults.{InstallFault, Library, TargetInUse, install_number, is_own}
+use Rattle.minisign_install.specs.RecordTexts.{record_of}
+use Rattle.minisign_install.specs.Installations.{IsNewRecord, IsWritten}
+use Rattle.hex.specs.Hex.{IsBytes}
+use Rattle.minisign_hash.specs.Blake2b.{blake2b_digest}
+use Rattle.minisign_install.proofs.RecordTexts.{digest_bytes, length_digest, reads_back}
 use Rattle.minisign_install.specs.Installations.{IsKept, IsOwnNumber, IsStored, IsStoredIf, Leads, Steps}
 use Rattle.minisign_install.specs.Installations.{begun_mark, error_number, is_copying}
 use Rattle.minisign_install.specs.Installations.{is_locking, is_over, is_reading, is_reading_target}
-use Rattle.minisign_install.specs.Installations.{is_removing, operation_of, state_of}
+use Rattle.minisign_install.specs.Installations.{is_reading_record, is_removing, operation_of, options_of}
+use Rattle.minisign_install.specs.Installations.{first_key, is_writing_record, numbering_of, record_due}
+use Rattle.minisign_install.specs.Installations.{recorded_of, state_of, when, written_if}
 use Rattle.minisign_install.specs.Step.{Answered, Event, step, Done, InUse, Failed, PieceCopied, PieceRead}
-use Rattle.minisign_install.specs.Step.{TargetMissing}
+use Rattle.minisign_install.specs.Step.{RecordRead, TargetMissing, after_record}
 use Rattle.minisign_install.specs.Step.{Operation, State, after, after_copy, after_piece, failure, go}
 use Rattle.minisign_install.specs.Step.{after_comment, after_digest, after_target, answer, compare}
-use Rattle.minisign_install.specs.Step.{is_newer, is_rolling_back, next_key}
+use Rattle.minisign_install.specs.Step.{is_newer, is_rolling_back, key_of, new_key, new_record, new_version}
+use Rattle.minisign_install.specs.Step.{next_key}
 use Rattle.minisign_install.specs.Step.{has_files, install, is_failure, next, proceed, reject, result_of}
 use Rattle.minisign_install.specs.Step as due
+use Rattle.minisign_install.specs.Installations.{question_by, question_due, question_of}
 use Rattle.minisign_install.specs.declared.installation.Installation.{Installation}
+use Rattle.minisign_install.specs.declared.installation.Question.{Question}
 use Rattle.minisign_install.specs.declared.installation.progress.Progress.{Progress}
+use Rattle.minisign_install.specs.declared.installation.progress.RecordedValue.{RecordedValue}
 
 -- == The struct ==
 
@@ -131,6 +148,132 @@ digest_no q s a is old kept =
     (subst (λ (b : Bool).
     IsKept q (if b then install s else record s { due = due.ReadTarget; is_recorded = false }))
     (sym old) kept)
+
+-- The record was read.
+pub recorded_with : (p : Progress) (s : State) (r : RecordedValue) → IsKept p s
+    → IsKept (record p { recorded = r }) (record s { recorded = recorded_of r })
+recorded_with p s r kept = record {
+  file = kept.file;
+  read = kept.read;
+  fault = kept.fault;
+  error = kept.error;
+  state = ap (λ (x : State). record x { recorded = recorded_of r }) kept.state;
+  fault_number = kept.fault_number;
+  error_number = kept.error_number;
+  fed = kept.fed;
+}
+
+pub options_are : (p : Progress) (s : State) (kept : IsKept p s)
+    → s.options ≡ options_of p.chosen kept.file
+options_are p s kept = ap (λ (x : State). x.options) kept.state
+
+pub record_at : (op : Operation) (found : Option (List ℕ)) (s : State) (r : Result Recorded InstallFault)
+    → is_reading_record op ≡ true → judge_record s.options found ≡ r
+    → after op (RecordRead found) s ≡ Some (after_record r s)
+record_at due.ReadRecord found s r is judged = ap (λ j. Some (after_record j s)) judged
+record_at _ found s r is judged = absurd (true≢false (sym is))
+
+pub no_record_at : (op : Operation) (found : Option (List ℕ)) (s : State) → is_reading_record op ≡ false
+    → after op (RecordRead found) s ≡ None
+no_record_at due.ReadRecord found s is = absurd (true≢false is)
+no_record_at _ found s is = refl
+
+-- == The question ==
+
+pub nothing_asked : (is_read : Bool) (key : Option (List ℕ)) (s : State) → s.due ≡ due.Nothing
+    → None ≡ question_by is_read key s.due s
+nothing_asked true (Some key) s at = sym (ap (λ (op : Operation). question_of op key s) at)
+nothing_asked true None s at = refl
+nothing_asked false key s at = refl
+
+pub unread : (s : State) → (length s.signature == 64) ≡ false → None ≡ question_due s
+unread s is = rw is refl
+
+pub no_key : (s : State) → (length s.signature == 64) ≡ true → None ≡ first_key s.signers
+    → None ≡ question_due s
+no_key s is none =
+    ap (λ (key : Option (List ℕ)). question_by true key s.due s) none
+    ∙ ap (λ (b : Bool). question_by b (first_key s.signers) s.due s) (sym is)
+
+pub asked : (s : State) (key : List ℕ) (q : Option Question) → (length s.signature == 64) ≡ true
+    → Some key ≡ first_key s.signers → q ≡ question_of s.due key s → q ≡ question_due s
+asked s key q is first same =
+    same ∙ ap (λ (k : Option (List ℕ)). question_by true k s.due s) first
+    ∙ ap (λ (b : Bool). question_by b (first_key s.signers) s.due s) (sym is)
+
+-- == The new record ==
+
+pub key_is : (signers : List PublicKeyValue) (key : List ℕ) → first_key signers ≡ Some key
+    → key_of signers ≡ key
+key_is [] key is = absurd (none-some key is)
+key_is (v ∷ more) key is = same_Some v.key key is
+
+below_when : (b : Bool) (v r : ℕ) → is_below (Some v) (when b r) ≡ true → unwrap_or (when b r) v ≡ r
+below_when true v r is = refl
+below_when false v r is = absurd (true≢false (sym is))
+
+pub version_back : (p : Progress) (s : State) → IsKept p s → is_rolling_back s ≡ true
+    → new_version s ≡ p.recorded.version
+version_back p s kept is =
+    rw is (rw kept.state (below_when (p.recorded.has_version == 1) p.judged.version p.recorded.version
+    (rw kept.state at is)))
+
+pub version_on : (p : Progress) (s : State) → IsKept p s → is_rolling_back s ≡ false
+    → new_version s ≡ p.judged.version
+version_on p s kept is = rw is (ap (λ (x : State). x.version) kept.state)
+
+pub key_back : (s : State) (signer key : List ℕ) → key_of s.signers ≡ signer → is_rolling_back s ≡ true
+    → key ≡ unwrap_or s.recorded.key signer → key ≡ new_key s
+key_back s signer key first is named = rw (is, first) named
+
+pub key_on : (s : State) (signer : List ℕ) → key_of s.signers ≡ signer → is_rolling_back s ≡ false
+    → signer ≡ new_key s
+key_on s signer first is = rw is (sym first)
+
+pub numbering_is : (p : Progress) (s : State) → IsKept p s
+    → s.options.numbering ≡ numbering_of p.chosen.numbering
+numbering_is p s kept = ap (λ (x : State). x.options.numbering) kept.state
+
+pub read_is : (p : Progress) (s : State) (kept : IsKept p s) → s.read ≡ kept.read
+read_is p s kept = ap (λ (x : State). x.read) kept.state
+
+pub not_writing : (s : State) (op : Operation) (n : ℕ) (old new : List ℕ) → s.due ≡ op
+    → is_writing_record op ≡ false → n ≡ 0 → new ≡ old → written_if (record_due s) n old new
+not_writing s op n old new at is none same =
+    subst (λ (b : Bool).
+    written_if (if b then option_map (λ key. new_record s) (first_key s.signers) else None) n old new)
+    (sym (ap is_writing_record at ∙ is)) (none, same)
+
+pub writing : (s : State) (op : Operation) (key : Option (List ℕ)) (n : ℕ) (old new : List ℕ) → s.due ≡ op
+    → is_writing_record op ≡ true → first_key s.signers ≡ key
+    → written_if (option_map (λ key. new_record s) key) n old new
+    → written_if (record_due s) n old new
+writing s op key n old new at is first written =
+    subst (λ (b : Bool).
+    written_if (if b then option_map (λ key. new_record s) (first_key s.signers) else None) n old new)
+    (sym (ap is_writing_record at ∙ is))
+    (subst (λ (k : Option (List ℕ)). written_if (option_map (λ key. new_record s) k) n old new)
+    (sym first) written)
+
+pub record_same : {a b : Numbering} {n m : ℕ} {key other digest also : List ℕ} → a ≡ b → n ≡ m → key ≡ other
+    → digest ≡ also → record_of a n key digest ≡ record_of b m other also
+record_same numbering version key digest = λ i. record_of (numbering i) (version i) (key i) (digest i)
+
+pub written : (text same : List ℕ) (n : ℕ) (old new : List ℕ) → text ≡ same
+    → (0 < n → (n ≤ length new) × (take n new ≡ text)) → drop n new ≡ drop n old
+    → (n ≡ 0 → (new ≡ old) × (length old < length text)) → IsWritten same n old new
+written text same n old new is some rest none =
+    subst (λ (t : List ℕ). IsWritten t n old new) is (record { front = some; rest = rest; room = none })
+
+pub new_record_is : (s : State) (numbering : Numbering) (n : ℕ) (key digest : List ℕ) {bytes : List ℕ}
+    → s.options.numbering ≡ numbering → new_version s ≡ n → new_key s ≡ key → blake2b_digest 64 s.read
+    ≡ digest
+    → n < 2 ^ 64 → length key ≡ 32 → IsBytes key → bytes ≡ record_of numbering n key digest
+    → IsNewRecord s bytes
+new_record_is s numbering n key digest numbered version named fits bound whole are is =
+    rw (is, numbered, version, named, sym fits)
+    (reads_back numbering n bound key (blake2b_digest 64 s.read) whole (length_digest s.read) are
+    (digest_bytes s.read))
 
 -- == The comment ==
 

@@ -1,53 +1,15 @@
 -- What counts of a record is what counted of it in version 0.2.
-use Rattle.std.specs.Prelude.{◌≡◌, ◌&&◌, ◌||◌, ◌==◌, ◌++◌, ℕ, Bool, true, false, List, [], ◌∷◌, Option}
+use Rattle.std.specs.Prelude.{◌≡◌, ◌&&◌, ◌||◌, ℕ, Bool, true, false, List, Option}
 use Rattle.std.specs.Prelude.{Some, None, Result, Ok, Err, if◌then◌else◌}
-use Rattle.std.specs.Option.{unwrap_or}
-use Rattle.std.specs.Str.{IsUtf8}
-use Rattle.std.proofs.Common.{refl, sym, subst, ap, ◌∙◌, eqb-true, true≢false}
-use Rattle.std.proofs.lemmas.Fmt.{IsAscii-from_digits}
+use Rattle.std.proofs.Common.{refl, sym, ap, ◌∙◌, true≢false}
 use Rattle.std.proofs.lemmas.Option.{none-some, same_Some}
-use Rattle.std.proofs.lemmas.Str.{IsUtf8-append, IsUtf8-from_ascii}
-use Rattle.minisign_install.specs.Comments.{Numbering, number_label, strip}
-use Rattle.minisign_install.specs.Decisions.{Options, Recorded, judge_record, judge_version, names_other_key}
-use Rattle.minisign_install.specs.Decisions.{nothing_recorded, number_in, recorded_version}
+use Rattle.minisign_install.specs.Decisions.{Options, Recorded, judge_record, judge_version}
+use Rattle.minisign_install.specs.Decisions.{names_other_key}
+use Rattle.minisign_install.specs.Decisions.{nothing_recorded, recorded_version}
 use Rattle.minisign_install.specs.Faults.{InstallFault}
 use Rattle.minisign_install.specs.Histories.{CountsAs, counted_for}
-use Rattle.minisign_install.specs.RecordTexts.{IsNumberFor, record_text}
-use Rattle.minisign_install.proofs.Decisions.{reads_number}
-use Rattle.minisign_install.proofs.RecordTexts.{label_utf8}
+use Rattle.minisign_install.proofs.Recorded.{recorded_holds}
 use Rattle.minisign_install.proofs.StepRecords.{recorded_reads}
-
-if_same : (is : Bool) (b c : ℕ) (label text rest : List ℕ) → (c == b) ≡ is
-    → (if is then strip label text else None) ≡ Some rest → (c ≡ b) × (strip label text ≡ Some rest)
-if_same true b c label text rest same is = (eqb-true c b same, is)
-if_same false b c label text rest same is = absurd (none-some rest is)
-
-strip_back : (label text rest : List ℕ) → strip label text ≡ Some rest → text ≡ label ++ rest
-strip_back [] text rest is = same_Some text rest is
-strip_back (b ∷ label) [] rest is = absurd (none-some rest is)
-strip_back (b ∷ label) (c ∷ text) rest is =
-    let (same, more) = if_same (c == b) b c label text rest refl is in
-    ap (λ x. x ∷ text) same ∙ ap (λ l. b ∷ l) (strip_back label text rest more)
-
-digits_utf8 : (text : List ℕ) (n : ℕ) → number_in text ≡ Some n → IsUtf8 text
-digits_utf8 text n is = IsUtf8-from_ascii text (IsAscii-from_digits text (reads_number text n is).numeral.1)
-
-text_utf8 : (numbering : Numbering) (text : List ℕ) (r : Option (List ℕ)) (n : ℕ)
-    → strip (number_label numbering) text ≡ r → number_in (unwrap_or r text) ≡ Some n → IsUtf8 text
-text_utf8 numbering text None n at is = digits_utf8 text n is
-text_utf8 numbering text (Some rest) n at is =
-    subst IsUtf8 (sym (strip_back (number_label numbering) text rest at))
-    (IsUtf8-append (number_label numbering) rest (label_utf8 numbering) (digits_utf8 rest n is))
-
--- A number that is read is one that the record holds.
-recorded_holds : (numbering : Numbering) (bytes : List ℕ) (n : ℕ) → recorded_version numbering bytes ≡ Some n
-    → IsNumberFor numbering bytes n
-recorded_holds numbering bytes n is = record {
-  utf8 = text_utf8 numbering (record_text bytes)
-      (strip (number_label numbering) (record_text bytes)) n refl is;
-  number = reads_number
-      (unwrap_or (strip (number_label numbering) (record_text bytes)) (record_text bytes)) n is;
-}
 
 -- The version of what counts.
 abbrev version_of : Result Recorded InstallFault → Option ℕ → Type 0

@@ -1,7 +1,8 @@
--- An interrupted run is finished by the next one.
-use Rattle.std.specs.Prelude.{◌≡◌, ◌≤◌, ◌+◌, ⊤, ℕ, Bool, true, false, List, [], ◌∷◌, length, Option}
+-- An interrupted run is finished by the next one, and a roll-back installs.
+use Rattle.std.specs.Prelude.{◌≡◌, ◌<◌, ◌≤◌, ◌+◌, ◌⊎◌, ⊤, ℕ, Bool, true, false, List, [], ◌∷◌, length}
+use Rattle.std.specs.Prelude.{Option}
 use Rattle.std.specs.Prelude.{Some, None, Result, IfSome, ◌++◌, ◌||◌, not, is_some, take, if◌then◌else◌}
-use Rattle.std.proofs.Common.{refl, subst, sym, inl, inr, ap, ◌∙◌, arith}
+use Rattle.std.proofs.Common.{refl, subst, sym, inl, inr, ap, ◌∙◌, arith, lt-ltb, ⊎_elim}
 use Rattle.std.proofs.lemmas.Bool.{le-ltb}
 use Rattle.std.proofs.Common.{le-leb, eq-eqb, true≢false, unwrap_or}
 use Rattle.std.proofs.lemmas.Option.{none-some, same_Some}
@@ -12,7 +13,7 @@ use Rattle.minisign_install.specs.Decisions.{Options, Recorded, is_below, size_i
 use Rattle.minisign_install.specs.Faults.{Fault}
 use Rattle.minisign_install.specs.Step.{Event, Done, InUse, Failed, RecordRead, SignatureRead, Answered}
 use Rattle.minisign_install.specs.Step.{PieceRead, PieceCopied, State, begin, step, Operation, after}
-use Rattle.minisign_install.specs.Step.{answer, has_ended, key_of, comment_question, data_question}
+use Rattle.minisign_install.specs.Step.{answer, has_ended, key_of}
 use Rattle.minisign_install.specs.Step as due
 use Rattle.minisign_install.specs.Applications.{Applies, Call, Moment}
 use Rattle.minisign_install.specs.Histories.{EachEvent, IsFineFor, IsOwnUpdate, IsThere}
@@ -35,10 +36,13 @@ module _ (w : World) (o : Options) (g : IsOwnUpdate w o) where
   abbrev IsReady : ℕ → State → Type 0
   IsReady n s = Knows s × Left n s.left × (s.read ≡ []) × (n ≤ length w.update)
 
+  -- The update can be installed.
+  abbrev CanInstall : ℕ → State → Type 0
+  CanInstall n s = Knows s × Left n s.left × (n ≡ 0) × (s.options.check ≡ false)
+
   -- The installed file is compared with the update.
   abbrev Compares : ℕ → State → Type 0
-  Compares n s =
-      Knows s × Left n s.left × (n ≡ 0) × (s.options.check ≡ false) × (s.is_recorded ≡ true)
+  Compares n s = CanInstall n s × (s.is_recorded ≡ true)
 
   -- What is so if the run is on its way to the installation of the update.
   abbrev OnTrack : ℕ → Operation → State → Type 0
@@ -47,11 +51,13 @@ module _ (w : World) (o : Options) (g : IsOwnUpdate w o) where
   OnTrack n due.ReadSignature s = (s.options ≡ o) × (n ≡ 0) × (s.recorded ≡ g.recorded)
   OnTrack n due.CheckComment s =
       (s.options ≡ o) × (n ≡ 0) × (s.recorded ≡ g.recorded) × (s.fault ≡ None) × (s.version ≡ g.version)
-      × (s.signature ≡ g.text.signature.signature) × (s.left ≡ size_in g.text.comments.trusted)
+      × (s.signature ≡ g.text.signature.signature)
+      × (s.comment_signature ≡ take 64 g.text.comments.signature)
+      × (s.left ≡ size_in g.text.comments.trusted)
       × (first_signer w g.text s.signers ≡ Some g.key)
   OnTrack n due.CheckRecord s =
-      Knows s × Left n s.left × (n ≡ 0) × (s.options.check ≡ false)
-      × (s.recorded.digest ≡ Some (blake2b_digest 64 w.update))
+      CanInstall n s
+      × ((s.recorded.digest ≡ Some (blake2b_digest 64 w.update)) ⊎ (due.is_rolling_back s ≡ true))
   OnTrack n due.ReadTarget s = Compares n s
   OnTrack n due.CheckTarget s = Compares n s
   OnTrack n due.SyncTarget s = ⊤
@@ -99,6 +105,22 @@ module _ (w : World) (o : Options) (g : IsOwnUpdate w o) where
   second n false true x y z is some on = on
   second n false false x y z is some on = absurd (true≢false (sym some))
 
+  last_two : (n : ℕ) (b c d : Bool) (x y z u : State) → b ≡ false → d ≡ true → OnTrack n y.due y
+      → OnTrack n z.due z → OnTrack n (if b then x else if c then y else if d then z else u).due
+      (if b then x else if c then y else if d then z else u)
+  last_two n true c d x y z u is back one other = absurd (true≢false is)
+  last_two n false true d x y z u is back one other = one
+  last_two n false false true x y z u is back one other = other
+  last_two n false false false x y z u is back one other = absurd (true≢false (sym back))
+
+  -- The update is older.
+  rolls_back : (r : Option ℕ) (v last : ℕ) → r ≡ Some last → v < last → is_below (Some v) r ≡ true
+  rolls_back None v last is less = cc is
+  rolls_back (Some k) v last is less = lt-ltb v k (omega (arith, same_Some k last is, less))
+
+  install : (n : ℕ) (s : State) → CanInstall n s → OnTrack n (due.install s).due (due.install s)
+  install n s (knows, left, none, installs) = rw installs (knows, left, refl, omega (arith, none))
+
   key_found : (signers : List PublicKeyValue)
       → true ≡ w.accepts (g.text.signature.signature ++ g.text.comments.trusted) (key_of signers)
       (take 64 g.text.comments.signature) → first_signer w g.text signers ≡ Some g.key
@@ -115,25 +137,36 @@ module _ (w : World) (o : Options) (g : IsOwnUpdate w o) where
       → Stays n due.ReadSignature (SignatureRead text time) s
   after_signature n s text time (is_o, none, recorded) fine is =
       rw (is_o, is ∙ g.parsed, g.passed, recorded)
-      (refl, none, refl, fine, ap (λ v. unwrap_or v 0) g.numbered, refl, refl, g.signed_comment)
+      (refl, none, refl, fine, ap (λ v. unwrap_or v 0) g.numbered, refl, refl, refl, g.signed_comment)
 
   after_comment : (n : ℕ) (s : State) → OnTrack n due.CheckComment s
       → IsTrueEvent w n s due.CheckComment (Answered true) → Stays n due.CheckComment (Answered true) s
-  after_comment n s (is_o, none, recorded, fault, version, signature, left, signer) is =
+  after_comment n s (is_o, none, recorded, fault, version, signature, also, left, signer) is =
       let accepted = is g.text g.parsed in
-      let accepts = rw signature at accepted in
+      let accepts = rw (signature, also) at accepted in
       let older = is_not_newer s.recorded.version s.version g.last
       (ap (λ (r : Recorded). r.version) recorded ∙ g.last_is) (omega (arith, version, g.not_newer)) in
-      let own : s.recorded.digest ≡ Some (blake2b_digest 64 w.update) =
-      ap (λ (r : Recorded). r.digest) recorded ∙ g.own in
       let installs : s.options.check ≡ false = ap (λ (x : Options). x.check) is_o ∙ g.installs in
       let ready : Left n s.left = rw left (left_at n (size_in g.text.comments.trusted) none g.sized) in
       let signed : State = record s { is_signed = true } in
+      let knows : Knows signed = (signature, key_found s.signers accepts signer) in
+      let can : CanInstall n signed = (knows, ready, none, installs) in
       let on : OnTrack n (due.compare signed).due (due.compare signed) =
+      ⊎_elim
+      (λ own.
+      let has : s.recorded.digest ≡ Some (blake2b_digest 64 w.update) =
+      ap (λ (r : Recorded). r.digest) recorded ∙ own in
       second n (due.is_newer signed) (is_some signed.recorded.digest) (due.install signed)
       (due.go due.CheckRecord signed)
       (if due.is_rolling_back signed then due.install signed else due.go due.ReadTarget signed)
-      older (ap is_some own) ((signature, key_found s.signers accepts signer), ready, none, installs, own) in
+      older (ap is_some has) (can, inl has))
+      (λ less.
+      let back : due.is_rolling_back signed ≡ true =
+      rolls_back s.recorded.version s.version g.last
+      (ap (λ (r : Recorded). r.version) recorded ∙ g.last_is) (omega (arith, version, less)) in
+      last_two n (due.is_newer signed) (is_some signed.recorded.digest) (due.is_rolling_back signed)
+      (due.install signed) (due.go due.CheckRecord signed) (due.install signed)
+      (due.go due.ReadTarget signed) older back (can, inr back) (install n signed can)) g.own in
       subst (λ f. OnTrack n (due.after_comment f signed).due (due.after_comment f signed)) (sym fault) on
 
   next_key : (n : ℕ) (s : State) (signers : List PublicKeyValue) → s.due ≡ due.CheckComment
@@ -141,13 +174,14 @@ module _ (w : World) (o : Options) (g : IsOwnUpdate w o) where
       → false ≡ w.accepts (g.text.signature.signature ++ g.text.comments.trusted) (key_of signers)
       (take 64 g.text.comments.signature)
       → OnTrack n (due.next_key signers s).due (due.next_key signers s)
-  next_key n s [] at (is_o, none, recorded, fault, version, signature, left, signer) rejected =
+  next_key n s [] at (is_o, none, recorded, fault, version, signature, also, left, signer) rejected =
       absurd (none-some g.key signer)
-  next_key n s (v ∷ []) at (is_o, none, recorded, fault, version, signature, left, signer) rejected =
+  next_key n s (v ∷ []) at (is_o, none, recorded, fault, version, signature, also, left, signer) rejected =
       absurd (none-some g.key (rw (sym rejected) at signer))
-  next_key n s (v ∷ u ∷ more) at (is_o, none, recorded, fault, version, signature, left, signer) rejected =
+  next_key n s (v ∷ u ∷ more) at
+      (is_o, none, recorded, fault, version, signature, also, left, signer) rejected =
       let found = rw (sym rejected) at signer in
-      rw at (is_o, none, recorded, fault, version, signature, left, found)
+      rw at (is_o, none, recorded, fault, version, signature, also, left, found)
 
   after_piece : (n k : ℕ) (s : State) (left : Option ℕ) → s.due ≡ due.CopyData → Knows s → Left n left
       → s.left ≡ left → s.read ≡ [] → n + k ≤ length w.update
@@ -168,23 +202,21 @@ module _ (w : World) (o : Options) (g : IsOwnUpdate w o) where
   check_data s ((signature, key), read) rejected =
       absurd (true≢false (sym g.signed_data ∙ sym (rw (read, key, signature) at rejected)))
 
-  install : (n : ℕ) (s : State) → Compares n s → OnTrack n (due.install s).due (due.install s)
-  install n s (knows, left, none, installs, own) = rw installs (knows, left, refl, omega (arith, none))
-
   digest_known : (n : ℕ) (s : State) (accepted : Bool) → OnTrack n due.CheckRecord s
       → accepted ≡ w.accepts (unwrap_or s.recorded.digest []) (key_of s.signers) s.signature
       → OnTrack n (due.after_digest accepted s).due (due.after_digest accepted s)
-  digest_known n s true ((signature, key), left, none, installs, own) is =
-      ((signature, key), left, none, installs, refl)
-  digest_known n s false ((signature, key), left, none, installs, own) is =
+  digest_known n s true (can, own) is = (can, refl)
+  digest_known n s false (((signature, key), left, none, installs), inl own) is =
       absurd (true≢false (sym g.signed_data ∙ sym (rw (own, key, signature) at is)))
+  digest_known n s false (can, inr back) is =
+      first n (due.is_rolling_back s) (due.install s) _ back (install n s can)
 
   target_known : (n : ℕ) (s : State) (accepted : Bool) → Compares n s
       → OnTrack n (due.after_target accepted s).due (due.after_target accepted s)
-  target_known n s true (knows, left, none, installs, own) = rw installs tt
-  target_known n s false (knows, left, none, installs, own) =
+  target_known n s true ((knows, left, none, installs), own) = rw installs tt
+  target_known n s false (can, own) =
       first n (s.is_recorded || s.options.again) (due.install s) _ (ap (λ b. b || s.options.again) own)
-      (install n s (knows, left, none, installs, own))
+      (install n s can)
 
   keeps : (n : ℕ) (op : Operation) (e : Event) (s : State) → s.due ≡ op → OnTrack n op s → IsFineFor g e
       → IsTrueEvent w n s op e → Stays n op e s
@@ -199,10 +231,10 @@ module _ (w : World) (o : Options) (g : IsOwnUpdate w o) where
       after_signature n s text time on fine is
   keeps n due.CheckComment (Answered true) s at on fine is = after_comment n s on is
   keeps n due.CheckComment (Answered false) s at on fine is =
-      next_key n s s.signers at on (rw on.5 at (is g.text g.parsed))
+      next_key n s s.signers at on (rw (on.5, on.6) at (is g.text g.parsed))
   keeps n due.CheckRecord (Answered accepted) s at on fine is = digest_known n s accepted on is
   keeps n due.ReadTarget (PieceRead bytes) s at on fine is = rw at on
-  keeps n due.ReadTarget due.TargetMissing s at on fine is = install n s on
+  keeps n due.ReadTarget due.TargetMissing s at on fine is = install n s on.0
   keeps n due.ReadTarget Done s at on fine is = on
   keeps n due.CheckTarget (Answered accepted) s at on fine is = target_known n s accepted on
   keeps n due.AlreadyInstalled e s at on fine is = tt
@@ -249,8 +281,8 @@ module _ (w : World) (o : Options) (g : IsOwnUpdate w o) where
   there n due.Rejected s on ended = absurd on
   there n op s on ended = absurd (true≢false (sym ended))
 
--- If nothing fails, and the record was written for this update, a run that has ended has installed it, or it
--- was installed before.
+-- If nothing fails, and the record was written for this update or the update is older, a run that has ended
+-- has installed it, or it was installed before.
 pub interrupted_run_is_finished : (w : World) (o : Options) (g : IsOwnUpdate w o) (m : Moment)
     (calls : List Call) (t : State) (end : Moment) → Applies w (begin o) m calls t end
     → EachEvent (IsFineFor g) calls → has_ended t.due ≡ true → IsThere t.due

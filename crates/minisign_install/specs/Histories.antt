@@ -1,7 +1,8 @@
 -- What holds of a directory in which lawful applications run, over time: each run whole or cut off anywhere,
 -- with crashes of the machine and other processes in between, and with clocks that move.
 use Rattle.std.specs.Prelude.{Bool, IfSome, map}
-use Rattle.std.specs.Prelude.{◌≡◌, ◌≤◌, ◌⊎◌, ◌||◌, ⊤, ℕ, true, false, List, [], ◌∷◌, length, Option, Some}
+use Rattle.std.specs.Prelude.{◌≡◌, ◌<◌, ◌≤◌, ◌⊎◌, ◌||◌, ⊤, ℕ, true, false, List, [], ◌∷◌, length, Option}
+use Rattle.std.specs.Prelude.{Some}
 use Rattle.std.specs.Prelude.{None, Ok}
 use Rattle.minisign.specs.Acceptance.{Verifier}
 use Rattle.minisign.specs.SignatureText.{SignatureTextRecord}
@@ -148,15 +149,14 @@ HasHappened numbering old (OthersAct m ∷ later) new =
 
 -- == An interrupted run ==
 
--- The record was written for this update already: it counts, its version is that of the update or a greater
--- one (after a roll-back), and its digest is that of the data. The signature file has passed the checks
--- without Ed25519, for these keys, one of them has signed the comment, and the data, and the data has the
--- signed size.
+-- The record counts, and its version is that of the update or a greater one. It was written for this update
+-- already, as by an interrupted run: its digest is that of the data. Or the update is older, which only
+-- --roll-back installs. The signature file has passed the checks without Ed25519, for these keys, one of them
+-- has signed the comment, and the data, and the data has the signed size.
 pub record IsOwnUpdate (w : World) (o : Options) : Type 0 where
   pub installs : o.check ≡ false
   pub recorded : Recorded
   pub counts : judge_record o w.found ≡ Ok recorded
-  pub own : recorded.digest ≡ Some (blake2b_digest 64 w.update)
   pub last : ℕ
   pub last_is : recorded.version ≡ Some last
   pub text : SignatureTextRecord
@@ -169,6 +169,7 @@ pub record IsOwnUpdate (w : World) (o : Options) : Type 0 where
   pub version : ℕ
   pub numbered : version_in o.numbering text.comments.trusted ≡ Some version
   pub not_newer : version ≤ last
+  pub own : (recorded.digest ≡ Some (blake2b_digest 64 w.update)) ⊎ (version < last)
   pub sized : (size : ℕ) → size_in text.comments.trusted ≡ Some size → length w.update ≡ size
 
 -- The event is no failure, and the comment is not rejected at the time that is passed in.

@@ -2,21 +2,23 @@
 //! fail or be cut off anywhere, also by a crash of the machine.
 
 ghost use Rattle.std.specs.Prelude.{◌≡◌, ◌≤◌, ◌+◌, ◌*◌, ℕ, List, Some, Ok, Err, true, false, is_some};
-ghost use Rattle.std.specs.Prelude.{Option, length};
+ghost use Rattle.std.specs.Prelude.{◌<◌, ◌||◌, None, Option, length};
 ghost use Rattle.minisign_external.specs.declared.state.Refusal.TheVariants.{Refused};
 ghost use Rattle.minisign_hash.specs.Blake2b.{blake2b_digest};
 ghost use Rattle.minisign_install.specs.Applications.{Applies, Call, LeavesAll, Moment, Others};
 ghost use Rattle.minisign_install.specs.Applications.{Performs};
 ghost use Rattle.minisign_install.specs.Comments.{Numbering};
-ghost use Rattle.minisign_install.specs.Decisions.{Options, Recorded, judge_record};
+ghost use Rattle.minisign_install.specs.Decisions.{Options, Recorded, judge_record, names_other_key};
+ghost use Rattle.minisign_install.specs.Decisions.{nothing_recorded, record_fault, recorded_version};
 ghost use Rattle.minisign_install.specs.Histories.{AcceptsWholeKeys, EachCall, EachEvent, Happening};
 ghost use Rattle.minisign_install.specs.Histories.{HasHappened, IsFineFor, IsOwnUpdate, IsSafeCall, IsThere};
 ghost use Rattle.minisign_install.specs.Histories.{CountsAs, EndLasts, KeepsVersion};
 ghost use Rattle.minisign_install.specs.Histories.{OthersLeaveTarget, counted_for};
 ghost use Rattle.minisign_install.specs.RecordTexts.{record_key};
 ghost use Rattle.minisign_install.specs.Step.{Installed, State, after, begin, has_ended, new_record};
-ghost use Rattle.minisign_install.specs.Step.{new_version, step};
-ghost use Rattle.minisign_install.specs.Faults.{InstallFault};
+ghost use Rattle.minisign_install.specs.Step.{new_key, new_version, step};
+ghost use Rattle.minisign_install.specs.Faults.{InstallFault, NoRecord};
+ghost use Rattle.minisign_install.specs.Installations.{numbered};
 ghost use Rattle.minisign_install.specs.StepRuns.{IsEnd, IsFine, IsGoodUpdate, IsReason, IsUpdate};
 ghost use Rattle.minisign_install.specs.StepRuns.{World};
 
@@ -64,8 +66,9 @@ pub fn any_good_update_arrives()
         (t : State) (end : Moment) → Applies w (begin o) m calls t end → EachEvent (IsFine g) calls
         → has_ended t.due ≡ true → t.due ≡ Installed }
 
-    // If the record was written for this update already, as by an interrupted run, then a run in which no
-    // operation fails ends with the update installed.
+    // If the record was written for this update already, as by an interrupted run, or if the update is older
+    // and --roll-back is given, then a run in which no operation fails ends with the update installed.
+    // Without --roll-back the comment of an older update is rejected.
     ensures finished { (w : World) (o : Options) (g : IsOwnUpdate w o) (m : Moment) (calls : List Call)
         (t : State) (end : Moment) → Applies w (begin o) m calls t end → EachEvent (IsFineFor g) calls
         → has_ended t.due ≡ true → IsThere t.due }
@@ -93,4 +96,32 @@ pub fn any_history_keeps_the_version()
     ensures old_records { (o : Options) (found : Option (List ℕ)) (kept : Option ℕ) → o.new_key ≡ false
         → CountsAs o.numbering o.first (counted_for o found) kept
         → (r : Recorded) × (judge_record o found ≡ Ok r) × (r.version ≡ kept) }
+{}
+
+/// States what `--new-key` and `--roll-back` do to the record. This function is a law: it does nothing, and
+/// its contract is what it is for.
+pub fn any_record_is_kept()
+    // With --new-key, or with --first, a record that names a key that was not given is ignored.
+    ensures ignored { (o : Options) (bytes : List ℕ) (n : ℕ) → (o.first || o.new_key) ≡ true
+        → names_other_key o bytes ≡ true → recorded_version o.numbering bytes ≡ Some n
+        → judge_record o (Some bytes) ≡ Ok nothing_recorded }
+
+    // Without these options it counts, whichever key it names.
+    ensures counts { (o : Options) (bytes : List ℕ) (n : ℕ) → (o.first || o.new_key) ≡ false
+        → recorded_version o.numbering bytes ≡ Some n
+        → judge_record o (Some bytes) ≡ Ok (numbered n bytes) }
+
+    // A missing record, and one without a version number for the field, stop the run unless --first is given,
+    // with --new-key too.
+    ensures missing { (o : Options) → o.first ≡ false → judge_record o None ≡ Err NoRecord }
+    ensures damaged { (o : Options) (bytes : List ℕ) → o.first ≡ false
+        → recorded_version o.numbering bytes ≡ None
+        → judge_record o (Some bytes) ≡ Err (record_fault o.numbering bytes) }
+
+    // A run that installs an older update records the recorded version again, and the key of the record if it
+    // names one. `Installation::record_text` writes both, with the digest of the data that is installed.
+    ensures version { (s : State) (k : ℕ) → s.recorded.version ≡ Some k → s.version < k
+        → new_version s ≡ k }
+    ensures key { (s : State) (k : ℕ) (key : List ℕ) → s.recorded.version ≡ Some k → s.version < k
+        → s.recorded.key ≡ Some key → new_key s ≡ key }
 {}

@@ -1,21 +1,29 @@
 //! An installation as a value of fixed size, for applications in other languages. The application performs
 //! the operation that is due and reports what happened. Nothing here allocates.
 
-ghost use Rattle.std.specs.Prelude.{◌≡◌, ◌==◌, List, Some, None, Err, MatchResult};
-ghost use Rattle.std.specs.Prelude.{if◌then◌else◌, true, false, ℕ};
+ghost use Rattle.std.specs.Prelude.{◌≡◌, ◌==◌, List, Some, None, Err, MatchResult, OnErr};
+ghost use Rattle.std.specs.Prelude.{if◌then◌else◌, true, false, ℕ, ◌<◌, take};
 ghost use Rattle.minisign_external.specs.Numbers.{answer_yes, is_answer};
-ghost use Rattle.minisign_external.specs.declared.state.Misuse.TheVariants.{BadAnswer, NotDue};
+ghost use Rattle.minisign_external.specs.declared.state.Misuse.TheVariants.{BadAnswer, NoRoom, NotDue};
 ghost use Rattle.minisign_external.specs.declared.state.Refusal.TheVariants.{WrongUse};
 ghost use Rattle.minisign_install.specs.Installations.{CallSteps, IsStored, are_flags, choices_fit};
+ghost use Rattle.minisign_install.specs.Installations.{SignatureSteps};
 ghost use Rattle.minisign_install.specs.Installations.{begun_mark, choices_misuse, error_number};
 ghost use Rattle.minisign_install.specs.Installations.{options_by, piece_event};
 ghost use Rattle.minisign_install.specs.Step.{Answered, Done, Failed, InUse, PieceCopied, State};
-ghost use Rattle.minisign_install.specs.Step.{TargetMissing, begin, step};
+ghost use Rattle.minisign_install.specs.Step.{RecordRead, TargetMissing, begin, step};
 ghost use Rattle.minisign_install.specs.Installations.{is_copying, is_locking, is_over, is_reading};
-ghost use Rattle.minisign_install.specs.Installations.{is_reading_target, is_removing, operation_of};
+ghost use Rattle.minisign_install.specs.Installations.{is_reading_record, is_reading_target, is_removing};
+ghost use Rattle.minisign_install.specs.Installations.{is_writing_record, operation_of, record_due};
+ghost use Rattle.minisign_install.specs.Installations.{IsNewRecord, is_reading_signature, question_due};
+ghost use Rattle.minisign_install.specs.Installations.{written_if};
 ghost use Rattle.minisign_install.specs.Step.{Rejected, RemoveFiles, failure, has_files, next};
 
+mod judging;
+mod output;
 mod progress;
+mod recorded;
+mod signature;
 
 use crate::faults::InstallFault;
 use minisign_base::NamedFault;
@@ -34,6 +42,21 @@ pub struct Installation {
     mark: u64,
     progress: Progress,
     reserved: [u64; 28],
+}
+
+/// A question for Ed25519: is the signature valid under the key? Its message is the digest, or, if
+/// `is_comment` is 1, the message that `signature` wrote. 164 bytes with the layout of C.
+#[repr(C)]
+#[derive(Clone, Copy)]
+pub struct Question {
+    /// The public key.
+    pub key: [u8; 32],
+    /// The signature.
+    pub signature: [u8; 64],
+    /// The digest of the data, or zeros if `is_comment` is 1.
+    pub digest: [u8; 64],
+    /// 1 if the question is about the trusted comment, otherwise 0.
+    pub is_comment: u32,
 }
 
 /// The options of an installation, with the layout of C. All except `numbering` are 0 or 1.
@@ -59,7 +82,7 @@ pub struct Choices {
 /// The operation that is due, or how the run has ended. The numbers go from 0 on.
 #[derive(Clone, Copy, PartialEq, Eq, Debug)]
 pub enum Operation {
-    /// The installation was never begun.
+    /// Nothing: the installation was never begun.
     Nothing,
     /// Lock the target, and wait as long as the user allows. Report done, or failed with target in use.
     Lock,
@@ -75,37 +98,38 @@ pub enum Operation {
     ReadTarget,
     /// Ask Ed25519 about the digest of the installed file, and report the answer.
     CheckTarget,
-    /// Sync the installed file.
+    /// Sync the installed file, which is already the update.
     SyncTarget,
-    /// Sync the directory.
+    /// Sync the directory, so that a crash does not undo the name of the installed file.
     SyncTargetName,
-    /// Remove the temporary files of killed runs, if possible.
+    /// Remove the temporary files that killed runs have left behind, as far as possible.
     RemoveLeftovers,
-    /// Create a temporary file.
+    /// Create the temporary file of the data under a random name.
     CreateFile,
-    /// Copy the data to the temporary file, and report the length of each piece.
+    /// Copy the data to its temporary file, and report the length of each piece.
     CopyData,
-    /// Read the temporary file through the same descriptor, and report its bytes piece by piece.
+    /// Read back the temporary file of the data through the same descriptor, and report its bytes piece by
+    /// piece.
     ReadBack,
     /// Ask Ed25519 about the digest of what was read back, and report the answer.
     CheckData,
-    /// Give the temporary file the permissions of the old file.
+    /// Give the temporary file of the data the permissions of the installed file.
     SetPermissions,
-    /// Sync the temporary file.
+    /// Sync the temporary file of the data.
     SyncFile,
-    /// Create a temporary file for the record.
+    /// Create the temporary file of the record under a random name.
     CreateRecord,
-    /// Write the new record to it.
+    /// Write the new record to its temporary file.
     WriteRecord,
-    /// Sync it.
+    /// Sync the temporary file of the record.
     SyncRecord,
-    /// Rename it to the record.
+    /// Rename the temporary file of the record to the record.
     RenameRecord,
-    /// Sync the directory.
+    /// Sync the directory, so that a crash does not undo this rename.
     SyncRecordName,
     /// Rename the temporary file of the data to the target.
     RenameFile,
-    /// Sync the directory.
+    /// Sync the directory, so that a crash does not undo this rename.
     SyncFileName,
     /// Remove the temporary files that this run made and did not rename.
     RemoveFiles,
@@ -221,6 +245,36 @@ impl Installation {
         }
     }
 
+    /// Reports the bytes of the record.
+    pub fn record(&mut self, bytes: &[u8]) -> Result<(), Refusal<InstallFault>>
+        // For every state for which the installation stands, the result and the new state are those of the
+        // step.
+        ensures steps { CallSteps (RecordRead (Some bytes.now)) self.old self.new result }
+        // After `NotDue` the installation is unchanged.
+        ensures misuse { result ≡ Err (WrongUse NotDue) → self.new ≡ self.old }
+    {
+        if self.is_begun() {
+            self.progress.record(bytes)
+        } else {
+            Err(Refusal::WrongUse(Misuse::NotDue))
+        }
+    }
+
+    /// Reports that there is no record.
+    pub fn no_record(&mut self) -> Result<(), Refusal<InstallFault>>
+        // For every state for which the installation stands, the result and the new state are those of the
+        // step.
+        ensures steps { CallSteps (RecordRead None) self.old self.new result }
+        // After `NotDue` the installation is unchanged.
+        ensures misuse { result ≡ Err (WrongUse NotDue) → self.new ≡ self.old }
+    {
+        if self.is_begun() {
+            self.progress.no_record()
+        } else {
+            Err(Refusal::WrongUse(Misuse::NotDue))
+        }
+    }
+
     /// Reports the next bytes of the file that is read. No bytes report its end.
     pub fn piece(&mut self, bytes: &[u8]) -> Result<(), Refusal<InstallFault>>
         ensures steps { (s : State) → IsStored self.old s
@@ -248,6 +302,46 @@ impl Installation {
             self.progress.no_target()
         } else {
             Err(Refusal::WrongUse(Misuse::NotDue))
+        }
+    }
+
+    /// Reports the signature file and the time, in seconds since the beginning of 1970, or `None` for a time
+    /// before that. Writes the message of the question about the trusted comment to the start of `message`,
+    /// and returns its length. `file` is the name that the trusted comment must contain. A buffer as long as
+    /// the signature file is always long enough.
+    ///
+    /// If the message does not fit into the buffer, the result is `NoRoom`, and nothing is reported.
+    pub fn signature(
+        &mut self,
+        sig_text: &[u8],
+        file: &[u8],
+        time: Option<u64>,
+        message: &mut [u8],
+    ) -> Result<usize, Refusal<InstallFault>>
+        // For every state for which the installation stands and that has this name of the file, the result
+        // and the new state are those of the step. After `NoRoom` and `NotDue` the installation is unchanged,
+        // and after every error the buffer.
+        ensures steps { (s : State) → IsStored self.old s → s.options.file ≡ file.now
+            → SignatureSteps sig_text.now time s result (IsStored self.new) message.old message.new }
+        ensures kept { OnErr result (message.new ≡ message.old) }
+        ensures misuse { result ≡ Err (WrongUse NotDue) → self.new ≡ self.old }
+        ensures short { result ≡ Err (WrongUse NoRoom) → self.new ≡ self.old }
+    {
+        if self.is_begun() {
+            self.progress.signature(sig_text, file, time, message)
+        } else {
+            Err(Refusal::WrongUse(Misuse::NotDue))
+        }
+    }
+
+    /// Returns the question for Ed25519 that is due, or `None` if none is due.
+    pub fn question(&self) -> Option<Question>
+        ensures { (s : State) → IsStored self.now s → result ≡ question_due s }
+    {
+        if self.is_begun() {
+            self.progress.question()
+        } else {
+            None
         }
     }
 
@@ -313,6 +407,23 @@ impl Installation {
             self.progress.size()
         } else {
             None
+        }
+    }
+
+    /// Writes the new record to the start of `to`, if writing it is due. Returns its length, or 0 if writing
+    /// it is not due or the buffer is too short. A record has at most 224 bytes.
+    pub fn record_text(&self, to: &mut [u8]) -> usize
+        ensures written { (s : State) → IsStored self.now s
+            → written_if (record_due s) result to.old to.new }
+        // What is written is read as the version number, the key and the digest that the run records: those
+        // of the update, or after a roll-back the recorded version and its key.
+        ensures reads_back { (s : State) → IsStored self.now s → 0 < result
+            → IsNewRecord s (take result to.new) }
+    {
+        if self.is_begun() {
+            self.progress.record_text(to)
+        } else {
+            0
         }
     }
 
@@ -506,6 +617,27 @@ impl Operation {
         ensures { result ≡ is_locking self }
     {
         matches!(self, Operation::Lock)
+    }
+
+    // Returns true if the record is to be read.
+    pub(crate) fn is_reading_record(self) -> bool
+        ensures { result ≡ is_reading_record self }
+    {
+        matches!(self, Operation::ReadRecord)
+    }
+
+    // Returns true if the signature file is to be read.
+    pub(crate) fn is_reading_signature(self) -> bool
+        ensures { result ≡ is_reading_signature self }
+    {
+        matches!(self, Operation::ReadSignature)
+    }
+
+    // Returns true if the new record is to be written.
+    pub(crate) fn is_writing_record(self) -> bool
+        ensures { result ≡ is_writing_record self }
+    {
+        matches!(self, Operation::WriteRecord)
     }
 
     // Returns true if the data is being copied.

@@ -33,10 +33,10 @@ use std::mem::forget;
 /// Returns the length of the whole text.
 #[unsafe(no_mangle)]
 pub extern "C" fn page_error_text(error: u32, text: &mut [u8]) -> usize
-    // The text is that of the API misuse or of the library's
-    // error that has this number, without key IDs. For 0 it is "no error", and for a number without a meaning
-    // "unknown error". It has fewer than 128 bytes. The buffer holds as much of it as fits before a
-    // terminating 0 byte, and the bytes after the 0 are unchanged. The result is the length of the whole text.
+    // The text is that of the API misuse or of the library's error that has this
+    // number, without key IDs. For 0 it is "no error", and for a number without a meaning "unknown error". It
+    // has fewer than 128 bytes. The buffer holds as much of it as fits before a terminating 0 byte, and the
+    // bytes after the 0 are unchanged. The result is the length of the whole text.
     ensures written { (meaning : List ℕ) × IsMeaning error meaning × (result ≡ length meaning)
         × WritesCut meaning text.old text.new }
     ensures room { result < 128 }

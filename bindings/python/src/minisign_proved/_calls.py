@@ -62,7 +62,7 @@ class Sodium:
 class Cryptography:
     """Ed25519 of the package `cryptography`. It accepts some signatures of small order
     or with non-canonical encodings, which libsodium rejects. `minisign_ask` rejects
-    them before Ed25519 is called. `minisign_install_ask` does not: see `is_strict`."""
+    them before Ed25519 is called. The calls that install do not: see `is_strict`."""
 
     def __init__(self) -> None:
         from cryptography.hazmat.primitives.asymmetric import ed25519
@@ -129,7 +129,7 @@ STRICT_TEXT = b"untrusted comment: -\n%s\ntrusted comment: -\n%s\n"
 
 def is_strict(signature: bytes, key: bytes) -> bool:
     """Returns False if a public key or a signature is weak, which is the case if
-    `minisign_ask` rejects them with WeakEd25519. `minisign_install_ask` does not check
+    `minisign_ask` rejects them with WeakEd25519. The calls that install do not check
     this. So an installation calls `minisign_ask` with a signature file that is made
     from the bytes of the signature."""
     line = base64.b64encode(b"ED" + bytes(8) + signature)

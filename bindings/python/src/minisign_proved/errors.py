@@ -19,15 +19,13 @@ class NotBegun(MinisignError):
 
 
 class AlreadyAsked(MinisignError):
-    """minisign_ask, minisign_ask_bare, minisign_install_ask or minisign_digest was
-    already called."""
+    """minisign_ask, minisign_ask_bare or minisign_digest was already called."""
 
     number = 2
 
 
 class NotAsked(MinisignError):
-    """minisign_ask, minisign_ask_bare, minisign_install_ask or minisign_digest was not
-    called yet."""
+    """minisign_ask, minisign_ask_bare or minisign_digest was not called yet."""
 
     number = 3
 
@@ -455,67 +453,6 @@ class WeakSealing(MinisignError):
     number = 84
 
 
-class ListNotVerified(MinisignError):
-    """The list was not verified."""
-
-    number = 85
-
-
-class OtherListText(MinisignError):
-    """The text is not the list that was verified."""
-
-    number = 86
-
-
-class BadHash(MinisignError):
-    """The hash function, or the length of its digest, is not one that this call
-    accepts."""
-
-    number = 87
-
-
-class EntryNotRead(MinisignError):
-    """The entry was not read from a list."""
-
-    number = 88
-
-
-class OtherList(MinisignError):
-    """The trusted comment does not name the list."""
-
-    number = 89
-
-
-class BadName(MinisignError):
-    """No list can contain the name."""
-
-    number = 90
-
-
-class MalformedLine(MinisignError):
-    """A line of the list is malformed."""
-
-    number = 91
-
-
-class NotListed(MinisignError):
-    """No line of the list has the name."""
-
-    number = 92
-
-
-class ListedTwice(MinisignError):
-    """Two lines of the list have the name."""
-
-    number = 93
-
-
-class DigestMismatch(MinisignError):
-    """The data does not have the listed digest."""
-
-    number = 94
-
-
 BY_NUMBER: "dict[int, type[MinisignError]]" = {
     1: NotBegun,
     2: AlreadyAsked,
@@ -587,16 +524,6 @@ BY_NUMBER: "dict[int, type[MinisignError]]" = {
     82: PublicKeyNotRead,
     83: EmptyPassword,
     84: WeakSealing,
-    85: ListNotVerified,
-    86: OtherListText,
-    87: BadHash,
-    88: EntryNotRead,
-    89: OtherList,
-    90: BadName,
-    91: MalformedLine,
-    92: NotListed,
-    93: ListedTwice,
-    94: DigestMismatch,
 }
 
 __all__ = [
@@ -671,14 +598,4 @@ __all__ = [
     "PublicKeyNotRead",
     "EmptyPassword",
     "WeakSealing",
-    "ListNotVerified",
-    "OtherListText",
-    "BadHash",
-    "EntryNotRead",
-    "OtherList",
-    "BadName",
-    "MalformedLine",
-    "NotListed",
-    "ListedTwice",
-    "DigestMismatch",
 ]

@@ -13,9 +13,9 @@ impl Reason {
     pub const OK: Reason = Reason(0);
     /// The state is not initialized, or its verdict was already returned.
     pub const NOT_BEGUN: Reason = Reason(1);
-    /// minisign_ask, minisign_ask_bare, minisign_install_ask or minisign_digest was already called.
+    /// minisign_ask, minisign_ask_bare or minisign_digest was already called.
     pub const ALREADY_ASKED: Reason = Reason(2);
-    /// minisign_ask, minisign_ask_bare, minisign_install_ask or minisign_digest was not called yet.
+    /// minisign_ask, minisign_ask_bare or minisign_digest was not called yet.
     pub const NOT_ASKED: Reason = Reason(3);
     /// The result of an Ed25519 check is neither MINISIGN_ANSWER_YES nor MINISIGN_ANSWER_NO.
     pub const BAD_ANSWER: Reason = Reason(4);
@@ -162,26 +162,6 @@ impl Reason {
     pub const EMPTY_PASSWORD: Reason = Reason(83);
     /// The salt is all zeros, or a scrypt limit is below the minimum of Minisign.
     pub const WEAK_SEALING: Reason = Reason(84);
-    /// The list was not verified.
-    pub const LIST_NOT_VERIFIED: Reason = Reason(85);
-    /// The text is not the list that was verified.
-    pub const OTHER_LIST_TEXT: Reason = Reason(86);
-    /// The hash function, or the length of its digest, is not one that this call accepts.
-    pub const BAD_HASH: Reason = Reason(87);
-    /// The entry was not read from a list.
-    pub const ENTRY_NOT_READ: Reason = Reason(88);
-    /// The trusted comment does not name the list.
-    pub const OTHER_LIST: Reason = Reason(89);
-    /// No list can contain the name.
-    pub const BAD_NAME: Reason = Reason(90);
-    /// A line of the list is malformed.
-    pub const MALFORMED_LINE: Reason = Reason(91);
-    /// No line of the list has the name.
-    pub const NOT_LISTED: Reason = Reason(92);
-    /// Two lines of the list have the name.
-    pub const LISTED_TWICE: Reason = Reason(93);
-    /// The data does not have the listed digest.
-    pub const DIGEST_MISMATCH: Reason = Reason(94);
 
     /// Returns the name in `minisign.h` without `MINISIGN_`, or "" for an unknown number.
     #[must_use]
@@ -258,16 +238,6 @@ impl Reason {
             82 => "PUBLIC_KEY_NOT_READ",
             83 => "EMPTY_PASSWORD",
             84 => "WEAK_SEALING",
-            85 => "LIST_NOT_VERIFIED",
-            86 => "OTHER_LIST_TEXT",
-            87 => "BAD_HASH",
-            88 => "ENTRY_NOT_READ",
-            89 => "OTHER_LIST",
-            90 => "BAD_NAME",
-            91 => "MALFORMED_LINE",
-            92 => "NOT_LISTED",
-            93 => "LISTED_TWICE",
-            94 => "DIGEST_MISMATCH",
             _ => "",
         }
     }

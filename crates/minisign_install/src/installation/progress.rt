@@ -5,7 +5,7 @@ ghost use Rattle.std.specs.Prelude.{◌==◌};
 ghost use Rattle.minisign_hash.specs.Blake2b.{blake2b_digest};
 ghost use Rattle.minisign_hash.specs.Stored.{WasFed};
 ghost use Rattle.minisign_external.specs.declared.state.Misuse.TheVariants.{NotDue};
-ghost use Rattle.minisign_external.specs.declared.state.Refusal.TheVariants.{WrongUse};
+ghost use Rattle.minisign_external.specs.declared.state.Refusal.TheVariants.{Refused, WrongUse};
 ghost use Rattle.minisign_install.specs.Installations.{IsKept, Leads, Steps, operation_of};
 ghost use Rattle.minisign_install.specs.Installations.{end_event, options_by, piece_event};
 ghost use Rattle.minisign_install.specs.Step.{Answered, CheckComment, CheckData, CheckTarget, Done, Failed};
@@ -114,6 +114,7 @@ impl Progress {
     pub(crate) fn reject(&mut self, fault: InstallFault) -> Result<(), Refusal<InstallFault>>
         ensures leads { (s : State) → IsKept self.old s → Leads s (reject fault s) result self.new }
         ensures proper { IfErr result (λ r. r ≢ WrongUse NotDue) }
+        ensures refused { IfErr result (λ r. r ≡ Refused fault) }
     {
         let is_first = self.error == 0;
         self.error = fault.number();
