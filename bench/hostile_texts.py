@@ -4,9 +4,9 @@ attacker could make.
 
     bench/hostile_texts.py
 
-It prints the processor time and the peak memory of each run. It fails if a result is not the one that the file format
-demands, if the memory is more than a few times the size of the file, or if a file of twice the size takes much more than
-twice the time.
+Prints the processor time and the peak memory of each run. Fails if a result is not the one that the file format requires,
+if the memory is more than MAX_MEMORY times the size of the file, or if a file of twice the size takes more than MAX_GROWTH
+times the time.
 
 Needs: Python 3.9 or later, and the program, built by `rt run -- x` in crates/minisign_tool.
 """
@@ -18,13 +18,13 @@ from timing import TOOL, run, toy
 
 LENGTHS = [length * 2**20 for length in (8, 16, 32)]
 ROUNDS = 3
-# The most memory: a multiple of the file's size, and a constant in MiB, because the program itself takes less than 2 MiB.
-MAX_MEMORY, MIN_ROOM = 4.0, 4.0
-# The largest ratio of the times for twice the size, and the seconds below which times are not compared.
+# The maximum memory: a multiple of the file's size, plus a constant in MiB, because the program itself takes less than 2 MiB.
+MAX_MEMORY, BASE_MEMORY = 4.0, 4.0
+# The maximum ratio of the times for twice the size. Times below MIN_SECONDS count as MIN_SECONDS.
 MAX_GROWTH, MIN_SECONDS = 3.0, 0.02
 DATA = b"abc"
 
-# Letters of which a file can consist that has one line.
+# Files of one line: a description, and the byte that is repeated.
 ONE_LINE = {
     "one line of letters": b"A",
     "only spaces": b" ",
@@ -40,8 +40,8 @@ VERIFIED = "Signature and comment signature verified\nTrusted comment: t\n"
 SIGNED = ""
 
 
-def longer(text, at, letter=b"A"):
-    """Returns a function that makes files of a given length, by adding letters to a good file at the end of a line, counted from 1."""
+def with_long_line(text, at, letter=b"A"):
+    """Returns a function that makes files of a given length from a valid file: it adds letters at the end of line `at`, counted from 1."""
 
     def of_length(length):
         lines = text.splitlines(keepends=True)
@@ -61,8 +61,8 @@ def public_texts():
     """Yields public key files: a name, a function that makes the file, and the message of `verify`."""
     yield from ((name, repeated(letter), NO_PUBLIC_KEY) for name, letter in ONE_LINE.items())
     yield "only line feeds", repeated(b"\n"), NOT_56_LETTERS
-    yield "a long second line", longer(toy.public_text(), 2), NOT_56_LETTERS
-    yield "a long fourth line", longer(toy.public_text(), 4), VERIFIED
+    yield "a long second line", with_long_line(toy.public_text(), 2), NOT_56_LETTERS
+    yield "a long fourth line", with_long_line(toy.public_text(), 4), VERIFIED
 
 
 def signature_texts():
@@ -70,15 +70,15 @@ def signature_texts():
     good = toy.signature_text(DATA)
     yield from ((name, repeated(letter), NO_SIGNATURE) for name, letter in ONE_LINE.items())
     yield "only line feeds", repeated(b"\n"), NO_COMMENT_LINE
-    yield "a long third line of spaces", longer(good, 3, b" "), VERIFIED
-    yield "a long third line of letters", longer(good, 3), COMMENT_REJECTED
-    yield "a long fourth line of spaces", longer(good, 4, b" "), VERIFIED
+    yield "a long third line of spaces", with_long_line(good, 3, b" "), VERIFIED
+    yield "a long third line of letters", with_long_line(good, 3), COMMENT_REJECTED
+    yield "a long fourth line of spaces", with_long_line(good, 4, b" "), VERIFIED
     yield "a long fourth line", long_comment_signature, VERIFIED
-    yield "a long fifth line", longer(good, 5), VERIFIED
+    yield "a long fifth line", with_long_line(good, 5), VERIFIED
 
 
 def long_comment_signature(length):
-    """Returns a good signature file whose comment signature has this many additional letters. Only its first 64 bytes are read."""
+    """Returns a valid signature file whose comment signature has this many additional base64 letters. Only its first 64 bytes are read."""
     signature = toy.signature_record(DATA)
     comment_signature = toy.signature_of(signature[10:] + b"t") + bytes(length * 3 // 4)
     return toy.signature_text(DATA, comment_signature=comment_signature)
@@ -90,17 +90,17 @@ def secret_texts():
     yield from ((name, repeated(letter), NO_SECRET_KEY) for name, letter in ONE_LINE.items())
     yield "only line feeds", repeated(b"\n"), toy.TOO_SHORT
     yield "a long second line", long_secret_key, SIGNED
-    yield "a long fourth line", longer(good, 4), SIGNED
+    yield "a long fourth line", with_long_line(good, 4), SIGNED
 
 
 def long_secret_key(length):
-    """Returns a good secret key file whose record is longer. Only its first 158 bytes are read."""
+    """Returns a valid secret key file with additional bytes after the record. Only the first 158 bytes are read."""
     comment, key = toy.secret_text().splitlines(keepends=True)
     return comment + key.rstrip(b"=\n") + b"A" * (length - length % 4 + 1) + b"\n"
 
 
 def runs():
-    """Yields each run: its name, the file that is large, the function that makes it, the expected message, and the arguments."""
+    """Yields each run: its name, which file is large, the function that makes this file, the expected message, and the arguments."""
     for name, make, said in public_texts():
         yield f"verify, public key: {name}", "key", make, said, ["verify", "key", "data", "signature"]
     for name, make, said in signature_texts():
@@ -109,8 +109,8 @@ def runs():
         yield f"sign, secret key: {name}", "secret", make, said, ["sign", "secret", "data", "made"]
 
 
-def least(directory, arguments, said):
-    """Returns the least processor time and the peak memory of some runs. Ends the script if the result is not the expected one."""
+def measure(directory, arguments, said):
+    """Returns the least processor time and the peak memory of ROUNDS runs. Ends the script if a result is not the expected one."""
     ended = [run([TOOL, *arguments], directory=directory) for _ in range(ROUNDS)]
     for result in ended:
         expected = int(said.startswith("error")), toy.WARNING + said
@@ -126,7 +126,7 @@ def main():
         "secret": toy.secret_text(),
         "data": DATA,
     }
-    worst = []
+    failures = []
     for name, large, make, said, arguments in runs():
         row = []
         with tempfile.TemporaryDirectory() as directory:
@@ -137,18 +137,18 @@ def main():
                 text = make(length)
                 with open(os.path.join(directory, large), "wb") as out:
                     out.write(text)
-                seconds, memory = least(directory, arguments, said)
+                seconds, memory = measure(directory, arguments, said)
                 row.append((len(text), seconds, memory))
         shown = "  ".join(f"{seconds:5.2f} s {memory:6.1f} MiB" for _, seconds, memory in row)
         print(f"{name:48} {shown}", flush=True)
         for length, _, memory in row:
-            if memory > MAX_MEMORY * length / 2**20 + MIN_ROOM:
-                worst.append(f"{name}: {memory:.1f} MiB for a file of {length} bytes")
+            if memory > MAX_MEMORY * length / 2**20 + BASE_MEMORY:
+                failures.append(f"{name}: {memory:.1f} MiB for a file of {length} bytes")
         for (_, before, _), (_, after, _) in zip(row, row[1:]):
             if after > MAX_GROWTH * max(before, MIN_SECONDS):
-                worst.append(f"{name}: {before:.2f} s, and {after:.2f} s for twice the size")
-    if worst:
-        raise SystemExit("\n".join(worst))
+                failures.append(f"{name}: {before:.2f} s, and {after:.2f} s for twice the size")
+    if failures:
+        raise SystemExit("\n".join(failures))
 
 
 if __name__ == "__main__":

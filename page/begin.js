@@ -13,7 +13,7 @@ async function lackingParts() {
   const parts = hasWebAssembly ? [] : ["WebAssembly"];
   if (!await hasEd25519()) {
     parts.push(isSecureContext ? "Ed25519 in WebCrypto"
-      : "Ed25519 here, since this page was not opened from disk or by https");
+      : "Ed25519 for pages that are not opened from disk or by https");
   }
   return parts;
 }

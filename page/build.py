@@ -137,7 +137,7 @@ def version():
 def proved_module():
     """Proves the library and builds it. Returns the 64-bit module."""
     if shutil.which("rt") is None:
-        raise NotPossible("--prove needs the kit of Rattle, but there is no command rt; without it the module is that of dist/minisign.html")
+        raise NotPossible("--prove needs the command rt of the Rattle kit; without --prove, the module of dist/minisign.html is used")
     print("page: building its module, after proving what is not proved yet", flush=True)
     with tempfile.TemporaryDirectory(prefix="minisign-page-") as directory:
         archive, linked = f"{directory}/lib{CRATE}.a", f"{directory}/{CRATE}.wasm"
@@ -176,7 +176,7 @@ def taken_from(path):
         raise NotPossible(f"{path} cannot be read: {why}") from None
     module, by = re.search(r'^const MODULE = "(.*)";$', text, re.M), re.search(r"^const LOWERED_BY = (\".*\");$", text, re.M)
     if module is None or by is None:
-        raise NotPossible(f"{path} is no page that page/build.py has built")
+        raise NotPossible(f"{path} was not built by page/build.py")
     return base64.b64decode(module[1]), json.loads(by[1])
 
 
@@ -231,7 +231,7 @@ def checked_signatures(paths, key):
     for path in paths:
         name = os.path.basename(path)
         if not name.endswith(SIGNATURE_ENDING) or name == SIGNATURE_ENDING:
-            raise NotPossible(f"{path} is not named as a signature, FILE{SIGNATURE_ENDING}; if it is the page to write, put it first")
+            raise NotPossible(f"{path} is not named FILE{SIGNATURE_ENDING}; if it is the page to write, put it before --signature")
         if name in found:
             raise NotPossible(f"two signatures are named {name}, so both would be for the same file")
         found[name] = checked_signature(path, key)
@@ -273,13 +273,13 @@ def name_in_release(name, text):
 def checked_release(name, version, links, signatures):
     """Returns the name, the version and the links of a release, whose signatures are pairs of name and text."""
     if not signatures and (name or version or links):
-        raise NotPossible("--name, --version and --link describe a release, so use --signature too")
+        raise NotPossible("--name, --version and --link describe a release, so they need --signature")
     names, found = [name_in_release(*signature) for signature in signatures], {}
     for word in links:
         file = next((each for each in names if word.startswith(f"{each}=")), None)
         link = word[len(file) + 1:] if file is not None else ""
         if file is None:
-            raise NotPossible(f"--link {word}: there is no signature for such a file; the files are {', '.join(names)}")
+            raise NotPossible(f"--link {word}: there is no --signature for this file, but only for {', '.join(names)}")
         if not is_safe_link(link):
             raise NotPossible(f"--link {word}: the address has to begin with https://, or be relative")
         if file in found:
@@ -299,10 +299,10 @@ def checked_signature(path, key):
     try:
         records = {at: base64.b64decode(lines[at], validate=True) for at in RECORDS}
     except (IndexError, binascii.Error, ValueError):
-        raise NotPossible(f"{path} is no signature") from None
+        raise NotPossible(f"{path} is not a signature file") from None
     has_records = all(records[at].startswith(begin) and len(records[at]) == length for at, (begin, length) in RECORDS.items())
     if not has_records or not all(lines[at].startswith(begin) for at, begin in COMMENTS.items()):
-        raise NotPossible(f"{path} is no signature")
+        raise NotPossible(f"{path} is not a signature file")
     if records[1][2:10] != base64.b64decode(key)[2:10]:
         raise NotPossible(f"{path} was made with another key")
     return text
@@ -316,10 +316,10 @@ def constant(name, value):
 def made_from(module, by, sums):
     """Returns what the page says about its sources and its proof. `sums` are those of the module and the sources in dist/PROVED."""
     if sums != (sum_of(module), sources_sum()):
-        return "This page and the library inside are not those that dist/PROVED of the sources names, so nothing is said of their proof."
+        return "This page was not made from the sources and the library that dist/PROVED names, so it makes no claim about proofs."
     return (f'Made from the sources with the SHA-256 sum <span class="letters" translate="no">{sums[1]}</span>. The library inside is '
-            f"proved as it was built for 64-bit WebAssembly; {html.escape(by)} made the module for 32 bits of it, and this and the page "
-            "around it are tested.")
+            f"proved as built for 64-bit WebAssembly. Its conversion to 32 bits by {html.escape(by)}, and the page around it, are tested but "
+            "not proved.")
 
 
 def page(module, by, key="", title=TITLE, signatures=(), release=None, sums=None):
@@ -356,7 +356,7 @@ def options(words):
     parser = argparse.ArgumentParser(prog="page/build.py", description="Writes the page that verifies a download.")
     parser.add_argument("--key", default="", metavar="KEY", help="build in this public key, its file or its 56 characters")
     parser.add_argument("--signature", default=[], nargs="+", action="extend", metavar="FILE.minisig",
-                        help="build in these signatures too, so that the page only asks for the download")
+                        help="build in these signatures too, so that the page asks only for the download")
     parser.add_argument("--name", default="", help="the name of the program that is released")
     parser.add_argument("--version", default="", help="the version of the release")
     parser.add_argument("--link", default=[], nargs="+", action="extend", metavar="FILE=ADDRESS",
@@ -364,9 +364,9 @@ def options(words):
     parser.add_argument("--title", default=TITLE, metavar="TITLE", help="the heading of the page")
     module = parser.add_mutually_exclusive_group()
     module.add_argument("--from", dest="built", default=os.path.join(TOP, "dist", "minisign.html"), metavar="PAGE",
-                        help="use the module of this page; the default is dist/minisign.html")
-    module.add_argument("--prove", action="store_true", help="prove and build the module, which needs the kit of Rattle")
-    parser.add_argument("--package", action="store_true", help="write the module of the JavaScript package, and no page")
+                        help="use the module of this page (default: dist/minisign.html)")
+    module.add_argument("--prove", action="store_true", help="prove and build the module, which needs the Rattle kit")
+    parser.add_argument("--package", action="store_true", help="write the module of the JavaScript package instead of a page")
     parser.add_argument("out", nargs="?", metavar="OUT", help="the page or the module to write")
     return parser.parse_args(words)
 
@@ -380,7 +380,7 @@ def main(words):
             return 0
         key = given.key and given_key(given.key)
         if given.signature and not key:
-            raise NotPossible("a page with signatures has a key, too: use --key")
+            raise NotPossible("--signature needs --key, the key that made the signatures")
         signatures = checked_signatures(given.signature, key)
         release, title = checked_release(given.name, given.version, given.link, signatures), checked_text(given.title, "title")
         if title == "":

@@ -141,7 +141,7 @@ function ownLinks(text, names) {
     return [name, link];
   });
   if (new Set(links.map(([name]) => name)).size < links.length) {
-    throw new NotPossible("A file has two links.");
+    throw new NotPossible("Two lines have links for the same file.");
   }
   return links.sort(inOrder);
 }

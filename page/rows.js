@@ -129,8 +129,8 @@ function showWaiting(download) {
     ["signature", ["Its signature is missing. Choose or drop ", nameOf(download.name + SIGNATURE_ENDING), "."]],
     ["public key", ["The public key is missing. Paste it, or choose its file."]],
   ]);
-  const [state, lines] = isHeld(download) ? ["queued", [["It is verified as soon as this page has read the files that you added last."]]]
-    : missing.length === 0 ? ["queued", [["It is verified after the files before it."]]]
+  const [state, lines] = isHeld(download) ? ["queued", [["It will be verified once this page has read the files that you added last."]]]
+    : missing.length === 0 ? ["queued", [["It will be verified after the files before it."]]]
       : ["waiting", missing.map(part => linesOfParts.get(part))];
   fill(download, state, partsLine(download), ...lines.map(line => element("p", "", ...line)));
 }

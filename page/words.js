@@ -11,7 +11,7 @@ const UNKNOWN_ALGORITHM = 28, OTHER_KEY = 29, LEGACY_NOT_ACCEPTED = 30, COMMENT_
 
 const WHY_NO_KEY = new Map([
   [UNKNOWN_ALGORITHM, `This is not a Minisign public key: those begin with RW. ${NO_KEY}`],
-  [8, `The public key is not text in UTF-8. ${NO_KEY}`],
+  [8, `The public key is not UTF-8 text. ${NO_KEY}`],
   [16, `The public key is empty. ${NO_KEY}`],
   [17, `The public key file has no second line. ${NO_KEY}`],
   [18, `The second line of the public key file is not 56 characters long. ${NO_KEY}`],
@@ -22,7 +22,7 @@ const WHY_NO_KEY = new Map([
 ]);
 
 const WHY_NOT = new Map([
-  [8, `The signature is not text in UTF-8. ${DAMAGED}`],
+  [8, `The signature is not UTF-8 text. ${DAMAGED}`],
   [20, `The signature is too short. ${DAMAGED}`],
   [21, `The signature is empty. ${DAMAGED}`],
   [22, `The signature has no second line. ${DAMAGED}`],
@@ -45,7 +45,7 @@ const WHY_NOT_ENDS = "The file is the one that was signed, but the signer's trus
   "and this page rejects such comments. This is probably a mistake and not an attack. Ask the signer for a new signature, with a " +
   "comment that neither begins nor ends with white space.";
 
-const WENT_WRONG = "This page made an error, so the file was not verified. Reload the page and try again.";
+const WENT_WRONG = "An internal error occurred, so the file was not verified. Reload the page and try again.";
 const TOO_LONG_A_KEY = "No public key: this file cannot be read, or is too large to be a public key.";
 
 // Hints for other input in the field for the key, by the results of hintOf.
@@ -70,7 +70,7 @@ const NO_SIGNATURE = "This is not a signature. A signature has four lines, and t
 const HAS_DIRECTORIES = "This page cannot verify a folder. Open the folder, select the files in it, and drop those here.";
 const SEVERAL_KEYS = "No public key: you added several keys. Add only one.";
 const NO_KEY_IN_ADDRESS = "No public key: the link to this page has no key of 56 characters after #.";
-const OTHER_KEY_IN_ADDRESS = "This page ignores the other key, or other text, in its link. It accepts only its built-in key.";
+const OTHER_KEY_IN_ADDRESS = "The link to this page contains another key or other text, which this page ignores. It accepts only its built-in key.";
 const NO_SIGNATURE_IN_ADDRESS = "The link to this page has no complete signature after sig=. It may have been cut off.";
 const NONE_FITS = "None of this page's signatures is for this file. Do not use the file.";
 const NOT_OF_RELEASE = "The file is not part of this release either: none of the signatures that are built into this page is for it.";

@@ -49,12 +49,8 @@ def name_of(constant):
 
 
 # Calls that are declared but get no function: the packages let the library allocate the memory of scrypt, clear values in their own
-# language, and never seal with limits below the minimum. Only the Rust packages use records, bare signatures, the kinds of errors and
-# the check of a sealed key; they call the declarations of header.rs.
-DECLARED_ALONE = ("minisign_opening_memory", "minisign_open_sealed_key_in_place", "minisign_clear", "minisign_secret_key_text_with_any_limits",
-                  "minisign_error_kind", "minisign_read_public_key_record", "minisign_public_key_record", "minisign_encode_public_key",
-                  "minisign_read_signature_record", "minisign_signature_record", "minisign_ask_bare", "minisign_bare_verdict",
-                  "minisign_read_secret_key_record", "minisign_secret_key_record", "minisign_encode_unopened_key", "minisign_test_sealed_key")
+# language, and never seal with limits below the minimum.
+DECLARED_ALONE = ("minisign_opening_memory", "minisign_open_sealed_key_in_place", "minisign_clear", "minisign_secret_key_text_with_any_limits")
 
 
 # ---- The calls as functions of a package ----
@@ -138,8 +134,8 @@ def in_words(call, header, table, kind_of, length_of, field_of=str):
 
 # ---- Python, and the errors of Go ----
 
-C_TYPES = {"uint8_t": "c_ubyte", "char": "c_ubyte", "uint32_t": "c_uint32", "uint64_t": "c_uint64", "int64_t": "c_int64",
-           "size_t": "c_size_t", "void": "None"}
+C_TYPES = {"uint8_t": "c_ubyte", "char": "c_ubyte", "uint32_t": "c_uint32", "uint64_t": "c_uint64", "size_t": "c_size_t",
+           "void": "None"}
 
 PYTHON_ROLES = {
     "password": ("{name}: Optional[bytes]", "", '0 if {name} is None else 1, {name}, len({name} or b"")', "", ""),
@@ -253,12 +249,11 @@ def python_header(header):
 def python_call(call, header):
     """Returns a method that makes a call and returns its results."""
     parameters, before, arguments, types, results = in_words(call, header, PYTHON_ROLES, ctype, "len({})".format)
-    lines = [f"self._library.{call.name}({', '.join(arguments)})"]
+    lines, results = [f"self._library.{call.name}({', '.join(arguments)})"], [f"return {', '.join(results)}"] if results else []
     if call.answer == "size_t":
         lines[0] = f"length = {lines[0]}"
     elif call.answer == "uint32_t" or call.answer == "enum minisign_due":
-        lines[0], types, results = f"number: int = {lines[0]}", ["int", *types], ["number", *results]
-    results = [f"return {', '.join(results)}"] if results else []
+        lines[0], types, results = f"number: int = {lines[0]}", ["int"], ["return number"]
     result = f"Tuple[{', '.join(types)}]" if len(types) > 1 else "".join(types) or "None"
     lines = "\n".join(before + lines + results).split("\n")
     inside = "".join(f"{python_line(f'        {line}')}\n" for line in lines)
@@ -321,9 +316,9 @@ def go_call(call, header):
     is_flat = any(parameter.kind in header.in_parts for parameter in call.parameters)
     expression = f"C.{'flat_' * is_flat}{call.name}({', '.join(arguments)})"
     if call.answer == "enum minisign_error":
-        lines, types = [f"return {', '.join([*results, 'done(err)'])}"], [*types, "error"]
+        lines, types = [f"return {', '.join([*results, 'errorOf(err)'])}"], [*types, "error"]
         expression = f"err := {expression}" if results else expression
-        lines = [expression, *lines] if results else [f"return done({expression})"]
+        lines = [expression, *lines] if results else [f"return errorOf({expression})"]
     elif call.answer != "void" and not results:
         lines, types = [f"return {expression}"], [f"C.{call.answer.removeprefix('enum ')}"]
     elif call.answer != "void":
@@ -370,7 +365,7 @@ SIGNING = ("read_secret_key", "open_unsealed_key", "open_sealed_key", "take_secr
 JAVASCRIPT_STRUCTS = ("public_key", "unopened_key", "secret_key", "new_key", "sealing")
 WIDTHS = {"uint8_t": 1, "uint32_t": 4, "uint64_t": 8}
 # The marks of the generated part of calls.js, and the fields that it reads.
-JAVASCRIPT_MADE, JAVASCRIPT_END = "made by tools/bindings.py ----\n\n", "// ---- What is made ends here ----"
+JAVASCRIPT_MADE, JAVASCRIPT_END = "made by tools/bindings.py ----\n\n", "// ---- End of the generated part ----"
 READ_OF = {"public_key": ("key", "key_id"), "signature": ("key_id", "legacy"),
            "questions": ("public_key", "digest", "signature", "comment_signature", "message_len", "comment_offset", "comment_len", "legacy")}
 
@@ -536,7 +531,7 @@ def rust_call(call, header):
     result_type = {"void": result, "uint32_t": "u32"}.get(call.answer, f"Result<{result}, Reason>")
     if call.answer == "enum minisign_error":
         ok_value = value if result == "String" else f"Ok({value})"
-        lines = [call_between("done(", ")?;"), ok_value] if value else [call_between("done(", ")")]
+        lines = [call_between("check(", ")?;"), ok_value] if value else [call_between("check(", ")")]
     elif call.answer == "size_t":
         lines = [call_between("let len = ", ";"), value]
     else:
@@ -610,7 +605,7 @@ def rust_header(header):
     text += "".join(f'            {error.number} => "{error.name}",\n' for error in header.errors) + '            _ => "",\n        }\n    }\n'
     text += "}\n\n" + "".join(f"pub const {name}: {kind} = sys::MINISIGN_{name};\n" for name, kind, value in rust_constants(header)) + "\n"
     text += "".join(f"pub type {name_of(struct)} = sys::{struct};\n" for struct in header.structs)
-    text += by_hand(RUST, "\npub(super) fn done", "Reason::NOT_UTF8)\n}\n")
+    text += by_hand(RUST, "\n/// Returns an error unless", "Reason::NOT_UTF8)\n}\n")
     return text + "".join(rust_call(call, header) for call in header.calls if call.name not in DECLARED_ALONE)
 
 

@@ -122,7 +122,7 @@ def turned(parameter, length, structs):
 
 def machine_kind(kind, is_pointer):
     """Returns a type as dist/calls.c has it."""
-    return "uint64_t" if is_pointer or kind in ("size_t", "int64_t") else plain(kind)
+    return "uint64_t" if is_pointer or kind == "size_t" else plain(kind)
 
 
 def pointers_call(call, structs):

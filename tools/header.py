@@ -27,7 +27,6 @@ from sources import ROOT, Unfit, read
 FORMATS = "docs/FORMATS.md"
 
 FAULTS = "crates/minisign_base/src/faults.rt"
-KINDS = "crates/minisign_base/src/errors.rt"
 FAULT_ROWS = "crates/minisign_base/specs/Faults.antt"
 NUMBERS = "crates/minisign_external/src/numbers.rt"
 INSTALL = "crates/minisign_install"
@@ -64,13 +63,13 @@ class Number(namedtuple("Number", "number variant comment")):
         return NAMES.get(self.variant, re.sub(r"(?<=[a-z0-9])(?=[A-Z])", "_", self.variant).upper())
 
 
-# The enums of minisign_install.h that are generated: the words in their marks, the prefix of their members, and the name and the file of
-# the enum in the crate.
-Choice = namedtuple("Choice", "place prefix enum file")
-DUE = Choice("Operations", "DUE", "Operation", f"{INSTALL}/src/installation.rt")
-NUMBERING = Choice("Numberings", "NUMBERING", "Numbering", f"{INSTALL}/src/comments.rt")
-# The list of the operations, whose numbers are their positions.
-OPERATIONS = f"{INSTALL}/specs/Step.antt"
+# The enums of minisign_install.h that are generated: the words in their marks, the prefix of their members, the name and the file of the
+# enum in the crate, and the file of the definition of its numbers.
+Choice = namedtuple("Choice", "place prefix enum file numbers")
+CHOICES = (
+    Choice("Calls of installing", "DUE", "Due", f"{INSTALL}/src/order.rt", f"{INSTALL}/specs/Order.antt"),
+    Choice("Numberings", "NUMBERING", "Numbering", f"{INSTALL}/src/comments.rt", INSTALL_NUMBERS),
+)
 
 
 def item_text(file, what, path):
@@ -164,28 +163,12 @@ def enum_text(enum, numbers, prefix="", first=()):
     return f"enum minisign_{enum} {{\n" + ",\n".join([*first, *members]) + "\n};\n"
 
 
-def kinds_text():
-    """Returns the enum of the kinds of errors. Two of them are not among those of the crate: none, and API misuse."""
-    misuse = re.search(r"^misuse_kind = (\d+)$", read("crates/minisign_external/specs/Numbers.antt"), re.M)
-    first = ["    /* The number is 0, or it has no meaning in this header. */\n    MINISIGN_KIND_NONE = 0",
-             f"    /* API misuse. */\n    MINISIGN_KIND_MISUSE = {misuse[1]}"]
-    return enum_text("kind", numbers_of(comments_of(KINDS, "ErrorKind"), "crates/minisign_external/specs/Numbers.antt", "kind_number"), "KIND_", first)
-
-
-def operations(comments):
-    """Returns the members of the enum of operations, with the numbers from the list of the definitions."""
-    listed = re.search(r"(?m)^operations =\n((?:    .*\n)+)", read(OPERATIONS))
-    names = re.findall(r"\w+", listed[1] if listed else "")
-    if sorted(names) != sorted(comments):
-        raise Unfit(f"{OPERATIONS}: operations must list each of {', '.join(sorted(comments))}")
-    return [Number(number, name, comments[name]) for number, name in enumerate(names)]
-
-
-def choices_texts():
-    """Yields the places and the texts of the generated enums of minisign_install.h."""
-    yield DUE.place, enum_text("due", operations(comments_of(DUE.file, DUE.enum)), f"{DUE.prefix}_")
-    numbers = numbers_of(comments_of(NUMBERING.file, NUMBERING.enum), INSTALL_NUMBERS, "numbering_number")
-    yield NUMBERING.place, enum_text("numbering", numbers, f"{NUMBERING.prefix}_")
+def choice_text(choice):
+    """Returns a generated enum of minisign_install.h."""
+    name = choice.prefix.lower()
+    numbers = numbers_of(comments_of(choice.file, choice.enum), choice.numbers, f"{name}_number")
+    first = ["    /* Nothing: the installation was not initialized. */\n    MINISIGN_DUE_NOTHING = 0"] if choice.prefix == "DUE" else []
+    return enum_text(name, numbers, f"{choice.prefix}_", first)
 
 
 # With these attributes gcc and clang warn about NULL, and gcc about a length that is greater than its buffer. clang has no attribute
@@ -277,9 +260,10 @@ def generated_files():
     rows, comments = [*fault_rows(), weak, *install_rows(install_comments)], comments | install_comments | {weak[0]: weak_comment}
     numbers = all_numbers(rows, comments)
     # Each header is parsed by itself for its attributes, because these do not depend on structs of the other one.
-    header = header_text(HEADER, {"Numbers": enum_text("error", numbers, first=["    MINISIGN_OK = 0"]), "Kinds": kinds_text(),
-                                  "Answers": answers_text(numbers), "Attributes": attributes_text(parsed(read(HEADER)))})
-    installing = header_text(INSTALLING, {**dict(choices_texts()), "Attributes": attributes_text(parsed(read(INSTALLING)))})
+    header = header_text(HEADER, {"Numbers": enum_text("error", numbers, first=["    MINISIGN_OK = 0"]), "Answers": answers_text(numbers),
+                                  "Attributes": attributes_text(parsed(read(HEADER)))})
+    installing = header_text(INSTALLING, {**{choice.place: choice_text(choice) for choice in CHOICES},
+                                          "Attributes": attributes_text(parsed(read(INSTALLING)))})
     yield HEADER, header
     yield INSTALLING, installing
     calls = parsed(header, installing)

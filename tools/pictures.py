@@ -1,10 +1,13 @@
 #!/usr/bin/env python3
-"""Takes the screenshots of the page in docs/: `page.png` shows an accepted and a rejected file, `page_narrow.png` the same in
-dark colours on a narrow screen, and `page_project.png` the page of a project after only the download was chosen.
+"""Takes the screenshots of the web page that docs/ shows.
 
     tools/pictures.py [PAGE]
 
-PAGE is the page; the default is that of `dist/`. Needs Chromium, as tests/page/page.py does.
+- page.png: an accepted and a rejected file;
+- page_narrow.png: the same two files in dark colours on a narrow screen;
+- page_project.png: a project's page, which contains the key and a signature, so that the user chooses only the download.
+
+PAGE is the HTML file of the page; the default is dist/minisign.html. Needs Chromium, as tests/page/page.py does.
 """
 
 import base64
@@ -24,14 +27,14 @@ from texts import CORPUS
 PUBLISHED = "RWQf6LRCGA9i53mlYecO4IzT51TGPpvWucNSCh1CBM0QTaLn73Y7GFO3"
 
 
-def give(person, *names):
-    """Chooses files of the corpus at once, and waits for the verdicts."""
+def choose_files(person, *names):
+    """Chooses these files of the corpus together, as a user does, and waits for the verdicts."""
     person.choose(*(os.path.join(CORPUS, name) for name in names))
     person.wait_seen("work")
 
 
 def take_picture(person, name, width, scheme):
-    """Writes a screenshot of the whole page into docs/, with this width and colour scheme."""
+    """Writes a screenshot of the whole page to a file in docs/, with this width in pixels and this colour scheme."""
     person.set_media("prefers-color-scheme", scheme)
     person.resize(width, 640)
     person.run("scrollTo(0, 0); document.activeElement.blur()")
@@ -47,15 +50,16 @@ def main():
         person = Chromium(*needs.chromium(), directory)
         try:
             person.begin(PUBLISHED, address=f"file://{page}")
-            give(person, "test", "published.minisig")
-            give(person, "hello", "hello.minisig")
+            choose_files(person, "test", "published.minisig")
+            choose_files(person, "hello", "hello.minisig")
             take_picture(person, "page.png", 720, "light")
             take_picture(person, "page_narrow.png", 360, "dark")
-            own, signature = os.path.join(directory, "own.html"), ("test.minisig", read(CORPUS, "published.minisig").decode())
-            with open(own, "w", encoding="utf-8") as file:
+            project_page = os.path.join(directory, "project.html")
+            signature = ("test.minisig", read(CORPUS, "published.minisig").decode())
+            with open(project_page, "w", encoding="utf-8") as file:
                 file.write(build.page(*build.taken_from(page), PUBLISHED, "Verify a download of Example", [signature]))
-            person.open(f"file://{own}")
-            give(person, "test")
+            person.open(f"file://{project_page}")
+            choose_files(person, "test")
             take_picture(person, "page_project.png", 390, "light")
         finally:
             person.quit()

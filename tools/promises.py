@@ -5,8 +5,9 @@
     tools/promises.py --check    fails if a table is not up to date; the last line is `N passed, M failed`
 
 The comment above an `ensures` describes the clauses below it, up to the next comment; an empty line `//` begins another
-paragraph. Clauses before the first such comment are described by the first paragraph of the function's doc comment, and
-so is an implementation that promises something to callers. A clause without a comment must not follow an empty line.
+paragraph. The first paragraph of a function's doc comment describes the clauses before the first such comment. An
+implementation with a contract is described by the first paragraph of its doc comment. A clause without a comment must not
+follow an empty line.
 
 The document marks the place of each table with a line:
 
@@ -17,9 +18,9 @@ The document marks the place of each table with a line:
                                               else of its first paragraph. If that sentence is short, the next one too
 
 Rows of a table with the same text are merged. PLACES are modules, types and functions, or prefixes such as
-`minisign_install_*`. A table has the public calls of these places, in their order. Without PLACES it has all calls of the
-crate that no other table has. Each public call with a clause, in a crate that has a table, must be in a table, except
-those of the modules that are listed after `; without: `.
+`minisign_install_*`. A table has the public calls of these places, in the order of PLACES. Without PLACES it has all calls
+of the crate that no other table has. If a crate has a table, each of its public calls with a clause must be in a table,
+except for the modules that are listed after `; without: `.
 
 Needs Python 3.9 or later.
 """
@@ -42,9 +43,9 @@ MARK = re.compile(r"^<!-- (?P<kind>promises|calls) of (?P<crate>\w+)(?:: (?P<pla
 HEADS = {"promises": "| Promise | Carried by |", "calls": "| Call of [{crate}](../crates/{crate}/src) | Promise |"}
 # The end of a sentence, and the length below which a sentence is short.
 END, SHORT = re.compile(r"(?<=[^.\s])\.(?:\*\*)?(?= [A-Z`*]|$)"), 60
-# Ghost members with which an implementation promises something to callers.
-SAID = ("output", "debug_output", "eq", "is_default", "from_gives")
-# A sentence that is left out, because the document says once for all calls which of them allocate.
+# An implementation has a contract for callers if it has one of these ghost members.
+CONTRACT_MEMBERS = ("output", "debug_output", "eq", "is_default", "from_gives")
+# Sentences that are left out of the tables, because docs/PROMISES.md says at one place which calls allocate.
 NO_MEMORY = re.compile(r"\s*(?:Takes no memory|Does not allocate)\.")
 
 
@@ -67,13 +68,13 @@ def doc_of(item):
 
 
 class Call:
-    """A function or an implementation that promises something, with its module."""
+    """A function with an `ensures`, or an implementation with a contract for callers, and its module."""
 
     def __init__(self, item, module, is_public):
         self.item, self.module, self.is_public = item, module, is_public
 
     def is_at(self, place, modules):
-        """Returns how exactly a place names this call: 0 not at all, 1 by its module, 2 by its type or a prefix, 3 by its name."""
+        """Returns how exactly a place names this call: 0 if it does not, 1 by its module, 2 by its type or a prefix, 3 by its name."""
         item = self.item
         if place in modules:
             return int(place == self.module)
@@ -121,7 +122,7 @@ class Call:
 
 
 def calls_of(library, crate):
-    """Yields the calls of a crate that promise something, in the order of the sources."""
+    """Yields the calls of a crate that have a contract, in the order of the sources."""
     read = library.crate_sources(crate)
     types = {item.name for source in read for item in source.items
              if item.public and item.what in ("struct", "enum", "trait", "type")}
@@ -136,9 +137,9 @@ def calls_of(library, crate):
 
 
 def promises(item):
-    """Returns true if a function has an `ensures`, or an implementation has a ghost member for callers."""
+    """Returns true if a function has an `ensures`, or an implementation has a contract for callers."""
     if item.what == "impl":
-        return any(member.what == "ghost" and member.name in SAID for member in item.members)
+        return any(member.what == "ghost" and member.name in CONTRACT_MEMBERS for member in item.members)
     return item.what == "fn" and any(clause.kind.startswith("ensures") for clause in item.clauses)
 
 

@@ -24,8 +24,8 @@ CALLS = ["read_secret_key", "open_unsealed_key", "open_sealed_key", "take_secret
          "public_key_text", "comment_message", "signed_text"]
 SOURCES = ["dist/calls.c", "c/library/portable/allocation.c", "bindings/javascript/module/memory.c"]
 INCLUDED = ["bindings/javascript/module", "c/library", "c/library/portable"]
-# The instructions that browsers have had since 2021. IS_COPIED: a number in memory may have any alignment.
-MACHINE = ["--target=wasm32", "-mbulk-memory", "-mmutable-globals", "-msign-ext", "-mnontrapping-fptoint", "-DIS_COPIED=1"]
+# The instructions that browsers have had since 2021. HAS_UNALIGNED_ACCESS: loads and stores may have any alignment.
+MACHINE = ["--target=wasm32", "-mbulk-memory", "-mmutable-globals", "-msign-ext", "-mnontrapping-fptoint", "-DHAS_UNALIGNED_ACCESS=1"]
 COMPILING = ["-std=c11", "-O2", "-nostdlib", "-nostdlibinc", "-DMINISIGN_MALLOC_ALONE", "-ffunction-sections", "-fdata-sections"]
 # A stack of 256 KiB, followed by memory for what is copied in and out. At most 2 GiB; a key of minisign -G takes half of it.
 LINKING = ["--no-entry", "--gc-sections", "--strip-all", "--export=__heap_base", "--initial-memory=1048576", "--max-memory=2147483648",

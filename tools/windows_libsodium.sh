@@ -13,6 +13,8 @@
 #
 # Needs a Debian system and its packages dpkg-dev, autoconf, automake, libtool and gcc-mingw-w64-x86-64.
 set -eu
+# make exports its variables. autoconf reads WARNINGS, and the others are not for libsodium.
+unset WARNINGS MAKEFLAGS MFLAGS MAKEOVERRIDES CC CFLAGS CPPFLAGS LDFLAGS
 target=$1
 mkdir -p "$2"
 prefix=$(cd "$2" && pwd)

@@ -39,7 +39,8 @@ func pointer(bytes []byte) *C.uint8_t {
 	return (*C.uint8_t)(&bytes[0])
 }
 
-func done(err C.enum_minisign_error) error {
+// errorOf returns nil if a call succeeded, and otherwise its error number as an Error.
+func errorOf(err C.enum_minisign_error) error {
 	if err == C.MINISIGN_OK {
 		return nil
 	}
@@ -67,64 +68,64 @@ func callInit() *C.minisign_state {
 }
 
 func callUpdate(state *C.minisign_state, data []byte) error {
-	return done(C.minisign_update(state, pointer(data), C.size_t(len(data))))
+	return errorOf(C.minisign_update(state, pointer(data), C.size_t(len(data))))
 }
 
 func callDigest(state *C.minisign_state) ([64]byte, error) {
 	var digest [64]byte
 	err := C.minisign_digest(state, (*C.uint8_t)(&digest[0]))
-	return digest, done(err)
+	return digest, errorOf(err)
 }
 
 func callReadPublicKey(pkText []byte) (*C.minisign_public_key, error) {
 	key := new(C.minisign_public_key)
 	err := C.minisign_read_public_key(pointer(pkText), C.size_t(len(pkText)), key)
-	return key, done(err)
+	return key, errorOf(err)
 }
 
 func callReadBarePublicKey(base64 []byte) (*C.minisign_public_key, error) {
 	key := new(C.minisign_public_key)
 	err := C.minisign_read_bare_public_key(pointer(base64), C.size_t(len(base64)), key)
-	return key, done(err)
+	return key, errorOf(err)
 }
 
 func callReadSignature(sigText []byte) (*C.minisign_signature, error) {
 	signature := new(C.minisign_signature)
 	err := C.minisign_read_signature(pointer(sigText), C.size_t(len(sigText)), signature)
-	return signature, done(err)
+	return signature, errorOf(err)
 }
 
 func callAsk(state *C.minisign_state, key *C.minisign_public_key, signature *C.minisign_signature, sigText []byte, allowLegacy C.uint32_t) (*C.minisign_questions, []byte, error) {
 	questions := new(C.minisign_questions)
 	message := make([]byte, 64+signature.comment_len)
 	err := C.minisign_ask(state, key, signature, pointer(sigText), C.size_t(len(sigText)), allowLegacy, questions, pointer(message), C.size_t(len(message)))
-	return questions, message, done(err)
+	return questions, message, errorOf(err)
 }
 
 func callCommentVerdict(state *C.minisign_state, second bool) error {
-	return done(C.minisign_comment_verdict(state, answer(second)))
+	return errorOf(C.minisign_comment_verdict(state, answer(second)))
 }
 
 func callVerdict(state *C.minisign_state, first bool, second bool) error {
-	return done(C.minisign_verdict(state, answer(first), answer(second)))
+	return errorOf(C.minisign_verdict(state, answer(first), answer(second)))
 }
 
 func callReadSecretKey(skText []byte) (*C.minisign_unopened_key, error) {
 	unopened := new(C.minisign_unopened_key)
 	err := C.minisign_read_secret_key(pointer(skText), C.size_t(len(skText)), unopened)
-	return unopened, done(err)
+	return unopened, errorOf(err)
 }
 
 func callOpenUnsealedKey(unopened *C.minisign_unopened_key) (*C.minisign_secret_key, error) {
 	key := new(C.minisign_secret_key)
 	err := C.minisign_open_unsealed_key(unopened, key)
-	return key, done(err)
+	return key, errorOf(err)
 }
 
 func callOpenSealedKey(unopened *C.minisign_unopened_key, password []byte, keepEvery C.uint64_t, mostRows C.uint64_t) (*C.minisign_secret_key, error) {
 	key := new(C.minisign_secret_key)
 	err := C.minisign_open_sealed_key(unopened, pointer(password), C.size_t(len(password)), keepEvery, mostRows, key)
-	return key, done(err)
+	return key, errorOf(err)
 }
 
 func callTakeSecretKey(newKey *C.minisign_new_key) *C.minisign_secret_key {
@@ -136,29 +137,29 @@ func callTakeSecretKey(newKey *C.minisign_new_key) *C.minisign_secret_key {
 func callPublicKeyOf(key *C.minisign_secret_key) (*C.minisign_public_key, error) {
 	publicKey := new(C.minisign_public_key)
 	err := C.minisign_public_key_of(key, publicKey)
-	return publicKey, done(err)
+	return publicKey, errorOf(err)
 }
 
 func callCommentMessage(first *[64]byte, trusted []byte) ([]byte, error) {
 	message := make([]byte, 64+len(trusted))
 	err := C.minisign_comment_message((*C.uint8_t)(&first[0]), pointer(trusted), C.size_t(len(trusted)), pointer(message), C.size_t(len(message)))
-	return message, done(err)
+	return message, errorOf(err)
 }
 
 func callSignedText(key *C.minisign_public_key, signature *[64]byte, commentSignature *[64]byte, trustedComment []byte, untrustedComment []byte) ([]byte, error) {
 	text, length := make([]byte, 240+len(trustedComment)+len(untrustedComment)), C.size_t(0)
 	err := C.flat_minisign_signed_text(key, (*C.uint8_t)(&signature[0]), (*C.uint8_t)(&commentSignature[0]), pointer(trustedComment), C.size_t(len(trustedComment)), pointer(untrustedComment), C.size_t(len(untrustedComment)), pointer(text), C.size_t(len(text)), &length)
-	return text[:length], done(err)
+	return text[:length], errorOf(err)
 }
 
 func callSecretKeyText(key *C.minisign_secret_key, password []byte, sealing *C.minisign_sealing, keepEvery C.uint64_t, comment []byte) ([]byte, error) {
 	text, length := make([]byte, 233+len(comment)), C.size_t(0)
 	err := C.minisign_secret_key_text(key, isGiven(password), pointer(password), C.size_t(len(password)), sealing, keepEvery, pointer(comment), C.size_t(len(comment)), pointer(text), C.size_t(len(text)), &length)
-	return text[:length], done(err)
+	return text[:length], errorOf(err)
 }
 
 func callPublicKeyText(key *C.minisign_secret_key, comment []byte) ([]byte, error) {
 	text, length := make([]byte, 77+len(comment)), C.size_t(0)
 	err := C.minisign_public_key_text(key, pointer(comment), C.size_t(len(comment)), pointer(text), C.size_t(len(text)), &length)
-	return text[:length], done(err)
+	return text[:length], errorOf(err)
 }

@@ -40,7 +40,7 @@ export function bytesOf(value) {
 export function textOf(value, name) {
   const isText = typeof value === "string";
   const bytes = isText ? new TextEncoder().encode(value) : bytesOf(value);
-  mustBe(bytes !== null, name, "a text, as a string or bytes", value);
+  mustBe(bytes !== null, name, "a string or bytes", value);
   if (bytes.length >= TEXT_BYTES) {
     throw argumentError(`${name} must have fewer than ${TEXT_BYTES} bytes`);
   }
@@ -58,7 +58,7 @@ export function clearCopy(bytes, text) {
 // The types of the options, by name. An option that is not here is a text,
 // which `textOf` checks when it is used. The table has no prototype, because a
 // property of Object.prototype would be an entry.
-const TEXT = ["a text, as a string or bytes", (value) => value !== null];
+const TEXT = ["a string or bytes", (value) => value !== null];
 const BOOLEAN = ["true or false", (value) => typeof value === "boolean"];
 const isFunction = (value) => typeof value === "function";
 const isRowCount = (value) => Number.isSafeInteger(value) && value > 0;
@@ -67,8 +67,8 @@ const OPTIONS = {
   __proto__: null,
   allowLegacy: BOOLEAN,
   lowMemory: BOOLEAN,
-  mode: ["the permissions of a file, at most 0o777", isMode],
-  mostRows: ["a number of rows", isRowCount],
+  mode: ["an integer from 0 to 0o777", isMode],
+  mostRows: ["a positive integer", isRowCount],
   progress: ["a function", isFunction],
   signal: ["an AbortSignal", (value) => isFunction(value?.addEventListener)],
 };

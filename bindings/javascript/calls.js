@@ -38,7 +38,7 @@ const QUESTIONS = {
   legacy: 248,
 };
 
-// ---- What is made ends here ----
+// ---- End of the generated part ----
 
 // Formats the eight bytes of a key ID as the program minisign prints it: one
 // little-endian number in upper-case hexadecimal digits, without leading zeros.

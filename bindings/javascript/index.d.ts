@@ -205,7 +205,8 @@ export interface Verifier {
  * with the code UNSUPPORTED_PLATFORM if WebCrypto has no Ed25519, as in a page
  * that was loaded over http; with a MinisignError if the key, the signature or
  * the data is rejected, and before any data is read if this does not depend on
- * the data; with the error of the stream if it fails; and with the signal's reason.
+ * the data; with the error of the stream if it fails; and with the signal's
+ * reason.
  * If it rejects, a stream of Node is destroyed, a web stream is cancelled, and
  * `return` of an iterator is called.
  */

@@ -1,6 +1,6 @@
 // SPDX-License-Identifier: MIT
-// Writes files in Node, as node.d.ts says. index.js does not import this file,
-// so that it runs in browsers.
+// Writes files in Node. node.d.ts documents the functions. index.js does not
+// import this file, so that index.js runs in browsers.
 
 import { open, unlink } from "node:fs/promises";
 import { dirname } from "node:path";
@@ -10,12 +10,12 @@ import { pathOf, syncDirectory } from "./paths.js";
 
 export { saveVerified } from "./saving.js";
 
-// The flags that make opening fail if the name exists, even as a dangling
-// symbolic link.
+// These flags make `open` fail if the name exists, also as a dangling symbolic
+// link.
 const ONLY_NEW = "wx";
 const OWNER_ONLY = 0o600;
 // All permissions except for the owner's permission to execute the file.
-const CHECKED = 0o677;
+const CHECKED_MODE_BITS = 0o677;
 
 export async function writeNew(path, text) {
   const name = pathOf(path);
@@ -43,12 +43,12 @@ async function writeAndSync(file, bytes, directory) {
   await syncDirectory(directory);
 }
 
-// Sets the mode if it is not right yet, which happens if a umask removed
-// permissions of the owner. It is set only if needed, because some file systems
-// have one mode for all files, and reject another mode.
+// Sets the mode if the umask removed permissions of the owner. Leaves a correct
+// mode alone, because some file systems have one mode for all files and reject
+// any change.
 async function allowOwnerOnly(file) {
   const { mode } = await file.stat();
-  if ((mode & CHECKED) !== OWNER_ONLY) {
+  if ((mode & CHECKED_MODE_BITS) !== OWNER_ONLY) {
     await file.chmod(OWNER_ONLY);
   }
 }

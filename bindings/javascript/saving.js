@@ -31,7 +31,7 @@ class Replacement {
 
   async create() {
     if (this.isDiscarded) {
-      throw new Error("saving has ended");
+      throw new Error("saving was cancelled");
     }
     this.existing = await lstat(this.path).catch((why) => {
       if (why.code !== "ENOENT") {

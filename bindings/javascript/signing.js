@@ -32,7 +32,7 @@ const secretKeys = new WeakMap();
 
 function bytesOfKey(secretKey) {
   const bytes = secretKeys.get(secretKey);
-  mustBe(bytes, "secretKey", "a secret key that was read", secretKey);
+  mustBe(bytes, "secretKey", "a secret key from this package", secretKey);
   return bytes;
 }
 

@@ -194,10 +194,11 @@ fn build(from: &str) {
         .iter()
         .all(|archive| with_prefix(from, archive, &names, &tool));
     let archives = if are_ready { archives } else { &[] };
-    for flag in ["-std=c11", "-pthread", "-fstack-protector-strong"] {
-        compiling.flag_if_supported(flag);
-    }
+    compiling.flag_if_supported("-std=c11");
+    // On Windows these would need DLLs of the compiler.
     if target("OS") != "windows" {
+        compiling.flag_if_supported("-pthread");
+        compiling.flag_if_supported("-fstack-protector-strong");
         compiling.define("_FORTIFY_SOURCE", "2");
     }
     // Renamed, because another library of the Rattle kit has memory functions of the same names.

@@ -63,7 +63,7 @@ bool name_directory(struct directory *directory, const char *target)
     }
     directory->update = (struct stage) { &directory->stages, strcpy(names + size, beside[2]->name), .fd = -1 };
     directory->number = (struct stage) { &directory->stages, strcpy(names + 2 * size, beside[2]->name), .fd = -1 };
-    directory->installed = (struct stage) { .shown = &directory->target, .fd = -1 };
+    directory->installed = (struct stage) { &directory->target, .fd = -1 };
     return true;
 }
 
@@ -71,8 +71,7 @@ void close_directory(struct directory *directory)
 {
     close_if_open(&directory->update.fd);
     close_if_open(&directory->number.fd);
-    close_target(directory);
-    close_if_open(&directory->locked);
+    unlock_target(directory);
     close_if_open(&directory->fd);
     free(directory->names);
 }
@@ -106,12 +105,6 @@ static enum minisign_error wrote(struct directory *directory, const struct part 
     return is_written ? MINISIGN_OK : fails(directory, part, MINISIGN_WRITING_FAILED);
 }
 
-static enum minisign_error remove_stage(struct directory *directory, const struct stage *stage)
-{
-    /* Another run that has the lock may have removed it. */
-    return wrote(directory, &directory->stages, AGAIN(unlinkat(directory->fd, stage->name, 0)) == 0 || errno == ENOENT);
-}
-
 /* ---- Existing files ---- */
 
 /* The file exists, does not exist, or cannot be used, which is remembered. */
@@ -131,7 +124,7 @@ static enum presence find(struct directory *directory, const struct part *part, 
                                            : "this is not a regular file";
         hint = part != &directory->target || !(S_ISLNK(status->st_mode) || S_ISDIR(status->st_mode))
                    ? "remove it or move it away"
-               : S_ISLNK(status->st_mode) ? "give the path that it leads to"
+               : S_ISLNK(status->st_mode) ? "use the path that it points to"
                                           : "give the path of a file in it";
     } else if (errno == ENOENT) {
         return ABSENT;
@@ -270,7 +263,8 @@ static enum minisign_error open_part(struct directory *directory, const struct p
         if (*fd < 0 && errno != ENOENT && errno != ELOOP) {
             return errno == EACCES && part != &directory->target
                        ? fails_for(directory, part, "only the owner of this file can open it",
-                                   "give it the same owner as the installed file", MINISIGN_READING_FAILED)
+                                   "use chown to change its owner to that of the installed file",
+                                   MINISIGN_READING_FAILED)
                        : fails(directory, part, MINISIGN_READING_FAILED);
         }
         presence = *fd < 0 ? ABSENT : leads_to(directory, part, *fd);
@@ -416,6 +410,12 @@ enum minisign_error lock_target(struct directory *directory)
     return error == MINISIGN_OK ? renew_lock(directory) : error;
 }
 
+void unlock_target(struct directory *directory)
+{
+    close_if_open(&directory->installed.fd);
+    close_if_open(&directory->locked);
+}
+
 /* ---- Leftovers and the record ---- */
 
 /* Leaves what cannot be removed, such as a directory of this name. */
@@ -439,6 +439,7 @@ enum minisign_error remove_leftovers(struct directory *directory)
 enum minisign_error read_record(struct directory *directory, struct record *record)
 {
     uint8_t bytes[MINISIGN_RECORD_TEXT_BYTES + 1];
+    struct stat status;
     ssize_t n;
     int fd;
     enum minisign_error error = open_part(directory, &directory->record, O_RDONLY, &fd);
@@ -446,7 +447,7 @@ enum minisign_error read_record(struct directory *directory, struct record *reco
     if (fd < 0) {
         return error;
     }
-    n = read_whole(fd, bytes, sizeof bytes);
+    n = look_at(directory, &directory->record, fd, &status) ? read_whole(fd, bytes, sizeof bytes) : -1;
     close_if_open(&fd);
     if (n < 0 || n == sizeof bytes) {
         errno = n < 0 ? errno : EFBIG;
@@ -455,6 +456,7 @@ enum minisign_error read_record(struct directory *directory, struct record *reco
                                  "remove it and use --first to install anyway", MINISIGN_READING_FAILED);
     }
     *record = (struct record) { .is_there = true, .len = (size_t) n };
+    record->written = status.st_mtime < 0 ? 0 : (uint64_t) status.st_mtime;
     memcpy(record->text, bytes, record->len);
     return MINISIGN_OK;
 }
@@ -468,6 +470,7 @@ enum minisign_error renew_record(struct directory *directory, const struct recor
         return error;
     }
     error = write_stage(directory, &fresh, record->text, record->len);
+    error = error == MINISIGN_OK ? date_stage(directory, &fresh, record->written) : error;
     error = error == MINISIGN_OK ? sync_record(directory, &fresh) : error;
     error = error == MINISIGN_OK ? rename_stage(directory, &fresh, &directory->record) : error;
     close(fresh.fd);
@@ -482,13 +485,8 @@ enum minisign_error renew_record(struct directory *directory, const struct recor
 
 enum minisign_error open_target(struct directory *directory)
 {
-    directory->installed = (struct stage) { .shown = &directory->target, .fd = -1 };
+    directory->installed = (struct stage) { &directory->target, .fd = -1 };
     return open_part(directory, &directory->target, O_RDONLY, &directory->installed.fd);
-}
-
-void close_target(struct directory *directory)
-{
-    close_if_open(&directory->installed.fd);
 }
 
 /* ---- Temporary files ---- */
@@ -500,8 +498,7 @@ static enum minisign_error make_file(struct directory *directory, struct stage *
         return MINISIGN_RANDOM_SOURCE_FAILED;
     }
     stage->fd = open_named(directory->fd, stage->name, FOR_THE_OWNER);
-    stage->has_name = stage->fd >= 0;
-    return wrote(directory, &directory->stages, stage->has_name);
+    return wrote(directory, &directory->stages, stage->fd >= 0);
 }
 
 enum minisign_error create_stage(struct directory *directory, struct stage *stage)
@@ -525,6 +522,13 @@ enum minisign_error write_stage(struct directory *directory, const struct stage 
                                 size_t len)
 {
     return wrote(directory, &directory->stages, write_whole(stage->fd, bytes, len));
+}
+
+enum minisign_error date_stage(struct directory *directory, const struct stage *stage, uint64_t seconds)
+{
+    struct timespec times[] = { { .tv_nsec = UTIME_OMIT }, { .tv_sec = (time_t) seconds } };
+
+    return wrote(directory, &directory->stages, AGAIN(futimens(stage->fd, times)) == 0);
 }
 
 enum minisign_error read_stage(struct directory *directory, struct stage *stage, uint8_t *bytes, size_t size,
@@ -557,7 +561,8 @@ static enum minisign_error give(struct directory *directory, struct permissions 
         return MINISIGN_OK;
     }
     is_denied = errno == EPERM || errno == EACCES;
-    snprintf(directory->words, sizeof directory->words, "the mode %03o is not allowed here", (unsigned) mode);
+    snprintf(directory->words, sizeof directory->words, "the system does not allow the mode %03o for this file",
+             (unsigned) mode);
     return fails_for(directory, &directory->stages, is_denied ? directory->words : NULL,
                      is_denied ? "use --mode to choose another mode" : NULL, MINISIGN_WRITING_FAILED);
 }
@@ -599,13 +604,12 @@ enum minisign_error sync_record(struct directory *directory, const struct stage 
 
 /* ---- Renaming and removing ---- */
 
-enum minisign_error rename_stage(struct directory *directory, struct stage *stage, const struct part *to)
+enum minisign_error rename_stage(struct directory *directory, const struct stage *stage, const struct part *to)
 {
     if (!is_locked(directory)) {
         return MINISIGN_WRITING_FAILED;
     }
-    stage->has_name = AGAIN(renameat(directory->fd, stage->name, directory->fd, to->name)) != 0;
-    return wrote(directory, to, !stage->has_name);
+    return wrote(directory, to, AGAIN(renameat(directory->fd, stage->name, directory->fd, to->name)) == 0);
 }
 
 enum minisign_error sync_names(struct directory *directory)
@@ -614,15 +618,8 @@ enum minisign_error sync_names(struct directory *directory)
     return wrote(directory, &directory->itself, sync_to_disk(directory->fd) || errno == EINVAL);
 }
 
-enum minisign_error remove_files(struct directory *directory)
+enum minisign_error remove_stage(struct directory *directory, const struct stage *stage)
 {
-    struct stage *const stages[] = { &directory->number, &directory->update };
-    enum minisign_error error = MINISIGN_OK;
-
-    for (size_t i = 0; i < sizeof stages / sizeof stages[0]; i++) {
-        if (stages[i]->has_name && remove_stage(directory, stages[i]) != MINISIGN_OK) {
-            error = MINISIGN_WRITING_FAILED;
-        }
-    }
-    return error;
+    /* Another run that has the lock may have removed it. */
+    return wrote(directory, &directory->stages, AGAIN(unlinkat(directory->fd, stage->name, 0)) == 0 || errno == ENOENT);
 }

@@ -1,7 +1,7 @@
 /* SPDX-License-Identifier: MIT */
 /*
  * Installs an update, or checks whether there is one. The state machine of minisign_install.h makes all decisions, and
- * says which operation is due. The functions here perform it (directory.h), and report its result to the machine.
+ * says which call is due. The functions here make that call (directory.h), and report its result to the machine.
  *
  * They print nothing, do not end the program and keep no state between runs, so they can be part of a library: the
  * result of a run is in its struct. Ed25519 is passed in. While the record and the target are renamed, SIGHUP, SIGINT,
@@ -20,26 +20,22 @@
 
 #define PIECE_BYTES (256 << 10)
 
-/* The size of an Ed25519 signature. */
-#define SIGNATURE_BYTES 64
-
 /* Verifies an Ed25519 signature. If that is not possible, returns a value that is neither MINISIGN_ANSWER_YES nor
  * MINISIGN_ANSWER_NO. */
 typedef enum minisign_answer ed25519_answer(const uint8_t signature[64], const uint8_t *bytes, size_t len,
                                             const uint8_t public_key[32]);
 
 /* The options of a run. They must not change until it ends. */
-struct wanted {
-    /* The path to install to; and whether to install nothing, but to say what an installation would do. */
+struct run_options {
+    /* The target path. With `is_check`, the run installs nothing, and determines what an installation would do. */
     const char *target;
     bool is_check;
     /* The file name that the trusted comment must contain, or NULL for the last part of `target`. */
     const char *name;
-    /* The data: its name in messages, its descriptor, and its maximum size. A check has no data. An update that is
-     * installed already, according to a check, needs none: then the descriptor is -1. */
-    const char *shown;
+    /* The data: its name in messages, its descriptor, and its maximum size in bytes. A check has no data. */
+    const char *data_name;
     int data;
-    uint64_t most;
+    uint64_t max_size;
     /* True if there need not be a record. */
     bool is_first;
     /* True if an update with the recorded version number is installed even if another update with that number is
@@ -47,10 +43,6 @@ struct wanted {
     bool again;
     /* True if the trusted comment must say when the update expires. */
     bool must_expire;
-    /* True if a record that names neither of the keys is ignored. */
-    bool new_key;
-    /* True if an update may be older than the recorded version. */
-    bool roll_back;
     /* The longest time to wait for a lock that another run has, in seconds. */
     uint32_t wait;
     /* The field of the trusted comment that has the version number. */
@@ -71,44 +63,43 @@ struct wanted {
 /* A run and its result. */
 struct installing {
     minisign_installation machine;
-    /* The last operation, or how the run ended; and why the update was rejected, or MINISIGN_OK. */
+    /* The last call, or how the run ended; and why the update was rejected, or MINISIGN_OK. */
     enum minisign_due call;
     enum minisign_error error;
     /* True if the update was rejected because the data exceeds the maximum size. */
     bool is_too_long;
-    /* True while data from a pipe is received. */
-    bool is_receiving;
-    /* How many bytes the last operation has handled, and how many there are, or 0 if that is unknown. */
+    /* How many bytes that call has handled, and how many there are, or 0 if that is unknown. */
     uint64_t done;
     uint64_t size;
     /* `directory.trouble` is the first error, also of the data. */
     struct directory directory;
-    const struct wanted *wanted;
+    const struct run_options *options;
+    /* The record, and whether the clock shows less than its modification time. */
     struct record record;
-    /* The message that the signature of the trusted comment is over: the signature of the data, and the comment. */
-    uint8_t message[SIGNATURE_BYTES + TEXT_BYTES];
-    size_t message_len;
+    bool is_clock_behind;
+    /* The last Ed25519 checks of the signature. `message` contains the trusted comment. */
+    minisign_questions questions;
+    /* True if the first of two keys has not signed, and the second is tried. */
+    bool is_second_key;
     /* How often the run has waited for the lock. */
     uint64_t waited;
-    /* True if the machine makes a check; and if this is the check that comes before data from a pipe is received. */
-    bool is_check;
-    bool is_slow;
-    /* The descriptor of the data, and its size, or 0 if that is unknown. */
+    /* The descriptor of the data, whether it is a regular file, its size if it is, and the temporary file that slow
+     * data is received into. */
     int data;
+    bool is_file;
     uint64_t data_size;
-    /* The unnamed file into which data from a pipe is received, and the most bytes to receive. */
-    struct stage received;
-    uint64_t to_receive;
+    struct stage held;
     uint8_t piece[PIECE_BYTES];
+    uint8_t message[TEXT_BYTES];
 };
 
 #pragma GCC visibility push(default)
 
-/* Begins a run. The data, keys and signature of `wanted` may be filled in later. Returns NULL with errno EINVAL if the
+/* Begins a run. The data, keys and signature of `options` may be filled in later. Returns NULL with errno EINVAL if the
  * target does not end with a file name, or with ENOMEM. */
-struct installing *begin_installing(const struct wanted *wanted);
+struct installing *begin_installing(const struct run_options *options);
 
-/* Performs the operation that is due, or handles one piece of data. Returns true if the run goes on. */
+/* Makes the call that is due, or handles one piece of data. Returns true if there is another call. */
 bool make_call(struct installing *run);
 
 /* Returns the file name that the trusted comment must contain. */
@@ -116,7 +107,7 @@ const char *wanted_name(const struct installing *run);
 
 /* Returns the trusted comment and its length if a key has signed it, even if the update was then rejected because of
  * the comment. Otherwise returns NULL. */
-const uint8_t *signed_comment(const struct installing *run, size_t *len);
+const uint8_t *vouched_comment(const struct installing *run, size_t *len);
 
 /* Ends a run, at any time: removes its temporary files, closes everything that is open, which unlocks the target, and
  * frees the memory. */

@@ -75,10 +75,10 @@ static void say_library_error(const char *file, enum minisign_error error)
 }
 
 /* Prints what a file is and what to do, if it is not of the expected kind. */
-static void explain_text(const char *file, const struct long_text *text, enum text_kind wanted)
+static void explain_text(const char *file, const struct long_text *text, enum text_kind expected_kind)
 {
     if (text->len > 0) {
-        explain_other_kind(file, text->bytes, text->len, wanted, ORDER_HINT);
+        explain_other_kind(file, text->bytes, text->len, expected_kind, ORDER_HINT);
     }
 }
 
@@ -96,22 +96,22 @@ static void must_be_key(const char *shown, const struct long_text *text, enum mi
 static void read_texts(struct request *request)
 {
     static struct long_text text;
-    struct wanted *wanted = &request->wanted;
+    struct run_options *options = &request->options;
 
-    for (int i = 0; i < wanted->key_count; i++) {
+    for (int i = 0; i < options->key_count; i++) {
         const char *base64 = request->keys[i];
 
         must_be_key(base64, &text, minisign_read_bare_public_key((const uint8_t *) base64, strlen(base64), &keys[i]));
     }
-    if (wanted->key_count == 0) {
+    if (options->key_count == 0) {
         read_long_text(&text, request->key);
         must_be_key(request->key, &text, minisign_read_public_key(text.bytes, text.len, &keys[0]));
-        wanted->key_count = 1;
+        options->key_count = 1;
     }
-    wanted->keys = keys;
+    options->keys = keys;
     read_long_text(&signature_text, request->signature);
-    wanted->signature = signature_text.bytes;
-    wanted->signature_len = signature_text.len;
+    options->signature = signature_text.bytes;
+    options->signature_len = signature_text.len;
 }
 
 /* ---- The run ---- */
@@ -124,15 +124,13 @@ static enum minisign_answer answer_of(const uint8_t signature[64], const uint8_t
     return result == 0 ? MINISIGN_ANSWER_YES : MINISIGN_ANSWER_NO;
 }
 
-/* Returns what the run is doing with the data, for the progress, or NULL. */
-static const char *work_of(const struct installing *run)
+/* Returns what a call does with the data, for the progress, or NULL. */
+static const char *work_of(enum minisign_due call)
 {
-    if (run->is_receiving) {
-        return "received";
-    }
-    switch (run->call) {
-    case MINISIGN_DUE_READ_TARGET: return "compared";
-    case MINISIGN_DUE_COPY_DATA: return "copied";
+    switch (call) {
+    case MINISIGN_DUE_LOOK: return "compared";
+    case MINISIGN_DUE_RECEIVE: return "received";
+    case MINISIGN_DUE_COPY: return "copied";
     case MINISIGN_DUE_READ_BACK: return "verified";
     default: return NULL;
     }
@@ -140,7 +138,7 @@ static const char *work_of(const struct installing *run)
 
 static void show_copying(struct progress *shown, const struct installing *run)
 {
-    const char *work = work_of(run);
+    const char *work = work_of(run->call);
 
     if (shown->label != work) {
         end_progress(shown);
@@ -153,8 +151,8 @@ static void make_run(struct request *request, struct installing *run)
 {
     struct progress shown = { 0 };
 
-    if (!request->wanted.is_check) {
-        request->wanted.data = open_update(request->wanted.shown);
+    if (!request->options.is_check) {
+        request->options.data = open_update(request->options.data_name);
     }
     while (make_call(run)) {
         show_copying(&shown, run);
@@ -218,10 +216,10 @@ static void say_trouble(const struct trouble *trouble)
 /* Prints a hint for an error of the library. */
 static void hint_at(const struct request *request, const struct installing *run, const struct ending *ending)
 {
-    if (run->error == MINISIGN_NO_NUMBER && request->wanted.numbering == MINISIGN_NUMBERING_VERSION) {
+    if (run->error == MINISIGN_NO_NUMBER && request->options.numbering == MINISIGN_NUMBERING_VERSION) {
         print_hint("omit --numbering version if the comment has a field timestamp:");
     } else if (run->error == MINISIGN_OTHER_FILE) {
-        fprintf(stderr, "hint: use --name NAME if the update is signed under another name than %s\n",
+        fprintf(stderr, "hint: use --name NAME if the update was signed under a name other than %s\n",
                 escape_name(wanted_name(run)).text);
     } else if (ending->error == MINISIGN_OK) {
         explain_text(request->signature, &signature_text, SIGNATURE_TEXT);
@@ -235,13 +233,13 @@ static enum status report(const struct request *request, const struct installing
 {
     const struct ending *ending = ending_for(run->error);
     const struct directory *directory = &run->directory;
-    const char *const blamed[] = { request->signature, request->wanted.shown, request->wanted.target,
+    const char *const blamed[] = { request->signature, request->options.data_name, request->options.target,
                                    directory->record.shown };
     enum status status = ending->status;
     bool has_trouble = directory->trouble.shown != NULL
-                       && (status == FAILED || status == NOT_SYNCED);
+                       && (status == FAILED || status == NOT_SYNCED || status == EXPIRED);
 
-    if (status == OLDER && request->wanted.is_check) {
+    if (status == OLDER && request->options.is_check) {
         return status;
     }
     if (status != FAILED || !has_trouble) {
@@ -264,10 +262,10 @@ static enum status report(const struct request *request, const struct installing
 static bool show_update(const struct installing *run)
 {
     size_t len;
-    const uint8_t *comment = signed_comment(run, &len);
+    const uint8_t *comment = vouched_comment(run, &len);
 
     if (comment != NULL) {
-        printf("%" PRIu64 "\n", minisign_install_version(&run->machine));
+        printf("%" PRIu64 "\n", minisign_install_number(&run->machine));
         write_escaped(stdout, comment, len);
         putchar('\n');
     }
@@ -275,13 +273,13 @@ static bool show_update(const struct installing *run)
 }
 
 /* Warns that an installed file keeps its permissions, if --mode asks for others. */
-static void compare_mode(const struct wanted *wanted)
+static void compare_mode(const struct run_options *options)
 {
     struct stat status;
 
-    if (wanted->has_mode && lstat(wanted->target, &status) == 0 && (status.st_mode & 0777) != wanted->mode) {
+    if (options->has_mode && lstat(options->target, &status) == 0 && (status.st_mode & 0777) != options->mode) {
         fprintf(stderr, "warning: %s: already installed, so its permissions are unchanged\n",
-                escape_name(wanted->target).text);
+                escape_name(options->target).text);
         print_hint("use chmod to change them");
     }
 }
@@ -289,24 +287,24 @@ static void compare_mode(const struct wanted *wanted)
 /* Prints the result of the run. Returns the exit status. */
 static enum status tell_end(const struct request *request, const struct installing *run)
 {
-    if (request->wanted.is_check && !show_update(run)) {
+    if (request->options.is_check && !show_update(run)) {
         return FAILED;
     }
     switch (run->call) {
-    case MINISIGN_DUE_ALREADY_INSTALLED: compare_mode(&request->wanted); return THERE_ALREADY;
-    case MINISIGN_DUE_REJECTED: return report(request, run);
+    case MINISIGN_DUE_ALREADY: compare_mode(&request->options); return THERE_ALREADY;
+    case MINISIGN_DUE_REFUSED: return report(request, run);
     default: return INSTALLED;
     }
 }
 
 /* ---- The program ---- */
 
-static struct installing *begin_run(const struct wanted *wanted)
+static struct installing *begin_run(const struct run_options *options)
 {
-    struct installing *run = begin_installing(wanted);
+    struct installing *run = begin_installing(options);
 
     if (run == NULL && errno == EINVAL) {
-        print_error(wanted->target, "this path does not end with a file name");
+        print_error(options->target, "this path does not end with a file name");
         print_hint("give the path of the file to install, not of its directory");
         exit(USAGE_ERROR);
     }
@@ -330,8 +328,8 @@ int main(int argc, char *argv[])
     signal(SIGPIPE, SIG_IGN);
     signal(SIGXFSZ, SIG_IGN);
     request = read_request(argc, argv);
-    request.wanted.answer = answer_of;
-    run = begin_run(&request.wanted);
+    request.options.answer = answer_of;
+    run = begin_run(&request.options);
     if (sodium_init() < 0) {
         print_error(NULL, "libsodium could not be initialized");
         return FAILED;

@@ -9,30 +9,31 @@
 
 enum { PATHS = 4 };
 
-/* The options. Those from MODE on have a value, and those from MODE to WAIT cannot be combined with --check. */
-enum option { IS_CHECK, IS_FIRST, MUST_EXPIRE, IS_AGAIN, NEW_KEY, ROLL_BACK, MODE, MOST, WAIT, NUMBERING, NAME, KEY, OPTIONS };
+/* The options. Those from MODE on take a value, and those from MODE to WAIT cannot be combined with --check. */
+enum option { IS_CHECK, IS_FIRST, MUST_EXPIRE, IS_AGAIN, MODE, MAX_SIZE, WAIT, NUMBERING, NAME, KEY, OPTIONS };
 
+/* --most is the former name of --max-size. It is not documented, but still accepted. */
 static const struct {
     const char *word;
     enum option option;
 } words[] = {
     { "--check", IS_CHECK }, { "--first", IS_FIRST }, { "--must-expire", MUST_EXPIRE }, { "--again", IS_AGAIN },
-    { "--new-key", NEW_KEY }, { "--roll-back", ROLL_BACK },
-    { "--mode", MODE }, { "--most", MOST }, { "--max-size", MOST }, { "--wait", WAIT }, { "--numbering", NUMBERING },
-    { "--name", NAME }, { "--key", KEY },
+    { "--mode", MODE }, { "--most", MAX_SIZE }, { "--max-size", MAX_SIZE }, { "--wait", WAIT },
+    { "--numbering", NUMBERING }, { "--name", NAME }, { "--key", KEY },
 };
 
-/* The parsed command line: the name and the value of each option, or NULL. */
+/* The arguments: for each option its name as given and its value, or NULL; and the paths. */
 struct command_line {
     const char *words[OPTIONS];
     const char *values[OPTIONS];
     const char *keys[MAX_KEYS];
     int key_count;
-    /* One path too many is kept, for the message. */
+    /* The last element is for one path too many, which the error message names. */
     const char *paths[PATHS + 1];
-    int count;
+    int path_count;
 };
 
+/* Prints the help or the version, and ends the program. */
 static _Noreturn void show(const char *text, const char *more_text)
 {
     exit(fputs(text, stdout) >= 0 && fputs(more_text, stdout) >= 0 && fflush(stdout) == 0 ? INSTALLED : FAILED);
@@ -45,14 +46,14 @@ static _Noreturn void end_misuse(void)
     exit(USAGE_ERROR);
 }
 
-/* Ends the program because of an argument, or of all of them if `word` is NULL. */
+/* Reports what is wrong with an argument, or with the whole command line if `word` is NULL, and ends the program. */
 static _Noreturn void misuse(const char *word, const char *what)
 {
     print_error(word, what);
     end_misuse();
 }
 
-/* Stores an option, which can be given once, except --key, which can be given twice. */
+/* Stores an option. --key can be given twice, and each other option once. */
 static void add_option(struct command_line *line, enum option option, const char *word, const char *value)
 {
     if (option == KEY) {
@@ -67,17 +68,17 @@ static void add_option(struct command_line *line, enum option option, const char
     line->values[option] = value;
 }
 
-/* Ends the program if there are too many or too few paths, or if options cannot be combined. With --check there is no
- * DATA, and with --key no PK. */
-static void judge_line(const struct command_line *line)
+/* Ends the program if there are too many or too few paths, or if an option cannot be combined with --check. With
+ * --check there is no DATA, and with --key no PK. */
+static void check_line(const struct command_line *line)
 {
     static const char *const paths[2][2] = { { "PK DATA SIG TARGET", "DATA SIG TARGET" },
                                              { "PK SIG TARGET", "SIG TARGET" } };
     int is_check = line->words[IS_CHECK] != NULL, has_key = line->words[KEY] != NULL;
-    int wanted = PATHS - is_check - has_key;
+    int expected_count = PATHS - is_check - has_key;
 
-    if (line->count > wanted) {
-        fprintf(stderr, "error: %s: unexpected argument, expected %s\n", escape_name(line->paths[wanted]).text,
+    if (line->path_count > expected_count) {
+        fprintf(stderr, "error: %s: unexpected argument, expected %s\n", escape_name(line->paths[expected_count]).text,
                 paths[is_check][has_key]);
         end_misuse();
     }
@@ -86,12 +87,7 @@ static void judge_line(const struct command_line *line)
             misuse(line->words[option], "this option cannot be combined with --check");
         }
     }
-    for (int option = NEW_KEY; line->words[IS_FIRST] != NULL && option <= ROLL_BACK; option++) {
-        if (line->words[option] != NULL) {
-            misuse(line->words[option], "this option cannot be combined with --first");
-        }
-    }
-    if (line->count < wanted) {
+    if (line->path_count < expected_count) {
         fprintf(stderr, "error: missing arguments, expected %s\n", paths[is_check][has_key]);
         end_misuse();
     }
@@ -110,18 +106,18 @@ static enum option option_of(const char *word)
 static struct command_line read_command_line(int argc, char *argv[])
 {
     struct command_line line = { 0 };
-    bool is_ended = false;
+    bool only_paths = false;
 
     for (int i = 1; i < argc; i++) {
         const char *word = argv[i];
         enum option option = option_of(word);
 
-        if (is_ended || word[0] != '-' || word[1] == 0) {
-            if (line.count <= PATHS) {
-                line.paths[line.count++] = word;
+        if (only_paths || word[0] != '-' || word[1] == 0) {
+            if (line.path_count <= PATHS) {
+                line.paths[line.path_count++] = word;
             }
         } else if (strcmp(word, "--") == 0) {
-            is_ended = true;
+            only_paths = true;
         } else if (option == OPTIONS) {
             misuse(word, "unknown option");
         } else if (option >= MODE && ++i == argc) {
@@ -130,7 +126,7 @@ static struct command_line read_command_line(int argc, char *argv[])
             add_option(&line, option, word, argv[i]);
         }
     }
-    judge_line(&line);
+    check_line(&line);
     return line;
 }
 
@@ -162,7 +158,7 @@ static mode_t mode_of(const char *text)
     return (mode_t) strtoul(text, NULL, 8);
 }
 
-/* Returns the number of bytes for the suffix of a size, or 1 if there is none. */
+/* Returns how many bytes the suffix of a size stands for, or 1 if it is not K, M, G or T. */
 static uint64_t unit_of(const char *text)
 {
     switch (text[0]) {
@@ -204,7 +200,7 @@ static uint32_t seconds_of(const char *text)
 struct request read_request(int argc, char *argv[])
 {
     struct request request = { 0 };
-    struct wanted *wanted = &request.wanted;
+    struct run_options *options = &request.options;
     struct command_line line;
 
     for (int i = 1; i < argc; i++) {
@@ -219,26 +215,25 @@ struct request read_request(int argc, char *argv[])
         show("minisign-install " MINISIGN_VERSION_TEXT "\n", "");
     }
     line = read_command_line(argc, argv);
-    wanted->is_check = line.words[IS_CHECK] != NULL;
-    wanted->is_first = line.words[IS_FIRST] != NULL;
-    wanted->again = line.words[IS_AGAIN] != NULL;
-    wanted->must_expire = line.words[MUST_EXPIRE] != NULL;
-    wanted->new_key = line.words[NEW_KEY] != NULL;
-    wanted->roll_back = line.words[ROLL_BACK] != NULL;
-    wanted->numbering = numbering_of(line.values[NUMBERING]);
-    wanted->name = line.values[NAME];
-    if (wanted->name != NULL && *wanted->name == 0) {
-        reject_value("--name", "a file name", wanted->name);
+    options->is_check = line.words[IS_CHECK] != NULL;
+    options->is_first = line.words[IS_FIRST] != NULL;
+    options->again = line.words[IS_AGAIN] != NULL;
+    options->must_expire = line.words[MUST_EXPIRE] != NULL;
+    options->numbering = numbering_of(line.values[NUMBERING]);
+    options->name = line.values[NAME];
+    if (options->name != NULL && *options->name == 0) {
+        reject_value("--name", "a file name", options->name);
     }
-    wanted->has_mode = line.words[MODE] != NULL;
-    wanted->mode = wanted->has_mode ? mode_of(line.values[MODE]) : 0;
-    wanted->most = line.words[MOST] != NULL ? bytes_of(line.words[MOST], line.values[MOST]) : INT64_MAX;
-    wanted->wait = line.words[WAIT] != NULL ? seconds_of(line.values[WAIT]) : 0;
+    options->has_mode = line.words[MODE] != NULL;
+    options->mode = options->has_mode ? mode_of(line.values[MODE]) : 0;
+    options->max_size =
+        line.words[MAX_SIZE] != NULL ? bytes_of(line.words[MAX_SIZE], line.values[MAX_SIZE]) : INT64_MAX;
+    options->wait = line.words[WAIT] != NULL ? seconds_of(line.values[WAIT]) : 0;
     memcpy(request.keys, line.keys, sizeof request.keys);
-    wanted->key_count = line.key_count;
+    options->key_count = line.key_count;
     request.key = line.key_count > 0 ? NULL : line.paths[0];
-    wanted->shown = wanted->is_check ? NULL : line.paths[line.count - 3];
-    request.signature = line.paths[line.count - 2];
-    wanted->target = line.paths[line.count - 1];
+    options->data_name = options->is_check ? NULL : line.paths[line.path_count - 3];
+    request.signature = line.paths[line.path_count - 2];
+    options->target = line.paths[line.path_count - 1];
     return request;
 }

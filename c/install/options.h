@@ -7,11 +7,12 @@
 
 /* The parsed command line. */
 struct request {
-    /* The options of the run, without the data, keys and signature. */
-    struct wanted wanted;
-    /* The public key file; or NULL, and public keys in base64. */
+    /* The options of the run. The data, keys and signature are filled in later. */
+    struct run_options options;
+    /* The path of the public key file, or NULL if `keys` has one or two public keys in base64. */
     const char *key;
     const char *keys[MAX_KEYS];
+    /* The path of the signature file. */
     const char *signature;
 };
 

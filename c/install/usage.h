@@ -16,30 +16,24 @@
     "and a version number that is not below that of the installed update, which the\n" \
     "program records beside TARGET.\n" \
     "\n" \
-    "  --first            Accept any version number if none of the kind that\n" \
-    "                     `--numbering` selects is recorded for TARGET, or if the\n" \
-    "                     version record was made under another key.\n" \
+    "  --first            Install even if no version number of FIELD (see\n" \
+    "                     `--numbering`) is recorded for TARGET, or if the record\n" \
+    "                     was made under another key.\n" \
     "  --again            Install an update of the recorded version even if another\n" \
     "                     update of that version is installed.\n" \
-    "  --new-key          Ignore a version record that was made under a key other\n" \
-    "                     than the given ones. A missing or damaged record is still\n" \
-    "                     an error.\n" \
-    "  --roll-back        Install an update even if it is older than the recorded\n" \
-    "                     version.\n" \
-    "  --check            Install nothing. The exit status says what an installation\n" \
-    "                     would do. Print the version number and the trusted comment\n" \
-    "                     of the update. Give no DATA. Of the other options,\n" \
-    "                     `--mode`, `--max-size` and `--wait` cannot be combined\n" \
-    "                     with this one.\n" \
+    "  --check            Check for an update, but do not install it. Print its\n" \
+    "                     version number and its trusted comment. The exit status\n" \
+    "                     says what an installation would do. Omit DATA, `--mode`,\n" \
+    "                     `--max-size` and `--wait`.\n" \
     "  --key KEY          Use this public key, the second line of its file, and omit\n" \
     "                     PK. Give this option twice during a change of keys: a\n" \
     "                     signature by either key is then valid.\n" \
     "  --numbering FIELD  Take the version number from this field of the trusted\n" \
     "                     comment: `timestamp` (the default) or `version`.\n" \
-    "  --name NAME        Install an update whose trusted comment names NAME. The\n" \
-    "                     default is the last part of TARGET. For example, `--name\n" \
-    "                     app-1.2` installs at `app` an update that was signed as\n" \
-    "                     `app-1.2`.\n" \
+    "  --name NAME        Require the file name NAME in the trusted comment. The\n" \
+    "                     default is the last part of TARGET. For example, with\n" \
+    "                     TARGET `app`, `--name app-1.2` installs an update that was\n" \
+    "                     signed as `app-1.2`.\n" \
     "  --mode MODE        Set the permissions of the installed file to MODE, three\n" \
     "                     octal digits such as 755. A leading 0 is allowed. If the\n" \
     "                     update is already installed, its permissions are\n" \
@@ -58,29 +52,28 @@
     "                     argument.\n" \
     "  --version          Print the version of the program. Give no other argument.\n" \
     "\n" \
-    "Options may stand anywhere before `--`. Each may be given once, except `--key`,\n" \
-    "which may be given twice.\n"
+    "Options may be given anywhere before `--`. Each may be given once, except\n" \
+    "`--key`, which may be given twice.\n"
 
 #define STATUS_HELP \
     "\n" \
     "Exit status:\n" \
     "  0   The update was installed. With `--check`, it would be installed. With\n" \
     "      `--help` or `--version`, the text was printed.\n" \
-    "  1   A file could not be read or written, memory ran out, or the system\n" \
-    "      supplied no random bytes.\n" \
-    "  2   The command line is wrong.\n" \
+    "  1   A file could not be read or written, the program ran out of memory, or\n" \
+    "      the system supplied no random bytes.\n" \
+    "  2   The command line is not valid.\n" \
     "  3   The signature is not valid, a key or signature file is malformed, a file\n" \
-    "      is too large, or the data does not have the signed size. Or the trusted\n" \
-    "      comment names another file, has no version number, has an `expires:` or\n" \
-    "      `size:` that is repeated or not a number, or lacks the `expires:` that\n" \
-    "      `--must-expire` demands.\n" \
+    "      is too large, or the size of the data is not the signed one. This is also\n" \
+    "      the status if the trusted comment names another file, has no version\n" \
+    "      number, has an `expires:` or `size:` that is repeated or not a number, or\n" \
+    "      lacks the `expires:` that `--must-expire` requires.\n" \
     "  4   The update is older than the recorded version.\n" \
     "  5   Another installation of TARGET is running.\n" \
     "  6   The update is installed but could not be synced, so a crash may bring\n" \
     "      back the previous file. Run the command again.\n" \
-    "  7   No version number of the kind that `--numbering` selects is recorded for\n" \
-    "      TARGET, and `--first` is not given. The version record is missing or\n" \
-    "      damaged, or holds the other kind.\n" \
+    "  7   `--first` is not given, and the version record of TARGET is missing or\n" \
+    "      damaged, or has a number of the other FIELD (see `--numbering`).\n" \
     "  8   The update has the recorded version number, but a different file is\n" \
     "      installed, the record does not show that it was written for this update,\n" \
     "      and `--again` is not given. Either the key has signed two updates with\n" \

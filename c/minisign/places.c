@@ -1,5 +1,5 @@
 /* SPDX-License-Identifier: MIT */
-/* Finds out in which directory, under which name, a file is to be written. */
+/* Finds the directory and the name under which a file will be written. */
 #include "places.h"
 
 #include "files.h"
@@ -8,7 +8,7 @@
 /* The limit of Linux for links in a path. */
 #define MAX_LINKS 40
 #define TARGET_BYTES 4096
-/* How often to look up a place again while other processes change it. */
+/* How often to look up a path again if other processes change it. */
 #define MAX_TRIES 100
 
 #define DIRECTORY_HINT "use a directory that only you can write to"
@@ -75,7 +75,7 @@ static void reject_planted_file(const struct place *place)
 
     require(fstat(place->directory, &parent) == 0, place->file);
     if (is_planted(place, &place->existing.status, &parent, S_IWOTH | S_IWGRP)) {
-        fail_error(place->file, "this belongs to another user, in a directory that others can write to",
+        fail_error(place->file, "this file belongs to another user, and others can write to its directory",
                    DIRECTORY_HINT);
     }
 }
@@ -96,13 +96,14 @@ static bool may_follow(const struct place *place, const struct stat *link)
         return false;
     }
     if (is_planted(place, link, &parent, S_IWOTH)) {
-        fail_error(place->file, "this path has another user's symbolic link, in a directory that others can write to",
+        fail_error(place->file,
+                   "this path goes through another user's symbolic link in a directory that others can write to",
                    DIRECTORY_HINT);
     }
     return true;
 }
 
-/* The kind of a name in a directory: a link, whose target was read, or no link. IS_UNKNOWN is an error, in errno. */
+/* The kind of a directory entry: a link, whose target was read; no link; or unknown because of the error in errno. */
 enum step { IS_LINK, IS_NO_LINK, IS_UNKNOWN };
 
 static enum step read_link(const struct place *place, const char *name, char target[TARGET_BYTES])
@@ -129,8 +130,8 @@ static enum step read_link(const struct place *place, const char *name, char tar
     return step;
 }
 
-/* Enters a directory, relative to the current directory at first, then to the place's. The system has to follow links
- * in /proc itself, because their text is not where they lead. */
+/* Enters a directory. The name is relative to the directory that was entered before, or else to the current directory.
+ * by_system: the kernel follows links, as it must in /proc, where the text of a link is not its target. */
 static bool enter(struct place *place, const char *name, bool by_system)
 {
     int directory = enter_directory(place->directory < 0 ? AT_FDCWD : place->directory, name, by_system);
@@ -143,7 +144,7 @@ static bool enter(struct place *place, const char *name, bool by_system)
     return true;
 }
 
-/* Walks along the path component by component, and follows each link. *path is memory of malloc, and may be replaced.
+/* Walks along the path component by component, and follows each link. *path is memory from malloc and may be replaced.
  * On failure, returns false and sets errno. */
 static bool resolve_path(struct place *place, char **path)
 {
@@ -180,7 +181,7 @@ static bool resolve_path(struct place *place, char **path)
     return false;
 }
 
-/* Finds the directory and the name, with all links followed. On failure, returns false and sets errno. */
+/* Finds the directory and the name after following all links. On failure, returns false and sets errno. */
 static bool follow_links(struct place *place)
 {
     char *path = join(place->file, "", "");
@@ -235,7 +236,7 @@ static bool is_descriptor(struct place *place)
         return false;
     }
     if (was_closed_at_start(fd)) {
-        fail_error(place->file, "this stream is closed", "redirect it to a file, or give the name of a file");
+        fail_error(place->file, "this standard stream is closed", "redirect it to a file, or use the path of a file");
     }
     flags = fcntl(fd, F_GETFL);
     if (flags < 0 || (flags & O_ACCMODE) == O_RDONLY || fstat(fd, &place->existing.status) != 0
@@ -262,8 +263,8 @@ static bool has_name(const struct handle *existing)
     return existing->status.st_nlink > 0 && (S_ISREG(mode) || (S_ISFIFO(mode) && !is_nameless_pipe(existing)));
 }
 
-/* Returns true if the name that was found leads to the file that the system found at the path, or to nothing if the
- * system found nothing. */
+/* Returns true if the name that follow_links found refers to the file that the kernel found at the path. If the kernel
+ * found no file, the name must not exist. */
 static bool leads_to_existing(const struct place *place)
 {
     struct stat named;

@@ -441,7 +441,7 @@ const char *put_both_in_place(struct replacement *first, struct replacement *sec
          * first. */
         if (first->fd >= 0 && second->fd >= 0 && is_at(first, &second->place)) {
             undo_stage(first);
-            fail_error(second->place.file, "the file system takes this for the name of the other key file",
+            fail_error(second->place.file, "on this file system, this name and that of the other key file are the same",
                        "use -s FILE and -p FILE to name two different files");
         }
         if (was_placed(second, place_stage(second))) {

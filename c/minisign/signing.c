@@ -44,14 +44,14 @@ static void check_default_comment(const char *data_file, bool legacy)
     const char *error_text = NULL;
 
     if (!is_utf8(text, len)) {
-        error_text = "the trusted comment cannot hold a name that is not UTF-8";
+        error_text = "this name is not UTF-8, so it cannot be in the trusted comment";
     } else if (strpbrk(name, "\r\n") != NULL) {
-        error_text = "the trusted comment cannot hold a name with a line break";
+        error_text = "this name contains a line break, so it cannot be in the trusted comment";
     } else if (legacy && ends_with_space(text, len)) {
-        error_text = "the trusted comment cannot end with white space";
+        error_text = "this name ends with white space, so the trusted comment cannot end with it";
     }
     if (error_text != NULL) {
-        fail_error(data_file, error_text, "use -t COMMENT to give another trusted comment");
+        fail_error(data_file, error_text, "use -t COMMENT to choose the trusted comment");
     }
 }
 
@@ -126,7 +126,7 @@ static void verify_signature(const struct options *options, const minisign_state
     if (name_of_public_key(options) != NULL) {
         fprintf(stderr, "error: %s: this is not the public key of %s\n", escape_name(name_of_public_key(options)).text,
                 escape_name(options->secret_file).text);
-        print_hint("use -R to write the public key file again");
+        print_hint("use -R to recreate the public key file");
     }
     exit(TROUBLE);
 }

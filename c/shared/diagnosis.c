@@ -229,7 +229,7 @@ static const char *diagnose_kind(const struct lines *lines, enum text_kind expec
     switch (actual) {
     case SIGNIFY_SIGNATURE: return "this is a signify signature, which has no trusted comment";
     case SIGNIFY_SECRET_KEY: return "this is a signify secret key";
-    case BARE_KEY_TEXT: return "this is a public key without the comment line of a file";
+    case BARE_KEY_TEXT: return "this is a public key without its comment line, so it is not a public key file";
     case OTHER_TEXT: return NULL;
     default: break;
     }

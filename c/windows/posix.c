@@ -52,11 +52,11 @@ int errno_of(DWORD error)
 const char *windows_strerror(int error)
 {
     switch (error) {
-    case NAME_HAS_COLON: return "a name with a colon is not a file on Windows";
+    case NAME_HAS_COLON: return "a file name cannot contain a colon on Windows";
     case NAME_IS_RESERVED: return "Windows reserves this name for a device";
-    case NAME_END_IS_DROPPED: return "Windows drops the dot or space at the end of a name";
+    case NAME_END_IS_DROPPED: return "a file name cannot end with a dot or space on Windows";
     case FILE_IS_IN_USE: return "another program has this file open";
-    case LINK_HAS_NO_TARGET: return "this link leads to a missing file";
+    case LINK_HAS_NO_TARGET: return "the target of this link does not exist";
     default: return strerror(error);
     }
 }

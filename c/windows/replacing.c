@@ -613,7 +613,7 @@ const char *put_both_in_place(struct replacement *first, struct replacement *sec
         sync_name(first);
         if (!first->is_written_in_place && !second->is_written_in_place && is_at(first, second)) {
             undo_in_time(first);
-            fail_error(second->file, "the file system takes this for the name of the other key file",
+            fail_error(second->file, "on this file system, this name and that of the other key file are the same",
                        "use -s FILE and -p FILE to name two different files");
         }
         if (was_placed(second, place_stage(second))) {

@@ -8,7 +8,7 @@ It is also built from the directory `vendor` of a program, and from a git reposi
 make in PATH. The module's own tests and examples run under `go vet`; under the race detector, with the archive for
 newer x86-64 processors; and for AArch64 in an emulator. Compiled as C, the module gives the same results here, for
 32-bit ARM, and for Windows under wine. Without cgo, the compiler prints a sentence that says so. The results are
-compared with `c/minisign`, libsodium and the header (`ask_all`). For 20,000 damaged keys and signatures, and for keys
+compared with `c/minisign`, libsodium and the header (`compare_results`). For 20,000 damaged keys and signatures, and for keys
 and signatures that the caller changed or composed, the verdicts are those of go-minisign, except for the differences in
 the tables below. The examples of README.md are pasted into a module and run. Each mutant of go/mutants is detected. It
 prints a line for each failure; the last line is `N passed, M failed`.
@@ -154,22 +154,22 @@ def fields_line(fields):
     return " ".join([*(key_id.hex() for key_id in ids), *map(shared_cases.key_id_text, ids), "Ed" if fields.is_legacy else "ED"])
 
 
-def ask_all(program, room, minisign, cases):
+def compare_results(program, room, minisign, cases):
     """Checks all results of a program that verifies. For data in pieces, legacy signatures are rejected."""
     rejection = lambda name: rf'rejected {name} "minisign: .*"'
-    program.ask_answers(minisign, cases, (["verify"], True), (["files", room], True),
+    program.check_verdicts(minisign, cases, (["verify"], True), (["files", room], True),
                         *((["pieces", str(length)], False) for length in (1, 128, 1000, 0)))
-    program.ask_vectors(["verify"], rejection)
-    program.ask_reasons(["pieces", "7"], shared_cases.rejections(), rejection)
-    program.ask_fields(["read"], fields_line)
-    record = base64.b64decode(shared_cases.LETTERS)
-    program.ask_bare_keys(f"{record[2:10].hex()} {record[10:].hex()} <nil>", *[".*minisign: base64 conversion failed.*"] * 3)
+    program.check_vectors(["verify"], rejection)
+    program.check_errors(["pieces", "7"], shared_cases.rejections(), rejection)
+    program.check_fields(["read"], fields_line)
+    record = base64.b64decode(shared_cases.PUBLISHED_BASE64)
+    program.check_bare_keys(f"{record[2:10].hex()} {record[10:].hex()} <nil>", *[".*minisign: base64 conversion failed.*"] * 3)
 
 
 def verdicts(program):
     """Runs a program of go/changed.go. Returns for each change its name, the error that it has to be rejected with, or an empty string, the
     verdict, and the error text."""
-    output = run([program, *shared_cases.PATHS])[1].decode()
+    output = run([program, *shared_cases.PUBLISHED_PATHS])[1].decode()
     return re.findall(r"^(.*): (\w*): (true|false), (.*)$", output, re.M)
 
 
@@ -185,7 +185,7 @@ def check_changed(checks, program):
 def check_go_minisign(checks, go, room, program):
     """Checks that go-minisign has the same verdicts on cases, and on fields that the caller changed, except for those in the tables, and
     that each row of the tables is needed."""
-    cases = shared_cases.corpus() + shared_cases.damaged(DAMAGED) + [case for case, _ in shared_cases.vector_texts()]
+    cases = shared_cases.corpus() + shared_cases.damaged_cases(DAMAGED) + [case for case, _ in shared_cases.vector_texts()]
     go_minisign = Program(checks, go.build_with_go_minisign("verdicts.go", f"{room}/verdicts"))
     ours, theirs = (each.run("verify", cases=cases)[1].decode().splitlines() for each in (program, go_minisign))
     checks.check(len(ours) == len(theirs) == len(cases) > DAMAGED, f"{len(ours)} and {len(theirs)} verdicts on {len(cases)} cases")
@@ -217,8 +217,8 @@ def check_errors(program):
 def check_signing(program, room, minisign, decrypts=True):
     """Checks that the program and `c/minisign` can read each other's keys and signatures, that a key does not print its secret and is
     cleared, and that nil arguments are rejected."""
-    program.ask_pairs(20, "shown")
-    program.ask_pairs(9, "wrong")
+    program.check_pairs(20, "shown")
+    program.check_pairs(9, "wrong")
     shared_cases.check_signing(program, room, minisign, decrypts=decrypts)
     shared_cases.check_key_ids(program, os.path.join(room, "ids"), minisign)
     shared_cases.check_new_key_files(program, os.path.join(room, "written"))
@@ -294,7 +294,7 @@ def check_as_c(checks, go, room, package, minisign):
             ("for Windows", [windows.program], UNOPTIMIZED, {"GOOS": "windows", "CC": mingw})):
         program = go.build("answers.go", os.path.join(room, what.replace(" ", "-")), package, *words, **environment)
         asked = Program(checks, *before, program, name=what, **windows.variables)
-        asked.ask_answers(minisign, shared_cases.corpus(), (["verify"], True))
+        asked.check_verdicts(minisign, shared_cases.corpus(), (["verify"], True))
         is_as_c = what == "for Windows" or "machine_minisign_update" in symbols_of(program)
         checks.check(is_as_c, f"{what}: it is not built from dist/calls.c")
     windows.end()
@@ -309,7 +309,7 @@ def check_by_git(checks, room):
     clone, repository = commands.Clone(room), os.path.join(room, "repository.git")
     os.rename(clone.top, repository)
     config = write(room, "gitconfig", f'[url "file://{room}/"]\n\tinsteadOf = https://example.com/\n'.encode())
-    go = Go(room, PATH=shared_cases.few_programs(room, *NEEDED), GIT_CONFIG_GLOBAL=config, GOSUMDB="off",
+    go = Go(room, PATH=shared_cases.path_directory(room, *NEEDED), GIT_CONFIG_GLOBAL=config, GOSUMDB="off",
             GOFLAGS="-mod=mod -modcacherw", GOPROXY="direct")
     untagged, files = (clone.git("rev-parse", "HEAD", at=repository).strip(), clone.git("ls-files", at=repository))
     write(repository, ".git/config", read(repository, ".git/config") + b"[user]\n\tname = Ann\n\temail = ann@example.com\n")
@@ -364,7 +364,7 @@ def check_mutants(checks, go, package, room, minisign):
         if word == "sign":
             check_signing(Program(checks, build("signing")), os.path.join(directory, "signed"), minisign)
         else:
-            ask_all(Program(checks, build("answers")), directory, minisign, shared_cases.corpus())
+            compare_results(Program(checks, build("answers")), directory, minisign, shared_cases.corpus())
             check_changed(checks, build("changed"))
 
     compiled = with_compiled_c(go, package, room)
@@ -374,7 +374,7 @@ def check_mutants(checks, go, package, room, minisign):
 def run_all(checks, room):
     check_sources(checks)
     minisign = shared_cases.c_minisign(room)
-    package, go = shared_cases.packed("go", room), Go(room)
+    package, go = shared_cases.unpacked_package("go", room), Go(room)
     check_own_tests(checks, go, package)
 
     def programs(source, name):
@@ -385,17 +385,17 @@ def run_all(checks, room):
 
     program, racing = programs("answers.go", "answers")
     checks.check(go.run(os.path.join(room, "answers"), "vet", "./...") == "", "go vet reports problems in a program that uses the module")
-    ask_all(program, room, minisign, shared_cases.all_cases(checks, minisign))
+    compare_results(program, room, minisign, shared_cases.all_cases(checks, minisign))
     check_errors(program)
-    few = shared_cases.corpus() + shared_cases.damaged(60)
-    program.ask_growth(CALLS, PAGES, few)
-    program.ask_threads(few)
-    racing.ask_threads(few)
+    few = shared_cases.corpus() + shared_cases.damaged_cases(60)
+    program.check_growth(CALLS, PAGES, few)
+    program.check_threads(few)
+    racing.check_threads(few)
     signing, racing = programs("signing.go", "signing")
     check_signing(signing, os.path.join(room, "signed"), minisign)
-    signing.ask_growth(KEYS, PAGES_OF_KEYS)
-    signing.ask_threads()
-    racing.ask_threads()
+    signing.check_growth(KEYS, PAGES_OF_KEYS)
+    signing.check_threads()
+    racing.check_threads()
     check_changed(checks, go.build("changed.go", os.path.join(room, "changed"), package, **Go.OPTIMIZED))
     check_go_minisign(checks, go, room, program)
     check_readme(checks, go, room, package, minisign)

@@ -50,7 +50,7 @@ def check_package(checks, package, room):
     shutil.copy(os.path.join(HERE, package, source), os.path.join(room, place))
     for name, text in described.items():
         write(room, name, (text + dependencies).encode())
-    shutil.copy(shared_cases.PATHS[2], os.path.join(room, "app.minisig"))
+    shutil.copy(shared_cases.PUBLISHED_PATHS[2], os.path.join(room, "app.minisig"))
     os.symlink(os.path.join("..", CLONE), os.path.join(room, CLONE))
     # C is compiled without optimization, which takes less time.
     environment = {"PATH": static_library.path_without_kit(), "HOME": room, "GOPROXY": "off", "GOFLAGS": "", "GOTOOLCHAIN": "local",

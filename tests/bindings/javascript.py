@@ -5,12 +5,12 @@ without network and kit.
 
     tests/bindings/javascript.py [PAGE]
 
-The WebAssembly module is that of PAGE, by default the page in `dist/`. The results are compared with `c/minisign`,
-libsodium and the header (`ASKED`), and the errors and the sizes of structs with the header. The script also checks that
+The WebAssembly module is taken from PAGE, by default from the page in `dist/`. The script compares the results with those of
+`c/minisign` and libsodium (`CASES`), and the errors and the sizes of structs with include/minisign.h. It also checks that
 
 - the types need neither the DOM library nor those of Node;
-- each example of README.md, as a program of its own, runs and has the right types;
-- the package needs only the language and the globals in `GLOBALS`, and all of these;
+- each example of README.md is a complete program that runs and has the right types;
+- the package needs each global in `GLOBALS`, and no others except those of the language;
 - options must be plain objects;
 - long data does not block the event loop;
 - only its owner can read a new key file;
@@ -18,10 +18,10 @@ libsodium and the header (`ASKED`), and the errors and the sizes of structs with
 - a bundle that only verifies contains no code for signing;
 - each mutant of javascript/mutants is detected.
 
-If there is no npm, all files are packed that npm could take. It prints a line for each failure; the last line is
+Without npm, a script packs all files that npm could pack. It prints a line for each failure; the last line is
 `N passed, M failed`.
 
-Needs Linux, Python 3.9 or later, nodejs (the one that the environment names NODE, if any), node-typescript, esbuild,
+Needs Linux, Python 3.9 or later, nodejs (or the program that the environment variable NODE names), node-typescript, esbuild,
 make, clang, lld, a C compiler, libsodium with its header, and for the browsers chromium, chromium-driver and
 firefox-esr. It installs what is missing if it may.
 """
@@ -47,27 +47,27 @@ import static_library
 from browser import Chromium
 from firefox import Firefox
 from mutants import mutants_of
-from shared_cases import PATHS, PUBLISHED, TOP, Program, read, run, write
+from shared_cases import PUBLISHED, PUBLISHED_PATHS, TOP, Program, read, run, write
 from texts import record_of, text_of
 
 PACKAGE = os.path.join(TOP, "bindings", "javascript")
 PROGRAMS = [os.path.join(HERE, "javascript", f"{name}.mjs") for name in (
     "answers", "signing", "streams", "writable", "saving", "bare", "options", "long", "files", "heap", "bundled", "bundled_signing")]
 MODULE, SIGNING_MODULE = "module.js", "signing_module.js"
-# The files that tools/bindings.py makes, and the part of calls.js.
+# The files that tools/bindings.py generates, and the part of calls.js that it generates.
 GENERATED = ("errors.js", "header.js")
-GENERATED_IN_CALLS = re.compile("// ---- From include/minisign.h, made by tools/bindings.py ----.*// ---- What is made ends here ----",
+GENERATED_IN_CALLS = re.compile("// ---- From include/minisign.h, made by tools/bindings.py ----.*// ---- End of the generated part ----",
                                 re.S)
 # The globals that the package uses besides those of the language. Browsers, Node, Deno and workers all have them: they are in the "Minimum
 # common web platform API".
 GLOBALS = ("TextDecoder", "TextEncoder", "WebAssembly", "atob", "crypto")
-# The number of calls, or of keys, and by how many bytes the memory may grow after a tenth of them. If each key kept a page of a module's
-# memory, it would grow by more.
+# The number of calls or keys, and by how many bytes the memory may grow after the first tenth of them. If each key kept a page of a
+# module's memory, the memory would grow by more.
 CALLS, GROWTH = 5_000, 800_000
-KEYS, GROWTH_OF_KEYS = 1_000, 16 * 1048576
-# The cases of streams.mjs. Each runs in its own process, because an error without a listener ends the process.
+KEYS, KEY_GROWTH = 1_000, 16 * 1048576
+# The cases of streams.mjs. Each runs in a separate process, because an error event without a listener ends the process.
 STREAMS = ("aborted", "cancelled", "descriptors", "late", "event", "both", "absent", "opening", "begun", "between", "web", "accepted")
-# The errors of the header that verifying can return, except for misuse.
+# The error codes that verifying can return, except those for API misuse.
 VERIFYING = {8, *range(16, 33), 44, 45, 81}
 
 
@@ -79,7 +79,7 @@ def install(room, page):
         print("there is no npm: packing all files that it could take")
         packing["NPM"] = os.path.join(HERE, "javascript", "npm.sh")
     os.makedirs(os.path.join(user, "node_modules"))
-    os.rename(shared_cases.packed("javascript", room, **packing), os.path.join(user, "node_modules", "minisign-proved"))
+    os.rename(shared_cases.unpacked_package("javascript", room, **packing), os.path.join(user, "node_modules", "minisign-proved"))
     for program in PROGRAMS:
         shutil.copy(program, user)
     return user
@@ -91,14 +91,14 @@ def text_of_package(name):
 
 def check_sources(checks, user):
     """Checks that package.json names the files and the version, that only calls.js calls the module, and that the errors and the layout of
-    structs are those of the header."""
+    structs match include/minisign.h."""
     described = json.loads(text_of_package("package.json"))
     checks.same(described["version"], shared_cases.VERSION, "the version of package.json")
     names = {name for name in os.listdir(os.path.join(user, "node_modules", "minisign-proved")) if name.endswith((".js", ".ts"))}
     checks.check(set(described["files"]) == names, f"package.json names {described['files']}, and there are {sorted(names)}")
     for name in sorted(names - {MODULE, SIGNING_MODULE, *GENERATED}):
         bare = re.sub(r"/\*.*?\*/", "", GENERATED_IN_CALLS.sub("", text_of_package(name)), flags=re.S)
-        checks.check(name == "calls.js" or not re.search(r"page_|WebAssembly\.|\.memory\b|\.calls\b", bare), f"{name}: it calls the module")
+        checks.check(name == "calls.js" or not re.search(r"page_|WebAssembly\.|\.memory\b|\.calls\b", bare), f"{name} calls the module")
     shared_cases.check_readme(checks, "javascript")
     check_imports(checks, sorted(names))
     expected, table = shared_cases.ERRORS, re.search(r"ERRORS = Object\.freeze\(\{(.*?)\}\)", text_of_package("errors.js"), re.S)[1]
@@ -109,7 +109,7 @@ def check_sources(checks, user):
     sizes = {name: int(size) for name, size in re.findall(r"const (STATE|KEY|SIGNATURE|QUESTIONS)_BYTES = (\d+);", text_of_package("calls.js"))}
     places = shared_cases.layout(user)
     structs = {"STATE": "state", "KEY": "public_key", "SIGNATURE": "signature", "QUESTIONS": "questions"}
-    checks.check(sizes == {name: places[f"minisign_{of}"] for name, of in structs.items()}, f"calls.js has other sizes than the header: {sizes}")
+    checks.check(sizes == {name: places[f"minisign_{struct}"] for name, struct in structs.items()}, f"calls.js has other sizes than the header: {sizes}")
     for struct, count in (("SIGNATURE", 2), ("QUESTIONS", 8)):
         fields = re.search(rf"const {struct} = \{{(.*?)\}};", text_of_package("calls.js"), re.S)[1]
         offsets = {name: int(offset) for name, offset in re.findall(r"(\w+): (\d+)", fields)}
@@ -120,100 +120,100 @@ def check_sources(checks, user):
 
 def check_imports(checks, names):
     """Checks that no file of the package imports itself, directly or through others."""
-    imported = {name: {f"{other[:-3]}.d.ts" if name.endswith(".d.ts") else other
-                       for other in re.findall(r'(?:from|import\() ?"\./([\w.]+)"', text_of_package(name))}
+    imported = {name: {f"{file[:-3]}.d.ts" if name.endswith(".d.ts") else file
+                       for file in re.findall(r'(?:from|import\() ?"\./([\w.]+)"', text_of_package(name))}
                 for name in names if name not in (MODULE, SIGNING_MODULE)}
     checks.check(sum(map(len, imported.values())) > 25, f"too few imports were found: {imported}")
 
-    def reached(name, before):
+    def cycle(name, before):
+        """Returns a chain of imports that continues `before` with this file and ends at a file that it already has, or None."""
         if name in before:
             return [*before, name]
-        return next((path for other in sorted(imported.get(name, ())) if (path := reached(other, [*before, name]))), None)
+        return next((path for file in sorted(imported.get(name, ())) if (path := cycle(file, [*before, name]))), None)
 
     for name in imported:
-        checks.same(reached(name, []), None, f"{name}: a circle of imports")
+        checks.same(cycle(name, []), None, f"{name}: imports that form a cycle")
 
 
 # ---- Output of the test programs ----
 
 
 def by_node(checks, user, program):
-    """Returns a program of a user's directory, run by Node. Its warnings are turned off, because Node 18 warns that Ed25519 is
-    experimental."""
+    """Returns a `Program` that runs a script of a user's directory by Node. Warnings are turned off, because Node 18 warns that Ed25519
+    is experimental."""
     return Program(checks, os.environ.get("NODE") or needs.node(), "--expose-gc", "--experimental-vm-modules", program, name=program,
                    directory=user, NODE_NO_WARNINGS="1", PATH=static_library.path_without_kit())
 
 
 def ask_cases(program, minisign, cases):
-    """Checks the results with legacy signatures allowed and not, the errors, and the Ed25519 vectors."""
-    program.ask_answers(minisign, cases, (["cases", "legacy"], True), (["cases"], False))
-    program.ask_reasons(["cases"], shared_cases.rejections())
-    program.ask_vectors(["cases", "legacy"])
+    """Checks the results with and without allowing legacy signatures, the errors, and the Ed25519 test vectors."""
+    program.check_verdicts(minisign, cases, (["cases", "legacy"], True), (["cases"], False))
+    program.check_errors(["cases"], shared_cases.rejections())
+    program.check_vectors(["cases", "legacy"])
 
 
 def ask_pieces(program, minisign, _):
-    """Checks the results with data of each kind."""
-    cases = shared_cases.corpus() + shared_cases.large(minisign)
-    program.ask_answers(minisign, cases, (["pieces"], False), (["pieces", "legacy"], True))
+    """Checks the results with data in each form that the package accepts."""
+    cases = shared_cases.corpus() + shared_cases.large_cases(minisign)
+    program.check_verdicts(minisign, cases, (["pieces"], False), (["pieces", "legacy"], True))
 
 
 def ask_arguments(program, *_):
-    """Checks arguments of wrong types, the properties of a verifier, and the trusted comment before there is data."""
+    """Checks arguments of wrong types, the properties of a verifier, and the trusted comment before data was passed."""
     for least, word in ((32, "wrong"), (10, "verifier"), (9, "letters")):
-        program.ask_pairs(least, word, cases=[PUBLISHED])
-    program.ask_comments(["comment"])
+        program.check_pairs(least, word, cases=[PUBLISHED])
+    program.check_comments(["comment"])
 
 
 def ask_streams(program, *_):
-    """Checks what happens to streams that fail, or of which the verification fails."""
+    """Checks what happens to the stream if reading it fails or the verification fails."""
     for what in STREAMS:
-        by_node(program.checks, program.directory, "streams.mjs").ask_pairs(1, what, *PATHS)
+        by_node(program.checks, program.directory, "streams.mjs").check_pairs(1, what, *PUBLISHED_PATHS)
 
 
 def ask_fields(program, minisign, _):
-    """Checks the key IDs and legacy flags that are read before verifying, and that verifying with the objects that were read gives the same
-    results."""
+    """Checks the key IDs and legacy flags of parsed keys and signatures, and that verifying with the parsed objects gives the same results."""
     def form(fields):
-        comment, = shared_cases.answers_of(minisign, [fields.case], allow_legacy)
+        comment, = shared_cases.accepted_comments(minisign, [fields.case], allow_legacy)
         ids = " ".join(map(shared_cases.key_id_text, (fields.key_id, fields.signature_key_id)))
-        verdict = shared_cases.rejected(".*") if comment is None else shared_cases.accepted(comment)
+        verdict = shared_cases.rejected_line(".*") if comment is None else shared_cases.accepted_line(comment)
         return f"{ids} {str(fields.is_legacy).lower()} {verdict}"
 
     for words, allow_legacy in ((["read"], False), (["read", "legacy"], True)):
-        program.ask_fields(words, form)
+        program.check_fields(words, form)
         rows = [(case, name) for case, name in shared_cases.rejections()
                 if case.signature != PUBLISHED.signature and not (allow_legacy and name == "LEGACY_NOT_ACCEPTED")]
-        program.ask_reasons(words, rows, lambda name: rf"([0-9A-F]{{1,16}} [0-9A-F]{{1,16}} (true|false) )?rejected {name}")
+        program.check_errors(words, rows, lambda name: rf"([0-9A-F]{{1,16}} [0-9A-F]{{1,16}} (true|false) )?rejected {name}")
 
 
 def ask_options(program, *_):
-    """Checks that options must be plain objects with known properties of their own, whatever Object.prototype has."""
-    paths = [PATHS[0], PATHS[1], os.path.join(shared_cases.CORPUS, "published-legacy.minisig")]
+    """Checks that options must be plain objects with known own properties, also if Object.prototype has more properties."""
+    paths = [PUBLISHED_PATHS[0], PUBLISHED_PATHS[1], os.path.join(shared_cases.CORPUS, "published-legacy.minisig")]
     for least, word in ((120, "kinds"), (100, "polluted")):
-        by_node(program.checks, program.directory, "options.mjs").ask_pairs(least, word, *paths)
+        by_node(program.checks, program.directory, "options.mjs").check_pairs(least, word, *paths)
 
 
 def ask_long(program, *_):
-    """Checks that other tasks run while long data is read, so that an AbortSignal can stop it."""
+    """Checks that other tasks run while long data is verified or signed, so that an AbortSignal can stop the call."""
     for least, word in ((6, "verifying"), (1, "signing"), (3, "timers"), (2, "same"), (8, "cut")):
-        by_node(program.checks, program.directory, "long.mjs").ask_pairs(least, word, PATHS[0], PATHS[2])
+        by_node(program.checks, program.directory, "long.mjs").check_pairs(least, word, PUBLISHED_PATHS[0], PUBLISHED_PATHS[2])
 
 
 def ask_writable(program, *_):
     """Checks the streams of verifiers and signers, the fields of trusted comments, the code of each error, and that many signatures share
     one instance of the signing module."""
     for least, word in ((15, "streams"), (21, "fields"), (11, "codes"), (3, "instances")):
-        by_node(program.checks, program.directory, "writable.mjs").ask_pairs(least, word, *PATHS)
+        by_node(program.checks, program.directory, "writable.mjs").check_pairs(least, word, *PUBLISHED_PATHS)
 
 
 def ask_saving(program, *_):
-    """Checks that saveVerified replaces a file only after the verdict, and leaves nothing else."""
+    """Checks that saveVerified replaces a file only after the signature was accepted, and leaves no other file."""
     with tempfile.TemporaryDirectory(prefix="saved-", dir=program.directory) as directory:
-        by_node(program.checks, program.directory, "saving.mjs").ask_pairs(24, directory, *PATHS)
+        by_node(program.checks, program.directory, "saving.mjs").check_pairs(24, directory, *PUBLISHED_PATHS)
 
 
-# The checks of programs that verify, by the case that a mutant names.
-ASKED = {"cases": ask_cases, "pieces": ask_pieces, "read": ask_fields, "itself": ask_arguments, "streams": ask_streams,
+# The checks of verification, by the names that mutants give after `Must fail:`.
+CASES = {"cases": ask_cases, "pieces": ask_pieces, "read": ask_fields, "arguments": ask_arguments, "streams": ask_streams,
          "options": ask_options, "long": ask_long, "writable": ask_writable, "saving": ask_saving}
 
 
@@ -221,21 +221,21 @@ def check_signing(checks, user, room, minisign, decrypts=True):
     """Checks that the program and `c/minisign` can read each other's keys and signatures, that keys do not show their secret and are
     cleared, that arguments of wrong types are rejected and streams closed, and that threads can sign concurrently."""
     program = by_node(checks, user, "signing.mjs")
-    program.ask_pairs(44, "itself", PATHS[1])
-    program.ask_threads()
+    program.check_pairs(44, "checks", PUBLISHED_PATHS[1])
+    program.check_threads()
     shared_cases.check_signing(program, room, minisign, takes_limits=False, decrypts=decrypts)
     return program
 
 
-# File names: with a directory, with letters that are not ASCII, and with a tab, which separates fields of the trusted comment.
+# File names in a directory, with non-ASCII letters, and with a tab, which separates the fields of a trusted comment.
 NAMES = ["app", "an app (1) \u00e9.tar.gz", "below/app.zip", "tab\there"]
 # Key IDs with leading zeros and without, as numbers.
 KEY_IDS = [0, 1, 0x0F, 0x10, 0xABCDEF0123, 0x0123456789ABCDEF, 0xE7620F1842B4E81F, 2**64 - 1]
 
 
 def check_files(checks, user, room, minisign):
-    """Checks that the default trusted comment of a file and key IDs are those of `c/minisign`, and that only its owner can read a new key
-    file, which replaces no file."""
+    """Checks that default trusted comments and key IDs are those of `c/minisign`, and that a new key file is readable by its owner only and
+    replaces no existing file."""
     os.makedirs(os.path.join(room, "below"))
     os.makedirs(os.path.join(room, "full"))
     program, secret = by_node(checks, user, "files.mjs"), os.path.join(room, "key")
@@ -245,11 +245,11 @@ def check_files(checks, user, room, minisign):
         run([minisign, "-S", "-s", "key", "-m", name, "-x", "sig"], room)
         wanted = re.sub(rb"timestamp:\d+", b"timestamp:TIME", read(room, "sig").split(b"\n")[2] + b"\n")
         status, output, why = program.run("comments", os.path.join(room, name))
-        checks.check((status, output) == (0, wanted), f"the default comment of {name!r}: {output} {why} in place of {wanted}")
-    program.ask_pairs(25, "names")
+        checks.check((status, output) == (0, wanted), f"the default comment of {name!r}: {output} {why}, expected {wanted}")
+    program.check_pairs(25, "names")
     os.makedirs(os.path.join(room, "new"))
-    program.ask_pairs(33, "new", os.path.join(room, "new"))
-    # With a file size limit of 0, nothing can be written. Node ignores SIGXFSZ.
+    program.check_pairs(33, "new", os.path.join(room, "new"))
+    # With a file size limit of 0, each write fails with EFBIG. Node ignores SIGXFSZ.
     command = ["sh", "-c", 'ulimit -f 0; exec "$@"', "sh", *program.command, "full", os.path.join(room, "full")]
     status, output, why = run(command, user, program.environment)
     checks.check((status, output) == (0, b"EFBIG\tEFBIG\n\t\n"), f"a new file that cannot be written: {status} {output} {why}")
@@ -259,18 +259,18 @@ def check_files(checks, user, room, minisign):
         run([minisign, "-R", "-f", "-s", path, "-p", "other.pub"], room)
         wanted = f"{number:X}\n{read(room, 'other.pub').decode().splitlines()[0]}\n"
         status, output, why = program.run("ids", path)
-        checks.check((status, output.decode()) == (0, wanted), f"the key ID {number:#x}: {output} {why} in place of {wanted!r}")
+        checks.check((status, output.decode()) == (0, wanted), f"the key ID {number:#x}: {output} {why}, expected {wanted!r}")
 
 
-# The maximum number of copies of the seed in memory of malloc. WebCrypto leaves some freed copies there, but not one for each signature.
+# The maximum number of copies of the seed in the heap of malloc. WebCrypto leaves a few copies in freed memory, but not one per signature.
 MOST_FREED = 10
-# How often a search that finds the seed is repeated. A leak is found each time, but malloc sometimes reuses freed memory late.
+# How often to search if the seed is found. A leak is found each time, but freed memory may keep a copy until malloc reuses it.
 SEARCHES = 3
 
 
 def check_memory(checks, user, room, minisign):
-    """Checks that the seed of a key is never in the engine's heap, where nobody could clear it, and that after clearing the key no more
-    copies are left than WebCrypto leaves."""
+    """Checks that the seed of a key is never in the heap of the JavaScript engine, where it could not be cleared, and that clearing the key
+    leaves at most the copies of WebCrypto."""
     run([minisign, "-G", "-W", "-s", "open", "-p", "pub"], room)
     write(room, "sealed", shared_cases.sealed(read(room, "open"), shared_cases.LIMITS[4][0]))
     program, ways = by_node(checks, user, "heap.mjs"), (["generate"], ["read", f"{room}/open"], ["read", f"{room}/sealed", shared_cases.PASSWORD])
@@ -285,13 +285,13 @@ def check_memory(checks, user, room, minisign):
         checks.check(is_clean, f"{words[0]}: copies of the seed (malloc, elsewhere), in use and cleared: {counts}")
 
 
-# Texts that only a bundle that signs contains.
+# Strings that are in a bundle only if it contains the code for signing.
 ONLY_IN_SIGNING = ("pkcs8", "minisign_signed_text", "minisign_read_secret_key")
 
 
 def check_bundles(checks, user, room, _):
-    """Checks that a bundle of a program that only verifies contains no code for signing, and that one of a program that signs contains all
-    of it. Both run."""
+    """Checks that the bundle of a program that only verifies contains no code for signing, that the bundle of a program that signs contains
+    all of it, and that both run."""
     esbuild, of_module = needs.program("esbuild", "esbuild"), read(user, "node_modules", "minisign-proved", SIGNING_MODULE).decode()
     of_signing = [*ONLY_IN_SIGNING, re.search('"(.*)"', of_module)[1][:1000]]
     words = [part.hex() for part in PUBLISHED[1:]]
@@ -311,12 +311,11 @@ def check_bundles(checks, user, room, _):
 
 
 def check_readme(checks, user, room, minisign):
-    """Checks that each example of the README, as a program of its own, runs in one project, in the order of the README, and has the right
-    types. The examples that verify and that read a stream reject other data, and `c/minisign` accepts what the example that signs has
-    written."""
+    """Checks that the examples of the README have the right types and run in one project, in their order. The examples that verify reject
+    changed data, and `c/minisign` accepts the signature that the example for signing writes."""
     directory = shutil.copytree(user, os.path.join(room, "user"))
     blocks = shared_cases.readme_blocks("javascript")
-    for name, text in (("app", read(PATHS[1])), ("app.minisig", read(PATHS[2])), ("release.zip", b"a release\n")):
+    for name, text in (("app", read(PUBLISHED_PATHS[1])), ("app.minisig", read(PUBLISHED_PATHS[2])), ("release.zip", b"a release\n")):
         write(directory, name, text)
     for number, block in enumerate(blocks):
         write(directory, f"readme-{number}.mjs", block.encode())
@@ -324,28 +323,28 @@ def check_readme(checks, user, room, minisign):
     for name in ("readme.json", "readme_node.d.ts"):
         shutil.copy(os.path.join(HERE, "javascript", name), directory)
     status, output, why = run([needs.program("tsc", "node-typescript"), "-p", "readme.json"], directory)
-    checks.check(status == 0, f"the types of the README's blocks: {output.decode()[-1500:]}{why}")
+    checks.check(status == 0, f"the types of the README's examples: {output.decode()[-1500:]}{why}")
     status, output, why = run([minisign, "-V", "-q", "-p", "minisign.pub", "-m", "release.zip"], directory)
-    checks.check(status != 0, "there is a signature before the README's block has made it")
-    verified = "verified, and signed with it: timestamp:1556193335\tfile:test\n"
+    checks.check(status != 0, "release.zip has a valid signature before the README's example made it")
+    verified = "verified, trusted comment: timestamp:1556193335\tfile:test\n"
     streamed = r"[0-9A-F]{1,16} timestamp:\d+\tfile:release.zip\thashed\n"
     rows = [(None, "verified: test, signed 1556193335 seconds after 1970\n", None), ("app", verified, "SIGNATURE_REFUSED"), (None, "", None),
             ("release.zip", streamed, "SIGNATURE_REFUSED"), ("app", "test test\n", "SIGNATURE_REFUSED"),
             ("release.zip", "", "SIGNATURE_REFUSED")]
-    checks.same(len(blocks), len(rows), "the number of the README's blocks")
+    checks.same(len(blocks), len(rows), "the number of the README's examples")
     for number, (data, wanted, reason) in enumerate(rows):
         program = by_node(checks, directory, f"readme-{number}.mjs")
         status, output, why = program.run()
-        checks.check(status == 0 and re.fullmatch(wanted, output.decode()) and why == "", f"the README's block {number}: {status} {output} {why}")
+        checks.check(status == 0 and re.fullmatch(wanted, output.decode()) and why == "", f"README example {number}: {status} {output} {why}")
         if reason:
             write(directory, data, read(directory, data) + b"x")
             status, output, why = program.run()
-            checks.check(status == 1 and reason in why, f"the README's block {number} of other data: {status} {output} {why}")
+            checks.check(status == 1 and reason in why, f"README example {number} with changed data: {status} {output} {why}")
             write(directory, data, read(directory, data)[:-1])
     status, _, why = run([minisign, "-V", "-q", "-p", "minisign.pub", "-m", "release.zip"], directory)
-    checks.check(status == 0, f"c/minisign of what the README's block has signed: {why}")
-    checks.same(read(directory, "installed.zip"), b"a release\n", "the file that the README's last block has saved")
-    checks.same(os.stat(os.path.join(directory, "minisign.key")).st_mode & 0o777, 0o600, "the mode of the README's key")
+    checks.check(status == 0, f"c/minisign rejects the signature of the README's example: {why}")
+    checks.same(read(directory, "installed.zip"), b"a release\n", "the file that the README's last example saved")
+    checks.same(os.stat(os.path.join(directory, "minisign.key")).st_mode & 0o777, 0o600, "the mode of the key file that the README's example made")
 
 
 def check_types(checks, user):
@@ -359,8 +358,7 @@ def check_types(checks, user):
 
 
 def check_bare(checks, user):
-    """Checks that the package works, in a new context and in a thread, if there are no other globals than GLOBALS, and fails without any of
-    these."""
+    """Checks that the package works in a context and in a thread whose only globals are GLOBALS, and fails if one of them is missing."""
     wanted = ["accepted timestamp:1556193335\tfile:test"] * 4 + ["rejected SIGNATURE_REFUSED"]
     rows = [("context", GLOBALS), ("thread", GLOBALS), *(("context", [word for word in GLOBALS if word != left_out]) for left_out in GLOBALS)]
     for where, names in rows:
@@ -373,8 +371,7 @@ SECONDS = 600
 
 
 class Handler(http.server.SimpleHTTPRequestHandler):
-    """Serves the files of a directory, without logging, with the content security policy that README.md names, and what the tests
-    themselves need."""
+    """Serves the files of a directory without logging. The content security policy is that of README.md, plus what the tests need."""
 
     def end_headers(self):
         policy = re.search(r"for example `(script-src [^`]*)`", text_of_package("README.md"))[1]
@@ -388,7 +385,7 @@ class Handler(http.server.SimpleHTTPRequestHandler):
 def check_browsers(checks, user, room, minisign):
     """Checks the results in a page and in a worker of Chromium and of Firefox."""
     corpus, vectors = shared_cases.corpus(), [case for case, _ in shared_cases.vector_texts()]
-    cases = corpus + shared_cases.damaged()
+    cases = corpus + shared_cases.damaged_cases()
     asked = {"cases": cases, "pieces": corpus, "vectors": vectors}
     digits = {what: [[part.hex() for part in case[1:]] for case in rows] for what, rows in asked.items()}
     run([minisign, "-G", "-W", "-s", "strong", "-p", "public"], room)
@@ -419,21 +416,21 @@ def check_answers(checks, what, answers, room, minisign, cases):
     """Checks the results in a page or a worker of a browser."""
     program = Program(checks, name=what)
     program.run = lambda word, **_: (0, "\n".join(answers[word]).encode(), "")
-    program.ask_answers(minisign, cases, (["legacy"], True), (["strict"], False))
-    program.ask_answers(minisign, shared_cases.corpus(), (["pieces"], False))
-    program.ask_vectors(["vectors"])
-    checks.check(answers["cancelled"], f"{what}: a stream is not cancelled")
-    checks.check(answers["aborted"], f"{what}: an abort by a timer does not end the verification of a long array")
+    program.check_verdicts(minisign, cases, (["legacy"], True), (["strict"], False))
+    program.check_verdicts(minisign, shared_cases.corpus(), (["pieces"], False))
+    program.check_vectors(["vectors"])
+    checks.check(answers["cancelled"], f"{what}: the stream was not cancelled")
+    checks.check(answers["aborted"], f"{what}: a timer could not abort the verification of a long array")
     checks.same(answers["comment"], "timestamp:TIME\tfile:app 1.zip\thashed", f"{what}, the default comment of a File")
     checks.same(answers["signs"], "version:2,true,false,version:2,true,false KEY_NOT_OPENED", f"{what}, signing")
     for name, text in zip(("sealed", "sealed.pub"), answers["pair"]):
         write(room, name, text.encode())
     run([minisign, "-S", "-s", "sealed", "-m", "public", "-x", "sig", "-t", what], room, data=f"{shared_cases.PASSWORD}\n".encode())
     verified = run([minisign, "-V", "-Q", "-p", "sealed.pub", "-m", "public", "-x", "sig"], room)
-    checks.check(verified[:2] == (0, f"{what}\n".encode()), f"{what}: c/minisign signs with an encrypted key: {verified}")
+    checks.check(verified[:2] == (0, f"{what}\n".encode()), f"{what}: c/minisign cannot sign with the encrypted key of the package: {verified}")
 
 
-# The checks that need a new directory, by the case that a mutant names.
+# The checks that need a new directory, by the names that mutants give after `Must fail:`.
 IN_DIRECTORIES = {"files": check_files, "memory": check_memory, "bundles": check_bundles, "readme": check_readme}
 
 
@@ -444,9 +441,9 @@ def new_directory(room, name):
 
 
 def check_mutants(checks, user, room, minisign):
-    """Checks that the case that each mutant of the package names detects it, in Node."""
+    """Checks in Node that each mutant of the package fails the check that it names."""
     def ask(checks, changed, directory, word):
-        """Runs a case in a copy of the user's directory, with the changed package."""
+        """Runs the check of this name in a copy of the user's directory that has the mutant of the package."""
         copied = shutil.copytree(user, os.path.join(directory, "user"), ignore=shutil.ignore_patterns("minisign-proved"))
         os.symlink(changed, os.path.join(copied, "node_modules", "minisign-proved"))
         if word == "sign":
@@ -454,7 +451,7 @@ def check_mutants(checks, user, room, minisign):
         elif word in IN_DIRECTORIES:
             IN_DIRECTORIES[word](checks, copied, new_directory(directory, word), minisign)
         else:
-            ASKED[word](by_node(checks, copied, "answers.mjs"), minisign, shared_cases.corpus())
+            CASES[word](by_node(checks, copied, "answers.mjs"), minisign, shared_cases.corpus())
 
     package = os.path.join(user, "node_modules", "minisign-proved")
     all_mutants = mutants_of("bindings", "javascript", "mutants")
@@ -467,16 +464,16 @@ def run_all(checks, room):
     check_sources(checks, user)
     cases = shared_cases.all_cases(checks, minisign)
     program = by_node(checks, user, "answers.mjs")
-    for ask in ASKED.values():
+    for ask in CASES.values():
         ask(program, minisign, cases)
-    program.ask_answers(minisign, cases, (["threads"], False))
-    program.ask_growth(CALLS, GROWTH, cases=[PUBLISHED, PUBLISHED._replace(data=b"other data")])
+    program.check_verdicts(minisign, cases, (["threads"], False))
+    program.check_growth(CALLS, GROWTH, cases=[PUBLISHED, PUBLISHED._replace(data=b"other data")])
     tested = {name for _, name in shared_cases.rejections()} | {"BARE_PUBLIC_KEY_LENGTH", "BARE_PUBLIC_KEY_NOT_BASE64"}
     expected = {name for name, number in shared_cases.ERRORS.items() if number in VERIFYING}
-    checks.check(tested == expected, f"errors without a test, or unexpected ones: {tested ^ expected}")
+    checks.check(tested == expected, f"errors without a test, or tests of other errors: {tested ^ expected}")
     signing = check_signing(checks, user, os.path.join(room, "signed"), minisign)
     if signing:
-        signing.ask_growth(KEYS, GROWTH_OF_KEYS)
+        signing.check_growth(KEYS, KEY_GROWTH)
     for name, check in IN_DIRECTORIES.items():
         check(checks, user, new_directory(room, name), minisign)
     check_types(checks, user)

@@ -89,7 +89,7 @@ def check_loaded(checks, what, compiler, library, before=(), **variables):
 def check_builds(checks, archive, room):
     """Builds the archive of sources in a path with spaces: as C by Debian's compiler and with musl, for AArch64 with the archive of proved
     functions, and for Windows. Checks that a compiler without GNU options is rejected with an error that says so."""
-    programs, arm, windows = shared.few_programs(room, *NEEDED), emulated.AARCH64, portable.Windows(room)
+    programs, arm, windows = shared.path_directory(room, *NEEDED), emulated.AARCH64, portable.Windows(room)
 
     def unpacked(name):
         directory = os.path.join(room, f"sources of {name}")
@@ -124,7 +124,7 @@ def check_builds(checks, archive, room):
 
 def build_wheel(checks, room):
     """Builds the wheel from the packed archive of sources, with the archives of proved functions, and checks it. Returns its path."""
-    package = shared.packed("python", room, PYTHON=python())
+    package = shared.unpacked_package("python", room, PYTHON=python())
     archive, = glob.glob(os.path.join(room, "packed", "*.tar.gz"))
     command = [python(), "-m", "pip", "wheel", "-q", "--no-index", "--no-build-isolation", "--no-deps", "-w", room, archive]
     hold(command, PATH=check_builds(checks, archive, room))
@@ -165,15 +165,15 @@ def check_sources(checks):
 DECLARED = r"""
 import ctypes, json, re
 from minisign_proved import _calls, _header, errors, installing
-places, installer = {}, {"INT64_MAX": installing.MAX_SIZE, "sizeof(struct wanted)": ctypes.sizeof(installing.Wanted)}
+places, installer = {}, {"INT64_MAX": installing.MAX_SIZE, "sizeof(struct run_options)": ctypes.sizeof(installing.RunOptions)}
 for name, struct in vars(_header).items():
     if isinstance(struct, type) and issubclass(struct, ctypes.Structure) and struct is not ctypes.Structure:
         name = "minisign" + re.sub("([A-Z])", r"_\1", name).lower()
         places[name] = ctypes.sizeof(struct)
         places.update((f"{name}.{field}", getattr(struct, field).offset) for field, _ in struct._fields_)
-for struct in (installing.Wanted, installing.Installing):
+for struct in (installing.RunOptions, installing.Installing):
     for field, _ in struct._fields_:
-        name, value = "struct " + struct.__name__.lower(), getattr(struct, field)
+        name, value = "struct " + re.sub(r"\B([A-Z])", r"_\1", struct.__name__).lower(), getattr(struct, field)
         if name == "struct installing" and field in ("shown", "cause", "number"):
             field = "directory.trouble." + field
         installer.update({f"offsetof({name}, {field})": value.offset, f"sizeof((({name} *) 0)->{field})": value.size})
@@ -215,14 +215,14 @@ def fields_line(fields):
     return f"{shared.key_id_text(fields.key_id)} {shared.key_id_text(fields.signature_key_id)} {fields.is_legacy}"
 
 
-def ask_all(user, minisign, cases):
+def compare_results(user, minisign, cases):
     """Checks all results of a program that verifies: cases with legacy signatures allowed or not, data in pieces, the error of each
     rejection, Ed25519 vectors, and the fields that can be read before verifying."""
-    user.ask_answers(minisign, cases, (["answers", "allow"], True), (["answers", "reject"], False))
-    user.ask_answers(minisign, shared.corpus() + shared.large(minisign), (["pieces"], True))
-    user.ask_reasons(["answers", "reject"], shared.rejections())
-    user.ask_vectors(["answers", "allow"])
-    user.ask_fields(["read"], fields_line)
+    user.check_verdicts(minisign, cases, (["answers", "allow"], True), (["answers", "reject"], False))
+    user.check_verdicts(minisign, shared.corpus() + shared.large_cases(minisign), (["pieces"], True))
+    user.check_errors(["answers", "reject"], shared.rejections())
+    user.check_vectors(["answers", "allow"])
+    user.check_fields(["read"], fields_line)
 
 
 def check_examples(checks, python_path, room):
@@ -234,7 +234,7 @@ def check_examples(checks, python_path, room):
     minisign("-G", "-W", "-p", "app.pub", "-s", "app.key")
     for name, comment in (("app-2", "version:2\tfile:app"), ("data", "data")):
         minisign("-S", "-s", "app.key", "-m", name, "-t", comment)
-    status, _, why = run([python_path, write(room, "program.py", shared.readme_program("python").encode())], room)
+    status, _, why = run([python_path, write(room, "program.py", shared.readme_examples("python").encode())], room)
     checks.check(status == 0 and read(room, "there", "app") == b"version 2", f"the examples of the README: {why[-500:]}")
     status, _, why = minisign("-V", "-p", "new.pub", "-m", "app-3")
     checks.check(status == 0, f"minisign verifies what the example has signed: {why}")
@@ -257,14 +257,14 @@ def check_mutants(checks, python_path, package, room, minisign):
     def ask(checks, changed, directory, word):
         # libsodium is used where possible, because it loads faster.
         user = user_of(checks, python_path, "cryptography" if word in ("vectors", "strict") else "libsodium", os.path.dirname(changed))
-        cases = {"answers": lambda: user.ask_reasons(["answers", "reject"], shared.rejections()),
-                 "read": lambda: user.ask_fields(["read"], fields_line),
-                 "pieces": lambda: user.ask_answers(minisign, shared.corpus(), (["pieces"], True)),
-                 "vectors": lambda: user.ask_vectors(["answers", "allow"]),
-                 "strict": lambda: user.ask_pairs(1, "installing", directory),
+        cases = {"answers": lambda: user.check_errors(["answers", "reject"], shared.rejections()),
+                 "read": lambda: user.check_fields(["read"], fields_line),
+                 "pieces": lambda: user.check_verdicts(minisign, shared.corpus(), (["pieces"], True)),
+                 "vectors": lambda: user.check_vectors(["answers", "allow"]),
+                 "strict": lambda: user.check_pairs(1, "installing", directory),
                  "ids": lambda: shared.check_key_ids(user, os.path.join(directory, "ids"), minisign),
                  "sign": lambda: shared.check_signing(user, os.path.join(directory, "signed"), minisign)}
-        cases.get(word, lambda: user.ask_pairs(1, word, directory))()
+        cases.get(word, lambda: user.check_pairs(1, word, directory))()
 
     shared.check_mutants(checks, package, f"bindings/python/src/{PACKAGE}", mutants_of("bindings", "python", "mutants"), room, ask)
 
@@ -284,9 +284,9 @@ def run_all(checks, room):
                                     ("cryptography", with_cryptography, {})):
         user, directory = user_of(checks, python_path, kind), os.path.join(room, kind)
         os.mkdir(directory)
-        ask_all(user, minisign, cases)
+        compare_results(user, minisign, cases)
         for word, least in {**words, **more}.items():
-            user.ask_pairs(least, word, directory)
+            user.check_pairs(least, word, directory)
         shared.check_signing(user, os.path.join(directory, "signed"), needs.minisign())
         shared.check_key_ids(user, os.path.join(directory, "ids"), minisign)
     shared.check_new_key_files(user, os.path.join(room, "written"))

@@ -430,18 +430,6 @@ def installing(room: str) -> None:
         check(install(keys=keys) is False, "an installation with two keys")
     rejects(minisign.DifferentKeyIds, lambda: offer(second_update, [other_public, other_public]), "two other keys")
     rejects(ValueError, lambda: offer(second_update, [other_public] * 3), "three keys")
-    for option in ("new_key", "roll_back"):
-        rejects(ValueError, lambda: install(first=True, **{option: True}), f"first with {option}", "^first must not be combined")
-    check_pipes(key, place)
-    check(install(io.BytesIO(b"one"), first_update, roll_back=True) is True, "a roll-back")
-    is_installed(b"one", 2, "a roll-back")
-    rejects(minisign.SameNumber, install, "the update that was taken back")
-    check(install(again=True) is True, "the update that was taken back, with again")
-    other_key = SecretKey.generate()
-    other_update = other_key.sign(path, trusted_comment="version:1\tfile:app")
-    rejects(minisign.OlderUpdate, lambda: install(update=other_update, keys=other_key.public_key), "an older update under another key")
-    check(install(update=other_update, keys=other_key.public_key, new_key=True) is True, "an older update under a new key")
-    is_installed(b"two", 1, "an older update under a new key")
     opened = len(os.listdir("/proc/self/fd"))
     for _ in range(20):
         install()
@@ -450,22 +438,6 @@ def installing(room: str) -> None:
     with mock.patch.object(_calls, "library", object()):
         importlib.reload(installer)
     rejects(NotImplementedError, lambda: installer.install(public, path, second_update, place), "a library without the installer", "^installing is supported only on Linux$")
-
-
-def check_pipes(key: SecretKey, place: str) -> None:
-    """An open file is read only if the update is to be installed, and no further than one byte after the signed size."""
-    for number, size, count, error in ((1, 3, 0, minisign.OlderUpdate), (2, 3, 0, None), (3, 3, 4, minisign.OtherSize), (3, 1 << 20, (1 << 20) + 1, minisign.OtherSize)):
-        source, data = io.BytesIO(bytes(4 << 20)), write(os.path.dirname(place), "data", b"two")
-        update = key.sign(data, trusted_comment=f"version:{number}\tfile:app\tsize:{size}")
-
-        def install() -> bool:
-            return minisign.install(key.public_key, source, update, place, numbering="version")
-
-        if error is None:
-            check(install() is False, "an open file is installed over the same update")
-        else:
-            rejects(error, install, f"an open file for version {number}")
-        check(source.tell() == count, f"version {number}: read {source.tell()} bytes, expected {count}")
 
 
 def weak_update(comment: bytes) -> Tuple[PublicKey, Signature]:
@@ -637,7 +609,7 @@ def table(room: str) -> List[Call]:
     limits: Dict[str, Any] = {"operations_limit": ("operations", 2**20), "memory_limit": ("memory", 2**25)}
     comments: Dict[str, Any] = {"trusted_comment": ("text or none", "comment \u00e9"), "untrusted_comment": ("text", "other")}
     progress: Dict[str, Any] = {"progress": ("function or none", None)}
-    update: Dict[str, Any] = {"must_expire": ("truth", False), "new_key": ("truth", False), "roll_back": ("truth", False), "numbering": ("numbering", "version"), "name": ("name or none", "app")}
+    update: Dict[str, Any] = {"must_expire": ("truth", False), "numbering": ("numbering", "version"), "name": ("name or none", "app")}
     return [
         Call("Signature", minisign, text=("text", signature.text.decode())),
         Call("Signature.from_file", Signature, path=("path", path + ".minisig")),

@@ -1,8 +1,10 @@
-"""A test program that uses the Python package, in a Python that has it installed. `python.py` runs it.
+"""A test program that uses the installed Python package. `python.py` runs it.
 
-With the words `answers`, `pieces` or `read` it prints a line for each case on standard input. With `make`, `sign`,
-`opened`, `sealed`, `write` or `ids` it uses a key. Any other word is a function of `python_checks.py`, which is a separate
-module because it imports more, and so takes longer to start.
+    python_user.py IMPLEMENTATION COMMAND [ARGUMENT ..]
+
+IMPLEMENTATION is the implementation of Ed25519: `libsodium` or `cryptography`. The commands `answers`, `pieces` and `read`
+print a line for each case on standard input. `make`, `sign`, `opened`, `sealed`, `write` and `ids` use a key. Any other
+command is a function of `python_checks.py`, which is a separate module because its imports take long to start.
 
 Needs Python 3.9 or later.
 """
@@ -23,26 +25,29 @@ from minisign_proved import PublicKey, SecretKey, Signature, Verifier
 
 
 def read_cases() -> Iterator[Tuple[bytes, bytes, bytes]]:
+    """Yields the key, data and signature of each case on standard input, which has them in hexadecimal."""
     for line in sys.stdin:
         key, data, signature = (bytes.fromhex(part.strip("-\n")) for part in line.split(" "))
         yield key, data, signature
 
 
 def name_of(error: minisign.MinisignError) -> str:
-    """Returns the name of an error in the header."""
+    """Returns the name that an error has in include/minisign.h, without its prefix."""
     return re.sub(r"(?<!^)(?=[A-Z])", "_", type(error).__name__).upper()
 
 
 def answer(verify: Callable[[], str]) -> str:
+    """Returns `accepted` and the trusted comment that `verify` returns, or `rejected` and the error that it raises."""
     try:
         return f"accepted {verify().encode().hex() or '-'}"
     except minisign.MinisignError as why:
         return f"rejected {name_of(why)}"
 
 
-def answers(word: str) -> None:
+def answers(legacy: str) -> None:
+    """Verifies each case, and accepts legacy signatures if the argument is `allow`."""
     for key, data, signature in read_cases():
-        print(answer(lambda: PublicKey(key).verify(data, Signature(signature), word == "allow")))
+        print(answer(lambda: PublicKey(key).verify(data, Signature(signature), legacy == "allow")))
 
 
 def cut(data: bytes, choose: random.Random) -> Iterator[bytes]:
@@ -55,7 +60,7 @@ def cut(data: bytes, choose: random.Random) -> Iterator[bytes]:
 
 
 def pieces() -> None:
-    """Verifies each case in all ways to pass data, and prints the result, or all results if they differ."""
+    """Verifies each case with each way to pass data, and prints the result, or all results if they differ."""
     choose = random.Random(3)
     for key, data, text in read_cases():
         signature = Signature(text)
@@ -85,8 +90,8 @@ def read() -> None:
 # ---- Keys and signing ----
 
 
-def write(room: str, name: str, data: bytes) -> str:
-    path = os.path.join(room, name)
+def write(directory: str, name: str, data: bytes) -> str:
+    path = os.path.join(directory, name)
     with open(path, "wb") as file:
         file.write(data)
     return path
@@ -126,6 +131,7 @@ def ids(key: str) -> None:
 
 
 def outcome(call: Callable[..., None], *words: str) -> str:
+    """Returns `OK`, or the error that a call raises."""
     try:
         call(*words)
     except minisign.MinisignError as why:
@@ -137,15 +143,15 @@ def outcome(call: Callable[..., None], *words: str) -> str:
     return "OK"
 
 
-# The words whose outcome is printed.
+# The commands that print `OK` or an error.
 CALLS: Dict[str, Callable[..., None]] = {"make": make, "sign": sign, "sealed": sealed, "write": write_key}
 
 if __name__ == "__main__":
-    kind, word, *rest = sys.argv[1:]
-    minisign.use_ed25519(kind)
-    if word in CALLS:
-        print(outcome(CALLS[word], *rest))
-    elif word in globals():
-        globals()[word](*rest)
+    implementation, command, *rest = sys.argv[1:]
+    minisign.use_ed25519(implementation)
+    if command in CALLS:
+        print(outcome(CALLS[command], *rest))
+    elif command in globals():
+        globals()[command](*rest)
     else:
-        getattr(importlib.import_module("python_checks"), word)(*rest)
+        getattr(importlib.import_module("python_checks"), command)(*rest)

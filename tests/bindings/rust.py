@@ -7,7 +7,7 @@ an empty directory, and built by cargo, without network and kit, as dependencies
 
 They are also built in a path with spaces, with neither make nor objcopy in PATH, with the variables of the crate cc and of
 libsodium, as a git dependency, for Windows, where wine runs them, and for AArch64. The examples of README.md are pasted into
-a crate and run. The results are compared with `c/minisign`, libsodium and the header (`ask_all`), and the layout of structs
+a crate and run. The results are compared with `c/minisign`, libsodium and the header (`compare_results`), and the layout of structs
 with the header. `unsafe` is in one module only, and without the feature `sodium` nothing of libsodium is linked. Each mutant
 of rust/mutants is detected. It prints a line for each failure; the last line is `N passed, M failed`.
 
@@ -42,8 +42,7 @@ from shared_cases import TOP, Program, read, record_of, run, write
 CRATE, SYS = (os.path.join(TOP, "bindings", name) for name in ("rust", "rust-sys"))
 # The files of bindings/rust that are written by hand, of which the first five have no `unsafe`; and the files that tools/bindings.py
 # makes, of bindings/rust and of bindings/rust-sys.
-BY_HAND = ["src/lib.rs", "src/base64.rs", "src/files.rs", "src/records.rs", "src/signing.rs", "src/raw.rs",
-           "src/raw/records.rs", "src/raw/sodium.rs"]
+BY_HAND = ["src/lib.rs", "src/base64.rs", "src/files.rs", "src/records.rs", "src/signing.rs", "src/raw.rs", "src/raw/sodium.rs"]
 GENERATED, GENERATED_SYS = "src/raw/header.rs", "src/header.rs"
 NO_SODIUM = dict.fromkeys(("crypto_sign", "sodium_init", "randombytes"), False)
 # The number of calls, and by how many pages of 4 KiB the memory may grow after a tenth of them.
@@ -153,22 +152,22 @@ def fields_line(fields):
     return " ".join([*(key_id.hex() for key_id in ids), *map(shared_cases.key_id_text, ids), str(fields.is_legacy).lower()])
 
 
-def ask_all(program, room, minisign, cases):
+def compare_results(program, room, minisign, cases):
     """Checks all results of a program that uses the crate."""
-    program.ask_answers(minisign, cases, (["verify"], True), (["strict"], False), (["reader"], False),
+    program.check_verdicts(minisign, cases, (["verify"], True), (["strict"], False), (["reader"], False),
                         *((["pieces", str(length)], False) for length in (1, 128, 1000, 0)))
-    program.ask_reasons(["strict"], shared_cases.rejections(), reason(KNOWN))
-    program.ask_reasons(["pieces", "7"], shared_cases.rejections(), reason(IN_PIECES))
-    program.ask_vectors(["verify"], reason(KNOWN))
-    program.ask_comments(["comment"], reason(IN_PIECES))
-    program.ask_fields(["read"], fields_line)
-    program.ask_libsodium(["accepts"])
+    program.check_errors(["strict"], shared_cases.rejections(), reason(KNOWN))
+    program.check_errors(["pieces", "7"], shared_cases.rejections(), reason(IN_PIECES))
+    program.check_vectors(["verify"], reason(KNOWN))
+    program.check_comments(["comment"], reason(IN_PIECES))
+    program.check_fields(["read"], fields_line)
+    program.check_libsodium(["accepts"])
     of_length, of_base64 = (f"Err(InvalidEncoding(BARE_PUBLIC_KEY_{why}))" for why in ("LENGTH", "NOT_BASE64"))
-    program.ask_bare_keys(*map(re.escape, ("Ok(None)", of_length, of_base64, of_length)))
+    program.check_bare_keys(*map(re.escape, ("Ok(None)", of_length, of_base64, of_length)))
     # Debug prints nothing secret, and a reason by its name.
-    program.ask_pairs(6, "shown")
+    program.check_pairs(6, "shown")
     # Traits, records, bare signatures and keys that are not decrypted yet.
-    program.ask_pairs(30, "types")
+    program.check_pairs(30, "types")
     shared_cases.check_signing(program, os.path.join(room, "signed"), minisign, lambda name: f"Err(Rejected({name}))", "Ok(())")
     shared_cases.check_key_ids(program, os.path.join(room, "ids"), minisign)
     shared_cases.check_new_key_files(program, os.path.join(room, "written"), "Ok(())")
@@ -209,14 +208,14 @@ def check_readme(checks, cargo, room, crate, minisign):
     for name in os.listdir(os.path.dirname(crate)):
         os.symlink(os.path.join(os.path.dirname(crate), name), os.path.join(directory, "vendor", name))
     write(directory, "Cargo.toml", read(HERE, "rust", "user.toml").replace(b"[dependencies]\n", dependency.encode()))
-    write(directory, "src/main.rs", shared_cases.readme_program("rust").encode())
+    write(directory, "src/main.rs", shared_cases.readme_examples("rust").encode())
     shutil.copy(os.path.join(HERE, "rust", "readme.rs"), os.path.join(directory, "src", "bin"))
     # Warnings are allowed, because the program does not call all examples.
     status, why = cargo.try_to_run(directory, "build", RUSTFLAGS="", **Cargo.UNOPTIMIZED)
     if not checks.check(status == 0, f"the examples of README.md do not compile: {why[-1500:]}"):
         return
     programs = os.path.join(cargo.target, "debug")
-    shutil.copy(shared_cases.PATHS[2], os.path.join(directory, "app.minisig"))
+    shutil.copy(shared_cases.PUBLISHED_PATHS[2], os.path.join(directory, "app.minisig"))
     for app, *expected, error in VERIFIED:
         shutil.copy(os.path.join(shared_cases.CORPUS, app), os.path.join(directory, "app"))
         status, output, errors = run([f"{programs}/user"], directory)
@@ -248,7 +247,7 @@ class UserCrate:
         status, output = self.build(target, **environment)
         if not checks.check(status == 0, f"{what}: the build failed: {output[-1000:]}"):
             return
-        program, (key, _, signature) = os.path.join(self.cargo.target, target, "debug", f"user{ending}"), shared_cases.PATHS
+        program, (key, _, signature) = os.path.join(self.cargo.target, target, "debug", f"user{ending}"), shared_cases.PUBLISHED_PATHS
         status, output, errors = run([*before, program, key, signature], environment=variables)
         checks.check(output.decode().replace("\r", "") == messages(), f"{what}: status {status}, {output.decode()}{errors[-500:]}")
         symbols = shared_cases.symbols_of(program)
@@ -293,7 +292,7 @@ def check_libsodium(checks, crate, room):
         place.check(checks, f"with libsodium, {variables}", {}, **variables)
         needed = run([needs.program("readelf", "binutils"), "-d", f"{place.cargo.target}/debug/user"])[1].decode()
         checks.check(("libsodium.so" in needed) == is_shared, f"with libsodium, {variables}: {needed}")
-    few = UserCrate(shared_cases.few_programs(os.path.join(room, "few"), *NEEDED), room, "without pkg-config", depends_on(PLAIN, crate))
+    few = UserCrate(shared_cases.path_directory(os.path.join(room, "few"), *NEEDED), room, "without pkg-config", depends_on(PLAIN, crate))
     status, why = few.build()
     checks.check(status != 0 and "libsodium was not found: install it" in why and "SODIUM_LIB_DIR" in why, f"without pkg-config: {why[-800:]}")
 
@@ -325,7 +324,7 @@ def check_mutants(checks, cargo, crate, room, minisign):
         shutil.rmtree(crate_path, ignore_errors=True)
         os.rename(changed, crate_path)
         cargo.run(user, "build", RUSTFLAGS="", CARGO_INCREMENTAL="1", **Cargo.UNOPTIMIZED)
-        ask_all(Program(checks, f"{cargo.target}/debug/user"), directory, minisign, shared_cases.corpus())
+        compare_results(Program(checks, f"{cargo.target}/debug/user"), directory, minisign, shared_cases.corpus())
 
     shared_cases.check_mutants(checks, crate, "bindings/rust", mutants_of("bindings", "rust", "mutants"), room, ask)
 
@@ -334,20 +333,20 @@ def check_toolchain(checks, room, toolchain, minisign, is_first):
     """Checks what one cargo builds. With the first cargo, more cases are tried, and also memory, threads, mutants and other targets."""
     cargo = Cargo(room, *toolchain, **({} if is_first else Cargo.UNOPTIMIZED))
     # `cargo package` builds what it packs, so this takes less time without optimization.
-    crate = shared_cases.packed("rust", room, {**cargo.environment, **Cargo.UNOPTIMIZED}, CARGO=cargo.cargo)
+    crate = shared_cases.unpacked_package("rust", room, {**cargo.environment, **Cargo.UNOPTIMIZED}, CARGO=cargo.cargo)
     answers = new_crate(room, "answers", depends_on(RENAMED, crate), "answers.rs")
     cargo.run(answers, "build", "--release")
     program = Program(checks, shutil.copy(os.path.join(cargo.target, "release", "user"), answers))
-    few = shared_cases.corpus() + shared_cases.damaged(60)
-    ask_all(program, room, minisign, shared_cases.all_cases(checks, minisign) if is_first else few)
+    few = shared_cases.corpus() + shared_cases.damaged_cases(60)
+    compare_results(program, room, minisign, shared_cases.all_cases(checks, minisign) if is_first else few)
     check_readme(checks, cargo, room, crate, minisign)
     check_inside(checks, cargo, crate, room)
     if not is_first:
         return
-    program.ask_growth(CALLS, PAGES, few)
-    program.ask_threads(few)
+    program.check_growth(CALLS, PAGES, few)
+    program.check_threads(few)
     check_mutants(checks, cargo, crate, room, minisign)
-    programs = shared_cases.few_programs(room, *NEEDED)
+    programs = shared_cases.path_directory(room, *NEEDED)
     check_here(checks, programs, crate, room)
     check_targets(checks, programs, crate, room)
     sys_crate = f"{os.path.dirname(crate)}/minisign-proved-sys-{shared_cases.VERSION}"

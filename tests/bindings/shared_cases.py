@@ -1,7 +1,7 @@
 """Test cases and checks that the tests of all packages in bindings/ share.
 
 A case is a public key, data and a signature, each as bytes. The test of a package passes the cases to a program in the
-package's language, one case a line, and compares the output with the results of `c/minisign` (class `Program`). This
+package's language, one case per line, and compares the output with the results of `c/minisign` (class `Program`). This
 module also reads the errors and the layout of structs from the header.
 
 Needs Python 3.9 or later, make, a C compiler and libsodium with its header. It installs what is missing if it may.
@@ -37,7 +37,8 @@ from running import Failure, expect, read, write
 from static_library import hold
 from texts import CORPUS, Limits, record_of, text_of, turned
 
-DAMAGED, BY_LINES = 500, 150
+# How many damaged cases of each kind there are (`damaged_cases` and `line_damaged_cases`).
+DAMAGED_COUNT, LINE_DAMAGED_COUNT = 500, 150
 
 
 def run(command, directory=None, environment=None, data=b""):
@@ -46,9 +47,10 @@ def run(command, directory=None, environment=None, data=b""):
     return ran.status, ran.output, ran.said.decode(errors="replace")
 
 
-def packed(package, room, environment=None, **chosen):
-    """Packs a package with `make -C bindings`, without the kit, unpacks its archives, and returns the directory of its files. `chosen`
-    sets variables of the makefile. For Rust there are three crates, which are unpacked side by side."""
+def unpacked_package(package, room, environment=None, **chosen):
+    """Packs a package with `make -C bindings`, without the kit, unpacks its archive, and returns the directory of its files. `chosen`
+    sets variables of the makefile. For Rust there are archives of three crates, which are unpacked side by side, and the directory is that
+    of minisign-proved."""
     out, to = os.path.join(room, "packed"), os.path.join(room, "unpacked")
     words = [f"{name}={value}" for name, value in {"OUT": out, "PYTHON": sys.executable, **chosen}.items()]
     command = [needs.program("make", "make"), "-s", "-C", os.path.join(TOP, "bindings"), package, *words]
@@ -59,8 +61,8 @@ def packed(package, room, environment=None, **chosen):
     return os.path.join(to, f"minisign-proved-{VERSION}" if package == "rust" else os.listdir(to)[0])
 
 
-def few_programs(room, *names):
-    """Makes a directory for PATH that has only these programs of Debian, and returns it."""
+def path_directory(room, *names):
+    """Makes a directory that contains only these programs of Debian, and returns its path, which is to be the whole PATH of a run."""
     directory = os.path.join(room, "programs")
     os.makedirs(directory)
     for name in names:
@@ -91,18 +93,18 @@ README_PARTS = ["Install", "Verify", "Sign", "Stream", "Errors", "What is differ
 # For a Rust crate, in the order in which its readers expect them: an example, how to switch, differences, what is proved, questions.
 RUST_README_PARTS = ["Verify", "Sign", "Stream", "Errors", "Install and switch", "What is different from", "What is proved, and what is not",
                      "Questions"]
-# The language of the fenced blocks in each package's README that are its examples.
+# The examples of a package's README are the fenced blocks in this language.
 FENCES = {"rust": "rust", "go": "go", "python": "python", "javascript": "js"}
 
 
 def readme_blocks(package):
-    """Returns the examples of a package's README, in their order, exactly as a reader would paste them."""
+    """Returns the examples of a package's README, in order, each exactly as a reader would paste it."""
     text = read(TOP, "bindings", package, "README.md").decode()
     return re.findall(rf"^```{FENCES[package]}\n(.*?)^```$", text, re.M | re.S)
 
 
-def readme_program(package):
-    """Returns the program of a reader who pastes all examples of a package's README into one file, and adds nothing."""
+def readme_examples(package):
+    """Returns all examples of a package's README as one program, as if a reader pasted them into one file and added nothing."""
     return "\n".join(readme_blocks(package))
 
 
@@ -123,12 +125,13 @@ def check_readme(checks, package):
 
 # A public key, data and a signature, which are verified together.
 Case = namedtuple("Case", "name key data signature")
-# What can be read of a case before it is verified: the key IDs of its key and of its signature, and whether the signature is legacy.
+# What a package can read from a case before it verifies: the key IDs of the key and of the signature, and whether the signature is legacy.
 Fields = namedtuple("Fields", "case key_id signature_key_id is_legacy")
-# The key, data and signature that the documentation of the Rust crate minisign publishes: the paths, the case, and the base64 of the key.
-PATHS = [os.path.join(CORPUS, name) for name in ("published.pub", "test", "published.minisig")]
-PUBLISHED = Case("published", *map(read, PATHS))
-LETTERS = PUBLISHED.key.decode().split("\n")[1]
+# The key, data and signature that the documentation of the Rust crate minisign publishes: the paths, the case, and the base64 line of the
+# key.
+PUBLISHED_PATHS = [os.path.join(CORPUS, name) for name in ("published.pub", "test", "published.minisig")]
+PUBLISHED = Case("published", *map(read, PUBLISHED_PATHS))
+PUBLISHED_BASE64 = PUBLISHED.key.decode().split("\n")[1]
 
 
 def as_cases(cases):
@@ -143,8 +146,8 @@ def corpus():
 
 
 def vectors():
-    """Returns the Ed25519 signatures on which implementations differ, each with whether libsodium accepts it. In these cases the key has
-    32 bytes and the signature 64."""
+    """Returns cases of Ed25519 signatures on which implementations differ. Each comes with True if libsodium accepts it. Key and signature
+    are binary here, of 32 and 64 bytes."""
     decode = bytes.fromhex
     return [(Case(vector["name"], decode(vector["A"]), decode(vector["msg"]), decode(vector["sig"])), vector["sodium"])
             for vector in edges.vectors()]
@@ -152,33 +155,34 @@ def vectors():
 
 @functools.lru_cache(maxsize=None)
 def vector_texts():
-    """Returns the same signatures as legacy signature files, each with the name of its error in the header. All are rejected, because an
-    Ed25519 that accepts a vector still rejects its comment signature; the error shows which of both was rejected. The last cases are valid
-    for every file if an Ed25519 accepts small orders."""
+    """Returns the signatures of `vectors` as legacy signature files, each with the name of its error in the header. All are rejected: even
+    if an implementation of Ed25519 accepts the data signature of a vector, it rejects the comment signature. The error shows which of the
+    two was rejected. The last three cases have a signature that is valid for every file if an implementation accepts points of small
+    order."""
     rows = [(Case(vector["name"], key, bytes.fromhex(vector["msg"]), signature), edges.error_of(vector))
             for vector in edges.vectors() for key, signature in [edges.legacy_texts(vector)]]
     key, signature = edges.texts_for_every_file()
     return rows + [(Case("a signature for every file", key, data, signature), "WEAK_ED25519") for data in (b"", b"data", bytes(100_000))]
 
 
-def damaged(count=DAMAGED):
-    """Returns cases of the corpus with random changes of the key, the signature or the data, which are the same in each run."""
+def damaged_cases(count=DAMAGED_COUNT):
+    """Returns cases of the corpus with random changes of the key, the signature or the data. The changes are the same in each run."""
     return as_cases(minisign_cases.random_cases(kept_cases(), count))
 
 
-def damaged_by_lines():
-    """Returns a sample of cases in which lines or characters of a signature file are changed, or its end or the data. The sample is the
-    same in each run."""
+def line_damaged_cases():
+    """Returns a sample of cases in which a line, a character or the end of a signature file is changed, or the data. The sample is the same
+    in each run."""
     whole = next(case for case in kept_cases() if case.data and case.sig.count(b"\n") == 4)
-    return as_cases(random.Random(BY_LINES).sample(minisign_cases.damaged(whole), BY_LINES))
+    return as_cases(random.Random(LINE_DAMAGED_COUNT).sample(minisign_cases.damaged(whole), LINE_DAMAGED_COUNT))
 
 
 def rejections():
     """Returns cases that are rejected if legacy signatures are not allowed, each with the name of its error in the header."""
     _, key, data, signature = PUBLISHED
     rows = [(error, error.text, signature) for error in key_errors(key)]
-    # The case of the error 31 is left out: if the signature of the data is changed, the comment signature is not valid either. For
-    # SIGNATURE_REFUSED the data is changed instead.
+    # For SIGNATURE_REFUSED (31) the data is changed instead of the data signature: if that is changed, the comment signature is not valid
+    # either.
     errors = signature_errors(signature + b"\n", read(CORPUS, "second.minisig"))
     rows += [(error, key, error.text) for error in errors if error.number != 31]
     names = {number: name for name, number in ERRORS.items()}
@@ -189,8 +193,8 @@ def rejections():
 
 @functools.lru_cache(maxsize=None)
 def expected_fields():
-    """Returns the expected fields of cases, as Python's base64 decodes them: the cases of the corpus that Minisign's own program accepts,
-    except for the one that is not UTF-8; a signature of another key; and short key IDs."""
+    """Returns cases with the fields that a package should read from them, decoded here with Python's base64. The cases are those of the
+    corpus that Minisign's own program accepts, except for the one that is not UTF-8; a signature of another key; and short key IDs."""
     cases = [case for case, row in zip(corpus(), texts.kept_rows()) if row["status"] == 0 and row["signature"] != "no-utf8.minisig"]
     cases.append(cases[0]._replace(name="a signature of another key", key=read(CORPUS, "second.pub")))
     cases += [with_key_id(PUBLISHED, number) for number in SHORT_KEY_IDS]
@@ -208,7 +212,7 @@ SHORT_KEY_IDS = [0xABCDEF012345678, 0x620F1842B41F0A, 0x123456789, 0xB, 0]
 
 
 def with_key_id(case, number):
-    """Returns the case with another key ID in its key and its signature. It stays valid, because key IDs are not signed."""
+    """Returns the case with another key ID in its key and its signature. The signature is still valid, because key IDs are not signed."""
     def changed(text):
         record = record_of(text)
         return text.replace(*map(base64.b64encode, (record, record[:2] + number.to_bytes(8, "little") + record[10:])))
@@ -220,7 +224,7 @@ def with_key_id(case, number):
 
 
 @functools.lru_cache(maxsize=None)
-def answer_of(minisign, case, allow_legacy):
+def accepted_comment(minisign, case, allow_legacy):
     """Returns the trusted comment if `c/minisign` accepts a case, otherwise None."""
     with tempfile.TemporaryDirectory(prefix="case-") as room:
         key, data, signature = (write(room, part, text) for part, text in zip("kds", case[1:]))
@@ -230,14 +234,14 @@ def answer_of(minisign, case, allow_legacy):
     return output[:-1] if status == 0 else None
 
 
-def answers_of(minisign, cases, allow_legacy):
+def accepted_comments(minisign, cases, allow_legacy):
     """Returns the trusted comment of each case that `c/minisign` accepts, and None for the others."""
     with concurrent.futures.ThreadPoolExecutor(4) as pool:
-        return list(pool.map(lambda case: answer_of(minisign, case, allow_legacy), cases))
+        return list(pool.map(lambda case: accepted_comment(minisign, case, allow_legacy), cases))
 
 
 @functools.lru_cache(maxsize=None)
-def large(minisign):
+def large_cases(minisign):
     """Returns two cases: 300,000 bytes of data that `c/minisign` has signed, and the same data with its last byte changed."""
     data = bytes(at * at % 251 for at in range(300_000))
     with tempfile.TemporaryDirectory(prefix="large-") as room:
@@ -251,22 +255,22 @@ def large(minisign):
 def all_cases(checks, minisign):
     """Returns the cases of the corpus, damaged cases, and large data. Checks that `c/minisign` accepts a plausible number of them, so that
     the comparison with it means something."""
-    cases = corpus() + damaged() + damaged_by_lines()
-    count = sum(comment is not None for comment in answers_of(minisign, cases, True))
-    checks.check(40 <= count <= 200, f"of the cases too few, or too many, are accepted: {count}")
-    checks.same(answers_of(minisign, large(minisign), False), [b"large", None], "what c/minisign answers to the large data")
-    return cases + large(minisign)
+    cases = corpus() + damaged_cases() + line_damaged_cases()
+    count = sum(comment is not None for comment in accepted_comments(minisign, cases, True))
+    checks.check(40 <= count <= 200, f"c/minisign accepts {count} of {len(cases)} cases, expected 40 to 200")
+    checks.same(accepted_comments(minisign, large_cases(minisign), False), [b"large", None], "the results of c/minisign for the large data")
+    return cases + large_cases(minisign)
 
 
 # ---- The programs that use a package ----
 
 
-def accepted(comment):
+def accepted_line(comment):
     """Returns the line that a program prints for a case that it accepts with this trusted comment."""
     return f"accepted {comment.hex() or '-'}"
 
 
-def rejected(name):
+def rejected_line(name):
     """Returns the line that a program prints for a case that it rejects with this error of the header."""
     return f"rejected {name}"
 
@@ -287,8 +291,8 @@ class Program:
         lines = "".join(" ".join(part.hex() or "-" for part in case[1:]) + "\n" for case in cases)
         return run([*self.command, *words], self.directory, self.environment, lines.encode())
 
-    def ask(self, words, cases, forms):
-        """Checks that the line that the program prints for each case matches the regular expression for this case."""
+    def check_lines(self, words, cases, forms):
+        """Checks that the program prints one line per case, and that the line matches the case's regular expression in `forms`."""
         status, output, errors = self.run(*words, cases=cases)
         lines = output.decode(errors="replace").splitlines()
         is_complete = status == 0 and len(lines) == len(cases) == len(forms) > 0
@@ -296,9 +300,9 @@ class Program:
         for case, line, form in zip(cases, lines, forms):
             self.checks.check(re.fullmatch(form, line), f"{self.name} {words}, {case.name}: printed {line}, expected {form}")
 
-    def ask_pairs(self, least, *words, cases=()):
-        """Checks the results of the program's own tests: it prints at least this many lines, each with an expected value, a tab, and the
-        actual value."""
+    def check_pairs(self, least, *words, cases=()):
+        """Checks the program's own tests. It has to print at least `least` lines, each with an expected value, a tab, and the actual value,
+        and the two values must be equal."""
         status, output, errors = self.run(*words, cases=cases)
         lines = output.decode(errors="replace").splitlines()
         self.checks.check(status == 0 and len(lines) >= least, f"{self.name} {words}: status {status}, {lines[-5:]}, {errors[-800:]}")
@@ -306,55 +310,56 @@ class Program:
             expected, _, actual = line.partition("\t")
             self.checks.check(expected == actual, f"{self.name} {words}: {actual}, expected {expected}")
 
-    def ask_answers(self, minisign, cases, *ways):
-        """Checks that the program accepts the cases that `c/minisign` accepts, with the same trusted comments. Each way has the words for
-        the program, and whether it allows legacy signatures."""
+    def check_verdicts(self, minisign, cases, *ways):
+        """Checks that the program accepts the cases that `c/minisign` accepts, with the same trusted comments, and rejects the others. Each
+        of `ways` is a pair: the arguments for the program, and True if they allow legacy signatures."""
         for words, allow_legacy in ways:
-            wanted = answers_of(minisign, cases, allow_legacy)
-            self.ask(words, cases, ["rejected .*" if comment is None else accepted(comment) for comment in wanted])
+            comments = accepted_comments(minisign, cases, allow_legacy)
+            self.check_lines(words, cases, ["rejected .*" if comment is None else accepted_line(comment) for comment in comments])
 
-    def ask_reasons(self, words, rows, form=rejected):
+    def check_errors(self, words, rows, form=rejected_line):
         """Checks that the program rejects each case with the error of its row. `form` makes the expected line from the error's name."""
-        self.ask(words, [case for case, _ in rows], [form(name) for _, name in rows])
+        self.check_lines(words, [case for case, _ in rows], [form(name) for _, name in rows])
 
-    def ask_comments(self, words, form=rejected):
-        """Checks that, without data, the program returns the trusted comment exactly if the comment signature is valid."""
+    def check_comments(self, words, form=rejected_line):
+        """Checks that the program, without the data, returns the trusted comment exactly if the comment signature is valid."""
         comment = PUBLISHED.signature.split(b"\n")[2].removeprefix(b"trusted comment: ")
-        self.ask_reasons(words, rejections(), lambda name: accepted(comment) if name == "SIGNATURE_REFUSED" else form(name))
+        self.check_errors(words, rejections(), lambda name: accepted_line(comment) if name == "SIGNATURE_REFUSED" else form(name))
 
-    def ask_fields(self, words, form):
+    def check_fields(self, words, form):
         """Checks the key IDs and legacy flags that the program reads before it verifies. `form` makes the expected line from `Fields`."""
         rows = expected_fields()
         self.checks.check(len(rows) > 20 and {fields.is_legacy for fields in rows} == {True, False}, f"only {len(rows)} cases are read")
-        self.ask(words, [fields.case for fields in rows], [form(fields) for fields in rows])
+        self.check_lines(words, [fields.case for fields in rows], [form(fields) for fields in rows])
 
-    def ask_bare_keys(self, *forms):
-        """Checks how the program reads a public key from base64 only: a valid key, one that is too short, one that is not base64, and two
-        lines. For each there is a regular expression that the output has to match."""
-        for text, form in zip((LETTERS, LETTERS[:-1], LETTERS[:-1] + "!", f"x\n{LETTERS}"), forms):
+    def check_bare_keys(self, *forms):
+        """Checks how the program reads a public key from its base64 line only. The inputs are a valid key, one that is too short, one that
+        is not base64, and two lines; `forms` has a regular expression for the output of each."""
+        key = PUBLISHED_BASE64
+        for text, form in zip((key, key[:-1], key[:-1] + "!", f"x\n{key}"), forms):
             output = self.run("bare", text)[1].decode()
             is_right = re.fullmatch(form, output.strip(), re.S)
             self.checks.check(is_right, f"{self.name}: the bare key {text!r}: printed {output}, expected {form}")
 
-    def ask_vectors(self, words, form=rejected):
-        """Checks that the verdicts on the vectors are those of libsodium, whatever implementation of Ed25519 the program uses."""
+    def check_vectors(self, words, form=rejected_line):
+        """Checks that the program rejects each of `vector_texts` with the right error, whatever implementation of Ed25519 it uses."""
         rows = vector_texts()
         self.checks.check(len(rows) == edges.COUNT + 3, f"there are {len(rows)} vectors")
-        self.ask_reasons(words, rows, form)
+        self.check_errors(words, rows, form)
 
-    def ask_libsodium(self, words):
-        """Checks that the program's Ed25519, which is that of libsodium, accepts the vectors that libsodium accepts."""
+    def check_libsodium(self, words):
+        """Checks that the program's Ed25519, which is libsodium's, accepts exactly those of `vectors` that are marked as accepted."""
         cases, verdicts = zip(*vectors())
         self.checks.check(len(cases) == edges.COUNT, f"there are {len(cases)} vectors")
-        self.ask(words, cases, ["true" if is_accepted else "false" for is_accepted in verdicts])
+        self.check_lines(words, cases, ["true" if is_accepted else "false" for is_accepted in verdicts])
 
-    def ask_growth(self, count, most, cases=()):
-        """Checks that the program's memory grows by at most `most` between a tenth of the calls and all of them. The unit is the
-        program's: pages or bytes."""
+    def check_growth(self, count, most, cases=()):
+        """Checks that the program's memory grows by at most `most` between the first tenth of `count` calls and the last call. The program
+        reports it in pages or bytes."""
         status, output, errors = self.run("growth", str(count), cases=cases)
         self.checks.check(status == 0 and int(output) <= most, f"{self.name}: memory grows by {output!r} in {count} calls: {errors[-500:]}")
 
-    def ask_threads(self, cases=()):
+    def check_threads(self, cases=()):
         """Checks that concurrent threads get the same results as a single thread."""
         status, output, errors = self.run("threads", cases=cases)
         self.checks.check((status, output, errors) == (0, b"true\n", ""), f"{self.name}: threads: {output!r}, {errors[-1000:]}")
@@ -521,33 +526,34 @@ class FirstFailure(Checks):
         return True
 
 
-def is_detected(package, room, ask, word, mutant=None, inside=""):
+def is_detected(package, room, run_checks, word, mutant=None, inside=""):
     """Returns True if a check fails with a copy of a package that has this mutant, or no mutant."""
     with tempfile.TemporaryDirectory(prefix="mutant-", dir=room) as directory:
         changed = shutil.copytree(package, os.path.join(directory, "package", os.path.basename(package)))
         if mutant:
             mutants.apply(mutant, changed, inside)
         try:
-            ask(FirstFailure(), changed, directory, word)
+            run_checks(FirstFailure(), changed, directory, word)
         except (Failure, OSError):
             return True
     return False
 
 
-# How often a case that searches memory may run for a mutant: malloc may overwrite what the mutant leaves before it is found.
+# How often a case that searches memory for secrets is run for a mutant. One run is not enough: malloc may overwrite a secret that the
+# mutant leaves before the search reaches it.
 SEARCHES = 5
 
 
-def check_mutants(checks, package, inside, package_mutants, room, ask, searching=()):
-    """Checks that `ask` detects each mutant of a package, and passes for a copy without a mutant. The package is a copy of the repository's
-    directory `inside`. `ask` takes the checks, the changed copy, an empty directory and the case that must fail. The cases in `searching`
-    search memory, and run up to SEARCHES times."""
+def check_mutants(checks, package, inside, package_mutants, room, run_checks, searching=()):
+    """Checks that `run_checks` fails for each mutant of a package, and passes for a copy without a mutant. The package is a copy of the
+    repository's directory `inside`. `run_checks` takes the checks, the changed copy, an empty directory and the case that must fail. The
+    cases in `searching` search memory, and run up to SEARCHES times."""
     for word in sorted({mutant.case for mutant in package_mutants}):
-        checks.check(not is_detected(package, room, ask, word), f"{word}: fails for a copy without a mutant")
+        checks.check(not is_detected(package, room, run_checks, word), f"{word}: fails for a copy without a mutant")
     for mutant in package_mutants:
         try:
             tries = SEARCHES if mutant.case in searching else 1
-            is_failing = any(is_detected(package, room, ask, mutant.case, mutant, inside) for _ in range(tries))
+            is_failing = any(is_detected(package, room, run_checks, mutant.case, mutant, inside) for _ in range(tries))
             checks.check(is_failing, f"{mutant.case} does not detect the mutant {mutant.name}")
         except Failure as why:
             checks.check(False, str(why))

@@ -1,9 +1,9 @@
-"""Builds `c/` for other processors with Debian's cross compilers, and runs it under qemu. Also knows how to build with
-musl.
+"""Builds `c/` for other processors with Debian's cross compilers and runs it under qemu, for test scripts. Also has the
+make variables for a build with musl.
 
-apt-get downloads Debian's libsodium for a processor once, and it is unpacked beside the build results; the system is
-unchanged. If Debian has no libsodium for it, the programs of c/ are not built, and only the library is tested. The musl
-compiler does not search Debian's directories: it is given the path of Debian's libsodium, which is built with glibc.
+Debian's libsodium for a processor is downloaded by apt-get once and unpacked into out/. Nothing is installed. If Debian
+has no libsodium for a processor, only the library is built and tested, without the programs of c/. The musl compiler does
+not search Debian's directories, so it gets the path of Debian's libsodium, which is built with glibc.
 """
 
 import glob
@@ -21,7 +21,7 @@ from process import run
 from proved import ROOT
 from running import read, write
 
-# The number of rows of a key with default limits.
+# The number of scrypt rows for a key with the default limits.
 USUAL_ROWS = "1048576"
 
 # glibc functions that Debian's libsodium needs and musl lacks.
@@ -39,23 +39,24 @@ musl_compiler = lambda: needs.program("musl-gcc", "musl-tools")
 
 
 def fetch(kind, place, *packages):
-    """Downloads Debian packages for a processor, with a package list of its own, and unpacks them into a directory."""
+    """Downloads Debian packages for a processor and unpacks them into the directory `place`. Uses separate package lists, so that those of
+    the system are unchanged."""
     if not needs.is_debian():
-        raise needs.Missing(f"{' and '.join(packages)} for {kind.debian} is not here: unpack it into {os.path.relpath(place, ROOT)}")
+        raise needs.Missing(f"{' and '.join(packages)} for {kind.debian} is missing: unpack it into {os.path.relpath(place, ROOT)}")
     with tempfile.TemporaryDirectory(prefix="packages-") as room:
         for directory in ("lists/partial", "cache/archives/partial"):
             os.makedirs(f"{room}/{directory}")
         options = [f"-o{option}" for option in (
             f"Dir::State::lists={room}/lists", f"Dir::Cache={room}/cache", f"APT::Architecture={kind.debian}",
             f"APT::Architectures={kind.debian}", "APT::Sandbox::User=root", "Acquire::Retries=3", "Acquire::Languages=none")]
-        # (A mirror may temporarily lack one of the lists. The packages need only the first.)
-        _, listed = run(["apt-get", "-q", *options, "update"], room)
+        # The status is ignored, because a mirror may lack one of the lists for a while, and only the first is needed.
+        _, update_output = run(["apt-get", "-q", *options, "update"], room)
         status, said = run(["apt-get", "-q", *options, "download", *packages], room)
         if status != 0:
-            raise needs.Missing(f"{' and '.join(packages)} for {kind.name} was not fetched: {listed[-300:]}{said[-300:]}")
+            raise needs.Missing(f"{' and '.join(packages)} for {kind.name} could not be downloaded: {update_output[-300:]}{said[-300:]}")
         for package in glob.glob(f"{room}/*.deb"):
             subprocess.run(["dpkg", "-x", package, f"{room}/unpacked"], check=True)
-        # (`rt ci`, which may run at the same time, accepts no links in the repository)
+        # `rt ci` may run at the same time, and rejects symbolic links in the repository.
         for link in filter(os.path.islink, glob.glob(f"{room}/unpacked/**", recursive=True)):
             os.remove(link)
         shutil.rmtree(place, ignore_errors=True)
@@ -64,7 +65,7 @@ def fetch(kind, place, *packages):
 
 
 def sodium_words(kind):
-    """Returns the variables for make for Debian's libsodium, whose archive is in a directory named after the processor."""
+    """Returns the make variables for Debian's libsodium for a processor. Downloads it if it is not in out/."""
     place = os.path.join(ROOT, "out", f"libsodium-for-{kind.name.lower()}")
     archives = f"{place}/usr/lib/*/libsodium.a"
     if not glob.glob(archives):
@@ -74,8 +75,8 @@ def sodium_words(kind):
 
 
 def emulator(kind):
-    """Returns the words before the command of a program. An x86-64 runs i386 programs itself: under qemu, threads of
-    them do not end."""
+    """Returns the command that runs a program for this processor, without the program. An x86-64 processor runs i386 programs
+    without qemu, because their threads do not end under qemu."""
     root = f"/usr/{kind.triple}"
     if kind.debian == "i386" and os.uname().machine == "x86_64":
         return [f"{root}/lib/ld-linux.so.2", "--library-path", f"{root}/lib"]
@@ -83,35 +84,36 @@ def emulator(kind):
 
 
 def compiler(kind):
-    """Returns the path of the cross compiler. Installs the C library for it if that is missing."""
+    """Returns the path of the cross compiler. Installs it and its C library if they are missing and it may."""
     found, header = needs.program(f"{kind.triple}-gcc", f"gcc-{kind.triple}"), f"/usr/{kind.triple}/include/stdio.h"
     needs.need(lambda: os.path.exists(header) or None, f"the C library for {kind.name}", f"libc6-dev-{kind.debian}-cross")
     return found
 
 
 def headers_of_sodium(room):
-    """Returns a directory that has only libsodium's headers."""
+    """Creates a directory that has only libsodium's headers, and returns its path."""
     needs.libsodium()
-    place = os.path.join(room, "of-sodium")
+    place = os.path.join(room, "libsodium-headers")
     os.makedirs(place, exist_ok=True)
     run(["ln", "-sf", "/usr/include/sodium.h", "/usr/include/sodium", place])
     return place
 
 
 def musl_variables(room):
-    """Returns the variables for make to build with musl."""
-    run([musl_compiler(), "-c", "-o", f"{room}/of-glibc.o", write(room, "of-glibc.c", GLIBC_FUNCTIONS)])
+    """Returns the make variables for a build with musl."""
+    run([musl_compiler(), "-c", "-o", f"{room}/glibc-functions.o", write(room, "glibc-functions.c", GLIBC_FUNCTIONS)])
     archive, headers = run([needs.libsodium(), "-print-file-name=libsodium.a"])[1].strip(), headers_of_sodium(room)
-    return {"CC": musl_compiler(), "CPPFLAGS": f"-isystem {headers}", "SODIUM": f"{archive} {room}/of-glibc.o"}
+    return {"CC": musl_compiler(), "CPPFLAGS": f"-isystem {headers}", "SODIUM": f"{archive} {room}/glibc-functions.o"}
 
 
 def musl_words(room):
-    """Returns the words for make to build static programs with musl."""
+    """Returns the arguments of make for static programs with musl."""
     return [*(f"{name}={value}" for name, value in musl_variables(room).items()), "LDFLAGS=-static"]
 
 
 class Emulated:
-    """The compiler, the emulator and the build results for a kind of processor, and a directory for files of the programs."""
+    """Builds c/ for a kind of processor, with `more` make variables. Has the compiler, the emulator, the build results (`out`) and a
+    directory for the files of the programs."""
 
     def __init__(self, checks, room, kind, *more):
         self.checks, self.kind, self.room = checks, kind, f"{room}/{kind.name}"
@@ -122,25 +124,25 @@ class Emulated:
         os.mkdir(self.directory)
 
     def ended(self, name, *words, status=0, typed=b""):
-        """Runs a program for the processor, and checks its exit status. Returns its output."""
+        """Runs a built program, and checks its exit status. Returns its output."""
         ran = run([*self.emulator, f"{self.out}/{name}", *words], self.directory, typed)
         return self.checks.ended(f"{self.kind.name}: {name} {' '.join(words)}", ran, status)
 
 
-def check_keys(checks, built, own):
-    """Makes a key, encrypts it, decrypts it and signs with it. The encrypted key file is the same as the one of this
-    machine's library (`own`)."""
+def check_keys(checks, built, native):
+    """Checks that a key can be made, encrypted, decrypted and used to sign. The encrypted key file must be the one that the
+    library for this machine (`native`) makes with the same salt."""
     compiled(checks, built.kind.name, "keys", built.compiler, built.library, *LESS)
     built.ended("minisign", "-G", "-W", "-p", "a.pub", "-s", "open.key")
     opened = built.ended("keys", "open", "1", USUAL_ROWS, read(built.directory, "open.key").decode()).split()
     sealing = ["secret", *opened, "5a" * 32, "32768", "1048576", "1", "sealed", "pw"]
-    sealed = checks.ended("sealing", run([compiled(checks, "here", "keys", needs.c_compiler(), own), *sealing]))
+    sealed = checks.ended("sealing", run([compiled(checks, "this machine", "keys", needs.c_compiler(), native), *sealing]))
     said = built.ended("keys", *sealing)
     checks.same(said, sealed, f"{built.kind.name}: sealing")
     write(built.directory, "sealed.key", said.encode())
     for keep_every in ("1", "16"):
         said = built.ended("keys", "open", keep_every, USUAL_ROWS, sealed, "pw")
-        checks.check(said.split() == opened, f"{built.kind.name}: opening with {keep_every}: {said}")
+        checks.check(said.split() == opened, f"{built.kind.name}: decrypting with keep_every {keep_every}: {said}")
     built.ended("keys", "open", "1", USUAL_ROWS, sealed, "pv", status=1)
     data = write(built.directory, "data", bytes(range(256)) * 1000)
     built.ended("minisign", "-S", "-s", "sealed.key", "-m", "data", "-t", "a comment", typed=b"pw\n")
@@ -152,21 +154,22 @@ def check_keys(checks, built, own):
 
 
 def check_installing(checks, built):
-    """A first installation, an update, an older update, and one that is already installed."""
-    os.mkdir(f"{built.directory}/there")
+    """Checks a first installation, an update, an older update, and an update that is already installed."""
+    os.mkdir(f"{built.directory}/installed")
     built.ended("minisign", "-G", "-W", "-p", "b.pub", "-s", "b.key")
     for number in "12":
         write(built.directory, number, f"version {number}\n".encode())
         built.ended("minisign", "-S", "-s", "b.key", "-m", number, "-t", f"version:{number}\tfile:app")
     for number, first, status, installed in (("1", ["--first"], 0, "1"), ("2", [], 0, "2"), ("1", [], 4, "2"), ("2", [], 10, "2")):
-        built.ended("minisign-install", *first, "--numbering", "version", "b.pub", number, f"{number}.minisig", "there/app", status=status)
-        found = read(built.directory, "there", "app")
-        checks.same(found, f"version {installed}\n".encode(), f"{built.kind.name}: installing {number}")
+        built.ended("minisign-install", *first, "--numbering", "version", "b.pub", number, f"{number}.minisig", "installed/app", status=status)
+        content = read(built.directory, "installed", "app")
+        checks.same(content, f"version {installed}\n".encode(), f"{built.kind.name}: installing {number}")
 
 
-def check_all(checks, built, own, programs):
-    """The results are for this processor, their structs have the layout of the library, and the programs of tests/c
-    pass. If there is a libsodium, also runs the programs of c/ beside the library of this machine (`own`)."""
+def check_all(checks, built, native, programs):
+    """Checks that the library is built for this processor, that the structs of the header have the layout of the library, and
+    that the programs of tests/c pass. If Debian has libsodium for the processor, also runs `make test` and the programs of c/, and
+    compares encrypted keys with those of the library for this machine (`native`)."""
     name = built.kind.name
     checks.ended(f"{name}: the library", run(["readelf", "-h", f"{built.out}/libminisign.so"]), says=built.kind.elf)
     layout = [built.compiler, "-std=c11", *STRICT, "-I", INCLUDE, "-fsyntax-only", exports.write_layout(built.room)]
@@ -176,5 +179,5 @@ def check_all(checks, built, own, programs):
         testing = ["make", "-s", "-C", static_library.DIRECTORY, *built.flags, f"OUT={built.out}", "test"]
         said = checks.ended(f"{name}: make test", run(testing, RUN=" ".join(built.emulator)))
         checks.check(static_library.VERIFIED.search(said), f"{name}: make test: {said[-600:]}")
-        check_keys(checks, built, own)
+        check_keys(checks, built, native)
         check_installing(checks, built)

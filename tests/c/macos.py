@@ -150,7 +150,7 @@ def check_names(checks, room):
     preload = os.path.join(room, "folded_names.so")
     checks.ended("folded_names.c", run([needs.libsodium(), "-shared", "-fPIC", "-o", preload, f"{HERE}/folded_names.c", "-ldl"]))
     program = os.path.join(room, "usual", "minisign")
-    expected = b"error: k.key: the file system takes this for the name of the other key file\n"
+    expected = b"error: k.key: on this file system, this name and that of the other key file are the same\n"
     for words in ([], ["-f"]):
         place = os.path.join(room, f"names{''.join(words)}")
         os.mkdir(place)

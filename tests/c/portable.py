@@ -1,24 +1,24 @@
 #!/usr/bin/env python3
-"""Checks the library with several compilers and for other processors and systems: over the archives of dist/, or over
-dist/calls.c, the proved calls as C.
+"""Checks that the C library gives the same results with several compilers, and on other processors and systems. The proved
+calls come from the archives of dist/, or are compiled from dist/calls.c.
 
     tests/c/portable.py [PART ..]
 
-PART is one of these; by default all of them:
+PART is one of these parts. By default the script runs all of them:
 
-- here: with gcc, clang and tcc, with musl, and with sanitizers, the programs that c_library.py runs over the archives;
-- archives: under qemu each x86-64 uses the right one of the three copies of the calls, and compilers for a processor
-without an archive say what to do;
-- elsewhere: under qemu for AArch64, s390x (big-endian), ARM with 32-bit pointers, and RISC-V (without the programs,
-because this Debian has no libsodium for it): all checks of emulated.py, and no secret is left in memory;
-- windows: the dynamic and the static library, built with mingw-w64, under wine;
-- compiled: all C compiles for the systems of Apple and the BSDs.
+- compilers: builds with gcc, clang and tcc, with musl, and with sanitizers pass the programs of c_library.py;
+- archives: under qemu each x86-64 processor uses the right one of the three copies of the calls, and compilers for a
+processor without an archive say what to do;
+- processors: under qemu for AArch64, s390x (big-endian), ARM with 32-bit pointers, and RISC-V, all checks of emulated.py
+pass, and no secret is left in memory (RISC-V without the programs, because this Debian has no libsodium for it);
+- windows: the dynamic and the static library, built with mingw-w64, pass under wine;
+- systems: all C compiles for the systems of Apple and the BSDs.
 
-Everywhere the results for many texts are those of the archives, byte for byte. It prints a line for each failure; the
-last line is `N passed, M failed`.
+The parts compilers, processors and windows also compare the results for many key and signature files with those of
+the archives, byte for byte. The script prints a line for each failure; the last line is `N passed, M failed`.
 
-PART may also be Debian's name of another processor with a cross compiler, which CI does not try (the library clears no
-registers there). Under Debian 12's emulator of sh4 no program runs at all.
+PART may also be Debian's name of another processor that has a cross compiler. CI does not run these, and the library
+does not clear registers on them. On sh4 nothing can be tested, because no program runs under the emulator of Debian 12.
 
 Needs make, binutils, gcc, clang, tcc, musl-gcc, libsodium with its header, minisign, and of Debian qemu-user-static,
 wine64, gcc-mingw-w64-x86-64 and cross compilers with their C libraries for arm64, s390x, armhf and riscv64, or for the
@@ -53,67 +53,70 @@ LIBRARY, PORTABLE, C_CALLS = f"{C}/library", f"{C}/library/portable", f"{static_
 # Include directories of builds with the calls as C.
 LIBRARY_INCLUDES = ["-I", PORTABLE, "-I", LIBRARY]
 RANDOM_CASES = 1500
-# The programs of tests/c for a library that allocates only with malloc: everywhere except on Linux with 64-bit
+# The programs of tests/c for a library that allocates only with malloc, as it does everywhere except on Linux with 64-bit
 # pointers.
 MALLOC_PROGRAMS = {**PROGRAMS, "allocations": [*PROGRAMS["allocations"], "-DMINISIGN_MALLOC_ALONE", *LIBRARY_INCLUDES]}
 
 
 class Answers:
-    """The results of the library over the archives for the texts of the corpus and for random changes of them."""
+    """Runs tests/c/answers.c, which verifies the cases of the corpus and random changes of them, with a library over the
+    archives, and compares the results of other libraries with its results."""
 
     def __init__(self, checks, room):
         self.checks, corpus_cases, seed = checks, cases.kept_cases(), random.randrange(1 << 32)
         print(f"random seed {seed}")
         random.seed(seed)
-        found = [*corpus_cases, *random_cases(corpus_cases, RANDOM_CASES)]
-        parts = [struct.pack("<I", len(part)) + part for case in found for part in (case.pk, case.sig, case.data)]
-        self.file = write(room, "texts", struct.pack("<I", len(found)) + b"".join(parts))
+        tried_cases = [*corpus_cases, *random_cases(corpus_cases, RANDOM_CASES)]
+        parts = [struct.pack("<I", len(part)) + part for case in tried_cases for part in (case.pk, case.sig, case.data)]
+        self.file = write(room, "texts", struct.pack("<I", len(tried_cases)) + b"".join(parts))
         self.library = static_library.library(os.path.join(room, "by-archives"))
         _, self.expected, _ = run_apart([compiled(checks, "archives", "answers", needs.c_compiler(), self.library), self.file])
-        checks.check(len(self.expected) > 1000, f"the archives give only {self.expected[:100]}")
+        checks.check(len(self.expected) > 1000, f"the library over the archives prints only {self.expected[:100]}")
 
     def check(self, what, compiler, library, *flags, before=()):
-        """Another library gives the same results."""
+        """Checks that another library gives the same results. `before` are the words before the command, such as an emulator."""
         program = compiled(self.checks, what, "answers", compiler, library, *flags)
-        status, said, _ = run_apart([*before, program, self.file])
-        is_same = status == 0 and said.replace("\r\n", "\n") == self.expected
-        self.checks.check(is_same, f"{what}: status {status}, results that differ from those of the archives: {said[:100]!r}")
+        status, output, _ = run_apart([*before, program, self.file])
+        is_same = status == 0 and output.replace("\r\n", "\n") == self.expected
+        self.checks.check(is_same, f"{what}: status {status}, results that differ from those of the archives: {output[:100]!r}")
 
 
-def check_here(checks, room, answers):
-    """Builds with the compilers of this system. The programs with musl verify the kept signatures."""
+def check_compilers(checks, room, answers):
+    """Checks builds with the compilers of this system. The program minisign is also built with musl, and checked with
+    c/check.sh."""
     gcc, clang, tcc = (needs.program(name, name) for name in ("gcc", "clang", "tcc"))
-    of_musl = emulated.musl_words(room)
-    # (With -g, or with inlined checks of the sanitizer, gcc takes twice as long for the calls. Without -O1 everything
-    # takes several times as long.)
+    musl_words = emulated.musl_words(room)
+    # With -g, or with inlined checks of the sanitizer, gcc takes twice as long to compile the calls. Without -O1 all builds
+    # and runs take several times as long.
     for what, words, compiler, flags, programs in (
             ("gcc", [], gcc, [], PROGRAMS), ("clang", [f"CC={clang}"], gcc, [], PROGRAMS),
             ("sanitized", [f"CFLAGS=-O1 {' '.join(SANITIZED)} --param=asan-instrumentation-with-call-threshold=0", "CPPFLAGS=",
                            "LDFLAGS="], gcc, SANITIZED, PROGRAMS),
             ("tcc", [f"CC={tcc}", "TARGET=x86_64-linux", "LD=ld", "OBJCOPY=objcopy", "AR=ar", "CFLAGS=", "CPPFLAGS=", "HAS_PAGES="],
              gcc, [NO_THREADS], MALLOC_PROGRAMS),
-            ("musl", of_musl, emulated.musl_compiler(), ["-static"], programs_named("usage_errors", "weak_ed25519", "asked_texts", "random_calls"))):
-        made = f"{room}/{what}/libminisign.a"
-        static_library.run_make("CC=gcc", "PORTABLE=1", f"OUT={room}/{what}", *words, made)
-        answers.check(what, compiler, made, *LESS, *flags)
-        check_programs(checks, what, programs, compiler, made, *(LESS if what != "gcc" else []), *flags)
-    static_library.run_make("PORTABLE=1", f"OUT={room}/musl", *of_musl, "all")
+            ("musl", musl_words, emulated.musl_compiler(), ["-static"], programs_named("usage_errors", "weak_ed25519", "asked_texts", "random_calls"))):
+        library = f"{room}/{what}/libminisign.a"
+        static_library.run_make("CC=gcc", "PORTABLE=1", f"OUT={room}/{what}", *words, library)
+        answers.check(what, compiler, library, *LESS, *flags)
+        check_programs(checks, what, programs, compiler, library, *(LESS if what != "gcc" else []), *flags)
+    static_library.run_make("PORTABLE=1", f"OUT={room}/musl", *musl_words, "all")
     checks.ended("musl: the programs", run(["sh", "check.sh", f"{room}/musl/minisign"], C), says=" passed, 0 failed")
     check_strict(checks, room)
 
 
 def check_strict(checks, room):
-    """The C is C99 without warnings of two compilers, and the generated declarations match the calls."""
-    whole = write(room, "whole.c", f'#include "{C_CALLS}"\n#include "{PORTABLE}/pointers.c"\n'.encode())
-    # (gcc's warnings of the optimizer are errors when make builds it)
+    """Checks that gcc and clang accept the C as C99 without warnings, and that the generated declarations match the calls."""
+    combined = write(room, "combined.c", f'#include "{C_CALLS}"\n#include "{PORTABLE}/pointers.c"\n'.encode())
+    # Warnings of gcc's optimizer are not checked here: they are errors when make builds the library.
     for compiler in ("gcc", "clang"):
-        for source in (*sorted(glob.glob(f"{PORTABLE}/*.c")), whole):
+        for source in (*sorted(glob.glob(f"{PORTABLE}/*.c")), combined):
             command = [needs.program(compiler, compiler), "-std=c99", *STRICT, "-fsyntax-only", *LIBRARY_INCLUDES, "-I", INCLUDE, source]
             checks.ended(f"{os.path.basename(source)} by {compiler}", run(command))
 
 
 # The copies of the calls for x86-64, by make variable: the file, and the processors (qemu's names) that use it. A
-# processor that lacks a part of x86-64-v2 uses the copy in C, one that lacks a part of x86-64-v3 the first archive.
+# processor that lacks a part of x86-64-v2 uses the copy in C. One that has all of x86-64-v2, and lacks a part of x86-64-v3,
+# uses the first archive.
 COPIES = {
     "C_CALLS": ("calls.c", "core2duo qemu64 Nehalem,-sse4.2 Nehalem,-sse4.1 Nehalem,-ssse3 Nehalem,-popcnt Nehalem,-cx16 Nehalem,-lahf_lm"),
     "V2": ("calls-x86-64-v2.a", "Nehalem SandyBridge Haswell,-avx2 Haswell,-bmi1 Haswell,-bmi2 Haswell,-f16c Haswell,-fma Haswell,-abm "
@@ -121,35 +124,36 @@ COPIES = {
     "V3": ("calls-x86-64-v3.a", "Haswell max")}
 # The first initial value of Blake2b, in C and in an archive, and a wrong value.
 INITIAL = {b"0x6a09e667f3bcc908": b"0x6a09e667f3bcc909", bytes.fromhex("08c9bcf367e6096a"): bytes.fromhex("09c9bcf367e6096a")}
-# Compilers and flags for processors without an archive, and the error.
+# Compilers and flags for processors without an archive, and the error message that must appear.
 REJECTED = ("gcc -m32", "gcc -mx32", "aarch64-linux-gnu-gcc -mbig-endian", "aarch64-linux-gnu-gcc -mabi=ilp32")
 REJECTION = "the archives of dist/ are for x86-64 and AArch64, little-endian and with pointers of 64 bits: build with PORTABLE=1"
 
 
 def check_archives(checks, room, _):
-    """With a wrong value in one copy, the program rejects on the processors that use that copy. (Debian's glibc assumes
-    SSSE3 on processors with SSE4.2; musl assumes neither.)"""
+    """Checks which copy each processor uses: with a wrong constant in one copy, minisign must reject a valid signature exactly
+    on the processors that use this copy. The program is built with musl, because Debian's glibc assumes SSSE3 on processors
+    with SSE4.2."""
     emulator = needs.program("qemu-x86_64-static", "qemu-user-static")
-    verifying, of_musl = ("-Vm", "test", "-p", "published.pub", "-x", "published.minisig"), emulated.musl_words(room)
-    for wrong, (name, _) in COPIES.items():
-        data, out = read(static_library.DIST, name), f"{room}/wrong-{wrong}"
+    verifying, musl_words = ("-Vm", "test", "-p", "published.pub", "-x", "published.minisig"), emulated.musl_words(room)
+    for changed_copy, (name, _) in COPIES.items():
+        data, out = read(static_library.DIST, name), f"{room}/wrong-{changed_copy}"
         for value, wrong_value in INITIAL.items():
             data = data.replace(value, wrong_value)
-        static_library.run_make(*of_musl, f"OUT={out}", "CFLAGS=-O0", f"{wrong}={write(room, name, data)}", f"{out}/minisign")
+        static_library.run_make(*musl_words, f"OUT={out}", "CFLAGS=-O0", f"{changed_copy}={write(room, name, data)}", f"{out}/minisign")
         for copy, (_, processors) in COPIES.items():
             for processor in processors.split():
                 ran = run([emulator, "-cpu", processor, f"{out}/minisign", *verifying], CORPUS)
-                checks.ended(f"{processor}, {wrong} with a wrong value", ran, status=int(wrong == copy))
+                checks.ended(f"{processor}, {changed_copy} with a wrong value", ran, status=int(changed_copy == copy))
     emulated.compiler(emulated.AARCH64)
     for compiler in REJECTED:
-        status, said = run([*compiler.split(), "-std=c11", "-I", INCLUDE, "-c", "-o", os.devnull, f"{LIBRARY}/boundary.c"])
-        checks.check(status != 0 and REJECTION in said, f"{compiler}: status {status}: {said[-300:]}")
+        status, output = run([*compiler.split(), "-std=c11", "-I", INCLUDE, "-c", "-o", os.devnull, f"{LIBRARY}/boundary.c"])
+        checks.check(status != 0 and REJECTION in output, f"{compiler}: status {status}: {output[-300:]}")
 
 
 KINDS = [emulated.AARCH64, Kind("s390x", "s390x-linux-gnu", "s390x", "s390x", "IBM S/390"),
          Kind("armhf", "arm-linux-gnueabihf", "armhf", "arm", "ARM", has_32_bits=True),
          Kind("riscv64", "riscv64-linux-gnu", "riscv64", "riscv64", "RISC-V", has_sodium=False)]
-# Processors that CI does not try. For some of them gcc has no stack protector.
+# Processors that CI does not run, by Debian's name. For some of them gcc has no stack protector.
 MORE_KINDS = {kind.debian: kind for kind in (
     Kind("i386", "i686-linux-gnu", "i386", "i386", "Intel 80386", has_32_bits=True),
     Kind("armel", "arm-linux-gnueabi", "armel", "arm", "ARM", has_32_bits=True),
@@ -164,9 +168,9 @@ MORE_KINDS = {kind.debian: kind for kind in (
     Kind("sparc64", "sparc64-linux-gnu", "sparc64", "sparc64", "Sparc v9", has_sodium=False))}
 
 
-def check_elsewhere(checks, room, answers, kinds=KINDS):
-    """Checks kinds of processors under qemu. On those that CI tries, registers must be cleared too (cleared.py checks
-    AArch64)."""
+def check_processors(checks, room, answers, kinds=KINDS):
+    """Checks the library for other processors under qemu. On those that CI runs, no secret may be left in registers either
+    (cleared.py checks AArch64)."""
     for kind in kinds:
         built = emulated.Emulated(checks, room, kind, *(["CFLAGS=-O2"] if kind.debian in ("hppa", "alpha") else []))
         emulated.check_all(checks, built, answers.library, MALLOC_PROGRAMS if kind.has_32_bits else PROGRAMS)
@@ -180,7 +184,7 @@ WINE = "/usr/lib/wine"
 
 
 class Windows:
-    """Runs Windows programs with wine, with a directory for its settings."""
+    """Runs Windows programs with wine, whose settings are in a directory of `room`."""
 
     def __init__(self, room):
         self.program = needs.need(lambda: needs.which("wine64") or next(iter(glob.glob(f"{WINE}/wine64")), None), "wine64", "wine64")
@@ -193,21 +197,21 @@ class Windows:
 
 def check_windows(checks, room, answers):
     """Checks the dynamic and the static library for Windows."""
-    compiler, place = needs.program("x86_64-w64-mingw32-gcc", "gcc-mingw-w64-x86-64"), os.path.join(room, "windows")
+    compiler, out = needs.program("x86_64-w64-mingw32-gcc", "gcc-mingw-w64-x86-64"), os.path.join(room, "windows")
     windows = Windows(room)
-    # (commands are named without `.exe`)
+    # The shell adds the suffix `.exe`, which the compiler adds to the program's name.
     settings = [f"{name}={value}" for name, value in windows.variables.items()]
     before = ["env", *settings, "sh", "-c", f'exec {windows.program} "$0.exe" "$@"']
-    static_library.run_make(f"CC={compiler}", f"OUT={place}", "library")
+    static_library.run_make(f"CC={compiler}", f"OUT={out}", "library")
     for library in ("libminisign.a", "libminisign.dll.a"):
-        what, over = f"Windows, {library}", (compiler, f"{place}/{library}", *LESS, "-w", "-D__USE_MINGW_ANSI_STDIO=1")
-        answers.check(what, *over, before=before)
-        check_programs(checks, what, programs_named("usage_errors", "weak_ed25519", "asked_texts", "error_texts", "random_calls"), *over, before=before)
+        what, build = f"Windows, {library}", (compiler, f"{out}/{library}", *LESS, "-w", "-D__USE_MINGW_ANSI_STDIO=1")
+        answers.check(what, *build, before=before)
+        check_programs(checks, what, programs_named("usage_errors", "weak_ed25519", "asked_texts", "error_texts", "random_calls"), *build, before=before)
     windows.end()
 
 
-# Stand-ins for system headers: with the functions that the library calls, for systems without headers here; and for headers
-# of musl that only Linux has.
+# Substitutes for system headers, by directory. "ours" declares the functions that the library calls, for systems whose headers
+# this machine lacks. "linux" hides the headers of musl that only Linux has.
 HEADERS = {
     "ours": {"stdlib.h": "void *malloc(size_t);\nvoid free(void *);\nvoid abort(void);\n",
              "string.h": "void *memcpy(void *, const void *, size_t);\nvoid *memmove(void *, const void *, size_t);\n"
@@ -218,37 +222,37 @@ TARGETS = ("x86_64-apple-macos11", "arm64-apple-macos11", "x86_64-unknown-freebs
            "x86_64-unknown-openbsd7", "x86_64-unknown-netbsd9", "i686-unknown-netbsd9", "aarch64-pc-windows-msvc")
 
 
-def check_compiled(checks, room, _):
-    """The C of the library compiles for systems without headers here, and that of the programs for the BSDs. (macos.py compiles the
-    programs for macOS.) The programs use nothing that only Linux has. Each program is
-    linked with -lrt, which has the timers before glibc 2.34."""
-    for place, texts in HEADERS.items():
-        os.makedirs(f"{room}/{place}/sys")
+def check_systems(checks, room, _):
+    """Checks that the library compiles for all TARGETS, and the programs for the BSDs without headers that only Linux has. macos.py
+    compiles the programs for macOS. Checks also that each program is linked with -lrt, which has the timers before glibc 2.34."""
+    for directory, texts in HEADERS.items():
+        os.makedirs(f"{room}/{directory}/sys")
         for name, text in texts.items():
-            write(f"{room}/{place}", name, f"#include <stddef.h>\n{text}".encode())
+            write(f"{room}/{directory}", name, f"#include <stddef.h>\n{text}".encode())
     clang = [needs.program("clang", "clang"), "-std=c11", *STRICT, "-nostdlibinc", "-I", INCLUDE]
     emulated.musl_compiler()
-    places = [f"{room}/linux", f"/usr/include/{os.uname().machine}-linux-musl", emulated.headers_of_sodium(room)]
+    include_directories = [f"{room}/linux", f"/usr/include/{os.uname().machine}-linux-musl", emulated.headers_of_sodium(room)]
     sources = [path for name in ("minisign", "install", "shared") for path in sorted(glob.glob(f"{C}/{name}/*.c"))]
     checks.check(len(sources) > 25, f"only these source files were found: {sources}")
-    # (the calls have no assembly, so their syntax is enough)
+    # For the calls, which have no assembly, checking the syntax is sufficient.
     library = (f"{LIBRARY}/boundary.c", f"{LIBRARY}/clearing.c", *sorted(glob.glob(f"{PORTABLE}/*.c")), C_CALLS)
-    how = ["-isystem", f"{room}/ours", "-DMINISIGN_PORTABLE", "-DMINISIGN_MALLOC_ALONE", *LIBRARY_INCLUDES]
+    flags = ["-isystem", f"{room}/ours", "-DMINISIGN_PORTABLE", "-DMINISIGN_MALLOC_ALONE", *LIBRARY_INCLUDES]
     for target in TARGETS:
         for source in library:
-            end = ["-fsyntax-only"] if source == C_CALLS else ["-c", "-o", os.devnull]
-            checks.ended(f"{os.path.basename(source)} for {target}", run([*clang, f"--target={target}", *how, *end, source]))
-        # (the headers of musl serve as those of POSIX)
+            mode = ["-fsyntax-only"] if source == C_CALLS else ["-c", "-o", os.devnull]
+            checks.ended(f"{os.path.basename(source)} for {target}", run([*clang, f"--target={target}", *flags, *mode, source]))
+        # The BSDs' headers are not here: musl's headers stand in for them, because both follow POSIX.
         if re.match("x86_64-.*bsd", target):
-            system = [word for place in places for word in ("-isystem", place)]
+            system = [word for directory in include_directories for word in ("-isystem", directory)]
             checks.ended(f"the programs for {target}", run([*clang, f"--target={target}", *system, "-I", C, "-fsyntax-only", *sources]))
     said = checks.ended("make -n", run(["make", "-Bn", "-C", C, f"OUT={room}/none", "all"]))
     for name in ("minisign", "minisign-install"):
         checks.check(re.search(rf" -o {room}/none/{name} .* -lrt$", said, re.M), f"{name} is linked without -lrt: {said[-300:]}")
 
 
-PARTS = {"here": check_here, "archives": check_archives, "elsewhere": check_elsewhere, "windows": check_windows, "compiled": check_compiled}
-# Arguments are parts or processors, not names of checks.
+PARTS = {"compilers": check_compilers, "archives": check_archives, "processors": check_processors, "windows": check_windows,
+         "systems": check_systems}
+# The arguments select parts or processors, not checks by name, so `selected` must not skip any of these.
 ALWAYS = tuple(check.__name__ for check in PARTS.values())
 
 
@@ -259,7 +263,7 @@ def run_all(checks, room):
         if part in PARTS:
             PARTS[part](checks, room, answers)
         else:
-            check_elsewhere(checks, room, answers, [MORE_KINDS[part]])
+            check_processors(checks, room, answers, [MORE_KINDS[part]])
 
 
 if __name__ == "__main__":

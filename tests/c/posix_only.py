@@ -38,7 +38,7 @@ WEAKER = {
         r"writes into a directory without a name": DIRECTORY,
     },
     "installer/real_installing.py": {
-        r"the permissions of a replaced file: a (list|mode that is asked for over a list) ": LISTS,
+        r"the permissions of a replaced file: a (list|requested mode removes) ": LISTS,
         r"(stays consistent if|retries) f(get|remove)xattr ": LISTS,
         r"first file (with --mode )?gets no inherited access list": LISTS,
         r"rejects a target at which a file is mounted": MOUNTS,

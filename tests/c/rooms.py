@@ -49,7 +49,7 @@ NOT_CAUSED = {
     "the data could not be hashed": "the state was initialized, and its digest is finalized later",
     "too many files at once": "pending files are renamed before there are that many",
     "other processes keep replacing this file": "others would have to do so during each of a hundred attempts to open it",
-    "this link leads to a missing file": "wine shows a link to a missing file as a missing file",
+    "the target of this link does not exist": "wine shows a link to a missing file as a missing file",
     "atexit() failed": "the C library allows at least 32 functions",
 }
 MOST_GLIBC = (2, 31)

@@ -45,7 +45,7 @@ from static_library import hold
 PROVER = os.path.join(HERE, "table_prover.py")
 SHIFTS = ("shl", "shr_u", "shr_s")
 # The two forms of loads and stores: of single bytes, or copied as a whole.
-FORMS = ("-DIS_COPIED=0", "-DIS_COPIED=1")
+FORMS = ("-DHAS_UNALIGNED_ACCESS=0", "-DHAS_UNALIGNED_ACCESS=1")
 # The offsets that translated.py adds to the addresses of loads and of stores.
 OFFSETS = {"load": 3, "store": 5}
 

@@ -390,7 +390,7 @@ class Case:
 
 def check_answers(checks, case, runners):
     """Node and the translation give the same results."""
-    for flags in (["-O0"], ["-O2"], ["-O1", "-DIS_COPIED=0"], SANITIZED):
+    for flags in (["-O0"], ["-O2"], ["-O1", "-DHAS_UNALIGNED_ACCESS=0"], SANITIZED):
         program = runners.program(case.module, flags)
         made = runners.in_c(program, case.calls)
         is_same = made.status == 0 and made.output == case.expected

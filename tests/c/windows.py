@@ -45,7 +45,7 @@ from texts import Limits, record_of, sealed, text_of
 
 C = static_library.DIRECTORY
 WINE, COMPILER, TARGET = "/usr/lib/wine", "x86_64-w64-mingw32-gcc", "x86_64-w64-mingw32"
-SECONDS = 120
+SECONDS = 600
 # The only libraries that the program may load. All Windows systems have them.
 SYSTEM_LIBRARIES = {"ADVAPI32.dll", "KERNEL32.dll", "msvcrt.dll", "SHELL32.dll"}
 INSTALLED = {"bin/minisign.exe", "bin/minisign.dll", "lib/libminisign.a", "lib/libminisign.dll.a", "lib/pkgconfig/minisign.pc",
@@ -56,8 +56,8 @@ ZIPPED = {"minisign.exe", "minisign.dll", "minisign.html", "lib/libminisign.dll.
 CHEAP, PASSWORD = Limits(1 << 24, 1 << 15, 1 << 10, 1), "g\u00e9h\u65e5\U0001f512m".encode()
 GOOD = b"Signature and comment signature verified\n"
 # The messages for names that are rejected.
-COLON, RESERVED, DROPPED = ("a name with a colon is not a file on Windows", "Windows reserves this name for a device",
-                            "Windows drops the dot or space at the end of a name")
+COLON, RESERVED, DROPPED = ("a file name cannot contain a colon on Windows", "Windows reserves this name for a device",
+                            "a file name cannot end with a dot or space on Windows")
 # How often a run is killed, at times that cover the whole run.
 KILLS = 14
 FOUR_GIB, HOME = 4 << 30, "h\u00f6me"
@@ -582,8 +582,8 @@ def check_release(checks, programs, room):
         names = [entry.filename for entry in entries]
         checks.same(names, sorted(f"{top}/{file}" for file in ZIPPED), "the files of the zip file, in order")
         moment = int(static_library.hold(["sh", "packaging/time.sh"], os.path.join(C, "..")))
-        # (zip files count in steps of two seconds)
-        expected = time.gmtime(moment - moment % 2)[:6]
+        # (zip files count in steps of two seconds, and zip rounds up)
+        expected = time.gmtime(moment + moment % 2)[:6]
         checks.same({entry.date_time for entry in entries}, {expected}, "the times in the zip file")
         checks.check(not any(entry.extra for entry in entries), "the zip file has fields that depend on the system")
         checks.check(archive.read(f"{top}/minisign.exe") == read(programs[1]), "another build of minisign.exe differs")

@@ -96,7 +96,7 @@ class Breaking(OverTasks, Programs):
 
         def judge(ran, directory):
             new = sum(task.check(directory))
-            expect((ran.status, new) == (0, len(task.targets)) or ran.status == 2 and ran.said and ran.came, ran, f"{new} new files")
+            expect((ran.status, new) == (0, len(task.targets)) or ran.status == 2 and ran.said and ran.reached, ran, f"{new} new files")
             expect(not task.belong_together or new in (0, 2), f"{new} of 2 files are new")
 
         expect(self.break_each(task.make, judge, ERRNO=number) >= 3, "it made fewer than 3 calls")
@@ -111,7 +111,7 @@ class Breaking(OverTasks, Programs):
             if ran.status == status and all(new):
                 answers.add((ran.output, ran.said))
             else:
-                expect(ran.status == 2 and ran.came and OUT_OF_MEMORY.fullmatch(ran.said) and (task.targets or not ran.output), ran)
+                expect(ran.status == 2 and ran.reached and OUT_OF_MEMORY.fullmatch(ran.said) and (task.targets or not ran.output), ran)
                 said.add(ran.said)
 
         expect(self.break_each(task.make, judge, CALLS="memory", ERRNO=errno.ENOMEM), "it allocates no memory")
@@ -157,7 +157,7 @@ class Breaking(OverTasks, Programs):
 
         def judge(ran, directory):
             left = temporary_files(directory)
-            expect(ran.status == (-number if ran.came else 0) and not left, ran, f"it left {left}")
+            expect(ran.status == (-number if ran.reached else 0) and not left, ran, f"it left {left}")
             new = sum(task.check(directory, killed=is_kill))
             expect(is_kill or not task.belong_together or new in (0, 2), f"{new} files are new")
 

@@ -42,8 +42,8 @@ UNGUARDED = (NOT_STICKY, Parent(" in a private sticky directory", ROOT, 0o1755),
 
 # Ends of errors after the name of the file, with the hint.
 OTHER_DIRECTORY = "\nhint: use a directory that only you can write to"
-IN_SHARED = "this belongs to another user, in a directory that others can write to" + OTHER_DIRECTORY
-BY_LINK = "this path has another user's symbolic link, in a directory that others can write to" + OTHER_DIRECTORY
+IN_SHARED = "this file belongs to another user, and others can write to its directory" + OTHER_DIRECTORY
+BY_LINK = "this path goes through another user's symbolic link in a directory that others can write to" + OTHER_DIRECTORY
 TO_ANOTHER = "this belongs to another user, so no secret key was written to it\nhint: use a file of your own"
 NOT_PERMITTED = os.strerror(errno.EPERM)
 
@@ -150,12 +150,12 @@ class OtherUsers(Programs):
         over the file, which then belongs to the user `end`."""
         directory, path = self.make_directories(user, existing.parent)
         reader, before = existing.make(path, command.older), snapshot(directory)
-        ran, came = self.run_as(user, directory, command.at("shared/it")), read_pending(reader)
+        ran, received = self.run_as(user, directory, command.at("shared/it")), read_pending(reader)
         if isinstance(end, str):
-            expect_rejected(ran, came, "shared/it", end, directory, before)
+            expect_rejected(ran, received, "shared/it", end, directory, before)
             return
         expect(ran.status == 0, ran)
-        command.check(came if existing.kind == PIPE else read(path))
+        command.check(received if existing.kind == PIPE else read(path))
         found = os.stat(path)
         is_right = found.st_uid == end and (not command.is_secret or stat.S_IMODE(found.st_mode) == 0o600)
         expect(existing.kind == PIPE or is_right, f"it belongs to {found.st_uid}, expected {end}, with the mode {found.st_mode:o}")
@@ -174,7 +174,7 @@ class OtherUsers(Programs):
         else:
             # (libsodium generates other random bytes before the key)
             ran = self.run_stopped(directory, arguments, make, AT=3, CALLS="getrandom")
-            expect(ran.came and ran.status == status and said.encode() in ran.said, ran)
+            expect(ran.reached and ran.status == status and said.encode() in ran.said, ran)
         reader, before = found
         expect(not read_pending(reader) and snapshot(directory) == before, "something was made or changed")
 
@@ -215,7 +215,7 @@ class OtherUsers(Programs):
                 is_secret(written)
             else:
                 expect_rejected(ran, written, "shared/it", TO_ANOTHER)
-            if not ran.came:
+            if not ran.reached:
                 expect(number >= 3 and ran.status == 0, f"it opened {number - 1} files, expected at least 2", ran)
                 return
         raise Failure(f"it opened more than 59 files: {ran}")
@@ -262,14 +262,14 @@ class OtherUsers(Programs):
         os.symlink(own_name, os.path.join(directory, "shared", "link"))
         name = {"as standard output": "/dev/stdout", "by a link": "shared/link"}.get(how, own_name)
         ran = self.secret_into(side, directory, name)
-        came = read_pending(reader).replace(b"\r", b"")
+        received = read_pending(reader).replace(b"\r", b"")
         os.close(side)
         if how != "as standard output":
-            expect_rejected(ran, came, name, TO_ANOTHER)
+            expect_rejected(ran, received, name, TO_ANOTHER)
             return
         expect(ran.status == 0, ran)
         # (messages come after the key)
-        is_secret(b"".join(came.splitlines(True)[:2]))
+        is_secret(b"".join(received.splitlines(True)[:2]))
 
     @case("rejects another user's named pipe as standard output")
     def rejects_named_pipe_as_output(self):
@@ -428,11 +428,11 @@ def expect_answered(terminal, typed, status, said):
     expect_end(terminal, status, rb"\s+".join(map(re.escape, said.encode().splitlines())))
 
 
-def expect_rejected(ran, came, name, why, directory=None, before=None):
+def expect_rejected(ran, received, name, why, directory=None, before=None):
     """The run was rejected with this error, and nothing came out of a pipe. Its output has at most the line about what
     it was to do, and no prompt. The directory is unchanged."""
     said = f"{'' if why == NOT_PERMITTED else 'error: '}{name}: {why}\n"
-    expect((ran.status, ran.said, came) == (2, said.encode(), b""), ran, came, f"expected status 2 and {said!r}")
+    expect((ran.status, ran.said, received) == (2, said.encode(), b""), ran, received, f"expected status 2 and {said!r}")
     expect(ran.output in (b"", f"Key encryption for [{name}] is going to be removed.\n".encode()), ran)
     expect(directory is None or snapshot(directory) == before, "something was made or changed")
 

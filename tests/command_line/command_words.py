@@ -153,7 +153,7 @@ def wrong_texts(keys, signature):
         ("-x", b"this is a signify signature, which has no trusted comment", SIGNIFY),
         ("-s", b"this is a signify secret key", SIGNIFY_SECRET),
         ("-p", b"this is a program", b"\x7fELF\2"), ("-p", b"this is a PDF document", b"%PDF-1.7\n"),
-        ("-p", b"this is a public key without the comment line of a file", public.split(b"\n")[1] + b"\n"),
+        ("-p", b"this is a public key without its comment line, so it is not a public key file", public.split(b"\n")[1] + b"\n"),
         ("-p", b"this is not a public key: it is not UTF-8", b"\xff\xff not a text"),
         ("-x", b'this is not a signature: its first line does not begin with "untrusted comment: "', b"some\nother\ntext\nof lines\n"),
     ):

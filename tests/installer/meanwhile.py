@@ -2,7 +2,6 @@
 runs.
 """
 
-import concurrent.futures
 import fcntl
 import os
 import select
@@ -67,27 +66,6 @@ def stalled_device(directory):
     directory.expect_end_of(process, -signal.SIGKILL)
     os.close(ours)
     os.close(theirs)
-
-
-@meanwhile_cases.table(
-    ("reads no more of a pipe than was signed, and one byte", len(NEW) + 1, dict(more=SIZED)),
-    ("reads nothing of a pipe if the update is rejected", 0, dict(number=4)),
-)
-def reads_no_more(directory, count, **offered):
-    """A pipe is read only after the comment was accepted. The byte after the signed size shows that the data is too long."""
-    directory.offer(**offered)
-    data = NEW + LATER
-    reader, writer = os.pipe()
-    with open(reader, "rb", buffering=0) as pipe, concurrent.futures.ThreadPoolExecutor(1) as pool:
-        with open(writer, "wb") as fed:
-            process = directory.start([PK, "/dev/stdin", "new.sig", TARGET], stdin=reader)
-            written = pool.submit(lambda: (fed.write(data), fed.close()))
-            process.wait(SECONDS)
-            rest = pipe.readall()
-            written.result()
-    directory.expect_end_of(process, REJECTED if count else OLDER)
-    expect(len(data) - len(rest) == count, f"it read {len(data) - len(rest)} bytes, expected {count}")
-    directory.expect_installed(OLD, b"5")
 
 
 # == Files that others change ==
@@ -199,7 +177,7 @@ def replaced_target(directory, is_installed):
         fresh.put("same", fresh.content())
         ran = fresh.run_stopped_before(number, lambda at: os.replace(at.path_of("same"), at.path_of(TARGET)), CALLS="fstat fstatat openat")
         fresh.expect_result(ran, ALREADY if is_installed else 0, b"")
-        return ran.came
+        return ran.reached
 
     in_turn(directory.installing.place, attempt)
 
@@ -219,7 +197,7 @@ def notices_lost_lock(directory, call, at):
 
     ran = directory.run_stopped_before(at, overtake, CALLS=LIBC_CALLS[call])
     said = f"{LOCK}: another process removed or replaced this lock file\nhint: run the command again\n".encode()
-    expect(ran.came and ran.status == FAILED and said in ran.said, ran)
+    expect(ran.reached and ran.status == FAILED and said in ran.said, ran)
     expect(directory.installed_state() == (LATER, b"7"), f"the record holds {directory.content(RECORD)}")
 
 

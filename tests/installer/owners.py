@@ -13,7 +13,7 @@ owner_cases = Cases()
 
 LAST = b"last" * 1000
 SECRET = b"secret:what root alone may read"
-NOT_OWN = "only the owner of this file can open it", "give it the same owner as the installed file"
+NOT_OWN = "only the owner of this file can open it", "use chown to change its owner to that of the installed file"
 
 
 def expect_owned_by_nobody(directory):

@@ -41,7 +41,7 @@ from downloads import download_cases
 from installers import NAME, PK, TARGET, RealInstaller
 from meanwhile import meanwhile_cases
 from owners import owner_cases
-from permissions import ASKED, KEPT, permission_cases
+from permissions import KEPT, REQUESTED, WITHOUT_PROC, permission_cases
 from running import run_cases
 from runs import Installing
 from updates import update_cases
@@ -54,7 +54,8 @@ def cases_of(installing):
         for name, case, *given in some:
             yield name, installing.run_case, case, *given
     yield from permission_cases(installing, lambda path: installing.offered(path).path_of(TARGET),
-                                lambda asked: [*(["--mode", asked] if asked else []), PK, "new", "new.sig", TARGET], KEPT + ASKED)
+                                lambda mode: [*(["--mode", mode] if mode else []), PK, "new", "new.sig", TARGET],
+                                KEPT + REQUESTED + WITHOUT_PROC)
 
 
 def run_all(room):

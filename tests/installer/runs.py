@@ -178,7 +178,7 @@ class Directory:
     def run_stopped_when_staged(self, meanwhile, where="."):
         """Does the same when the program has written all of its data into the temporary file."""
         ran = self.run_stopped_before(1, meanwhile, where, CALLS=LIBC_CALLS["read-back"])
-        expect(ran.came, "it wrote no temporary file", ran)
+        expect(ran.reached, "it wrote no temporary file", ran)
         return ran
 
     # == Results ==

@@ -3,8 +3,8 @@
 
     tests/library/commit_subjects.py
 
-It reads the commits after the one in FIRST_UNCHECKED. Merges need only a short subject. In a directory that is not a git clone, such as
-an unpacked release, there is nothing to read; the script says so and checks only its own examples. The last line is `N passed, M failed`.
+It reads the commits after the one in LAST_UNCHECKED. Merges need only a short subject. In a directory that is not a git clone, such as
+an unpacked release, there are no commits: then the script says so and checks only its own examples. The last line is `N passed, M failed`.
 
 Needs Python 3.9 or later, and git for the commits.
 """
@@ -16,13 +16,13 @@ import sys
 
 TOP = os.path.dirname(os.path.dirname(os.path.dirname(os.path.realpath(__file__))))
 # The last commit before subjects had a fixed form.
-FIRST_UNCHECKED = "d4d9728e0c99ad1ad14d5cc8609071f25454f20f"
+LAST_UNCHECKED = "d4d9728e0c99ad1ad14d5cc8609071f25454f20f"
 LONGEST = 72
 # One or more areas, such as `tests`, `c/install` or `rust, go`, then a verb in lower case.
 FORM = re.compile(r"[a-z0-9_./-]+(, [a-z0-9_./-]+)*: [a-z].{4,}[^.]")
-# Words that begin a description of the result and not an instruction.
-NO_IMPERATIVE = re.compile(r": (what|whether|of|who|where|the|a|an|it|its|that|this|these|no|there)\b")
-# Subjects to check the check with: subject, body, and why the subject is rejected, or nothing if it is accepted.
+# Subjects that begin with one of these words describe the result. They are not an instruction.
+NOT_IMPERATIVE = re.compile(r": (what|whether|of|who|where|the|a|an|it|its|that|this|these|no|there)\b")
+# Examples that test this script: subject, body, and the first word of the expected reason, empty if the subject is accepted.
 EXAMPLES = (
     ("installer: read CLOCK_REALTIME instead of time()", "reason", ""),
     ("A reading that was disturbed is no reading on quiet cores", "reason", "form"),
@@ -34,21 +34,21 @@ EXAMPLES = (
 
 
 def fault_of(subject, body, is_merge=False):
-    """Returns why a subject is rejected, or an empty text."""
+    """Returns the reason why a subject is rejected, or an empty string if it is accepted."""
     if len(subject) > LONGEST:
         return f"long: {len(subject)} characters, and {LONGEST} are allowed"
     if is_merge:
         return ""
     if not FORM.fullmatch(subject):
         return "form: expected `area: imperative`, without a full stop"
-    if NO_IMPERATIVE.search(subject):
+    if NOT_IMPERATIVE.search(subject):
         return "imperative: expected a verb after the area"
     return "" if body.strip() else "body: expected a reason"
 
 
 def commits():
     """Yields hash, parents, subject and body of each commit to check."""
-    ran = subprocess.run(["git", "log", "--format=%h%x1f%P%x1f%s%x1f%b%x1e", f"{FIRST_UNCHECKED}..HEAD"], cwd=TOP,
+    ran = subprocess.run(["git", "log", "--format=%h%x1f%P%x1f%s%x1f%b%x1e", f"{LAST_UNCHECKED}..HEAD"], cwd=TOP,
                          stdout=subprocess.PIPE, check=True)
     for record in ran.stdout.decode().split("\x1e")[:-1]:
         name, parents, subject, body = record.lstrip("\n").split("\x1f")

@@ -68,7 +68,7 @@ def refuse_each(room, tests, name):
     def attempt(number, directory):
         ran = program.run_refused(directory, [name], number)
         expect(ran.status == 0, ran)
-        return ran.came
+        return ran.reached
 
     count = in_turn(program.place, attempt)
     expected = REQUESTS if name.split("::")[-1] == RESERVES else "at least one"

@@ -23,7 +23,7 @@ def key_errors(pk):
     """Returns a case for each error of a public key file."""
     comment, line = lines(pk)
     return [
-        Error(8, "public key is not text in UTF-8", b"untrusted comment: \xff\n" + line + b"\n"),
+        Error(8, "public key is not UTF-8 text", b"untrusted comment: \xff\n" + line + b"\n"),
         Error(16, "public key is empty", b""),
         Error(17, "public key file has no second line", comment + b"\n"),
         Error(18, "second line of the public key file is not 56 characters long", joined([comment, line[:-4]])),
@@ -46,7 +46,7 @@ def signature_errors(sig, other_sig):
     """Returns a case for each error of a signature file, except the one for large legacy files. `other_sig` was made with another key."""
     (first, second, third, fourth), record = lines(sig), record_of(sig)
     return [
-        Error(8, "signature is not text in UTF-8", joined([first + b"\xff", second, third, fourth])),
+        Error(8, "signature is not UTF-8 text", joined([first + b"\xff", second, third, fourth])),
         Error(20, "signature is too short", with_record(sig, 1, record[:40])),
         Error(21, "signature is empty", b""),
         Error(22, "signature has no second line", joined([first])),

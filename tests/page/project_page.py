@@ -25,7 +25,7 @@ TOLD = ("publishes", "website", "documentation", "minisign.pub", ".minisig", "pa
 UNLISTED = ("The signature of this file is not built into this page. It came with the file or with the link. The file "
             "may be from an older release, or something else that the owner of the key has signed.")
 NOT_OF_RELEASE = "The file is not part of this release either: none of the signatures that are built into this page is for it."
-OTHER_KEY = "This page ignores the other key, or other text, in its link. It accepts only its built-in key."
+OTHER_KEY = "The link to this page contains another key or other text, which this page ignores. It accepts only its built-in key."
 ZIP, TAR = "app-1.0.zip", "app-1.0.tar.gz"
 
 
@@ -300,15 +300,15 @@ def check_build_errors(person, release):
     with_key = lambda *words: [*page, "--key", line, "--signature", *words]
     unknown_kind = with_record(sig, 1, b"XX" + record_of(sig)[2:])
     for words, why in (
-            (["--prove"], "the kit of Rattle"), (["--from", os.path.join(build.HERE, "page.js")], "no page that page/build.py has built"),
+            (["--prove"], "the Rattle kit"), (["--from", os.path.join(build.HERE, "page.js")], "was not built by page/build.py"),
             *(([*page, f"--key={key}"], "one line of 56 characters") for key in (
                 "RWQ", "x", line[:-1], f"{line}A", f"-{line[1:]}", base64.b64encode(b"ED" + bytes(40)).decode())),
-            (["--from", f"{path}.absent.html"], "cannot be read"), ([*page, "--signature", path], "has a key, too"),
+            (["--from", f"{path}.absent.html"], "cannot be read"), ([*page, "--signature", path], "needs --key"),
             ([*page, "--key", person.second.line, "--signature", path], "was made with another key"),
             (with_key(path, put(sig, f"{ZIP}.minisig")), "two signatures are named"),
-            (with_key(path, "later.html"), "is not named as a signature"), (with_key(put(sig, ".minisig")), "is not named as a signature"),
+            (with_key(path, "later.html"), "is not named FILE.minisig"), (with_key(put(sig, ".minisig")), "is not named FILE.minisig"),
             (with_key(f"{path}.absent.minisig"), "cannot be read"), (with_key(put(b"\xff" + sig)), "cannot be read"),
-            *((with_key(put(text)), "is no signature") for text in (
+            *((with_key(put(text)), "is not a signature file") for text in (
                 b"", b"untrusted comment: x\n", with_line(sig, 0, b"comment"), with_line(sig, 1, b"RWQ"), with_line(sig, 2, b"comment"),
                 b"\n".join(lines(sig)[:3]), with_line(sig, 3, b"RWQ="), with_line(sig, 3, b"-"), person.first.text, unknown_kind))):
         # PATH is empty, so that the kit is not found.

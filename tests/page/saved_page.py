@@ -1,4 +1,4 @@
-"""Checks that the page saves a page for a project that is, byte for byte, the one that build.py makes from the same input."""
+"""Checks the button that saves a page for a project: the saved page has the same bytes as the page that build.py makes from this input."""
 
 import os
 import tempfile
@@ -13,7 +13,7 @@ SAVED = "The page is saved as verify.html."
 
 
 def fill(person, release, title="", signatures=(), name="", version="", links=()):
-    """Opens the page, and fills in what is given."""
+    """Opens the page with the key of the release, and fills in the fields that are not empty."""
     person.begin(release.line)
     person.run("document.getElementById('own').open = true")
     for part, text in (("title", title), ("name", name), ("version", version), ("links", "\n".join(links))):
@@ -23,8 +23,8 @@ def fill(person, release, title="", signatures=(), name="", version="", links=()
         person.send("own-signatures", *signatures)
 
 
-def saved(person):
-    """Presses the button, and returns the page that the browser has saved."""
+def save_page(person):
+    """Presses the button, and returns the bytes of the page that the browser saves."""
     directory = tempfile.mkdtemp(dir=person.room)
     person.save_into(directory)
     person.click("own-save")
@@ -40,7 +40,8 @@ def saved(person):
 
 
 def check_saved_page(person):
-    """The saved page has the bytes of the page that build.py makes, whatever the order of signatures and links, and it verifies."""
+    """The saved page has the same bytes as that of build.py, in any order of signatures and links. It accepts a file of the
+    release and rejects another."""
     release = Release(person)
     key = person.put("minisign.pub", person.first.text)
     plain = person.put("plain \u05e2.minisig", person.sign(b"plain", trusted="no name \u2028 \x7f \U0001f512"))
@@ -53,18 +54,20 @@ def check_saved_page(person):
               "links": [f"{name} {link}" for name, link in reversed(LINKS.items())]})):
         person.same(release.build("--from", person.page, "--key", key, *words), (0, ""), f"{what}: build.py")
         fill(person, release, **given)
-        page = saved(person)
+        page = save_page(person)
         person.check(page == read(release.out), f"{what}: the saved page has {len(page)} bytes, which differ from those of build.py")
     person.open(f"file://{person.put('saved.html', page)}")
-    person.same((person.see("titles"), person.is_shown("own")), ([TITLE, TITLE], False), "the saved page: its titles, and if it can save pages")
+    person.same((person.see("titles"), person.is_shown("own")), ([TITLE, TITLE], False),
+                "the saved page: the title and heading, and whether it can save pages itself")
     release.drop(ZIP, None, "the saved page", verdict="good")
     release.drop(TAR, b"x", "the saved page, and another file", verdict="bad")
     if person.is_chromium:
-        person.same([line for line in person.said() if "Content Security Policy" in line], [], "what the policy of the saved page rejects")
+        person.same([line for line in person.said() if "Content Security Policy" in line], [],
+                    "what the content security policy of the saved page blocks")
 
 
 def check_nothing_is_saved(person):
-    """If something is missing or wrong, no page is saved, and the page says why."""
+    """If an input is missing or invalid, no page is saved, and the message names the input."""
     release, other = Release(person), person.put("other.minisig", person.sign(b"x", "second"))
     signatures = release.paths
     for given, words in (
@@ -79,7 +82,7 @@ def check_nothing_is_saved(person):
             ({"signatures": signatures, "links": ["other x"]}, "does not begin with the name of a file"),
             ({"signatures": signatures, "links": [ZIP]}, "does not begin with the name of a file"),
             ({"signatures": signatures, "links": [f"{ZIP} javascript:alert(1)"]}, "has to begin with https"),
-            ({"signatures": signatures, "links": [f"{ZIP} x", f"{ZIP} y"]}, "A file has two links")):
+            ({"signatures": signatures, "links": [f"{ZIP} x", f"{ZIP} y"]}, "Two lines have links for the same file")):
         fill(person, release, **given)
         person.click("own-save")
         person.wait(lambda: person.text_of("own-said") != "")

@@ -2,6 +2,8 @@
 colours, in low windows and on paper.
 """
 
+import contextlib
+
 from person import MIN_CONTRAST, HEADINGS
 from texts import lines
 
@@ -108,7 +110,11 @@ def check_focus(person):
         person.settled("the focus")
         person.run("document.getElementById('clear').focus()")
         for name in ("comment",) * 4 + ("signature-text", "files", "key-remove", "key-file", "key-text"):
-            seen = person.tab(held=person.SHIFT), person.see("isFocusBehind")
+            focused = person.tab(held=person.SHIFT)
+            # (a browser may scroll a moment after it has moved the focus)
+            with contextlib.suppress(TimeoutError):
+                person.wait(lambda: not person.see("isFocusBehind"), seconds=2)
+            seen = focused, person.see("isFocusBehind")
             person.same(seen, (name, False), f"Shift+Tab at {size}: the element with the focus, and if the band hides it")
 
 

@@ -1,23 +1,24 @@
 #!/usr/bin/env python3
-"""Checks that contracts reject mutants of every function that modifies a struct, and of every function that returns an error.
+"""Checks that contracts reject two kinds of mutants: functions that reset a field of a struct, and functions that return success
+instead of an error.
 
     tests/proofs/field_mutants.py [--list | --unchanged] [CRATE[/FUNCTION]..]
 
 A field mutant resets one field of a struct behind a `&mut` parameter: numbers and bytes to 0, a bool to false, an Option to
-None. It resets the field when the function begins, at its end, or before one of its early returns; fields of nested structs
-are reset one by one. A success mutant returns success where the function returns an error: instead of one `Err(..)`, or of
-the error that a `?` at the end of a statement passes on.
+None. It resets the field when the function begins, at its end, or before one of its early returns. The fields of nested
+structs are reset one by one. A success mutant returns `Ok` in place of one `Err(..)`, or in place of the error that a `?` at
+the end of a statement passes on.
 
-The prover tries the mutants in groups, as wrong_bodies.py describes. A proved mutant is a failure, because then the contract
-also allows the wrong function. It is not a failure if the prover also proves that the field of the unchanged function already
-has this value at that place, because then the mutant is the same function. A rejection says nothing about the contract if the
-search gave up at a limit, or if only the function's written proof does not fit. These rejections are counted separately, and so
-are mutants that do not compile. There are no mutants of methods of traits, of functions without `ensures`, and for errors of
-functions whose successful result is a struct.
+The prover tries the mutants in groups, as wrong_bodies.py describes. A proved mutant is a failure, because the contract
+allows the wrong function. The exception is a mutant that changes nothing: the prover proves that in the unchanged function the
+field already has this value at that place. A rejection says nothing about the contract if the search gave up at a limit, or if
+only the function's written proof does not fit the mutant. These rejections are counted separately, and so are mutants that do
+not compile. Methods of traits and functions without `ensures` have no mutants, and functions whose successful result is a
+struct have no success mutants.
 
---list prints the mutants and tries none. --unchanged keeps the form of each mutant but omits the reset or the success. All of
-these have to be proved, which shows that rejections come from the change and not from the form. A run over all crates takes
-hours, so it is made before a release and not in CI. Needs Python 3.9 or later and the kit.
+--list only prints the mutants. --unchanged tries each mutant without its reset or success, but with the code around it. All of
+these have to be proved, which shows that the change itself is rejected and not the code around it. A run over all crates takes
+hours, so it is part of a release and not of CI. Needs Python 3.9 or later and the kit.
 """
 
 import os
@@ -34,7 +35,7 @@ import proved
 from sources import NAME, ROOT, Reader, files_below
 from wrong_bodies import APART, FAILED, GAVE_UP, REJECTED, WELL, Places, Trial, Verdict, WrongBody, assume, functions_in
 
-# The outcomes that wrong_bodies.py does not have.
+# The outcomes of a trial besides those of wrong_bodies.py.
 PROVED, SAME, UNFIT = "PROVED", "the same function", "does not compile"
 # The largest number of mutants that share a check.
 GROUP = 40
@@ -53,7 +54,7 @@ class Mutant(WrongBody):
     def __init__(self, crate, path, item, function, places, does, field=""):
         self.crate, self.path, self.copied, self.function, self.places = crate, path, item, function, places
         self.label, self.suffix = f"{crate}/{function}: {does}", ""
-        # The equation, in the language of clauses, that the field has its new value where it is reset.
+        # A clause of a contract: where the mutant resets the field, it has the reset value.
         self.field = field
         self.clause = self.named = self.by = self.why_not = ""
         self.is_for_kit = self.is_unchanged = False
@@ -107,7 +108,8 @@ def module_of(path):
 
 
 def reset_value(kind):
-    """Returns the value that resets a field of this type, or an empty text if its nested fields are reset instead, or none is."""
+    """Returns the value that resets a field of this type, or an empty string if the type has none or is a struct, whose
+    fields are reset one by one."""
     array = re.fullmatch(r"\[(\w+); (.+)\]", kind)
     if INTEGER.fullmatch(kind):
         return "0"
@@ -117,12 +119,12 @@ def reset_value(kind):
 
 
 def result_of(header):
-    """Returns the type that a function returns."""
+    """Returns the result type of a function."""
     return header.rpartition(") -> ")[2].partition(" where ")[0] if ") -> " in header else "()"
 
 
 def success_values(kind):
-    """Returns expressions for the value of a Result, if its type is one for which this script knows a value."""
+    """Returns expressions for the `Ok` value of a `Result` type, or an empty list if this script knows no value of its type."""
     result = re.fullmatch(r"(?:std::result::|io::)?Result<(.+)>", kind)
     if not result:
         return []
@@ -184,7 +186,7 @@ class Generator:
             yield self.mutant([(begin, stop, early)], f"{does} before early return {number}", after)
 
     def sets_first(self, name, field):
-        """Returns true if the first use of the parameter sets this field or the whole struct, so that a reset at entry has no effect."""
+        """Returns true if the first use of the parameter assigns this field or the whole struct, so that a reset at entry has no effect."""
         text = self.bare[self.item.body + 1:self.item.end - 1]
         first = re.search(rf"(?<![\w.]){name}\b", text)
         if not first:
@@ -273,7 +275,7 @@ class FieldTrial(Trial):
         return text, [self.verdict(body, text) for body in group], lines
 
     def learn(self, text):
-        """Adds functions of the crate that mutants call to those taken as proved: they are proved in the unchanged crate."""
+        """Adds the functions that mutants call to those that are assumed as proved. In the unchanged crate they are proved."""
         named = re.findall(r"a call of `(\w+)::([^`]+)`, which has no proof", text)
         self.proved += {name for crate, name in named if crate == self.crate} - {*self.proved}
 

@@ -22,9 +22,9 @@ class Checks:
         self.check(holds, f"{what}: exit status {actual}, expected {status}{f' and {says!r}' if says else ''}: {said[-800:]}")
         return said
 
-    def same(self, found, wanted, what):
+    def same(self, actual, expected, what):
         """Checks that two values are equal. The failure shows the beginning of each."""
-        return self.check(found == wanted, f"{what}: got {found!r:.300}, expected {wanted!r:.300}")
+        return self.check(actual == expected, f"{what}: got {actual!r:.300}, expected {expected!r:.300}")
 
     def end(self):
         """Prints the failures and the last line, and returns the exit status of the script."""

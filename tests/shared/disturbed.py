@@ -32,19 +32,19 @@ class Disturbing(Program):
                            **{"seconds": self.seconds, "env": environment or {}, **how})
 
     def run_broken(self, directory, arguments, how, **more):
-        """Runs the program with a broken call. `came` of the result is true if the program made that call."""
+        """Runs the program with a broken call. `reached` of the result is true if the program made that call."""
         ran, said = told(lambda says: self.run(directory, arguments, self.breaking(**how, SAYS=says), pass_fds=[says], **more))
-        return replace(ran, came=bool(said))
+        return replace(ran, reached=bool(said))
 
     def run_stopped(self, directory, arguments, meanwhile, **how):
-        """Stops the program before a call, calls `meanwhile`, and continues the program. `came` of the result is true if the program
+        """Stops the program before a call, calls `meanwhile`, and continues the program. `reached` of the result is true if the program
         stopped there."""
         stopping = self.breaking(SIGNAL=int(signal.SIGSTOP), GOES_ON=1, **how)
         process = subprocess.Popen([self.program, *arguments], cwd=directory, env=stopping, stdin=subprocess.DEVNULL,
                                    stdout=subprocess.DEVNULL, stderr=subprocess.PIPE)
-        came = os.waitid(os.P_PID, process.pid, os.WSTOPPED | os.WEXITED | os.WNOWAIT).si_code == os.CLD_STOPPED
+        reached = os.waitid(os.P_PID, process.pid, os.WSTOPPED | os.WEXITED | os.WNOWAIT).si_code == os.CLD_STOPPED
         try:
-            if came:
+            if reached:
                 meanwhile()
         finally:
             process.send_signal(signal.SIGCONT)
@@ -53,7 +53,7 @@ class Disturbing(Program):
             except subprocess.TimeoutExpired as why:
                 process.kill()
                 raise Failure(f"still running {SECONDS} seconds after SIGCONT") from why
-        return Ran(process.returncode, b"", said, came)
+        return Ran(process.returncode, b"", said, reached)
 
     def run_refused(self, directory, arguments, number):
         """Runs the program with its allocation of this number failing."""
@@ -65,7 +65,7 @@ class Disturbing(Program):
         def attempt(number, directory):
             ran = self.run_broken(directory, prepare(directory), {"AT": number, **how})
             judge(ran, directory)
-            return ran.came
+            return ran.reached
 
         return in_turn(self.place, attempt)
 
@@ -110,8 +110,8 @@ class OverTasks(Disturbing):
         seen = set()
 
         def judge(ran, directory):
-            expect(ran.status == (-signal.SIGKILL if ran.came else 0), ran)
-            new = task.check(directory, killed=ran.came)
+            expect(ran.status == (-signal.SIGKILL if ran.reached else 0), ran)
+            new = task.check(directory, killed=ran.reached)
             expect(new == sorted(new, reverse=True), f"a later file is new, but an earlier one is not: {[*zip(task.targets, new)]}")
             seen.add(sum(new))
 
@@ -124,9 +124,9 @@ class OverTasks(Disturbing):
 
         def judge(ran, directory):
             new = sum(task.check(directory))
-            if ran.came:
+            if ran.reached:
                 self.expect_unwritten(ran, number)
-            expect(new <= task.before_failing if ran.came else (ran.status, new) == (0, len(task.targets)), ran, f"{new} files are new")
+            expect(new <= task.before_failing if ran.reached else (ran.status, new) == (0, len(task.targets)), ran, f"{new} files are new")
 
         expect(self.break_each(task.make, judge, CALLS="write", ERRNO=number, **how), "the run made no write")
 

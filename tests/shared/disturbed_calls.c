@@ -3,7 +3,7 @@
    Reporting and changing calls:
      TRACE_TO=FD     Write a line to this descriptor for each call that opens, writes, reads back, locks, syncs, renames or removes a
                      file: the call as it was made, and the last part of the file's path.
-     TAKE_AWAY=STEP  Leave a step out or do it wrongly, but report success: `sync` (fsync of files), `directory` (fsync of directories),
+     LEAVE_OUT=STEP  Leave a step out or do it wrongly, but report success: `sync` (fsync of files), `directory` (fsync of directories),
                      `new` (O_EXCL), `mode`, `permissions`, `owner`, `lock`, `rename`, or `digit` (write a version record without its
                      last byte).
      SLOW=MAX        Wait up to this many microseconds before each of these calls.
@@ -112,12 +112,12 @@ static int is_broken_if_named(const char *name)
 
 /* == Reporting and changing calls == */
 
-/* Returns true if TAKE_AWAY leaves out this step. */
-static int is_taken(const char *step)
+/* Returns true if LEAVE_OUT names this step. */
+static int names_step(const char *step)
 {
-    const char *away = getenv("TAKE_AWAY");
+    const char *left_out = getenv("LEAVE_OUT");
 
-    return !is_others && away && strcmp(away, step) == 0;
+    return !is_others && left_out && strcmp(left_out, step) == 0;
 }
 
 /* Waits for a pseudorandom time up to SLOW, which differs between calls and processes. */
@@ -196,9 +196,9 @@ static int open_in(const char *call, int directory, const char *path, int flags,
     }
     if (is_broken(call))
         return -1;
-    if (is_taken("new"))
+    if (names_step("new"))
         flags &= ~O_EXCL;
-    if (is_taken("mode") && flags & O_CREAT)
+    if (names_step("mode") && flags & O_CREAT)
         mode |= 0044;
     fd = REAL(openat)(directory, path, flags, mode);
     if (fd < 0)
@@ -255,7 +255,7 @@ ssize_t write(int fd, const void *bytes, size_t length)
     LOOK;
     char path[4096];
     const char *name = fd > 2 ? name_of(fd, path, sizeof path) : NULL;
-    int is_cut = name && is_taken("digit") && is_record(bytes, length);
+    int is_cut = name && names_step("digit") && is_record(bytes, length);
     ssize_t n;
 
     if (name)
@@ -272,7 +272,7 @@ int fsync(int fd)
     char path[4096];
     const char *name = name_of(fd, path, sizeof path);
 
-    if (name && is_taken(strcmp(name, ".") == 0 ? "directory" : "sync"))
+    if (name && names_step(strcmp(name, ".") == 0 ? "directory" : "sync"))
         return 0;
     wait_first();
     if (name)
@@ -288,7 +288,7 @@ int fsync(int fd)
                                                                                           \
         LOOK;                                                                             \
         wait_first();                                                                     \
-        answer = is_taken("rename") ? 1 : is_broken(#name) ? -1 : REAL(name) arguments;   \
+        answer = names_step("rename") ? 1 : is_broken(#name) ? -1 : REAL(name) arguments; \
         if (answer == 0)                                                                  \
             say("rename", last_part(from), last_part(to));                                \
         return answer < 0 ? answer : 0;                                                   \
@@ -307,12 +307,12 @@ static void tell(int fd, const char *call, const char *more)
     say(call, name ? name : "?", more);
 }
 
-/* Returns true if TAKE_AWAY leaves out this step. Otherwise reports the call, which has yet to be made. */
+/* Returns true if LEAVE_OUT names this step. Otherwise reports the call, before it is made. */
 static int is_left_out(int fd, const char *step, const char *call, const char *more)
 {
-    if (!is_taken(step))
+    if (!names_step(step))
         tell(fd, call, more);
-    return is_taken(step);
+    return names_step(step);
 }
 
 int fchmod(int fd, mode_t mode)

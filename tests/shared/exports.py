@@ -18,10 +18,10 @@ import sources
 from running import write
 
 # The C type for each number and struct type of Rattle.
-KINDS = {"u32": "uint32_t", "u64": "uint64_t", "i64": "int64_t", "usize": "size_t", "State": "minisign_state",
+KINDS = {"u32": "uint32_t", "u64": "uint64_t", "usize": "size_t", "State": "minisign_state",
          "PublicKeyValue": "minisign_public_key", "SignatureValue": "minisign_signature", "Questions": "minisign_questions",
          "UnopenedKeyValue": "minisign_unopened_key", "SecretKeyValue": "minisign_secret_key", "Sealing": "minisign_sealing",
-         "NewKey": "minisign_new_key", "Installation": "minisign_installation", "Choices": "minisign_install_options"}
+         "NewKey": "minisign_new_key", "Installation": "minisign_installation", "InstallOptions": "minisign_install_options"}
 # The opaque structs, whose fields are private to the library.
 CLOSED = ("minisign_state", "minisign_installation")
 NUMBERS = {"u8": ctypes.c_uint8, "u32": ctypes.c_uint32, "u64": ctypes.c_uint64}
@@ -61,17 +61,16 @@ def parameters_of(parameters):
     return [parameter for parameter in re.split(r",\s*(?![^\[]*\])", parameters.strip().rstrip(",")) if parameter]
 
 
-def exported():
-    """Returns the C types of the parameters and of the result of each export of `minisign_c`, by name."""
-    texts = map(sources.read, ("crates/minisign_c/src/lib.rt", "crates/minisign_c/src/installing.rt"))
+def exported(crate):
+    """Returns the C types of the parameters and of the result of each export of the crate, by name."""
     return {name: ([kind for parameter in parameters_of(parameters) for kind in kinds_in_c(parameter.partition(":")[2].strip())],
                    kinds_in_c(result)[0] if result else "void")
-            for text in texts for name, parameters, result in EXPORT.findall(text)}
+            for name, parameters, result in EXPORT.findall(crate)}
 
 
 def unfit_declarations():
     """Returns a line for each function whose declaration and export differ, or of which one is missing."""
-    exports = exported()
+    exports = exported(sources.read("crates/minisign_c/src/lib.rt"))
     headers = c_header.both()
     declared = {call.name: ([boundary.plain_parameter(parameter) for parameter in headers.taken(call)], boundary.plain(call.answer))
                 for call in boundary.proved_calls(headers)}

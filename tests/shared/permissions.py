@@ -23,15 +23,15 @@ OTHER_GROUP, OTHER_USER = 54321, 54322
 # A run that replaces a file.
 #   older, mode: the mode of the old file, and the one that the new file must have.
 #   entries: the entries of the old file's access control list.
-#   inherited: the entries of the list that the directory gives to each new file.
+#   inherited: the entries of the list that each new file inherits from the directory.
 #   has_list: true if the new file must have the old file's list.
 #   as_nobody: true if the program runs as nobody, who then owns the directory and everything in it. Otherwise it runs as the
 #     user who runs the test.
 #   whose: the owner and group of the old file, if they differ from those of the directory. Root keeps them; if nobody replaces the
 #     file, it becomes nobody's.
-#   asked: the mode that the program is asked to set.
+#   requested: the mode that the program gets as an option.
 #   broken: the name of a system call that fails.
-Replaced = namedtuple("Replaced", "older mode entries inherited has_list as_nobody whose asked broken",
+Replaced = namedtuple("Replaced", "older mode entries inherited has_list as_nobody whose requested broken",
                       defaults=("", "", False, False, None, "", ""))
 by_nobody = functools.partial(Replaced, as_nobody=True)
 of_other_group = functools.partial(by_nobody, whose=(NOBODY, OTHER_GROUP))
@@ -69,7 +69,7 @@ def run_case(disturbing, prepare, arguments, case):
         expect((older is None) == (not case.entries), f"the old file has the list {older}, expected the entries {case.entries!r}")
         how = {"CALLS": case.broken, "AT": 1, "ERRNO": ERRORS.get(case.broken)}
         run = functools.partial(disturbing.run_broken, how=how) if case.broken else disturbing.run
-        ran = run(directory, arguments(case.asked), **(AS_NOBODY if case.as_nobody else {}))
+        ran = run(directory, arguments(case.requested), **(AS_NOBODY if case.as_nobody else {}))
         after, newer = os.stat(path), list_of(path)
         mode, owner = stat.S_IMODE(after.st_mode), (NOBODY, NOBODY) if case.as_nobody else (before.st_uid, before.st_gid)
         expect(ran.status == 0 and after.st_ino != before.st_ino, ran, f"the file was{' not' * (after.st_ino == before.st_ino)} replaced")
@@ -87,42 +87,48 @@ INHERITED = f"u:{OTHER_USER}:rwx,g:{OTHER_GROUP}:rwx"
 # The cases for every program. If the new file cannot get the old group, then neither its group nor all others get more than the old
 # group had.
 KEPT = [
-    ("permissions that a group and all others have", Replaced(0o755, 0o755)),
-    ("permissions that all others and not the group have", Replaced(0o705, 0o705)),
+    ("mode 0755 is kept", Replaced(0o755, 0o755)),
+    ("mode 0705 is kept", Replaced(0o705, 0o705)),
     ("the set-user-ID bit is cleared", Replaced(0o4755, 0o755)),
     ("the set-group-ID bit is cleared", Replaced(0o2755, 0o755)),
     ("the sticky bit is cleared", Replaced(0o1755, 0o755)),
-    ("another group that may do all", of_other_group(0o775, 0o705)),
-    ("another group that may do nothing", of_other_group(0o705, 0o700)),
-    ("another group that may do more than all others", of_other_group(0o754, 0o704)),
-    ("another group that may do less than all others", of_other_group(0o757, 0o705)),
-    ("another owner and group, which root keeps", Replaced(0o640, 0o640, whose=(OTHER_USER, OTHER_GROUP))),
-    ("permissions of the group only", Replaced(0o750, 0o750)),
-    ("more permissions of a group than of all others", Replaced(0o771, 0o771)),
-    ("a list with a user who may do more", Replaced(0o700, 0o770, MORE, has_list=True)),
-    ("a list with a user who may do less than all others", Replaced(0o755, 0o775, LESS, has_list=True)),
-    ("a list with a group that may do nothing", Replaced(0o755, 0o775, NONE, has_list=True)),
-    ("a list whose mask allows nothing", Replaced(0o700, 0o700, f"u:{OTHER_USER}:rwx,m::---", has_list=True)),
-    ("a list that the directory gives to new files is removed", Replaced(0o770, 0o770, inherited=INHERITED)),
-    ("a list in a directory that gives another list to new files", Replaced(0o755, 0o775, LESS, INHERITED, has_list=True)),
-    ("a list that cannot be copied, with a user who may do more", uncopied(0o755, 0o705, MORE)),
-    ("a list that cannot be copied, with a user who may do less", uncopied(0o755, 0o704, LESS)),
-    ("a list that cannot be copied, with a group that may do nothing", uncopied(0o755, 0o700, NONE)),
-    ("a list that cannot be copied, whose owning group may do less", uncopied(0o757, 0o704, f"g::r--,u:{OTHER_USER}:rwx")),
-    ("a list of a file of another group", of_other_group(0o755, 0o704, LESS)),
-    ("a list of a file that nobody owns and replaces", by_nobody(0o755, 0o775, LESS, has_list=True)),
-    ("a list of a file that may not be read", by_nobody(0o311, 0o311, f"g::--x,u:{OTHER_USER}:--x", has_list=True)),
-    ("a list of a file that may not be read, without /proc",
+    ("mode 0775 becomes 0705 if the group cannot be kept", of_other_group(0o775, 0o705)),
+    ("mode 0705 becomes 0700 if the group cannot be kept", of_other_group(0o705, 0o700)),
+    ("mode 0754 becomes 0704 if the group cannot be kept", of_other_group(0o754, 0o704)),
+    ("mode 0757 becomes 0705 if the group cannot be kept", of_other_group(0o757, 0o705)),
+    ("another owner and group are kept by root", Replaced(0o640, 0o640, whose=(OTHER_USER, OTHER_GROUP))),
+    ("mode 0750 is kept", Replaced(0o750, 0o750)),
+    ("mode 0771 is kept", Replaced(0o771, 0o771)),
+    ("a list with a user who may do more is copied", Replaced(0o700, 0o770, MORE, has_list=True)),
+    ("a list with a user who may do less than all others is copied", Replaced(0o755, 0o775, LESS, has_list=True)),
+    ("a list with a group that may do nothing is copied", Replaced(0o755, 0o775, NONE, has_list=True)),
+    ("a list whose mask allows nothing is copied", Replaced(0o700, 0o700, f"u:{OTHER_USER}:rwx,m::---", has_list=True)),
+    ("a list inherited from the directory is removed", Replaced(0o770, 0o770, inherited=INHERITED)),
+    ("a list is kept in a directory that gives another list to new files", Replaced(0o755, 0o775, LESS, INHERITED, has_list=True)),
+    ("a list with a user who may do more leaves mode 0705 if it cannot be copied", uncopied(0o755, 0o705, MORE)),
+    ("a list with a user who may do less leaves mode 0704 if it cannot be copied", uncopied(0o755, 0o704, LESS)),
+    ("a list with a group that may do nothing leaves mode 0700 if it cannot be copied", uncopied(0o755, 0o700, NONE)),
+    ("a list whose owning group may do less leaves mode 0704 if it cannot be copied", uncopied(0o757, 0o704, f"g::r--,u:{OTHER_USER}:rwx")),
+    ("a list leaves mode 0704 if the group cannot be kept", of_other_group(0o755, 0o704, LESS)),
+    ("a list is copied if the user nobody owns and replaces the file", by_nobody(0o755, 0o775, LESS, has_list=True)),
+    ("a list of an unreadable file is copied", by_nobody(0o311, 0o311, f"g::--x,u:{OTHER_USER}:--x", has_list=True)),
+]
+
+# The case for a program that opens the old file for reading only, so that it needs /proc to read the list of an unreadable file.
+WITHOUT_PROC = [
+    ("a list of an unreadable file is not copied without /proc",
      by_nobody(0o301, 0o301, f"g::--x,u:{OTHER_USER}:-wx", broken="getxattr")),
 ]
 
-# The cases for a program with an option for the mode: the new file has exactly these permissions, and no list.
-ASKED = [
-    ("a mode that is asked for", Replaced(0o700, 0o775, asked="775")),
-    ("a mode that is asked for over another group", of_other_group(0o700, 0o705, asked="775")),
-    ("a mode that is asked for, without the group's permissions, over another group", of_other_group(0o755, 0o700, asked="705")),
-    ("a mode that is asked for over a list", Replaced(0o755, 0o770, MORE, asked="770")),
-    ("a mode that is asked for over a list that the directory gives", Replaced(0o700, 0o770, inherited=INHERITED, asked="770")),
+# The cases for a program with an option for the mode: the new file has the requested mode, less what KEPT forbids if the old group
+# cannot be kept, and no list.
+REQUESTED = [
+    ("a requested mode is set", Replaced(0o700, 0o775, requested="775")),
+    ("a requested mode gives nothing to the new group if the old one cannot be kept", of_other_group(0o700, 0o705, requested="775")),
+    ("a requested mode gives all others no more than the group if the old group cannot be kept",
+     of_other_group(0o755, 0o700, requested="705")),
+    ("a requested mode removes the old file's list", Replaced(0o755, 0o770, MORE, requested="770")),
+    ("a requested mode removes a list inherited from the directory", Replaced(0o700, 0o770, inherited=INHERITED, requested="770")),
 ]
 
 

@@ -9,13 +9,13 @@ SECONDS = 1800
 
 @dataclass(frozen=True)
 class Ran:
-    """The result of a run: the exit status, standard output and standard error. `came` is true if the program made the call that
+    """The result of a run: the exit status, standard output and standard error. `reached` is true if the program made the call that
     was to fail."""
 
     status: int
     output: bytes
     said: bytes
-    came: bool = False
+    reached: bool = False
 
     def __str__(self):
         return f"exit status {self.status}, stdout {self.output[-200:]!r}, stderr {self.said[-400:]!r}"

@@ -190,15 +190,15 @@ def run_one(cases, name):
 
 
 def in_turn(place, attempt):
-    """Calls `attempt` with 1, 2, .. and a fresh directory in `place`. It runs a program with the call of that number broken, checks the
-    result, and returns true if the program made so many calls. Stops at the first run that did not, and returns the number of calls."""
+    """Calls `attempt` with the numbers 1, 2, .. and a fresh directory in `place`. `attempt` runs a program with its Nth call broken, checks
+    the result, and returns true if the program reached that call. Stops at the first run that does not, and returns the number of calls."""
     for number in range(1, MAX_CALLS):
         with tempfile.TemporaryDirectory(dir=place) as directory:
             try:
-                came = attempt(number, directory)
+                reached = attempt(number, directory)
             except Failure as why:
                 raise Failure(f"at call {number}: {why}") from why
-        if not came:
+        if not reached:
             return number - 1
     raise Failure(f"the program made {MAX_CALLS} calls or more")
 
@@ -246,9 +246,9 @@ class Runner(Program):
             return None
 
         def attempt(number, directory):
-            failure, came = told(functools.partial(failure_of, number, directory))
-            expect(not came or not failure, failure)
-            return came
+            failure, reached = told(functools.partial(failure_of, number, directory))
+            expect(not reached or not failure, failure)
+            return reached
 
         expect(in_turn(self.room, attempt), f"the program made no call of {calls}")
 
@@ -309,8 +309,8 @@ class DrainedPipe:
         stack.callback(os.close, self.reader)
 
     def poll(self, has_ended):
-        came = os.read(self.reader, 1 << 16) if has_ended else self.data
-        expect(came == self.data, f"the program wrote {came[:200]} to {os.path.basename(self.path)}, expected {self.data[:200]}")
+        received = os.read(self.reader, 1 << 16) if has_ended else self.data
+        expect(received == self.data, f"the program wrote {received[:200]} to {os.path.basename(self.path)}, expected {self.data[:200]}")
 
 
 class Terminal:

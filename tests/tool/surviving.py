@@ -102,12 +102,12 @@ class Surviving(OverTasks):
         whole, counted = (0, len(task.targets)), itertools.count(1)
 
         def judge(ran, directory):
-            ended, allowed = (ran.status, sum(task.check(directory))), endings(next(counted)) if ran.came else [whole]
+            ended, allowed = (ran.status, sum(task.check(directory))), endings(next(counted)) if ran.reached else [whole]
             is_reported = ended == whole or len(allowed) > 1 or ran.said.endswith(WRITING_FAILED)
             expect(ended in allowed and is_reported, ran, f"{ended[1]} files are new, expected one of {allowed} (exit status, new files)")
 
-        came = self.break_each(task.make, judge, CALLS=calls, ERRNO=number)
-        expect(came or len(endings(1)) > 1, f"the run made no call of {calls}")
+        broken = self.break_each(task.make, judge, CALLS=calls, ERRNO=number)
+        expect(broken or len(endings(1)) > 1, f"the run made no call of {calls}")
 
     def taken_names(self, task, directory, count):
         """Checks a run with constant random numbers in a directory where the first `count` names of temporary files are taken. It succeeds

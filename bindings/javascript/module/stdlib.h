@@ -1,5 +1,5 @@
 /* SPDX-License-Identifier: MIT */
-/* Declares the functions of <stdlib.h> that dist/calls.c and c/library/portable/allocation.c use. memory.c has them. */
+/* Declares the functions of <stdlib.h> that dist/calls.c and c/library/portable/allocation.c use. memory.c defines them. */
 #ifndef STDLIB_H
 #define STDLIB_H
 

@@ -78,9 +78,6 @@ pub const MINISIGN_VERSION_MAJOR: usize = 0;
 pub const MINISIGN_VERSION_MINOR: usize = 3;
 pub const MINISIGN_VERSION_PATCH: usize = 0;
 pub const MINISIGN_ERROR_TEXT_BYTES: usize = 128;
-pub const MINISIGN_PUBLIC_KEY_RECORD_BYTES: usize = 42;
-pub const MINISIGN_SIGNATURE_RECORD_BYTES: usize = 74;
-pub const MINISIGN_SECRET_KEY_RECORD_BYTES: usize = 158;
 pub const MINISIGN_KEEP_EVERY_ROW: usize = 1;
 pub const MINISIGN_KEEP_FEW_ROWS: usize = 16;
 pub const MINISIGN_USUAL_ROWS: usize = 1048576;
@@ -101,19 +98,6 @@ pub const MINISIGN_SIGNATURE_COMMENT: &str = "signature from minisign secret key
 pub const MINISIGN_TRUSTED_COMMENT_FORMAT: &str = "timestamp:%llu\tfile:%s\thashed";
 pub const MINISIGN_SECRET_KEY_COMMENT: &str = "minisign encrypted secret key";
 pub const MINISIGN_PUBLIC_KEY_COMMENT: &str = "minisign public key ";
-pub const MINISIGN_KIND_NONE: u32 = 0;
-pub const MINISIGN_KIND_MISUSE: u32 = 1;
-pub const MINISIGN_KIND_GENERATE: u32 = 2;
-pub const MINISIGN_KIND_SIGN: u32 = 3;
-pub const MINISIGN_KIND_VERIFY: u32 = 4;
-pub const MINISIGN_KIND_IO: u32 = 5;
-pub const MINISIGN_KIND_MISC: u32 = 6;
-pub const MINISIGN_KIND_HASH: u32 = 7;
-pub const MINISIGN_KIND_KDF: u32 = 8;
-pub const MINISIGN_KIND_RNG: u32 = 9;
-pub const MINISIGN_KIND_ENCODING: u32 = 10;
-pub const MINISIGN_KIND_ENCRYPTED_KEY: u32 = 11;
-pub const MINISIGN_KIND_OUT_OF_MEMORY: u32 = 12;
 pub const MINISIGN_ANSWER_YES: u32 = 7955827;
 pub const MINISIGN_ANSWER_NO: u32 = 28271;
 
@@ -301,7 +285,6 @@ impl minisign_sealing {
 extern "C" {
     pub fn minisign_version() -> u32;
     pub fn minisign_error_text(error: u32, text: *mut u8, room: usize) -> usize;
-    pub fn minisign_error_kind(error: u32) -> u32;
     pub fn minisign_init(state: *mut minisign_state);
     pub fn minisign_update(state: *mut minisign_state, data: *const u8, len: usize) -> u32;
     pub fn minisign_digest(state: *mut minisign_state, digest: &mut [u8; 64]) -> u32;
@@ -316,28 +299,10 @@ extern "C" {
         base64_len: usize,
         key: *mut minisign_public_key,
     ) -> u32;
-    pub fn minisign_read_public_key_record(
-        record: *const u8,
-        record_len: usize,
-        key: *mut minisign_public_key,
-    ) -> u32;
-    pub fn minisign_public_key_record(
-        key: *const minisign_public_key,
-        record: &mut [u8; 42],
-    ) -> u32;
     pub fn minisign_read_signature(
         sig_text: *const u8,
         sig_text_len: usize,
         signature: *mut minisign_signature,
-    ) -> u32;
-    pub fn minisign_read_signature_record(
-        record: *const u8,
-        record_len: usize,
-        signature: *mut minisign_signature,
-    ) -> u32;
-    pub fn minisign_signature_record(
-        signature: *const minisign_signature,
-        record: &mut [u8; 74],
     ) -> u32;
     pub fn minisign_ask(
         state: *mut minisign_state,
@@ -352,33 +317,11 @@ extern "C" {
     ) -> u32;
     pub fn minisign_comment_verdict(state: *const minisign_state, second: u32) -> u32;
     pub fn minisign_verdict(state: *mut minisign_state, first: u32, second: u32) -> u32;
-    pub fn minisign_ask_bare(
-        state: *mut minisign_state,
-        key: *const minisign_public_key,
-        signature: *const minisign_signature,
-        allow_legacy: u32,
-        questions: *mut minisign_questions,
-    ) -> u32;
-    pub fn minisign_bare_verdict(state: *mut minisign_state, first: u32) -> u32;
     pub fn minisign_read_secret_key(
         sk_text: *const u8,
         sk_text_len: usize,
         unopened: *mut minisign_unopened_key,
     ) -> u32;
-    pub fn minisign_read_secret_key_record(
-        secret_record: *const u8,
-        secret_record_len: usize,
-        unopened: *mut minisign_unopened_key,
-    ) -> u32;
-    pub fn minisign_encode_unopened_key(
-        unopened: *const minisign_unopened_key,
-        comment: *const u8,
-        comment_len: usize,
-        text: *mut u8,
-        room: usize,
-        text_len: *mut usize,
-    ) -> u32;
-    pub fn minisign_test_sealed_key(unopened: *const minisign_unopened_key, most_rows: u64) -> u32;
     pub fn minisign_open_unsealed_key(
         unopened: *const minisign_unopened_key,
         key: *mut minisign_secret_key,
@@ -417,10 +360,6 @@ extern "C" {
     pub fn minisign_public_key_of(
         key: *const minisign_secret_key,
         public_key: *mut minisign_public_key,
-    ) -> u32;
-    pub fn minisign_secret_key_record(
-        key: *const minisign_secret_key,
-        secret_record: &mut [u8; 158],
     ) -> u32;
     pub fn minisign_comment_message(
         first: &[u8; 64],
@@ -464,14 +403,6 @@ extern "C" {
     ) -> u32;
     pub fn minisign_public_key_text(
         key: *const minisign_secret_key,
-        comment: *const u8,
-        comment_len: usize,
-        text: *mut u8,
-        room: usize,
-        text_len: *mut usize,
-    ) -> u32;
-    pub fn minisign_encode_public_key(
-        key: *const minisign_public_key,
         comment: *const u8,
         comment_len: usize,
         text: *mut u8,

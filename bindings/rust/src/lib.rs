@@ -563,8 +563,8 @@ impl fmt::Display for Signature {
 #[must_use = "nothing is verified before `finalize` returns Ok"]
 pub struct StreamVerifier<'a> {
     ed25519: &'a dyn Verify,
-    // None for a signature without comments.
-    signature: Option<&'a Signature>,
+    signature: &'a Signature,
+    is_bare: bool,
     state: raw::State,
     questions: raw::Questions,
     comment_message: Vec<u8>,
@@ -585,7 +585,8 @@ impl<'a> StreamVerifier<'a> {
             raw::ask(&mut state, key, &signature.parsed, text, legacy)?;
         Ok(StreamVerifier {
             ed25519,
-            signature: Some(signature),
+            signature,
+            is_bare: false,
             state,
             questions,
             comment_message,
@@ -599,16 +600,9 @@ impl<'a> StreamVerifier<'a> {
         signature: &'a BareSignature,
         allow_legacy: bool,
     ) -> Result<Self, Reason> {
-        let mut state = raw::init();
-        let legacy = allow_legacy.into();
-        let questions = raw::ask_bare(&mut state, key, &signature.parsed, legacy)?;
-        Ok(StreamVerifier {
-            ed25519,
-            signature: None,
-            state,
-            questions,
-            comment_message: vec![],
-        })
+        let mut verifier = Self::begin(key, ed25519, &signature.signature, allow_legacy)?;
+        verifier.is_bare = true;
+        Ok(verifier)
     }
 
     /// Adds the next piece of the data, of any length.
@@ -642,9 +636,8 @@ impl<'a> StreamVerifier<'a> {
     /// `InvalidSignature` with `COMMENT_SIGNATURE_REFUSED` if the comment signature is not valid,
     /// and for a signature without comments; `Rejected` after `finalize`.
     pub fn trusted_comment(&self) -> Result<&'a str, Error> {
-        let signature = self.signature.ok_or(Reason::COMMENT_SIGNATURE_REFUSED)?;
         raw::comment_verdict(&self.state, self.accepts_comment())?;
-        Ok(signature.trusted_comment())
+        Ok(self.signature.trusted_comment())
     }
 
     /// Returns `Ok` if the signature is valid for all of the data. Call it once.
@@ -664,7 +657,7 @@ impl<'a> StreamVerifier<'a> {
     fn accepts_comment(&self) -> bool {
         let questions = &self.questions;
         let (signature, key) = (&questions.comment_signature, &questions.public_key);
-        self.accepts(signature, &self.comment_message, key)
+        !self.is_bare && self.accepts(signature, &self.comment_message, key)
     }
 
     /// Returns the verdict. For a legacy signature, `data` is all of the data.
@@ -673,15 +666,12 @@ impl<'a> StreamVerifier<'a> {
         let message = if questions.legacy == 1 { data } else { &digest };
         let (signature, key) = (&questions.signature, &questions.public_key);
         let is_data_valid = self.accepts(signature, message, key);
-        if self.signature.is_none() {
-            return Ok(raw::bare_verdict(&mut self.state, is_data_valid)?);
-        }
         let is_comment_valid = self.accepts_comment();
-        Ok(raw::verdict(
-            &mut self.state,
-            is_data_valid,
-            is_comment_valid,
-        )?)
+        match raw::verdict(&mut self.state, is_data_valid, is_comment_valid) {
+            // The verdict is this error only if the signature of the data is valid.
+            Err(Reason::COMMENT_SIGNATURE_REFUSED) if self.is_bare => Ok(()),
+            verdict => Ok(verdict?),
+        }
     }
 }
 

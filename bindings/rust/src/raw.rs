@@ -3,16 +3,14 @@
 #![allow(unsafe_code)]
 
 mod header;
-mod records;
 #[cfg(feature = "sodium")]
 mod sodium;
 
 pub use header::*;
-use header::{done, text_of};
+use header::{check, text_of};
 use minisign_proved_sys as sys;
-pub use records::*;
 
-/// Encrypts a key as `secret_key_text` does, also with an empty password.
+/// Encodes a secret key file as `secret_key_text` does, but also accepts an empty password.
 pub fn secret_key_text_with_any_password(
     key: &SecretKey,
     password: Option<&[u8]>,
@@ -37,6 +35,6 @@ pub fn secret_key_text_with_any_password(
             &mut len,
         )
     };
-    done(result)?;
+    check(result)?;
     text_of(text, len)
 }

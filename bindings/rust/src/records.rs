@@ -44,19 +44,16 @@ impl Reason {
     /// Returns the kind of the error.
     #[must_use]
     pub fn kind(self) -> Kind {
-        match raw::error_kind(self.code()) {
-            raw::KIND_MISUSE => Kind::Misuse,
-            raw::KIND_GENERATE => Kind::Generate,
-            raw::KIND_SIGN => Kind::Sign,
-            raw::KIND_VERIFY => Kind::Verify,
-            raw::KIND_IO => Kind::Io,
-            raw::KIND_MISC => Kind::Misc,
-            raw::KIND_HASH => Kind::Hash,
-            raw::KIND_KDF => Kind::Kdf,
-            raw::KIND_RNG => Kind::Rng,
-            raw::KIND_ENCODING => Kind::Encoding,
-            raw::KIND_ENCRYPTED_KEY => Kind::EncryptedKey,
-            raw::KIND_OUT_OF_MEMORY => Kind::OutOfMemory,
+        match self.code() {
+            0 => Kind::None,
+            7 => Kind::OutOfMemory,
+            8 | 35 => Kind::Encoding,
+            16..=24 | 26 | 33 | 34 | 36 | 38 | 39 | 44 | 45 | 64 | 65 => Kind::Io,
+            25 | 27..=32 | 37 | 42 | 81 => Kind::Verify,
+            40 | 41 | 43 => Kind::Kdf,
+            67 => Kind::Rng,
+            1..=6 | 9..=15 | 61..=63 | 82..=84 => Kind::Misuse,
+            46..=60 => Kind::Misc,
             _ => Kind::None,
         }
     }
@@ -73,20 +70,24 @@ impl PublicKey {
     ///
     /// `InvalidEncoding` with `RECORD_TOO_SHORT` if there are fewer bytes.
     pub fn from_record(record: &[u8]) -> Result<Self, Error> {
-        Ok(Self::new(None, raw::read_public_key_record(record)?))
+        let record = record.get(..Self::RECORD_BYTES);
+        Self::from_base64(&base64::encode(record.ok_or(Reason::RECORD_TOO_SHORT)?))
     }
 
     /// Returns the record, with the algorithm `Ed`, which Minisign writes in every public key.
     #[must_use]
     pub fn to_record(&self) -> [u8; Self::RECORD_BYTES] {
-        raw::public_key_record(&self.key).expect("the key was read")
+        let mut record = [0; Self::RECORD_BYTES];
+        record[..2].copy_from_slice(b"Ed");
+        record[2..10].copy_from_slice(&self.key.key_id);
+        record[10..].copy_from_slice(&self.key.key);
+        record
     }
 
     /// Returns the 56 base64 characters of the record, which `from_base64` reads.
     #[must_use]
     pub fn to_base64(&self) -> String {
-        let text = self.encode("").expect("an empty comment can be read back");
-        text.lines().nth(1).unwrap_or_default().into()
+        base64::encode(&self.to_record()).to_string()
     }
 
     /// Returns the content of a public key file, with this comment after `untrusted comment: `.
@@ -96,14 +97,25 @@ impl PublicKey {
     /// `Rejected` with `BAD_COMMENT` or `UNREADABLE_COMMENT` for a comment that Minisign could not
     /// read back.
     pub fn encode(&self, comment: &str) -> Result<String, Error> {
-        Ok(raw::encode_public_key(&self.key, comment.as_bytes())?)
+        check_comment(comment)?;
+        Ok(format!(
+            "untrusted comment: {comment}\n{}\n",
+            self.to_base64()
+        ))
     }
+}
+
+/// Checks a comment by writing a key file with it.
+fn check_comment(comment: &str) -> Result<(), Error> {
+    let key = raw::take_secret_key(&raw::NewKey::ZEROS);
+    raw::public_key_text(&key, comment.as_bytes())?;
+    Ok(())
 }
 
 /// A signature without comments. Parsing verifies nothing.
 #[derive(Clone, Debug, Eq, PartialEq, Hash)]
 pub struct BareSignature {
-    pub(crate) parsed: raw::Signature,
+    pub(crate) signature: Signature,
 }
 
 impl BareSignature {
@@ -117,26 +129,30 @@ impl BareSignature {
     ///
     /// `InvalidEncoding` with `RECORD_TOO_SHORT` if there are fewer bytes; `UnsupportedAlgorithm`.
     pub fn from_record(record: &[u8]) -> Result<Self, Error> {
-        let parsed = raw::read_signature_record(record)?;
-        Ok(BareSignature { parsed })
+        let record = record.get(..Self::RECORD_BYTES);
+        let base64 = base64::encode(record.ok_or(Reason::RECORD_TOO_SHORT)?);
+        // With an empty comment signature, which is never valid.
+        let text = format!("untrusted comment: \n{}\ntrusted comment: \n\n", *base64);
+        let signature = Signature::decode(&text)?;
+        Ok(BareSignature { signature })
     }
 
     /// Returns the record.
     #[must_use]
     pub fn to_record(&self) -> [u8; Self::RECORD_BYTES] {
-        raw::signature_record(&self.parsed).expect("the signature was read")
+        self.signature.to_record()
     }
 
     /// Returns the 8 bytes of the key ID of the signer's key. Nothing is verified.
     #[must_use]
     pub fn key_id(&self) -> &[u8; 8] {
-        &self.parsed.key_id
+        self.signature.key_id()
     }
 
     /// Returns true for a legacy signature, which signs the data itself instead of its digest.
     #[must_use]
     pub fn is_legacy(&self) -> bool {
-        self.parsed.legacy == 1
+        self.signature.is_legacy()
     }
 }
 
@@ -145,7 +161,11 @@ impl Signature {
     /// has neither the comments nor the comment signature.
     #[must_use]
     pub fn to_record(&self) -> [u8; BareSignature::RECORD_BYTES] {
-        raw::signature_record(&self.parsed).expect("the signature was read")
+        let (parsed, mut record) = (&self.parsed, [0; BareSignature::RECORD_BYTES]);
+        record[..2].copy_from_slice(&parsed.algorithm);
+        record[2..10].copy_from_slice(&parsed.key_id);
+        record[10..].copy_from_slice(&parsed.signature);
+        record
     }
 
     /// Returns the content of a signature file with the same comments and signatures: four lines,
@@ -208,8 +228,12 @@ impl UnopenedKey {
     ///
     /// `InvalidEncoding` with `RECORD_TOO_SHORT` if there are fewer bytes.
     pub fn from_record(record: &[u8]) -> Result<Self, Error> {
-        let key = raw::read_secret_key_record(record)?;
-        Ok(UnopenedKey { key })
+        let record = record.get(..Self::RECORD_BYTES);
+        let base64 = base64::encode(record.ok_or(Reason::RECORD_TOO_SHORT)?);
+        let mut lines = Zeroizing::new(String::with_capacity(base64.len() + 1));
+        lines.push('\n');
+        lines.push_str(&base64);
+        Self::decode(&lines)
     }
 
     /// Returns the record, as it was read.
@@ -226,7 +250,14 @@ impl UnopenedKey {
     /// `Rejected` with `BAD_COMMENT` or `UNREADABLE_COMMENT` for a comment that Minisign could not
     /// read back.
     pub fn encode(&self, comment: &str) -> Result<Zeroizing<String>, Error> {
-        Ok(raw::encode_unopened_key(&self.key, comment.as_bytes())?)
+        check_comment(comment)?;
+        let (begin, base64) = ("untrusted comment: ", base64::encode(&self.key.bytes));
+        let len = begin.len() + comment.len() + base64.len() + 2;
+        let mut text = Zeroizing::new(String::with_capacity(len));
+        for part in [begin, comment, "\n", &base64, "\n"] {
+            text.push_str(part);
+        }
+        Ok(text)
     }
 
     /// Returns true if the key is encrypted, so that `open` needs a password.
@@ -243,7 +274,17 @@ impl UnopenedKey {
     /// `Rejected` with `KEY_NOT_SEALED`, `UNSUPPORTED_KEY_DERIVATION`, `PARAMETERS_TOO_HIGH`,
     /// `INVALID_PARAMETERS` or `WORK_TOO_HIGH`, in this order.
     pub fn check(&self, work: &Work) -> Result<(), Error> {
-        Ok(raw::test_sealed_key(&self.key, work.most_rows)?)
+        // With no rows allowed, the library derives nothing and returns WORK_TOO_HIGH last.
+        match raw::open_sealed_key(&self.key, b"", work.keep_every, 0) {
+            Err(Reason::WORK_TOO_HIGH) if self.rows() <= work.most_rows => Ok(()),
+            Err(reason) => Err(reason.into()),
+            Ok(_) => Ok(()),
+        }
+    }
+
+    /// Returns the number of rows that scrypt computes to decrypt the key.
+    fn rows(&self) -> u64 {
+        u64::from(self.key.work) << self.key.log2_rows
     }
 
     /// Decrypts the key. Pass `None` as the password of a key that is not encrypted.
@@ -271,7 +312,8 @@ impl SecretKey {
     ///
     /// None for a key that was decrypted or generated.
     pub fn to_record(&self) -> Result<Zeroizing<[u8; UnopenedKey::RECORD_BYTES]>, Error> {
-        Ok(raw::secret_key_record(&self.key)?)
+        let text = raw::secret_key_text(&self.key, None, &raw::Sealing::ZEROS, 1, b"")?;
+        Ok(UnopenedKey::decode(&Zeroizing::new(text))?.to_record())
     }
 
     /// Returns the 8 bytes of the key ID, which is one little-endian number.

@@ -18,8 +18,8 @@ typedef uint8_t u8;
 typedef uint32_t u32;
 typedef uint64_t u64;
 
-/* The functions by which calls.c allocates memory, in allocation.c. The first two write to `grant` whether the
- * allocation succeeded, and the address. */
+/* The allocation functions of calls.c, which allocation.c defines. The first two write two numbers to `grant`: whether
+ * the allocation succeeded, and the address of the block. */
 void machine_rattle_alloc(u64 grant, u64 len, u64 alignment);
 void machine_rattle_realloc(u64 grant, u64 block, u64 old_len, u64 len, u64 alignment);
 void machine_rattle_dealloc(u64 block);
@@ -33,8 +33,8 @@ void machine_rattle_dealloc(u64 block);
 #define ALIGNED(bytes) _Alignas(bytes)
 #endif
 
-/* The machine's stack and its table of addresses, which are in the frame of a function that is called from C. Both
- * begin at a multiple of 16, and the stack also ends at one. */
+/* Declare the stack and the table of addresses of the WebAssembly code as local variables of the function that C calls.
+ * Both begin at a multiple of 16, and the stack also ends at one. */
 #define STACK(bytes) u64 stack_[(bytes) / 8 + 2]; const u64 sp = ((u64) (uintptr_t) stack_ + 15) / 16 * 16 + (bytes)
 #define TABLE(bytes) u64 table_[(bytes) / 8 + 3]; const u64 table = ((u64) (uintptr_t) table_ + 15) / 16 * 16
 
@@ -50,19 +50,19 @@ static inline u8 *at(u64 address)
 
 /* ---- Memory ---- */
 
-/* IS_LITTLE_ENDIAN: the processor's numbers are little-endian. IS_COPIED: besides, they may be at any address, so that
- * a load or store is one instruction. Otherwise numbers are composed of bytes, which works everywhere. */
+/* IS_LITTLE_ENDIAN: the processor is little-endian. HAS_UNALIGNED_ACCESS: it also loads and stores numbers at any
+ * address by one instruction. Without it, numbers are composed of single bytes, which works everywhere. */
 #if defined(__BYTE_ORDER__) && __BYTE_ORDER__ == __ORDER_LITTLE_ENDIAN__
 #define IS_LITTLE_ENDIAN 1
 #else
 #define IS_LITTLE_ENDIAN 0
 #endif
-#ifndef IS_COPIED
+#ifndef HAS_UNALIGNED_ACCESS
 #if IS_LITTLE_ENDIAN && (defined(__x86_64__) || defined(__i386__) || defined(__aarch64__) || defined(__powerpc64__) \
                          || defined(__ARM_FEATURE_UNALIGNED))
-#define IS_COPIED 1
+#define HAS_UNALIGNED_ACCESS 1
 #else
-#define IS_COPIED 0
+#define HAS_UNALIGNED_ACCESS 0
 #endif
 #endif
 
@@ -76,7 +76,7 @@ static inline u32 load16(u64 a)
     return load8(a) | load8(a + 1) << 8;
 }
 
-#if IS_COPIED
+#if HAS_UNALIGNED_ACCESS
 
 static inline u32 load32(u64 a)
 {
@@ -119,7 +119,7 @@ static inline void store16(u64 a, u64 value)
     store8(a + 1, value >> 8);
 }
 
-#if IS_COPIED
+#if HAS_UNALIGNED_ACCESS
 
 static inline void store32(u64 a, u64 value)
 {
@@ -149,7 +149,7 @@ static inline void store64(u64 a, u64 value)
 
 #endif
 
-/* If there are no bytes, the addresses may be invalid. */
+/* If len is 0, the addresses may be invalid, and memmove and memset must not get them. */
 static inline void copy(u64 to, u64 from, u64 len)
 {
     if (len != 0) {
@@ -271,7 +271,7 @@ static inline u32 ctz32(u32 x)
 
 /* ---- Dividing ---- */
 
-/* A trap. The proved calls never reach it. */
+/* The trap instruction of WebAssembly. The proved calls never reach it. */
 static inline void never(void)
 {
     abort();
@@ -304,14 +304,14 @@ static inline u32 rem_u32(u32 a, u32 b)
 }
 
 /* Returns the absolute value. */
-static inline u64 bare(u64 value)
+static inline u64 magnitude(u64 value)
 {
     return value >> 63 ? 0 - value : value;
 }
 
 static inline u64 div_s64(u64 a, u64 b)
 {
-    const u64 quotient = div_u64(bare(a), bare(b)), has_sign = (a ^ b) >> 63;
+    const u64 quotient = div_u64(magnitude(a), magnitude(b)), has_sign = (a ^ b) >> 63;
 
     if (!has_sign && quotient >> 63) {
         never();
@@ -321,7 +321,7 @@ static inline u64 div_s64(u64 a, u64 b)
 
 static inline u64 rem_s64(u64 a, u64 b)
 {
-    const u64 rest = rem_u64(bare(a), bare(b));
+    const u64 rest = rem_u64(magnitude(a), magnitude(b));
 
     return a >> 63 ? 0 - rest : rest;
 }

@@ -95,9 +95,8 @@ static inline void given_minisign_install_options(minisign_install_options *lent
     store32(address(&lent->is_first), lent->is_first);
     store32(address(&lent->again), lent->again);
     store32(address(&lent->is_check), lent->is_check);
+    store32(address(&lent->is_waiting), lent->is_waiting);
     store32(address(&lent->must_expire), lent->must_expire);
-    store32(address(&lent->new_key), lent->new_key);
-    store32(address(&lent->roll_back), lent->roll_back);
 }
 
 uint64_t machine_minisign_error_text(uint32_t, uint64_t, uint64_t);
@@ -105,13 +104,6 @@ uint64_t machine_minisign_error_text(uint32_t, uint64_t, uint64_t);
 size_t portable_minisign_error_text(uint32_t error, uint8_t *text, size_t room)
 {
     return (size_t) machine_minisign_error_text(error, address(text), room);
-}
-
-uint32_t machine_minisign_error_kind(uint32_t);
-
-uint32_t portable_minisign_error_kind(uint32_t error)
-{
-    return machine_minisign_error_kind(error);
 }
 
 void machine_minisign_init(uint64_t);
@@ -162,26 +154,6 @@ uint32_t portable_minisign_read_bare_public_key(const uint8_t *base64, size_t ba
     return result;
 }
 
-uint32_t machine_minisign_read_public_key_record(uint64_t, uint64_t, uint64_t);
-
-uint32_t portable_minisign_read_public_key_record(const uint8_t *record, size_t record_len,
-                                                  minisign_public_key *key)
-{
-    given_minisign_public_key(key);
-    const uint32_t result = machine_minisign_read_public_key_record(address(record), record_len, address(key));
-    got_minisign_public_key(key);
-    return result;
-}
-
-uint32_t machine_minisign_public_key_record(uint64_t, uint64_t);
-
-uint32_t portable_minisign_public_key_record(const minisign_public_key *key, uint8_t *record)
-{
-    minisign_public_key key_kept;
-    const minisign_public_key *key_lent = LENT(minisign_public_key, key, &key_kept);
-    return machine_minisign_public_key_record(address(key_lent), address(record));
-}
-
 uint32_t machine_minisign_read_signature(uint64_t, uint64_t, uint64_t);
 
 uint32_t portable_minisign_read_signature(const uint8_t *sig_text, size_t sig_text_len,
@@ -191,27 +163,6 @@ uint32_t portable_minisign_read_signature(const uint8_t *sig_text, size_t sig_te
     const uint32_t result = machine_minisign_read_signature(address(sig_text), sig_text_len, address(signature));
     got_minisign_signature(signature);
     return result;
-}
-
-uint32_t machine_minisign_read_signature_record(uint64_t, uint64_t, uint64_t);
-
-uint32_t portable_minisign_read_signature_record(const uint8_t *record, size_t record_len,
-                                                 minisign_signature *signature)
-{
-    given_minisign_signature(signature);
-    const uint32_t result = machine_minisign_read_signature_record(address(record), record_len,
-                                                                   address(signature));
-    got_minisign_signature(signature);
-    return result;
-}
-
-uint32_t machine_minisign_signature_record(uint64_t, uint64_t);
-
-uint32_t portable_minisign_signature_record(const minisign_signature *signature, uint8_t *record)
-{
-    minisign_signature signature_kept;
-    const minisign_signature *signature_lent = LENT(minisign_signature, signature, &signature_kept);
-    return machine_minisign_signature_record(address(signature_lent), address(record));
 }
 
 uint32_t machine_minisign_ask(uint64_t, uint64_t, uint64_t, uint64_t, uint64_t, uint32_t, uint64_t, uint64_t,
@@ -247,30 +198,6 @@ uint32_t portable_minisign_verdict(minisign_state *state, uint32_t first, uint32
     return machine_minisign_verdict(address(state), first, second);
 }
 
-uint32_t machine_minisign_ask_bare(uint64_t, uint64_t, uint64_t, uint32_t, uint64_t);
-
-uint32_t portable_minisign_ask_bare(minisign_state *state, const minisign_public_key *key,
-                                    const minisign_signature *signature, uint32_t allow_legacy,
-                                    minisign_questions *questions)
-{
-    minisign_public_key key_kept;
-    const minisign_public_key *key_lent = LENT(minisign_public_key, key, &key_kept);
-    minisign_signature signature_kept;
-    const minisign_signature *signature_lent = LENT(minisign_signature, signature, &signature_kept);
-    given_minisign_questions(questions);
-    const uint32_t result = machine_minisign_ask_bare(address(state), address(key_lent), address(signature_lent),
-                                                      allow_legacy, address(questions));
-    got_minisign_questions(questions);
-    return result;
-}
-
-uint32_t machine_minisign_bare_verdict(uint64_t, uint32_t);
-
-uint32_t portable_minisign_bare_verdict(minisign_state *state, uint32_t first)
-{
-    return machine_minisign_bare_verdict(address(state), first);
-}
-
 uint32_t machine_minisign_read_secret_key(uint64_t, uint64_t, uint64_t);
 
 uint32_t portable_minisign_read_secret_key(const uint8_t *sk_text, size_t sk_text_len,
@@ -280,43 +207,6 @@ uint32_t portable_minisign_read_secret_key(const uint8_t *sk_text, size_t sk_tex
     const uint32_t result = machine_minisign_read_secret_key(address(sk_text), sk_text_len, address(unopened));
     got_minisign_unopened_key(unopened);
     return result;
-}
-
-uint32_t machine_minisign_read_secret_key_record(uint64_t, uint64_t, uint64_t);
-
-uint32_t portable_minisign_read_secret_key_record(const uint8_t *secret_record, size_t secret_record_len,
-                                                  minisign_unopened_key *unopened)
-{
-    given_minisign_unopened_key(unopened);
-    const uint32_t result = machine_minisign_read_secret_key_record(address(secret_record), secret_record_len,
-                                                                    address(unopened));
-    got_minisign_unopened_key(unopened);
-    return result;
-}
-
-uint32_t machine_minisign_encode_unopened_key(uint64_t, uint64_t, uint64_t, uint64_t, uint64_t, uint64_t);
-
-uint32_t portable_minisign_encode_unopened_key(const minisign_unopened_key *unopened, const uint8_t *comment,
-                                               size_t comment_len, uint8_t *text, size_t room, size_t *text_len)
-{
-    minisign_unopened_key unopened_kept;
-    const minisign_unopened_key *unopened_lent = LENT(minisign_unopened_key, unopened, &unopened_kept);
-    uint64_t text_len_kept = 0;
-    store64(address(&text_len_kept), *text_len);
-    const uint32_t result = machine_minisign_encode_unopened_key(address(unopened_lent), address(comment),
-                                                                 comment_len, address(text), room,
-                                                                 address(&text_len_kept));
-    *text_len = (size_t) load64(address(&text_len_kept));
-    return result;
-}
-
-uint32_t machine_minisign_test_sealed_key(uint64_t, uint64_t);
-
-uint32_t portable_minisign_test_sealed_key(const minisign_unopened_key *unopened, uint64_t most_rows)
-{
-    minisign_unopened_key unopened_kept;
-    const minisign_unopened_key *unopened_lent = LENT(minisign_unopened_key, unopened, &unopened_kept);
-    return machine_minisign_test_sealed_key(address(unopened_lent), most_rows);
 }
 
 uint32_t machine_minisign_open_unsealed_key(uint64_t, uint64_t);
@@ -401,15 +291,6 @@ uint32_t portable_minisign_public_key_of(const minisign_secret_key *key, minisig
     const uint32_t result = machine_minisign_public_key_of(address(key_lent), address(public_key));
     got_minisign_public_key(public_key);
     return result;
-}
-
-uint32_t machine_minisign_secret_key_record(uint64_t, uint64_t);
-
-uint32_t portable_minisign_secret_key_record(const minisign_secret_key *key, uint8_t *secret_record)
-{
-    minisign_secret_key key_kept;
-    const minisign_secret_key *key_lent = LENT(minisign_secret_key, key, &key_kept);
-    return machine_minisign_secret_key_record(address(key_lent), address(secret_record));
 }
 
 uint32_t machine_minisign_comment_message(uint64_t, uint64_t, uint64_t, uint64_t, uint64_t);
@@ -505,21 +386,6 @@ uint32_t portable_minisign_public_key_text(const minisign_secret_key *key, const
     return result;
 }
 
-uint32_t machine_minisign_encode_public_key(uint64_t, uint64_t, uint64_t, uint64_t, uint64_t, uint64_t);
-
-uint32_t portable_minisign_encode_public_key(const minisign_public_key *key, const uint8_t *comment,
-                                             size_t comment_len, uint8_t *text, size_t room, size_t *text_len)
-{
-    minisign_public_key key_kept;
-    const minisign_public_key *key_lent = LENT(minisign_public_key, key, &key_kept);
-    uint64_t text_len_kept = 0;
-    store64(address(&text_len_kept), *text_len);
-    const uint32_t result = machine_minisign_encode_public_key(address(key_lent), address(comment), comment_len,
-                                                               address(text), room, address(&text_len_kept));
-    *text_len = (size_t) load64(address(&text_len_kept));
-    return result;
-}
-
 uint32_t machine_minisign_install_init(uint64_t, uint64_t, uint64_t, uint64_t);
 
 uint32_t portable_minisign_install_init(minisign_installation *installation, const minisign_public_key *key,
@@ -549,11 +415,11 @@ uint32_t portable_minisign_install_done(minisign_installation *installation)
     return machine_minisign_install_done(address(installation));
 }
 
-uint32_t machine_minisign_install_copied(uint64_t, uint64_t);
+uint32_t machine_minisign_install_more(uint64_t, uint64_t);
 
-uint32_t portable_minisign_install_copied(minisign_installation *installation, size_t piece_len)
+uint32_t portable_minisign_install_more(minisign_installation *installation, size_t piece_len)
 {
-    return machine_minisign_install_copied(address(installation), piece_len);
+    return machine_minisign_install_more(address(installation), piece_len);
 }
 
 uint32_t machine_minisign_install_failed(uint64_t, uint32_t);
@@ -563,12 +429,12 @@ uint32_t portable_minisign_install_failed(minisign_installation *installation, u
     return machine_minisign_install_failed(address(installation), why);
 }
 
-uint32_t machine_minisign_install_record(uint64_t, uint64_t, uint64_t);
+uint32_t machine_minisign_install_record(uint64_t, uint64_t, uint64_t, uint64_t);
 
 uint32_t portable_minisign_install_record(minisign_installation *installation, const uint8_t *record,
-                                          size_t record_len)
+                                          size_t record_len, uint64_t written)
 {
-    return machine_minisign_install_record(address(installation), address(record), record_len);
+    return machine_minisign_install_record(address(installation), address(record), record_len, written);
 }
 
 uint32_t machine_minisign_install_no_record(uint64_t);
@@ -593,61 +459,40 @@ uint32_t portable_minisign_install_no_target(minisign_installation *installation
     return machine_minisign_install_no_target(address(installation));
 }
 
-uint32_t machine_minisign_install_signature(uint64_t, uint64_t, uint64_t, uint64_t, uint64_t, uint64_t, uint64_t,
-                                            uint64_t, uint64_t);
+uint32_t machine_minisign_install_ask(uint64_t, uint64_t, uint64_t, uint64_t, uint64_t, uint64_t, uint64_t,
+                                      uint64_t, uint64_t);
 
-uint32_t portable_minisign_install_signature(minisign_installation *installation, const uint8_t *sig_text,
-                                             size_t sig_text_len, const uint8_t *file, size_t file_len,
-                                             int64_t now, uint8_t *message, size_t room, size_t *message_len)
+uint32_t portable_minisign_install_ask(minisign_installation *installation, const uint8_t *sig_text,
+                                       size_t sig_text_len, const uint8_t *file, size_t file_len, uint64_t now,
+                                       minisign_questions *questions, uint8_t *message, size_t room)
 {
-    uint64_t message_len_kept = 0;
-    store64(address(&message_len_kept), *message_len);
-    const uint32_t result = machine_minisign_install_signature(address(installation), address(sig_text),
-                                                               sig_text_len, address(file), file_len, now,
-                                                               address(message), room, address(&message_len_kept));
-    *message_len = (size_t) load64(address(&message_len_kept));
+    given_minisign_questions(questions);
+    const uint32_t result = machine_minisign_install_ask(address(installation), address(sig_text), sig_text_len,
+                                                         address(file), file_len, now, address(questions),
+                                                         address(message), room);
+    got_minisign_questions(questions);
     return result;
 }
 
-uint32_t machine_minisign_install_question(uint64_t, uint64_t, uint64_t, uint64_t);
+uint32_t machine_minisign_install_answer(uint64_t, uint32_t, uint32_t);
 
-uint32_t portable_minisign_install_question(const minisign_installation *installation, uint8_t *public_key,
-                                            uint8_t *signature, uint8_t *digest)
+uint32_t portable_minisign_install_answer(minisign_installation *installation, uint32_t first, uint32_t second)
 {
-    return machine_minisign_install_question(address(installation), address(public_key), address(signature),
-                                             address(digest));
+    return machine_minisign_install_answer(address(installation), first, second);
 }
 
-uint32_t machine_minisign_install_answer(uint64_t, uint32_t);
+uint32_t machine_minisign_install_is_vouched(uint64_t);
 
-uint32_t portable_minisign_install_answer(minisign_installation *installation, uint32_t answer)
+uint32_t portable_minisign_install_is_vouched(const minisign_installation *installation)
 {
-    return machine_minisign_install_answer(address(installation), answer);
+    return machine_minisign_install_is_vouched(address(installation));
 }
 
-uint32_t machine_minisign_install_is_signed(uint64_t);
+uint64_t machine_minisign_install_number(uint64_t);
 
-uint32_t portable_minisign_install_is_signed(const minisign_installation *installation)
+uint64_t portable_minisign_install_number(const minisign_installation *installation)
 {
-    return machine_minisign_install_is_signed(address(installation));
-}
-
-uint64_t machine_minisign_install_version(uint64_t);
-
-uint64_t portable_minisign_install_version(const minisign_installation *installation)
-{
-    return machine_minisign_install_version(address(installation));
-}
-
-uint32_t machine_minisign_install_size(uint64_t, uint64_t);
-
-uint32_t portable_minisign_install_size(const minisign_installation *installation, uint64_t *size)
-{
-    uint64_t size_kept = 0;
-    store64(address(&size_kept), *size);
-    const uint32_t result = machine_minisign_install_size(address(installation), address(&size_kept));
-    *size = (uint64_t) load64(address(&size_kept));
-    return result;
+    return machine_minisign_install_number(address(installation));
 }
 
 uint64_t machine_minisign_install_record_text(uint64_t, uint64_t, uint64_t);

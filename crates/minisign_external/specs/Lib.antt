@@ -9,5 +9,3 @@ pub mod Signatures
 pub mod Making
 pub mod StrictEd25519
 pub mod StrictCalls
-pub mod ValueRecords
-pub mod Bare

@@ -4,7 +4,6 @@
 #![tactic(auto)]
 
 pub mod asking;
-pub mod bare;
 pub mod making;
 pub mod numbers;
 pub mod pieces;
@@ -15,5 +14,4 @@ pub mod signed_texts;
 pub mod state;
 pub mod strict;
 pub mod unopened_keys;
-pub mod value_records;
 pub mod verdict;

@@ -64,13 +64,13 @@ abbrev pub HostTellsDone : Setting → Installation → Installation → Host �
 HostTellsDone s i i' h h' =
     CallWasDone i i' × HostMakesDueCall Done s i h h' × (h'.read ≡ h.read) × (h'.taken ≡ [])
 
--- Installation::more, with how many bytes the piece has that was received or copied
+-- minisign_install_more, with how many bytes the piece has that was received or copied
 abbrev pub HostTellsMore : Setting → Installation → Installation → Host → Host → Type 0
 HostTellsMore s i i' h h' =
     ((piece : List ℕ) × PieceWasTaken (length piece) i i' × (h'.taken ≡ h.taken ++ piece))
     × HostMakesDueCall More s i h h' × (h'.read ≡ h.read)
 
--- minisign_install_done at the end of the data, or Installation::more with a piece of it, which has
+-- minisign_install_done at the end of the data, or minisign_install_more with a piece of it, which has
 -- answered that it has another size than the signed comment says
 abbrev pub HostTellsSize : Setting → Installation → Installation → Host → Host → Type 0
 HostTellsSize s i i' h h' =
@@ -120,7 +120,7 @@ first_answer s q = s.accepts q.digest q.public_key q.signature
 abbrev pub second_answer : Setting → Questions → List ℕ → Bool
 second_answer s q message = s.accepts (take q.message_len message) q.public_key q.comment_signature
 
--- Installation::ask, with the wanted text of the signature and the name that is wanted; and
+-- minisign_install_ask, with the wanted text of the signature and the name that is wanted; and
 -- minisign_install_answer, with what the signature scheme answers. The moment that counts is that of the
 -- setting. The file that was read is the one that stands at the target, and the digest is that of what was
 -- read back of the stage. What is read next is another file.
@@ -153,7 +153,7 @@ pub record HostTellsAnswers (s : Setting) (i i' : Installation) (h h' : Host) : 
   pub read : (kept : ℕ) → IsDue i (Answer kept) → h'.read ≡ h.read
   pub reset : (kept : ℕ) → IsDue i (Judge kept) ⊎ IsDue i (JudgeTarget kept) → h'.read ≡ []
 
--- Installation::ask rejected the name or the signature, and was no wrong use
+-- minisign_install_ask rejected the name or the signature, and was no wrong use
 abbrev pub HostTellsRefusal : Setting → Installation → Installation → Host → Host → Type 0
 HostTellsRefusal s i i' h h' =
     HostStays h h' × ((room : ℕ) × (fault : InstallFault)

@@ -1,13 +1,10 @@
-pub mod Applications
 pub mod Comments
 pub mod Decisions
 pub mod Directories
 pub mod Faults
-pub mod Histories
 pub mod Hosted
 pub mod Hosting
 pub mod Hosts
-pub mod Installations
 pub mod Installing
 pub mod Order
 pub mod RecordTexts

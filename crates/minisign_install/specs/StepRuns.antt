@@ -41,7 +41,7 @@ asks w q = w.accepts q.message q.key q.signature
 -- The answer is what Ed25519 says to the question at this operation.
 abbrev pub IsAnswer : World → State → Operation → Bool → Type 0
 IsAnswer w s CheckComment accepted =
-    (t : SignatureTextRecord) → w.text ≡ Ok t → accepted ≡ asks w (comment_question s t.comments.trusted)
+    (t : SignatureTextRecord) → w.text ≡ Ok t → accepted ≡ asks w (comment_question s t)
 IsAnswer w s op accepted = accepted ≡ asks w (data_question op s)
 
 -- At this operation the application reports the event only if it is true. n bytes were copied so far. A
@@ -180,8 +180,7 @@ pub record IsUpdate (w : World) (o : Options) (s : State) : Type 0 where
   pub wanted : comment_fault o s.recorded.version time text.comments.trusted ≡ None
   pub version : s.version ≡ unwrap_or (version_in o.numbering text.comments.trusted) 0
   pub signature : s.signature ≡ text.signature.signature
-  pub comment_signature : s.comment_signature ≡ take 64 text.comments.signature
-  pub signed_comment : asks w (comment_question s text.comments.trusted) ≡ true
+  pub signed_comment : asks w (comment_question s text) ≡ true
   pub signed_data : asks w (data_question CheckData s) ≡ true
   pub not_older : (k : ℕ) → s.recorded.version ≡ Some k → HasVersion o w.found k × (k ≤ new_version s)
   pub forgotten : s.recorded.version ≡ None → IsForgotten o w.found

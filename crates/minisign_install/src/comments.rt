@@ -108,7 +108,7 @@ fn check_expiry(comment: &str, moment: u64, must_expire: bool) -> Result<(), Ins
 
 // The fields behind the first one by which a comment says when its update expires.
 #[tactic(auto, using(crate::proofs::Fields::no_expiry))]
-pub(crate) fn first_expiry(comment: &str, must_expire: bool) -> Option<&str>
+fn first_expiry(comment: &str, must_expire: bool) -> Option<&str>
     ensures { MatchOption result (expiries must_expire comment.now ≡ [])
         (λ rest. (v : List ℕ) × (expiries must_expire comment.now ≡ v ∷ expiries must_expire rest.now)) }
 {
@@ -199,7 +199,7 @@ pub(crate) fn told_size(comment: &str) -> Option<u64>
 }
 
 // What stands behind the label in the first field that begins with it.
-pub(crate) fn value<'a>(comment: &'a str, label: &str) -> Option<&'a str>
+fn value<'a>(comment: &'a str, label: &str) -> Option<&'a str>
     requires { 0 < length label.now }
     ensures { option_map (λ v. v.now) result ≡ value_of label.now comment.now }
 {
@@ -211,7 +211,7 @@ pub(crate) fn value<'a>(comment: &'a str, label: &str) -> Option<&'a str>
 
 // The same, and the fields behind that one.
 #[tactic(auto, using(crate::proofs::Fields::nothing))]
-pub(crate) fn first_value<'a>(comment: &'a str, label: &str) -> Option<(&'a str, &'a str)>
+fn first_value<'a>(comment: &'a str, label: &str) -> Option<(&'a str, &'a str)>
     requires { 0 < length label.now }
     ensures { MatchOption result (values_of label.now comment.now ≡ [])
         (λ (v, rest). values_of label.now comment.now ≡ v.now ∷ values_of label.now rest.now) }

@@ -5,10 +5,8 @@
 
 pub mod comments;
 pub mod faults;
-pub mod histories;
 pub mod hosted;
 pub mod hosted_judging;
-pub mod installation;
 pub mod order;
 mod recording;
 pub mod sequences;

@@ -53,7 +53,7 @@ pub(crate) fn kept_in(
 }
 
 // Why a record of these bytes, which holds no number for the field, is refused.
-pub(crate) fn unfit(bytes: &[u8], numbering: Numbering) -> InstallFault
+fn unfit(bytes: &[u8], numbering: Numbering) -> InstallFault
     ensures why { ((result ≡ kept_by (other_field numbering))
         × ((n : ℕ) × IsNumberFor (other_field numbering) bytes.now n))
         ⊎ ((result ≡ DamagedRecord) × HasNoNumber (other_field numbering) bytes.now) }
@@ -67,7 +67,7 @@ pub(crate) fn unfit(bytes: &[u8], numbering: Numbering) -> InstallFault
 }
 
 // The number that a record of these bytes holds for the field, where it holds one.
-pub(crate) fn number_for(bytes: &[u8], numbering: Numbering) -> Option<u64>
+fn number_for(bytes: &[u8], numbering: Numbering) -> Option<u64>
     ensures { MatchOption result (HasNoNumber numbering bytes.now) (IsNumberFor numbering bytes.now) }
 {
     let Ok(text) = str::from_utf8(record_text(bytes)) else {
@@ -137,7 +137,7 @@ pub(crate) fn record_digest(bytes: &[u8]) -> Option<[u8; 64]>
 }
 
 // The key that a record of these bytes names, where it names one.
-pub(crate) fn record_key(bytes: &[u8]) -> Option<[u8; 32]>
+fn record_key(bytes: &[u8]) -> Option<[u8; 32]>
     ensures { result ≡ record_key bytes.now }
 {
     if !is_marked(bytes) {
@@ -153,7 +153,7 @@ pub(crate) fn record_key(bytes: &[u8]) -> Option<[u8; 32]>
 }
 
 // Whether a record of these bytes names a key that is none of these two.
-pub(crate) fn is_other(bytes: &[u8], key: &[u8; 32], other: &[u8; 32]) -> bool
+fn is_other(bytes: &[u8], key: &[u8; 32], other: &[u8; 32]) -> bool
     ensures { result ≡ is_other (key.now ∷ other.now ∷ []) (record_key bytes.now) }
 {
     match record_key(bytes) {

@@ -6,9 +6,9 @@
 //     node signing.mjs growth COUNT                                prints by how many bytes the memory grows after a tenth of COUNT keys
 //     node signing.mjs threads                                     prints whether three threads can sign at once
 //
-//     node signing.mjs itself DATA
+//     node signing.mjs checks DATA
 //
-// `itself` prints a line for each check: the expected result, a tab, and the result. It checks that a key shows no secret and is cleared;
+// `checks` prints a line for each check: the expected result, a tab, and the result. It checks that a key shows no secret and is cleared;
 // arguments of wrong types; progress; the signal; and streams that fail. DATA has four bytes.
 
 import {createReadStream, readFileSync, writeFileSync} from "node:fs";
@@ -86,9 +86,9 @@ function tried(rows) {
 
 async function wrong() {
   const key = await generateSecretKey(), bytes = new Uint8Array(1), text = await writeSecretKey(key, null);
-  const aKey = "TypeError: secretKey must be a secret key that was read, not", anObject = "TypeError: options must be a plain object, not";
+  const aKey = "TypeError: secretKey must be a secret key from this package, not", anObject = "TypeError: options must be a plain object, not";
   const someData = "TypeError: data must be bytes, a Blob, a stream or pieces of bytes, not", aPiece = "TypeError: a piece of data must be bytes, not";
-  const aText = name => `TypeError: ${name} must be a text, as a string or bytes, not`, rows = "TypeError: mostRows must be a number of rows, not";
+  const aText = name => `TypeError: ${name} must be a string or bytes, not`, rows = "TypeError: mostRows must be a positive integer, not";
   return tried([
     [`${aKey} string`, () => sign(bytes, "a key")], [`${aKey} null`, () => sign(bytes, null)], [`${aKey} object`, () => sign(bytes, {...key})],
     [`${aKey} undefined`, () => createSigner()], [`${aKey} object`, () => writePublicKey({})], [`${aKey} number`, async () => clearSecretKey(7)],
@@ -165,8 +165,8 @@ if (isMainThread) {
     const workers = [1, 2].map(() => new Promise(resolve => new Worker(new URL(import.meta.url)).on("message", resolve)));
     return (await Promise.all([manySigned(), ...workers])).every(Boolean);
   };
-  const itself = async path => [...await shown(), ...await wrong(), ...await streams(path)];
-  const run = {make, sign: signFile, opened, itself, growth, threads}[what];
+  const checks = async path => [...await shown(), ...await wrong(), ...await streams(path)];
+  const run = {make, sign: signFile, opened, checks, growth, threads}[what];
   const lines = await run(...words).catch(codeOf);
   console.log([lines].flat().join("\n"));
 } else {

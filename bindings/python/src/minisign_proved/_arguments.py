@@ -39,7 +39,8 @@ def text_octets(name: str, value: object) -> bytes:
     try:
         return value.encode()
     except UnicodeEncodeError as why:
-        message = f"{name} has a surrogate at index {why.start}, which is not UTF-8"
+        index = why.start
+        message = f"{name} has a surrogate at index {index}, which UTF-8 cannot encode"
         raise NotUtf8(message) from None
 
 

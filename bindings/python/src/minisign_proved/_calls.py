@@ -16,15 +16,15 @@ from .errors import BY_NUMBER, MinisignError, WeakEd25519
 Secret = ctypes.Array[ctypes.c_ubyte]
 
 
-def error_of(number: int) -> MinisignError:
+def error_of(code: int) -> MinisignError:
     """Returns the exception for an error code."""
-    return BY_NUMBER.get(number, MinisignError)(calls.error_text(number).decode())
+    return BY_NUMBER.get(code, MinisignError)(calls.error_text(code).decode())
 
 
-def _raise_error(number: int) -> None:
+def _raise_error(code: int) -> None:
     """Raises the exception for an error code, unless the code is 0."""
-    if number != 0:
-        raise error_of(number)
+    if code != 0:
+        raise error_of(code)
 
 
 HERE = os.path.dirname(os.path.abspath(__file__))
@@ -38,8 +38,8 @@ class Sodium:
     """Ed25519 of libsodium, which is loaded as a shared library."""
 
     def __init__(self) -> None:
-        found = ctypes.util.find_library("sodium")
-        self._library = ctypes.CDLL(found or "libsodium.so.23")
+        name = ctypes.util.find_library("sodium")
+        self._library = ctypes.CDLL(name or "libsodium.so.23")
         if self._library.sodium_init() < 0:
             raise OSError("libsodium could not be initialized")
 
@@ -62,7 +62,7 @@ class Sodium:
 class Cryptography:
     """Ed25519 of the package `cryptography`. It accepts some signatures of small order
     or with non-canonical encodings, which libsodium rejects. `minisign_ask` rejects
-    them before Ed25519 is called. The calls that install do not: see `is_strict`."""
+    them before Ed25519 is called. `minisign_install_ask` does not: see `is_strict`."""
 
     def __init__(self) -> None:
         from cryptography.hazmat.primitives.asymmetric import ed25519
@@ -97,7 +97,7 @@ IMPLEMENTATIONS: Dict[str, Type[Ed25519]] = {
     "libsodium": Sodium,
     "cryptography": Cryptography,
 }
-# The implementation in use, or nothing before the first use.
+# The implementation in use, if one was chosen or used already.
 _current: List[Ed25519] = []
 
 
@@ -122,16 +122,16 @@ def ed25519() -> Ed25519:
     return _current[0]
 
 
-# ---- What strict Ed25519 rejects ----
+# ---- Weak keys and signatures ----
 
 STRICT_TEXT = b"untrusted comment: -\n%s\ntrusted comment: -\n%s\n"
 
 
 def is_strict(signature: bytes, key: bytes) -> bool:
-    """Returns False if a public key or a signature is weak, which is the case if
-    `minisign_ask` rejects them with WeakEd25519. The calls that install do not check
-    this. So an installation calls `minisign_ask` with a signature file that is made
-    from the bytes of the signature."""
+    """Returns False if a public key or a signature is weak, so that `minisign_ask`
+    rejects it with WeakEd25519. `minisign_install_ask` does not check this. So this
+    function makes a signature file from the bytes of the signature, and passes it to
+    `minisign_ask`."""
     line = base64.b64encode(b"ED" + bytes(8) + signature)
     text = STRICT_TEXT % (line, base64.b64encode(signature))
     public_key = calls.read_bare_public_key(base64.b64encode(b"Ed" + bytes(8) + key))

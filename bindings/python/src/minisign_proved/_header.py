@@ -5,16 +5,13 @@ Made by tools/bindings.py from include/minisign.h and include/minisign_install.h
 """
 
 from ctypes import CDLL, POINTER, Array, Structure, create_string_buffer
-from ctypes import c_char_p, c_int64, c_size_t, c_ubyte, c_uint32, c_uint64, c_void_p
+from ctypes import c_char_p, c_size_t, c_ubyte, c_uint32, c_uint64, c_void_p
 from typing import Callable, Optional, Tuple, Union
 
 VERSION_MAJOR = 0
 VERSION_MINOR = 3
 VERSION_PATCH = 0
 ERROR_TEXT_BYTES = 128
-PUBLIC_KEY_RECORD_BYTES = 42
-SIGNATURE_RECORD_BYTES = 74
-SECRET_KEY_RECORD_BYTES = 158
 KEEP_EVERY_ROW = 1
 KEEP_FEW_ROWS = 16
 USUAL_ROWS = 1048576
@@ -38,52 +35,39 @@ TEXT_BYTES = 240
 SECRET_KEY_BYTES = 233
 PUBLIC_KEY_BYTES = 77
 
-KIND_NONE = 0
-KIND_MISUSE = 1
-KIND_GENERATE = 2
-KIND_SIGN = 3
-KIND_VERIFY = 4
-KIND_IO = 5
-KIND_MISC = 6
-KIND_HASH = 7
-KIND_KDF = 8
-KIND_RNG = 9
-KIND_ENCODING = 10
-KIND_ENCRYPTED_KEY = 11
-KIND_OUT_OF_MEMORY = 12
-
 ANSWER_YES = 7955827
 ANSWER_NO = 28271
 
 DUE_NOTHING = 0
 DUE_LOCK = 1
 DUE_READ_RECORD = 2
-DUE_READ_SIGNATURE = 3
-DUE_CHECK_COMMENT = 4
-DUE_CHECK_RECORD = 5
-DUE_READ_TARGET = 6
-DUE_CHECK_TARGET = 7
-DUE_SYNC_TARGET = 8
-DUE_SYNC_TARGET_NAME = 9
-DUE_REMOVE_LEFTOVERS = 10
-DUE_CREATE_FILE = 11
-DUE_COPY_DATA = 12
+DUE_JUDGE = 3
+DUE_LOOK = 4
+DUE_JUDGE_TARGET = 5
+DUE_SYNC_TARGET = 6
+DUE_SYNC_TARGET_NAME = 7
+DUE_UNLOCK = 8
+DUE_RECEIVE = 9
+DUE_CLEAR = 10
+DUE_CREATE = 11
+DUE_COPY = 12
 DUE_READ_BACK = 13
-DUE_CHECK_DATA = 14
-DUE_SET_PERMISSIONS = 15
-DUE_SYNC_FILE = 16
+DUE_ANSWER = 14
+DUE_TAKE_PERMISSIONS = 15
+DUE_SYNC = 16
 DUE_CREATE_RECORD = 17
 DUE_WRITE_RECORD = 18
 DUE_SYNC_RECORD = 19
 DUE_RENAME_RECORD = 20
 DUE_SYNC_RECORD_NAME = 21
-DUE_RENAME_FILE = 22
-DUE_SYNC_FILE_NAME = 23
-DUE_REMOVE_FILES = 24
-DUE_INSTALLED = 25
-DUE_ALREADY_INSTALLED = 26
-DUE_WOULD_INSTALL = 27
-DUE_REJECTED = 28
+DUE_RENAME = 22
+DUE_SYNC_NAME = 23
+DUE_REMOVE_RECORD = 24
+DUE_REMOVE = 25
+DUE_INSTALLED = 26
+DUE_ALREADY = 27
+DUE_WOULD_INSTALL = 28
+DUE_REFUSED = 29
 
 NUMBERING_TIMESTAMP = 0
 NUMBERING_VERSION = 1
@@ -184,9 +168,8 @@ class InstallOptions(Structure):
         ("is_first", c_uint32),
         ("again", c_uint32),
         ("is_check", c_uint32),
+        ("is_waiting", c_uint32),
         ("must_expire", c_uint32),
-        ("new_key", c_uint32),
-        ("roll_back", c_uint32),
     ]
 
 
@@ -210,8 +193,6 @@ class Calls:
         library.minisign_version.argtypes = ()
         library.minisign_error_text.restype = c_size_t
         library.minisign_error_text.argtypes = (c_uint32, c_void_p, c_size_t)
-        library.minisign_error_kind.restype = c_uint32
-        library.minisign_error_kind.argtypes = (c_uint32,)
         library.minisign_init.restype = None
         library.minisign_init.argtypes = (POINTER(State),)
         library.minisign_update.restype = error
@@ -232,28 +213,12 @@ class Calls:
             c_size_t,
             POINTER(PublicKey),
         )
-        library.minisign_read_public_key_record.restype = error
-        library.minisign_read_public_key_record.argtypes = (
-            c_void_p,
-            c_size_t,
-            POINTER(PublicKey),
-        )
-        library.minisign_public_key_record.restype = error
-        library.minisign_public_key_record.argtypes = (POINTER(PublicKey), c_void_p)
         library.minisign_read_signature.restype = error
         library.minisign_read_signature.argtypes = (
             c_void_p,
             c_size_t,
             POINTER(Signature),
         )
-        library.minisign_read_signature_record.restype = error
-        library.minisign_read_signature_record.argtypes = (
-            c_void_p,
-            c_size_t,
-            POINTER(Signature),
-        )
-        library.minisign_signature_record.restype = error
-        library.minisign_signature_record.argtypes = (POINTER(Signature), c_void_p)
         library.minisign_ask.restype = error
         library.minisign_ask.argtypes = (
             POINTER(State),
@@ -270,39 +235,12 @@ class Calls:
         library.minisign_comment_verdict.argtypes = (POINTER(State), c_uint32)
         library.minisign_verdict.restype = error
         library.minisign_verdict.argtypes = (POINTER(State), c_uint32, c_uint32)
-        library.minisign_ask_bare.restype = error
-        library.minisign_ask_bare.argtypes = (
-            POINTER(State),
-            POINTER(PublicKey),
-            POINTER(Signature),
-            c_uint32,
-            POINTER(Questions),
-        )
-        library.minisign_bare_verdict.restype = error
-        library.minisign_bare_verdict.argtypes = (POINTER(State), c_uint32)
         library.minisign_read_secret_key.restype = error
         library.minisign_read_secret_key.argtypes = (
             c_void_p,
             c_size_t,
             POINTER(UnopenedKey),
         )
-        library.minisign_read_secret_key_record.restype = error
-        library.minisign_read_secret_key_record.argtypes = (
-            c_void_p,
-            c_size_t,
-            POINTER(UnopenedKey),
-        )
-        library.minisign_encode_unopened_key.restype = error
-        library.minisign_encode_unopened_key.argtypes = (
-            POINTER(UnopenedKey),
-            c_void_p,
-            c_size_t,
-            c_void_p,
-            c_size_t,
-            POINTER(c_size_t),
-        )
-        library.minisign_test_sealed_key.restype = error
-        library.minisign_test_sealed_key.argtypes = (POINTER(UnopenedKey), c_uint64)
         library.minisign_open_unsealed_key.restype = error
         library.minisign_open_unsealed_key.argtypes = (
             POINTER(UnopenedKey),
@@ -348,8 +286,6 @@ class Calls:
             POINTER(SecretKey),
             POINTER(PublicKey),
         )
-        library.minisign_secret_key_record.restype = error
-        library.minisign_secret_key_record.argtypes = (POINTER(SecretKey), c_void_p)
         library.minisign_comment_message.restype = error
         library.minisign_comment_message.argtypes = (
             c_void_p,
@@ -403,15 +339,6 @@ class Calls:
             c_size_t,
             POINTER(c_size_t),
         )
-        library.minisign_encode_public_key.restype = error
-        library.minisign_encode_public_key.argtypes = (
-            POINTER(PublicKey),
-            c_void_p,
-            c_size_t,
-            c_void_p,
-            c_size_t,
-            POINTER(c_size_t),
-        )
         library.minisign_install_init.restype = error
         library.minisign_install_init.argtypes = (
             POINTER(Installation),
@@ -423,8 +350,8 @@ class Calls:
         library.minisign_install_due.argtypes = (POINTER(Installation),)
         library.minisign_install_done.restype = error
         library.minisign_install_done.argtypes = (POINTER(Installation),)
-        library.minisign_install_copied.restype = error
-        library.minisign_install_copied.argtypes = (POINTER(Installation), c_size_t)
+        library.minisign_install_more.restype = error
+        library.minisign_install_more.argtypes = (POINTER(Installation), c_size_t)
         library.minisign_install_failed.restype = error
         library.minisign_install_failed.argtypes = (POINTER(Installation), c_uint32)
         library.minisign_install_record.restype = error
@@ -432,6 +359,7 @@ class Calls:
             POINTER(Installation),
             c_void_p,
             c_size_t,
+            c_uint64,
         )
         library.minisign_install_no_record.restype = error
         library.minisign_install_no_record.argtypes = (POINTER(Installation),)
@@ -443,36 +371,28 @@ class Calls:
         )
         library.minisign_install_no_target.restype = error
         library.minisign_install_no_target.argtypes = (POINTER(Installation),)
-        library.minisign_install_signature.restype = error
-        library.minisign_install_signature.argtypes = (
+        library.minisign_install_ask.restype = error
+        library.minisign_install_ask.argtypes = (
             POINTER(Installation),
             c_void_p,
             c_size_t,
             c_void_p,
             c_size_t,
-            c_int64,
+            c_uint64,
+            POINTER(Questions),
             c_void_p,
             c_size_t,
-            POINTER(c_size_t),
-        )
-        library.minisign_install_question.restype = error
-        library.minisign_install_question.argtypes = (
-            POINTER(Installation),
-            c_void_p,
-            c_void_p,
-            c_void_p,
         )
         library.minisign_install_answer.restype = error
-        library.minisign_install_answer.argtypes = (POINTER(Installation), c_uint32)
-        library.minisign_install_is_signed.restype = c_uint32
-        library.minisign_install_is_signed.argtypes = (POINTER(Installation),)
-        library.minisign_install_version.restype = c_uint64
-        library.minisign_install_version.argtypes = (POINTER(Installation),)
-        library.minisign_install_size.restype = c_uint32
-        library.minisign_install_size.argtypes = (
+        library.minisign_install_answer.argtypes = (
             POINTER(Installation),
-            POINTER(c_uint64),
+            c_uint32,
+            c_uint32,
         )
+        library.minisign_install_is_vouched.restype = c_uint32
+        library.minisign_install_is_vouched.argtypes = (POINTER(Installation),)
+        library.minisign_install_number.restype = c_uint64
+        library.minisign_install_number.argtypes = (POINTER(Installation),)
         library.minisign_install_record_text.restype = c_size_t
         library.minisign_install_record_text.argtypes = (
             POINTER(Installation),
@@ -678,14 +598,18 @@ class Calls:
     def install_done(self, installation: Installation) -> None:
         self._library.minisign_install_done(installation)
 
-    def install_copied(self, installation: Installation, piece_len: int) -> None:
-        self._library.minisign_install_copied(installation, piece_len)
+    def install_more(self, installation: Installation, piece_len: int) -> None:
+        self._library.minisign_install_more(installation, piece_len)
 
     def install_failed(self, installation: Installation, why: int) -> None:
         self._library.minisign_install_failed(installation, why)
 
-    def install_record(self, installation: Installation, record: bytes) -> None:
-        self._library.minisign_install_record(installation, record, len(record))
+    def install_record(
+        self, installation: Installation, record: bytes, written: int
+    ) -> None:
+        self._library.minisign_install_record(
+            installation, record, len(record), written
+        )
 
     def install_no_record(self, installation: Installation) -> None:
         self._library.minisign_install_no_record(installation)
@@ -696,51 +620,39 @@ class Calls:
     def install_no_target(self, installation: Installation) -> None:
         self._library.minisign_install_no_target(installation)
 
-    def install_signature(
+    def install_ask(
         self, installation: Installation, sig_text: bytes, file: bytes, now: int
-    ) -> bytes:
-        length = c_size_t()
+    ) -> Tuple[Questions, bytes]:
+        questions = Questions()
         message = create_string_buffer(64 + len(sig_text))
-        self._library.minisign_install_signature(
+        self._library.minisign_install_ask(
             installation,
             sig_text,
             len(sig_text),
             file,
             len(file),
             now,
+            questions,
             message,
             len(message),
-            length,
         )
-        return message.raw[: length.value]
+        return questions, message.raw
 
-    def install_question(
-        self, installation: Installation
-    ) -> Tuple[bytes, bytes, bytes]:
-        public_key = create_string_buffer(32)
-        signature = create_string_buffer(64)
-        digest = create_string_buffer(64)
-        self._library.minisign_install_question(
-            installation, public_key, signature, digest
-        )
-        return public_key.raw, signature.raw, digest.raw
-
-    def install_answer(self, installation: Installation, answer: bool) -> None:
+    def install_answer(
+        self, installation: Installation, first: bool, second: bool
+    ) -> None:
         self._library.minisign_install_answer(
-            installation, ANSWER_YES if answer is True else ANSWER_NO
+            installation,
+            ANSWER_YES if first is True else ANSWER_NO,
+            ANSWER_YES if second is True else ANSWER_NO,
         )
 
-    def install_is_signed(self, installation: Installation) -> int:
-        number: int = self._library.minisign_install_is_signed(installation)
+    def install_is_vouched(self, installation: Installation) -> int:
+        number: int = self._library.minisign_install_is_vouched(installation)
         return number
 
-    def install_version(self, installation: Installation) -> None:
-        self._library.minisign_install_version(installation)
-
-    def install_size(self, installation: Installation) -> Tuple[int, int]:
-        size = c_uint64()
-        number: int = self._library.minisign_install_size(installation, size)
-        return number, size.value
+    def install_number(self, installation: Installation) -> None:
+        self._library.minisign_install_number(installation)
 
     def install_record_text(self, installation: Installation) -> bytes:
         text = create_string_buffer(RECORD_TEXT_BYTES)

@@ -62,7 +62,8 @@ def pieces(data: Data) -> Iterator[bytes]:
     """Yields the data in pieces, each a copy that nobody else can change."""
     if is_file(data):
         file = cast("IO[bytes]", data)
-        return iter(lambda: octets("what data reads", file.read(PIECE_BYTES)), b"")
+        name = "the result of data.read"
+        return iter(lambda: octets(name, file.read(PIECE_BYTES)), b"")
     try:
         return iter([octets("data", data, "bytes, a binary file or pieces of bytes")])
     except TypeError:

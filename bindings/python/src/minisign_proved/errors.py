@@ -7,44 +7,43 @@ Made by tools/bindings.py from include/minisign.h.
 
 class MinisignError(Exception):
     """Base class of all errors of the library. `number` is the error code in
-    include/minisign.h, and the message is a sentence."""
+    include/minisign.h, and `str(error)` is the message of the library."""
 
     number = 0
 
 
 class NotBegun(MinisignError):
-    """The state is not initialized, or its verdict was already returned."""
+    """The state was not initialized, or a verdict has finished it."""
 
     number = 1
 
 
 class AlreadyAsked(MinisignError):
-    """minisign_ask, minisign_ask_bare or minisign_digest was already called."""
+    """minisign_ask, minisign_install_ask or minisign_digest was called already."""
 
     number = 2
 
 
 class NotAsked(MinisignError):
-    """minisign_ask, minisign_ask_bare or minisign_digest was not called yet."""
+    """minisign_ask, minisign_install_ask or minisign_digest was not called yet."""
 
     number = 3
 
 
 class BadAnswer(MinisignError):
-    """The result of an Ed25519 check is neither MINISIGN_ANSWER_YES nor
-    MINISIGN_ANSWER_NO."""
+    """A result of a check is neither MINISIGN_ANSWER_YES nor MINISIGN_ANSWER_NO."""
 
     number = 4
 
 
 class NoRoom(MinisignError):
-    """A buffer that was passed is too small."""
+    """A buffer is too short."""
 
     number = 5
 
 
 class BadLegacyFlag(MinisignError):
-    """The parameter allow_legacy is neither 0 nor 1."""
+    """allow_legacy is neither 0 nor 1."""
 
     number = 6
 
@@ -62,40 +61,39 @@ class NotUtf8(MinisignError):
 
 
 class BadComment(MinisignError):
-    """A comment would change when it is read back, because it contains a line feed, or
-    begins or ends with white space."""
+    """This library would not read a comment back unchanged, for example because it
+    contains a line feed."""
 
     number = 9
 
 
 class BadPasswordFlag(MinisignError):
-    """The parameter with_password is not 0, 1 or 2."""
+    """with_password is not 0, 1 or 2."""
 
     number = 10
 
 
 class UnreadableComment(MinisignError):
-    """Minisign would not read a comment back, because it is too long, or contains a
-    zero byte or a carriage return."""
+    """This library would read a comment back, but Minisign would not, because it is too
+    long or contains a zero byte or a carriage return."""
 
     number = 11
 
 
 class NotDue(MinisignError):
-    """The installation expects a different call now, or this call cannot fail with this
-    error."""
+    """The installation does not expect this call, or this error, at this point."""
 
     number = 12
 
 
 class BadOption(MinisignError):
-    """An option of an installation other than numbering is neither 0 nor 1."""
+    """An option of an installation is neither 0 nor 1."""
 
     number = 13
 
 
 class BadNumbering(MinisignError):
-    """The option numbering is neither MINISIGN_NUMBERING_TIMESTAMP nor
+    """numbering is neither MINISIGN_NUMBERING_TIMESTAMP nor
     MINISIGN_NUMBERING_VERSION."""
 
     number = 14
@@ -390,21 +388,20 @@ class OtherSize(MinisignError):
 
 
 class OtherSignatureText(MinisignError):
-    """The signature was read from a different signature file than the one that was
-    passed with it."""
+    """The signature was read from another signature file than the one that was
+    passed."""
 
     number = 61
 
 
 class SignatureNotRead(MinisignError):
-    """No signature was read into the struct, or it is a bare signature and the call
-    needs comments."""
+    """The signature was not read."""
 
     number = 62
 
 
 class KeyNotRead(MinisignError):
-    """No secret key was read into the struct."""
+    """The secret key that is to be opened was not read."""
 
     number = 63
 
@@ -436,19 +433,19 @@ class WeakEd25519(MinisignError):
 
 
 class PublicKeyNotRead(MinisignError):
-    """No public key was read into the struct."""
+    """The public key was not read."""
 
     number = 82
 
 
 class EmptyPassword(MinisignError):
-    """The password is empty, and with_password does not allow an empty one."""
+    """The password is empty, and with_password does not allow that."""
 
     number = 83
 
 
 class WeakSealing(MinisignError):
-    """The salt is all zeros, or a scrypt limit is below the minimum of Minisign."""
+    """The salt is all zeros, or a limit is below the minimum of Minisign."""
 
     number = 84
 

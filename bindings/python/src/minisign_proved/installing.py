@@ -5,20 +5,20 @@ parameters, reads open files, calls Ed25519, and raises the errors."""
 
 import ctypes
 import os
+import select
 import signal
-import stat
 import tempfile
 import threading
-from contextlib import ExitStack, contextmanager
+from contextlib import contextmanager
 from dataclasses import dataclass
 from enum import IntEnum
 from typing import IO, Iterator, Optional, Sequence, Union, cast
 
 from . import _header as h
-from ._arguments import Path, choice, octets, path_text
+from ._arguments import Path, choice, path_text
 from ._arguments import check_function, check_kind, check_number
 from ._calls import ed25519, error_of, is_strict, library
-from ._keys import PIECE_BYTES, Progress, PublicKey, Signature, TooLong, is_file
+from ._keys import Progress, PublicKey, Signature, TooLong, is_file, pieces_of
 from .errors import OlderUpdate
 
 # One public key, or two during a change of keys.
@@ -69,21 +69,19 @@ class Checked:
         return hash(self.status)
 
 
-class Wanted(ctypes.Structure):
-    """Mirrors `struct wanted` of c/install/installing.h: the parameters of a run."""
+class RunOptions(ctypes.Structure):
+    """Mirrors `struct run_options` of c/install/installing.h."""
 
     _fields_ = [
         ("target", ctypes.c_char_p),
         ("is_check", ctypes.c_bool),
         ("name", ctypes.c_char_p),
-        ("shown", ctypes.c_char_p),
+        ("data_name", ctypes.c_char_p),
         ("data", ctypes.c_int),
-        ("most", ctypes.c_uint64),
+        ("max_size", ctypes.c_uint64),
         ("is_first", ctypes.c_bool),
         ("again", ctypes.c_bool),
         ("must_expire", ctypes.c_bool),
-        ("new_key", ctypes.c_bool),
-        ("roll_back", ctypes.c_bool),
         ("wait", ctypes.c_uint32),
         ("numbering", ctypes.c_uint),
         ("has_mode", ctypes.c_bool),
@@ -106,7 +104,6 @@ class Installing(ctypes.Structure):
         ("call", ctypes.c_uint),
         ("error", ctypes.c_uint),
         ("is_too_long", ctypes.c_bool),
-        ("is_receiving", ctypes.c_bool),
         ("done", ctypes.c_uint64),
         ("size", ctypes.c_uint64),
         ("shown", ctypes.c_char_p),
@@ -120,7 +117,7 @@ HAS_INSTALLER = hasattr(library, "begin_installing")
 if HAS_INSTALLER:
     library.begin_installing.restype = ctypes.POINTER(Installing)
     library.make_call.restype = ctypes.c_bool
-    library.signed_comment.restype = ctypes.c_void_p
+    library.vouched_comment.restype = ctypes.c_void_p
 
 # The signals that ask a process to end. If Python has a handler for one, it runs once
 # the current call of the library has returned. Without a handler, the signal ends the
@@ -161,43 +158,28 @@ def _make_call(run_pointer: "ctypes._Pointer[Installing]") -> bool:
 
 
 def _receive(
-    data: IO[bytes],
-    directory: str,
-    most: int,
-    size: Optional[int],
-    progress: Optional[Progress],
+    data: IO[bytes], directory: str, most: int, progress: Optional[Progress]
 ) -> IO[bytes]:
     """Copies an open file, whose data may arrive slowly, into a temporary file without
-    a name, so that the target is not locked while the data arrives. Reads at most one
-    byte more than the signed size, so that the installer rejects longer data."""
+    a name, so that the target is not locked while the data arrives."""
     file = tempfile.TemporaryFile(dir=directory)
-    limit = MAX_SIZE if size is None else size + 1
-    while file.tell() < limit:
-        count = min(PIECE_BYTES, limit - file.tell())
-        piece = octets("what data reads", data.read(count))
-        if not piece:
-            break
+    for piece in pieces_of(data, progress):
         file.write(piece)
         if file.tell() > most:
             raise TooLong("the data is larger than the limit")
-        if progress is not None:
-            progress(file.tell(), size or 0)
     file.seek(0)
     return file
 
 
-def _wanted_struct(
+def _options_struct(
     key: Keys,
     signature: Signature,
     target: Path,
     first: bool,
-    again: bool,
     must_expire: bool,
-    new_key: bool,
-    roll_back: bool,
     numbering: str,
     name: Optional[Path],
-) -> Wanted:
+) -> RunOptions:
     """Checks the parameters that `install` and `check` share, and returns the struct
     that has them."""
     keys: list[PublicKey] = list(key) if isinstance(key, Sequence) else [key]
@@ -207,12 +189,7 @@ def _wanted_struct(
         raise ValueError(f"key must be one or two public keys, not {len(keys)}")
     check_kind("signature", signature, Signature)
     check_kind("first", first, bool)
-    check_kind("again", again, bool)
     check_kind("must_expire", must_expire, bool)
-    check_kind("new_key", new_key, bool)
-    check_kind("roll_back", roll_back, bool)
-    if first and (new_key or roll_back):
-        raise ValueError("first must not be combined with new_key or roll_back")
     field = choice("numbering", numbering, NUMBERINGS)
     target_path = path_text("target", target)
     last_part = os.path.basename(target_path)
@@ -232,14 +209,11 @@ def _wanted_struct(
         )
         return h.ANSWER_YES if is_valid else h.ANSWER_NO
 
-    return Wanted(
+    return RunOptions(
         target=os.fsencode(target_path),
         name=os.fsencode(file_name),
         is_first=first,
-        again=again,
         must_expire=must_expire,
-        new_key=new_key,
-        roll_back=roll_back,
         numbering=field,
         keys=(h.PublicKey * len(keys))(*(public_key._parsed for public_key in keys)),
         key_count=len(keys),
@@ -250,44 +224,18 @@ def _wanted_struct(
 
 
 @contextmanager
-def _run_of(wanted: Wanted) -> Iterator["ctypes._Pointer[Installing]"]:
+def _run_of(options: RunOptions) -> Iterator["ctypes._Pointer[Installing]"]:
     """Begins a run, and ends it with the block: removes its temporary files, closes
     what it opened, and unlocks the target."""
     if not HAS_INSTALLER:
         raise NotImplementedError("installing is supported only on Linux")
-    run_pointer = library.begin_installing(ctypes.byref(wanted))
+    run_pointer = library.begin_installing(ctypes.byref(options))
     if not run_pointer:
         raise MemoryError()
     try:
         yield run_pointer
     finally:
         library.end_installing(run_pointer)
-
-
-@contextmanager
-def _checked_run(wanted: Wanted) -> Iterator["ctypes._Pointer[Installing]"]:
-    """Makes a check with these parameters, and ends it with the block."""
-    wanted.is_check = True
-    with _run_of(wanted) as run_pointer:
-        while library.make_call(run_pointer):
-            pass
-        yield run_pointer
-
-
-def _received(
-    wanted: Wanted, data: IO[bytes], directory: str, progress: Optional[Progress]
-) -> Optional[IO[bytes]]:
-    """Checks the update, and receives its data, which is not a regular file. Returns
-    nothing if the update is already installed, because then no data is needed."""
-    size = ctypes.c_uint64()
-    with _checked_run(wanted) as run_pointer:
-        run = run_pointer.contents
-        _raise_error(run)
-        if run.call == h.DUE_ALREADY_INSTALLED:
-            return None
-        is_sized = library.minisign_install_size(run.machine, ctypes.byref(size)) == 1
-    limit = size.value if is_sized else None
-    return _receive(data, directory, wanted.most, limit, progress)
 
 
 def _raise_error(run: Installing) -> None:
@@ -301,18 +249,6 @@ def _raise_error(run: Installing) -> None:
         raise error from (OSError(run.number, reason, path) if run.shown else None)
 
 
-def _install(wanted: Wanted, progress: Optional[Progress]) -> bool:
-    """Installs an update from a regular file. Returns False if it was already
-    installed."""
-    with _run_of(wanted) as run_pointer:
-        run = run_pointer.contents
-        while _make_call(run_pointer):
-            if progress is not None and run.call == h.DUE_COPY_DATA:
-                progress(run.done, run.size)
-        _raise_error(run)
-        return bool(run.call == h.DUE_INSTALLED)
-
-
 def install(
     key: Keys,
     data: Union[Path, IO[bytes]],
@@ -322,8 +258,6 @@ def install(
     first: bool = False,
     again: bool = False,
     must_expire: bool = False,
-    new_key: bool = False,
-    roll_back: bool = False,
     numbering: str = "timestamp",
     name: Optional[Path] = None,
     mode: Optional[int] = None,
@@ -339,20 +273,14 @@ def install(
 
     - `key`: a public key, or two during a change of keys. The signature must have the
       key ID of one of them. If both have this key ID, either may have signed.
-    - `data`: a path or a binary file. If it is not the path of a regular file, but a
-      pipe or an open file, `install` first makes a check. Only if the update is to be
-      installed, it reads the data, no further than the trusted comment and `most`
-      allow, into a temporary file without a name in the directory of the target.
+    - `data`: a path or a binary file. Data that is not a path of a regular file, but a
+      pipe or an open file, is first read into a temporary file without a name, in the
+      directory of the target.
     - `first`: install even if no version number is recorded, or if the record is
       damaged, has the number of the other field, or was made with another key. Use it
       for the first installation only.
     - `again`: replace other data that was installed with the same version number.
     - `must_expire`: reject an update whose trusted comment has no expiry date.
-    - `new_key`: ignore a record that was made with another key. Use it only if the key
-      comes from a file that is itself installed by this function, because the recorded
-      version can then decrease.
-    - `roll_back`: install an update even if it is older than the recorded version. The
-      record keeps its version, so that the newer update is not installed again.
     - `numbering`: the field of the trusted comment that has the version number,
       "timestamp" or "version".
     - `name`: the file name that the trusted comment must contain. The default is the
@@ -366,8 +294,7 @@ def install(
     - `progress`: is called as by `verify`, while the data is read.
 
     Raises TypeError or ValueError, which name the argument, for an argument that is not
-    valid, and ValueError if `target` does not end with a file name, or if `first` is
-    combined with `new_key` or `roll_back`. Raises OSError if
+    valid, and ValueError if `target` does not end with a file name. Raises OSError if
     the directory or the data cannot be opened, or data that is not a regular file
     cannot be read. Raises the errors of verifying; OtherFile, NoNumber, NoExpiry,
     BadExpiry, Expired, BadSize, OtherSize, OlderUpdate; TargetInUse; NoRecord,
@@ -376,7 +303,9 @@ def install(
     after an exception that `progress` raises, the target is unchanged.
 
     After DirectoryNotSynced the update is installed but not yet on disk: after a crash
-    the old file may be back. If a system call failed, `__cause__` says which one.
+    the old file may be back. If a system call failed, `__cause__` says which one. If
+    the system clock shows a time before the record was written, an update that expires
+    is Expired, and `__cause__` says when the record was written.
 
     After KeyboardInterrupt the update may be installed or not. The interruption comes
     either before the record is renamed or after the target is. If `install` runs in the
@@ -388,6 +317,7 @@ def install(
     same update finishes the installation. A signal can be lost: if another thread
     receives it, and does not note it within the next 30 ms, the process goes on.
     """
+    check_kind("again", again, bool)
     check_number("mode", 0 if mode is None else mode, 0, 0o777, oct)
     check_number("most", 0 if most is None else most, 0, 2**64 - 1)
     check_number("wait", wait, 0, 24 * 60 * 60)
@@ -395,39 +325,32 @@ def install(
     source: Union[str, IO[bytes]] = (
         cast("IO[bytes]", data) if is_file(data) else path_text("data", data)
     )
-    wanted = _wanted_struct(
-        key,
-        signature,
-        target,
-        first,
-        again,
-        must_expire,
-        new_key,
-        roll_back,
-        numbering,
-        name,
+    options = _options_struct(
+        key, signature, target, first, must_expire, numbering, name
     )
-    wanted.wait = wait
-    wanted.has_mode, wanted.mode = mode is not None, mode or 0
-    wanted.most = MAX_SIZE if most is None else min(most, MAX_SIZE)
-    directory = os.path.dirname(os.fsdecode(wanted.target)) or "."
+    options.again, options.wait = again, wait
+    options.has_mode, options.mode = mode is not None, mode or 0
+    options.max_size = MAX_SIZE if most is None else min(most, MAX_SIZE)
+    directory = os.path.dirname(os.fsdecode(options.target)) or "."
     os.close(os.open(directory, os.O_RDONLY | os.O_DIRECTORY))
-    wanted.shown = os.fsencode(source if isinstance(source, str) else directory)
-    with ExitStack() as stack:
-        file: Optional[IO[bytes]]
-        if isinstance(source, str):
-            file = stack.enter_context(open(source, "rb", buffering=0))
-            is_regular = stat.S_ISREG(os.fstat(file.fileno()).st_mode)
-        else:
-            # An open file can be any object with a method read, so Python reads it.
-            file, is_regular = source, False
-        if not is_regular:
-            file = _received(wanted, file, directory, progress)
-            if file is not None:
-                stack.enter_context(file)
-        wanted.is_check, wanted.data = False, -1 if file is None else file.fileno()
-        is_new = _install(wanted, progress)
-    return is_new
+    # An open file can be any object with a method read, so Python reads it.
+    with open(source, "rb", buffering=0) if isinstance(source, str) else _receive(
+        source, directory, options.max_size, progress
+    ) as file:
+        options.data_name = os.fsencode(
+            source if isinstance(source, str) else directory
+        )
+        options.data = file.fileno()
+        with _run_of(options) as run_pointer:
+            run = run_pointer.contents
+            while _make_call(run_pointer):
+                if progress is not None and run.call in (h.DUE_RECEIVE, h.DUE_COPY):
+                    progress(run.done, run.size)
+                if library.minisign_install_due(run.machine) == h.DUE_RECEIVE:
+                    # Wait here: while C code waits, Python handles no signal.
+                    select.select([file], [], [])
+            _raise_error(run)
+            return bool(run.call == h.DUE_INSTALLED)
 
 
 def check(
@@ -438,8 +361,6 @@ def check(
     first: bool = False,
     again: bool = False,
     must_expire: bool = False,
-    new_key: bool = False,
-    roll_back: bool = False,
     numbering: str = "timestamp",
     name: Optional[Path] = None,
 ) -> Checked:
@@ -458,28 +379,22 @@ def check(
     KeptByVersion; SameNumber; ReadingFailed, WritingFailed and OutOfMemory, whose
     `__cause__` says which call failed, or why no file could be put at the target.
     """
-    wanted = _wanted_struct(
-        key,
-        signature,
-        target,
-        first,
-        again,
-        must_expire,
-        new_key,
-        roll_back,
-        numbering,
-        name,
+    check_kind("again", again, bool)
+    options = _options_struct(
+        key, signature, target, first, must_expire, numbering, name
     )
-    with _checked_run(wanted) as run_pointer:
+    options.is_check, options.again = True, again
+    with _run_of(options) as run_pointer:
         run = run_pointer.contents
-        is_there = run.call == h.DUE_ALREADY_INSTALLED
-        offer = Offer.THERE if is_there else Offer.NEWER
+        while library.make_call(run_pointer):
+            pass
+        offer = Offer.THERE if run.call == h.DUE_ALREADY else Offer.NEWER
         try:
             _raise_error(run)
         except OlderUpdate:
             offer = Offer.OLDER
         length = ctypes.c_size_t()
-        comment = library.signed_comment(run_pointer, ctypes.byref(length))
-        number = library.minisign_install_version(run.machine)
+        comment = library.vouched_comment(run_pointer, ctypes.byref(length))
+        number = library.minisign_install_number(run.machine)
         text = ctypes.string_at(comment, length.value).decode()
         return Checked(offer, number, text)

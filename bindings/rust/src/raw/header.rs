@@ -11,35 +11,35 @@ use minisign_proved_sys as sys;
 impl Reason {
     /// No error.
     pub const OK: Reason = Reason(0);
-    /// The state is not initialized, or its verdict was already returned.
+    /// The state was not initialized, or a verdict has finished it.
     pub const NOT_BEGUN: Reason = Reason(1);
-    /// minisign_ask, minisign_ask_bare or minisign_digest was already called.
+    /// minisign_ask, minisign_install_ask or minisign_digest was called already.
     pub const ALREADY_ASKED: Reason = Reason(2);
-    /// minisign_ask, minisign_ask_bare or minisign_digest was not called yet.
+    /// minisign_ask, minisign_install_ask or minisign_digest was not called yet.
     pub const NOT_ASKED: Reason = Reason(3);
-    /// The result of an Ed25519 check is neither MINISIGN_ANSWER_YES nor MINISIGN_ANSWER_NO.
+    /// A result of a check is neither MINISIGN_ANSWER_YES nor MINISIGN_ANSWER_NO.
     pub const BAD_ANSWER: Reason = Reason(4);
-    /// A buffer that was passed is too small.
+    /// A buffer is too short.
     pub const NO_ROOM: Reason = Reason(5);
-    /// The parameter allow_legacy is neither 0 nor 1.
+    /// allow_legacy is neither 0 nor 1.
     pub const BAD_LEGACY_FLAG: Reason = Reason(6);
     /// An allocation failed, or its size is too large for any allocation.
     pub const OUT_OF_MEMORY: Reason = Reason(7);
     /// The input is not UTF-8: a file, a typed line, a password, a comment or a name.
     pub const NOT_UTF8: Reason = Reason(8);
-    /// A comment would change when it is read back, because it contains a line feed, or begins or
-    /// ends with white space.
+    /// This library would not read a comment back unchanged, for example because it contains a line
+    /// feed.
     pub const BAD_COMMENT: Reason = Reason(9);
-    /// The parameter with_password is not 0, 1 or 2.
+    /// with_password is not 0, 1 or 2.
     pub const BAD_PASSWORD_FLAG: Reason = Reason(10);
-    /// Minisign would not read a comment back, because it is too long, or contains a zero byte or a
-    /// carriage return.
+    /// This library would read a comment back, but Minisign would not, because it is too long or
+    /// contains a zero byte or a carriage return.
     pub const UNREADABLE_COMMENT: Reason = Reason(11);
-    /// The installation expects a different call now, or this call cannot fail with this error.
+    /// The installation does not expect this call, or this error, at this point.
     pub const NOT_DUE: Reason = Reason(12);
-    /// An option of an installation other than numbering is neither 0 nor 1.
+    /// An option of an installation is neither 0 nor 1.
     pub const BAD_OPTION: Reason = Reason(13);
-    /// The option numbering is neither MINISIGN_NUMBERING_TIMESTAMP nor MINISIGN_NUMBERING_VERSION.
+    /// numbering is neither MINISIGN_NUMBERING_TIMESTAMP nor MINISIGN_NUMBERING_VERSION.
     pub const BAD_NUMBERING: Reason = Reason(14);
     /// The secret key was neither opened nor set by minisign_take_secret_key.
     pub const KEY_NOT_OPENED: Reason = Reason(15);
@@ -140,12 +140,11 @@ impl Reason {
     pub const BAD_SIZE: Reason = Reason(59);
     /// The data is longer or shorter than the trusted comment says.
     pub const OTHER_SIZE: Reason = Reason(60);
-    /// The signature was read from a different signature file than the one that was passed with it.
+    /// The signature was read from another signature file than the one that was passed.
     pub const OTHER_SIGNATURE_TEXT: Reason = Reason(61);
-    /// No signature was read into the struct, or it is a bare signature and the call needs
-    /// comments.
+    /// The signature was not read.
     pub const SIGNATURE_NOT_READ: Reason = Reason(62);
-    /// No secret key was read into the struct.
+    /// The secret key that is to be opened was not read.
     pub const KEY_NOT_READ: Reason = Reason(63);
     /// Reading from a source, a file or a prompt failed.
     pub const READING_FAILED: Reason = Reason(64);
@@ -156,11 +155,11 @@ impl Reason {
     /// The public key or a signature is one that strict Ed25519 rejects: a point has a small order
     /// or is not canonical, or the second half of a signature is not below the group order.
     pub const WEAK_ED25519: Reason = Reason(81);
-    /// No public key was read into the struct.
+    /// The public key was not read.
     pub const PUBLIC_KEY_NOT_READ: Reason = Reason(82);
-    /// The password is empty, and with_password does not allow an empty one.
+    /// The password is empty, and with_password does not allow that.
     pub const EMPTY_PASSWORD: Reason = Reason(83);
-    /// The salt is all zeros, or a scrypt limit is below the minimum of Minisign.
+    /// The salt is all zeros, or a limit is below the minimum of Minisign.
     pub const WEAK_SEALING: Reason = Reason(84);
 
     /// Returns the name in `minisign.h` without `MINISIGN_`, or "" for an unknown number.
@@ -247,9 +246,6 @@ pub const VERSION_MAJOR: usize = sys::MINISIGN_VERSION_MAJOR;
 pub const VERSION_MINOR: usize = sys::MINISIGN_VERSION_MINOR;
 pub const VERSION_PATCH: usize = sys::MINISIGN_VERSION_PATCH;
 pub const ERROR_TEXT_BYTES: usize = sys::MINISIGN_ERROR_TEXT_BYTES;
-pub const PUBLIC_KEY_RECORD_BYTES: usize = sys::MINISIGN_PUBLIC_KEY_RECORD_BYTES;
-pub const SIGNATURE_RECORD_BYTES: usize = sys::MINISIGN_SIGNATURE_RECORD_BYTES;
-pub const SECRET_KEY_RECORD_BYTES: usize = sys::MINISIGN_SECRET_KEY_RECORD_BYTES;
 pub const KEEP_EVERY_ROW: usize = sys::MINISIGN_KEEP_EVERY_ROW;
 pub const KEEP_FEW_ROWS: usize = sys::MINISIGN_KEEP_FEW_ROWS;
 pub const USUAL_ROWS: usize = sys::MINISIGN_USUAL_ROWS;
@@ -270,19 +266,6 @@ pub const SIGNATURE_COMMENT: &str = sys::MINISIGN_SIGNATURE_COMMENT;
 pub const TRUSTED_COMMENT_FORMAT: &str = sys::MINISIGN_TRUSTED_COMMENT_FORMAT;
 pub const SECRET_KEY_COMMENT: &str = sys::MINISIGN_SECRET_KEY_COMMENT;
 pub const PUBLIC_KEY_COMMENT: &str = sys::MINISIGN_PUBLIC_KEY_COMMENT;
-pub const KIND_NONE: u32 = sys::MINISIGN_KIND_NONE;
-pub const KIND_MISUSE: u32 = sys::MINISIGN_KIND_MISUSE;
-pub const KIND_GENERATE: u32 = sys::MINISIGN_KIND_GENERATE;
-pub const KIND_SIGN: u32 = sys::MINISIGN_KIND_SIGN;
-pub const KIND_VERIFY: u32 = sys::MINISIGN_KIND_VERIFY;
-pub const KIND_IO: u32 = sys::MINISIGN_KIND_IO;
-pub const KIND_MISC: u32 = sys::MINISIGN_KIND_MISC;
-pub const KIND_HASH: u32 = sys::MINISIGN_KIND_HASH;
-pub const KIND_KDF: u32 = sys::MINISIGN_KIND_KDF;
-pub const KIND_RNG: u32 = sys::MINISIGN_KIND_RNG;
-pub const KIND_ENCODING: u32 = sys::MINISIGN_KIND_ENCODING;
-pub const KIND_ENCRYPTED_KEY: u32 = sys::MINISIGN_KIND_ENCRYPTED_KEY;
-pub const KIND_OUT_OF_MEMORY: u32 = sys::MINISIGN_KIND_OUT_OF_MEMORY;
 pub const ANSWER_YES: u32 = sys::MINISIGN_ANSWER_YES;
 pub const ANSWER_NO: u32 = sys::MINISIGN_ANSWER_NO;
 
@@ -296,11 +279,13 @@ pub type NewKey = sys::minisign_new_key;
 pub type SignedParts = sys::minisign_signed_parts;
 pub type Sealing = sys::minisign_sealing;
 
-pub(super) fn done(number: u32) -> Result<(), Reason> {
+/// Returns an error unless the number that a call returned is 0.
+pub(super) fn check(number: u32) -> Result<(), Reason> {
     Some(()).filter(|()| number == 0).ok_or(Reason(number))
 }
 
-/// Makes a string of the text that a call has written. The calls write only UTF-8.
+/// Converts the first `len` bytes of a buffer, which a call has written, to a string. The calls
+/// write only UTF-8.
 pub(super) fn text_of(mut text: Vec<u8>, len: usize) -> Result<String, Reason> {
     text.truncate(len);
     String::from_utf8(text).map_err(|_| Reason::NOT_UTF8)
@@ -323,30 +308,30 @@ pub fn init() -> State {
 }
 
 pub fn update(state: &mut State, data: &[u8]) -> Result<(), Reason> {
-    done(unsafe { sys::minisign_update(state, data.as_ptr(), data.len()) })
+    check(unsafe { sys::minisign_update(state, data.as_ptr(), data.len()) })
 }
 
 pub fn digest(state: &mut State) -> Result<[u8; 64], Reason> {
     let mut digest = [0; 64];
-    done(unsafe { sys::minisign_digest(state, &mut digest) })?;
+    check(unsafe { sys::minisign_digest(state, &mut digest) })?;
     Ok(digest)
 }
 
 pub fn read_public_key(pk_text: &[u8]) -> Result<PublicKey, Reason> {
     let mut key = PublicKey::ZEROS;
-    done(unsafe { sys::minisign_read_public_key(pk_text.as_ptr(), pk_text.len(), &mut key) })?;
+    check(unsafe { sys::minisign_read_public_key(pk_text.as_ptr(), pk_text.len(), &mut key) })?;
     Ok(key)
 }
 
 pub fn read_bare_public_key(base64: &[u8]) -> Result<PublicKey, Reason> {
     let mut key = PublicKey::ZEROS;
-    done(unsafe { sys::minisign_read_bare_public_key(base64.as_ptr(), base64.len(), &mut key) })?;
+    check(unsafe { sys::minisign_read_bare_public_key(base64.as_ptr(), base64.len(), &mut key) })?;
     Ok(key)
 }
 
 pub fn read_signature(sig_text: &[u8]) -> Result<Signature, Reason> {
     let mut signature = Signature::ZEROS;
-    done(unsafe {
+    check(unsafe {
         sys::minisign_read_signature(sig_text.as_ptr(), sig_text.len(), &mut signature)
     })?;
     Ok(signature)
@@ -361,7 +346,7 @@ pub fn ask(
 ) -> Result<(Questions, Vec<u8>), Reason> {
     let mut questions = Questions::ZEROS;
     let mut message = vec![0; 64 + signature.comment_len as usize];
-    done(unsafe {
+    check(unsafe {
         sys::minisign_ask(
             state,
             key,
@@ -378,13 +363,13 @@ pub fn ask(
 }
 
 pub fn comment_verdict(state: &State, second: bool) -> Result<(), Reason> {
-    done(unsafe {
+    check(unsafe {
         sys::minisign_comment_verdict(state, if second { ANSWER_YES } else { ANSWER_NO })
     })
 }
 
 pub fn verdict(state: &mut State, first: bool, second: bool) -> Result<(), Reason> {
-    done(unsafe {
+    check(unsafe {
         sys::minisign_verdict(
             state,
             if first { ANSWER_YES } else { ANSWER_NO },
@@ -395,7 +380,7 @@ pub fn verdict(state: &mut State, first: bool, second: bool) -> Result<(), Reaso
 
 pub fn read_secret_key(sk_text: &[u8]) -> Result<Box<UnopenedKey>, Reason> {
     let mut unopened = Box::new(UnopenedKey::ZEROS);
-    done(unsafe {
+    check(unsafe {
         sys::minisign_read_secret_key(sk_text.as_ptr(), sk_text.len(), &mut *unopened)
     })?;
     Ok(unopened)
@@ -403,7 +388,7 @@ pub fn read_secret_key(sk_text: &[u8]) -> Result<Box<UnopenedKey>, Reason> {
 
 pub fn open_unsealed_key(unopened: &UnopenedKey) -> Result<Box<SecretKey>, Reason> {
     let mut key = Box::new(SecretKey::ZEROS);
-    done(unsafe { sys::minisign_open_unsealed_key(unopened, &mut *key) })?;
+    check(unsafe { sys::minisign_open_unsealed_key(unopened, &mut *key) })?;
     Ok(key)
 }
 
@@ -414,7 +399,7 @@ pub fn open_sealed_key(
     most_rows: u64,
 ) -> Result<Box<SecretKey>, Reason> {
     let mut key = Box::new(SecretKey::ZEROS);
-    done(unsafe {
+    check(unsafe {
         sys::minisign_open_sealed_key(
             unopened,
             password.as_ptr(),
@@ -435,13 +420,13 @@ pub fn take_secret_key(new_key: &NewKey) -> Box<SecretKey> {
 
 pub fn public_key_of(key: &SecretKey) -> Result<PublicKey, Reason> {
     let mut public_key = PublicKey::ZEROS;
-    done(unsafe { sys::minisign_public_key_of(key, &mut public_key) })?;
+    check(unsafe { sys::minisign_public_key_of(key, &mut public_key) })?;
     Ok(public_key)
 }
 
 pub fn comment_message(first: &[u8; 64], trusted: &[u8]) -> Result<Vec<u8>, Reason> {
     let mut message = vec![0; 64 + trusted.len()];
-    done(unsafe {
+    check(unsafe {
         sys::minisign_comment_message(
             first,
             trusted.as_ptr(),
@@ -462,7 +447,7 @@ pub fn signed_text(
 ) -> Result<String, Reason> {
     let mut text = vec![0; TEXT_BYTES + trusted_comment.len() + untrusted_comment.len()];
     let mut len = 0;
-    done(unsafe {
+    check(unsafe {
         sys::minisign_signed_text(
             key,
             &SignedParts {
@@ -491,7 +476,7 @@ pub fn secret_key_text(
     let (with_password, password) = (password.is_some().into(), password.unwrap_or_default());
     let mut text = vec![0; SECRET_KEY_BYTES + comment.len()];
     let mut len = 0;
-    done(unsafe {
+    check(unsafe {
         sys::minisign_secret_key_text(
             key,
             with_password,
@@ -512,7 +497,7 @@ pub fn secret_key_text(
 pub fn public_key_text(key: &SecretKey, comment: &[u8]) -> Result<String, Reason> {
     let mut text = vec![0; PUBLIC_KEY_BYTES + comment.len()];
     let mut len = 0;
-    done(unsafe {
+    check(unsafe {
         sys::minisign_public_key_text(
             key,
             comment.as_ptr(),

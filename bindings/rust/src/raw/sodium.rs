@@ -7,11 +7,11 @@ use std::ptr::null_mut;
 
 /// Initializes libsodium, which has an effect only once.
 fn init() -> Result<(), SchemeError> {
-    done(unsafe { sodium::sodium_init() }.min(0), "sodium_init")
+    check(unsafe { sodium::sodium_init() }.min(0), "sodium_init")
 }
 
 /// Returns an error unless the result of a function of libsodium is 0.
-fn done(result: i32, name: &str) -> Result<(), SchemeError> {
+fn check(result: i32, name: &str) -> Result<(), SchemeError> {
     match result {
         0 => Ok(()),
         _ => Err(SchemeError::new(format!("{name} of libsodium failed"))),
@@ -28,7 +28,7 @@ impl Verify for Sodium {
         init()?;
         let (from, len) = (message.as_ptr(), message.len() as u64);
         let result = unsafe { sodium::crypto_sign_verify_detached(signature, from, len, key) };
-        done(result, "crypto_sign_verify_detached")
+        check(result, "crypto_sign_verify_detached")
     }
 }
 
@@ -38,13 +38,13 @@ impl Sign for Sodium {
         let (mut signature, from, len) = ([0; 64], message.as_ptr(), message.len() as u64);
         let result =
             unsafe { sodium::crypto_sign_detached(&mut signature, null_mut(), from, len, secret) };
-        done(result, "crypto_sign_detached").map(|()| signature)
+        check(result, "crypto_sign_detached").map(|()| signature)
     }
 
     fn expand(&self, seed: &[u8; 32], secret: &mut [u8; 64]) -> Result<(), SchemeError> {
         init()?;
         let result = unsafe { sodium::crypto_sign_seed_keypair(&mut [0; 32], secret, seed) };
-        done(result, "crypto_sign_seed_keypair")
+        check(result, "crypto_sign_seed_keypair")
     }
 }
 
