@@ -1,5 +1,5 @@
 // SPDX-License-Identifier: MIT
-// What the functions that write files in Node have in common.
+// Resolves paths and syncs directories for functions that write files in Node.
 
 import { open } from "node:fs/promises";
 import { fileURLToPath } from "node:url";

@@ -1,5 +1,5 @@
 /* SPDX-License-Identifier: MIT */
-/* Who may access a file: owners and access lists. */
+/* Reads and sets the owners and access lists of files. */
 #include "access.h"
 
 #include <aclapi.h>

@@ -1,5 +1,5 @@
 /* SPDX-License-Identifier: MIT */
-/* Who may access a file: owners and access lists. */
+/* Reads and sets the owners and access lists of files. */
 #ifndef WINDOWS_ACCESS_H
 #define WINDOWS_ACCESS_H
 

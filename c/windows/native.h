@@ -1,5 +1,5 @@
 /* SPDX-License-Identifier: MIT */
-/* What the files of this directory share: functions that take or return types of Windows. */
+/* Declares the functions of this directory that take or return types of Windows. */
 #ifndef WINDOWS_NATIVE_H
 #define WINDOWS_NATIVE_H
 
