@@ -2,6 +2,7 @@ mod Words
 pub mod AnsweredBoxes
 pub mod Facts
 pub mod GivenAnswers
+pub mod Laws
 pub mod OpenedKeys
 pub mod OwnTexts
 pub mod PublicHalves

@@ -9,3 +9,5 @@ pub mod Signatures
 pub mod Making
 pub mod StrictEd25519
 pub mod StrictCalls
+pub mod ValueRecords
+pub mod Bare

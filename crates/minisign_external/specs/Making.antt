@@ -1,13 +1,14 @@
 -- Key files that are made from a key's parts and written to the start of a buffer.
-use Rattle.std.specs.Prelude.{◌≡◌, ◌⊎◌, ◌<◌, ◌≤◌, ◌+◌, ℕ, true, false, List, length, take, Option, Some, Ok}
-use Rattle.std.specs.Prelude.{IfSome}
+use Rattle.std.specs.Prelude.{◌≡◌, ◌⊎◌, ◌<◌, ◌≤◌, ◌+◌, ℕ, Bool, true, false, List, length, take, Option}
+use Rattle.std.specs.Prelude.{Some, Ok, IfSome}
 use Rattle.std.specs.Str.{IsUtf8}
 use Rattle.std.specs.Str.Iter.{LacksByte}
 use Rattle.minisign_base.specs.Fault.{Fault, Named}
 use Rattle.minisign_base.specs.declared.faults.NamedFault.TheVariants.{OutOfMemory, NotUtf8}
-use Rattle.minisign.specs.KeyTexts.{read_public_key, commented_public_key_text, secret_key_text}
+use Rattle.minisign.specs.KeyTexts.{read_public_key, read_secret_key, commented_public_key_text}
+use Rattle.minisign.specs.KeyTexts.{secret_key_text}
 use Rattle.minisign.specs.Generation.{GivesParts, made_key, making_fault, unsealed_key}
-use Rattle.minisign.specs.Records.{own_public_key}
+use Rattle.minisign.specs.Records.{PublicKeyRecord, SecretKeyRecord, own_public_key}
 use Rattle.minisign.specs.declared.making.Sealing.{Sealing}
 use Rattle.minisign_external.specs.Numbers.{fault_number, refusal_number}
 use Rattle.minisign_external.specs.declared.state.Misuse.{Misuse}
@@ -91,3 +92,37 @@ IsPublicKeyRefusal v comment bytes (Refused e) =
 abbrev pub IsPublicKeyNumber : SecretKeyValue → List ℕ → List ℕ → ℕ → Type 0
 IsPublicKeyNumber v comment bytes n =
     (r : Refusal Fault) × (n ≡ refusal_number fault_number r) × IsPublicKeyRefusal v comment bytes r
+
+-- == Keys that were only read ==
+
+-- The first len bytes of the buffer are the public key file of this key, and parse to it.
+pub record HoldsReadPublicKey (k : PublicKeyRecord) (comment bytes : List ℕ) (len : ℕ) : Type 0 where
+  pub fits : len ≤ length bytes
+  pub size : len ≡ length comment + 77
+  pub written : take len bytes ≡ commented_public_key_text comment k
+  pub reads : read_public_key (take len bytes) ≡ Ok k
+
+-- The first len bytes of the buffer are the secret key file of this key as it was read, and parse to it.
+pub record HoldsReadSecretKey (k : SecretKeyRecord) (comment bytes : List ℕ) (len : ℕ) : Type 0 where
+  pub fits : len ≤ length bytes
+  pub size : len ≡ length comment + 233
+  pub written : take len bytes ≡ secret_key_text (Some comment) k
+  pub reads : read_secret_key (take len bytes) ≡ Ok k
+
+-- Why a file that is `more` bytes longer than its comment is not written for a key that was read: the key
+-- was not read, which is the API misuse `unread`; or else the comment is not UTF-8, or is rejected, or the
+-- buffer is too short; or out of memory.
+abbrev pub IsEncodingRefusal : Bool → Misuse → ℕ → List ℕ → List ℕ → Refusal Fault → Type 0
+IsEncodingRefusal is_read unread more comment bytes (WrongUse m) =
+    ((m ≡ unread) × (is_read ≡ false))
+    ⊎ ((is_read ≡ true) × IsUtf8 comment × IsUnwritable comment more bytes m)
+IsEncodingRefusal is_read unread more comment bytes (Refused e) =
+    (is_read ≡ true)
+    × (((e ≡ Named NotUtf8) × ¬ (IsUtf8 comment))
+    ⊎ (IsUtf8 comment × IsWritable comment more bytes × (e ≡ Named OutOfMemory)))
+
+-- The error number of such a reason.
+abbrev pub IsEncodingNumber : Bool → Misuse → ℕ → List ℕ → List ℕ → ℕ → Type 0
+IsEncodingNumber is_read unread more comment bytes n =
+    (r : Refusal Fault) × (n ≡ refusal_number fault_number r)
+    × IsEncodingRefusal is_read unread more comment bytes r

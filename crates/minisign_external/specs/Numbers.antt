@@ -4,6 +4,10 @@ use Rattle.std.specs.Prelude.{◌≡◌, ◌≢◌, ◌==◌, ◌||◌, ℕ, Boo
 use Rattle.std.specs.Prelude.{length, take, drop, min}
 use Rattle.minisign_base.specs.Fault.{Fault, Named, Worded}
 use Rattle.minisign_base.specs.Faults.{fault_row}
+use Rattle.minisign_base.specs.declared.errors.ErrorKind.{ErrorKind}
+use Rattle.minisign_base.specs.declared.errors.ErrorKind.TheVariants.{Generate, Sign, Verify, Io, Misc, Hash}
+use Rattle.minisign_base.specs.declared.errors.ErrorKind.TheVariants.{KDF, RNG, Encoding, EncryptedKey}
+use Rattle.minisign_base.specs.declared.errors.ErrorKind.TheVariants.{OutOfMemory}
 use Rattle.minisign_base.specs.declared.faults.NamedFault.{NamedFault}
 use Rattle.minisign_external.specs.declared.state.Misuse.{Misuse}
 use Rattle.minisign_external.specs.declared.state.Misuse.TheVariants.{NotBegun, AlreadyAsked, NotAsked}
@@ -13,7 +17,8 @@ use Rattle.minisign_external.specs.declared.state.Misuse.TheVariants.{Unreadable
 use Rattle.minisign_external.specs.declared.state.Misuse.TheVariants.{BadNumbering, KeyNotOpened, KeyNotRead}
 use Rattle.minisign_external.specs.declared.state.Misuse.TheVariants.{SignatureNotRead, OtherSignatureText}
 use Rattle.minisign_external.specs.declared.state.Misuse.TheVariants.{EmptyPassword, PublicKeyNotRead}
-use Rattle.minisign_external.specs.declared.state.Misuse.TheVariants.{WeakSealing}
+use Rattle.minisign_external.specs.declared.state.Misuse.TheVariants.{WeakSealing, ListNotVerified}
+use Rattle.minisign_external.specs.declared.state.Misuse.TheVariants.{OtherListText, BadHash, EntryNotRead}
 use Rattle.minisign_external.specs.declared.state.Refusal.{Refusal}
 use Rattle.minisign_external.specs.declared.state.Refusal.TheVariants.{WrongUse, Refused}
 
@@ -37,30 +42,45 @@ misuse_number OtherSignatureText = 61
 misuse_number PublicKeyNotRead = 82
 misuse_number EmptyPassword = 83
 misuse_number WeakSealing = 84
+misuse_number ListNotVerified = 85
+misuse_number OtherListText = 86
+misuse_number BadHash = 87
+misuse_number EntryNotRead = 88
 
 abbrev pub misuse_text : Misuse → List ℕ
-misuse_text NotBegun = codes "the state was not initialized, or a verdict has finished it"
-misuse_text AlreadyAsked = codes "minisign_ask or minisign_digest was already called"
-misuse_text NotAsked = codes "minisign_ask and minisign_digest must be called first"
-misuse_text BadAnswer = codes "an answer must be MINISIGN_ANSWER_YES or MINISIGN_ANSWER_NO"
-misuse_text NoRoom = codes "the buffer is too small"
-misuse_text BadLegacyFlag = codes "allow_legacy must be 0 or 1"
+misuse_text NotBegun = codes
+    "the state is not initialized, or its verdict was already returned: call minisign_init first"
+misuse_text AlreadyAsked = codes
+    "this call comes too late: minisign_ask or minisign_digest was already called for this state"
+misuse_text NotAsked = codes "no verdict is possible yet: call minisign_ask and minisign_digest first"
+misuse_text BadAnswer = codes
+    "the result of an Ed25519 check must be MINISIGN_ANSWER_YES or MINISIGN_ANSWER_NO"
+misuse_text NoRoom = codes "a buffer is too small for this call"
+misuse_text BadLegacyFlag = codes "the parameter 'allow_legacy' must be 0 or 1"
 misuse_text BadComment = codes
     "a comment contains a line break, or the trusted comment begins or ends with white space"
-misuse_text BadPasswordFlag = codes "with_password must be 0, 1 or 2"
+misuse_text BadPasswordFlag = codes "the parameter 'with_password' must be 0, 1 or 2"
 misuse_text UnreadableComment = codes
     "a comment is too long for Minisign, or contains a zero byte or a carriage return"
-misuse_text NotDue = codes "another call is due, or the arguments do not fit this call"
-misuse_text BadOption = codes "each option of an installation must be 0 or 1"
+misuse_text NotDue = codes
+    "unexpected call or error number: minisign_install_due returns the step that is expected now"
+misuse_text BadOption = codes "every option of an installation except 'numbering' must be 0 or 1"
 misuse_text BadNumbering = codes
-    "numbering must be MINISIGN_NUMBERING_TIMESTAMP or MINISIGN_NUMBERING_VERSION"
-misuse_text KeyNotOpened = codes "the secret key has not been opened"
-misuse_text KeyNotRead = codes "the secret key has not been read"
-misuse_text SignatureNotRead = codes "the signature has not been read"
-misuse_text OtherSignatureText = codes "the signature was read from another text"
-misuse_text PublicKeyNotRead = codes "the public key has not been read"
-misuse_text EmptyPassword = codes "the password is empty"
-misuse_text WeakSealing = codes "the salt is all zeros, or a limit is below the minimum of Minisign"
+    "'numbering' must be MINISIGN_NUMBERING_TIMESTAMP or MINISIGN_NUMBERING_VERSION"
+misuse_text KeyNotOpened = codes
+    "the secret key is not open: call minisign_open_sealed_key or minisign_open_unsealed_key first"
+misuse_text KeyNotRead = codes "no secret key was read: call minisign_read_secret_key first"
+misuse_text SignatureNotRead = codes
+    "no signature was read, or it has no comments: call minisign_read_signature first"
+misuse_text OtherSignatureText = codes
+    "the signature was read from a different signature file than the one passed with it"
+misuse_text PublicKeyNotRead = codes "no public key was read: call minisign_read_public_key first"
+misuse_text EmptyPassword = codes "the password must not be empty"
+misuse_text WeakSealing = codes "the salt is all zeros, or a scrypt limit is below Minisign's minimum"
+misuse_text ListNotVerified = codes "the list has not been verified"
+misuse_text OtherListText = codes "the text is not the list that was verified"
+misuse_text BadHash = codes "the hash function or the length of its digest is not accepted here"
+misuse_text EntryNotRead = codes "the entry has not been read from a list"
 
 -- The numbers by which a caller passes in a result of its signature scheme: the letters "yes" and "no", each
 -- letter a byte. They are neither 0 nor 1, nor an error number, so that no such number is taken for a result.
@@ -85,6 +105,23 @@ weak_number = 81
 abbrev pub weak_text : List ℕ
 weak_text = codes "weak or non-canonical Ed25519 public key or signature"
 
+-- The numbers of kinds of errors for programs in other languages. API misuse is a kind that only they see.
+abbrev pub misuse_kind : ℕ
+misuse_kind = 1
+
+abbrev pub kind_number : ErrorKind → ℕ
+kind_number Generate = 2
+kind_number Sign = 3
+kind_number Verify = 4
+kind_number Io = 5
+kind_number Misc = 6
+kind_number Hash = 7
+kind_number KDF = 8
+kind_number RNG = 9
+kind_number Encoding = 10
+kind_number EncryptedKey = 11
+kind_number OutOfMemory = 12
+
 -- The number of an error of the library. An error without a name has the number 255, which no call returns.
 abbrev pub fault_number : Fault → ℕ
 fault_number (Named f) = (fault_row f).number
@@ -108,6 +145,19 @@ pub record IsListedMeaning (n : ℕ) (text : List ℕ) : Type 0 where
   pub misuse : (m : Misuse) → n ≡ misuse_number m → text ≡ misuse_text m
   pub weak : n ≡ weak_number → text ≡ weak_text
   pub fault : (f : NamedFault) → n ≡ (fault_row f).number → text ≡ (fault_row f).summary
+
+-- k is the number of the kind of the error that has the number n, if n is 0 or that of an error of this
+-- library.
+pub record IsListedKind (n : ℕ) (k : ℕ) : Type 0 where
+  pub success : n ≡ 0 → k ≡ 0
+  pub misuse : (m : Misuse) → n ≡ misuse_number m → k ≡ misuse_kind
+  pub weak : n ≡ weak_number → k ≡ kind_number Verify
+  pub fault : (f : NamedFault) → n ≡ (fault_row f).number → k ≡ kind_number (fault_row f).kind
+
+-- k is the number of the kind of the error that has the number n. For any other number it is 0.
+pub record IsKindOf (n : ℕ) (k : ℕ) : Type 0 where
+  pub listed : IsListedKind n k
+  pub unknown : IsUnlisted n → k ≡ 0
 
 abbrev pub unknown_text : List ℕ
 unknown_text = codes "unknown error"

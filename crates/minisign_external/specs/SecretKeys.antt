@@ -5,7 +5,9 @@ use Rattle.std.specs.Prelude.{if◌then◌else◌, bytes_eq, List, drop, Option,
 use Rattle.std.specs.Prelude.{replicate}
 use Rattle.std.specs.Str.{IsUtf8}
 use Rattle.minisign_base.specs.Fault.{Fault, Named}
+use Rattle.minisign_base.specs.Steps.{without_value}
 use Rattle.minisign_base.specs.declared.faults.NamedFault.TheVariants.{OutOfMemory}
+use Rattle.minisign_kdf.specs.Params.{Numbers}
 use Rattle.minisign.specs.Records.{SecretKeyRecord}
 use Rattle.minisign.specs.Sealing.{allowed_rows, no_kdf, opening_memory, opening_work, restored_key}
 use Rattle.minisign.specs.Sealing.{sealed_by_scrypt, unencrypted_key, wants_password, xored_key}
@@ -13,6 +15,7 @@ use Rattle.minisign.specs.KeyTexts.{read_secret_key, secret_key_of_bytes}
 use Rattle.minisign.specs.Texts.{and_then}
 use Rattle.minisign_external.specs.Numbers.{fault_number, misuse_number, refusal_number}
 use Rattle.minisign_external.specs.PublicKeys.{public_mark, read_utf8}
+use Rattle.minisign_external.specs.States.{decision}
 use Rattle.minisign_external.specs.declared.public_keys.PublicKeyValue.{PublicKeyValue}
 use Rattle.minisign_external.specs.declared.secrets.SecretKeyValue.{SecretKeyValue}
 use Rattle.minisign_external.specs.declared.unopened_keys.UnopenedKeyValue.{UnopenedKeyValue}
@@ -115,6 +118,17 @@ abbrev pub opened_sealed : UnopenedKeyValue → List ℕ → ℕ → Result Secr
 opened_sealed v password most_rows =
     if is_read v then with_refusal (read_utf8 (λ p. open_within (unopened_record v) p most_rows) password)
     else Err (WrongUse KeyNotRead)
+
+-- What can be checked of an encrypted key without its password: it is encrypted with scrypt, and its limits
+-- are allowed and need at most `most_rows` rows.
+abbrev pub sealed_within : SecretKeyRecord → ℕ → Result Numbers Fault
+sealed_within k most_rows = and_then (sealed_by_scrypt k) (λ s. allowed_rows s most_rows)
+
+-- The result of checking the struct without the password: it must have been read.
+abbrev pub tested_sealed : UnopenedKeyValue → ℕ → Result Unit (Refusal Fault)
+tested_sealed v most_rows =
+    if is_read v then decision (without_value (sealed_within (unopened_record v) most_rows)) else
+    Err (WrongUse KeyNotRead)
 
 -- Opening the struct with a password runs scrypt: it was read, the password is UTF-8, and the key is
 -- encrypted by scrypt with limits that are allowed and need at most `most_rows` rows.

@@ -27,8 +27,8 @@ use Rattle.minisign_external.specs.declared.state.Refusal.TheVariants.{WrongUse,
 use Rattle.minisign_external.specs.declared.state.State.{State}
 use Rattle.minisign_external.specs.declared.state.Questions.{Questions}
 
--- The marks of a state that accepts data, of one whose digest was returned, and of questions that were asked:
--- "minisign", "minissum" and "minisask".
+-- The marks of a state that accepts data, of one whose digest was returned, of questions that were asked, and
+-- of the question about a bare signature: "minisign", "minissum", "minisask" and "minisbar".
 abbrev pub fed_mark : ℕ
 fed_mark = 7955443211184269677
 
@@ -37,6 +37,9 @@ told_mark = 7887337261936568685
 
 abbrev pub asked_mark : ℕ
 asked_mark = 7742639332697991533
+
+abbrev pub bare_asked_mark : ℕ
+bare_asked_mark = 8241977040894323053
 
 -- The state was initialized and fed the message, and accepts more data.
 pub record IsFedState (s : State) (m : List ℕ) : Type 0 where
@@ -73,6 +76,10 @@ is_begun s = (s.mark == fed_mark) || (s.mark == told_mark)
 -- The state was asked about a key and a signature.
 abbrev pub is_asked : State → Bool
 is_asked s = s.asked.mark == asked_mark
+
+-- The state was asked about a key and a bare signature.
+abbrev pub is_asked_bare : State → Bool
+is_asked_bare s = s.asked.mark == bare_asked_mark
 
 -- Questions that hold nothing: zeros in every field.
 abbrev pub no_questions : Questions
@@ -178,7 +185,7 @@ asking_misuse s = if is_begun s then AlreadyAsked else NotBegun
 
 -- The state can be asked.
 abbrev pub may_ask : State → Bool
-may_ask s = (s.mark == fed_mark) && not (is_asked s)
+may_ask s = (s.mark == fed_mark) && not (is_asked s) && not (is_asked_bare s)
 
 -- The result of asking. First, the state must accept data and must not have been asked before.
 abbrev pub asking_result : State → PublicKeyValue → SignatureValue → List ℕ → Bool → ℕ

@@ -76,7 +76,7 @@ impl State {
         ensures kept { OnErr result
             ((self.new ≡ self.old) × (questions.new ≡ questions.old) × (message.new ≡ message.old)) }
     {
-        if self.mark != FED || self.is_asked() {
+        if self.mark != FED || self.is_asked() || self.is_asked_bare() {
             return Err(Refusal::WrongUse(self.asking_misuse()));
         }
         match self.open_questions(key, signature, sig_text, allow_legacy, questions, message) {
@@ -146,7 +146,7 @@ impl State {
     ) -> Result<(), Refusal>
         ensures { result ≡ asking_result self.now key.now signature.now sig_text.now allow_legacy room }
     {
-        let may_ask = self.mark == FED && !self.is_asked();
+        let may_ask = self.mark == FED && !self.is_asked() && !self.is_asked_bare();
         if !may_ask {
             return Err(Refusal::WrongUse(self.asking_misuse()));
         }
@@ -308,7 +308,7 @@ impl State {
     }
 
     // Returns why a state cannot be asked: it was asked or its digest was returned, or it is not initialized.
-    fn asking_misuse(&self) -> Misuse
+    pub(crate) fn asking_misuse(&self) -> Misuse
         ensures { result ≡ asking_misuse self.now }
     {
         if self.is_begun() {
@@ -320,7 +320,7 @@ impl State {
 
     // Returns why a state gives no verdict: it was not asked or its digest was not returned, or it is not
     // initialized.
-    fn verdict_misuse(&self) -> Misuse
+    pub(crate) fn verdict_misuse(&self) -> Misuse
         ensures { result ≡ verdict_misuse self.now }
     {
         if self.is_begun() {

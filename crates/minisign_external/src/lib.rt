@@ -4,6 +4,7 @@
 #![tactic(auto)]
 
 pub mod asking;
+pub mod bare;
 pub mod making;
 pub mod numbers;
 pub mod pieces;
@@ -14,4 +15,5 @@ pub mod signed_texts;
 pub mod state;
 pub mod strict;
 pub mod unopened_keys;
+pub mod value_records;
 pub mod verdict;

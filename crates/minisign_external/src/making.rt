@@ -2,17 +2,28 @@
 //! its public key.
 
 ghost use Rattle.std.specs.Prelude.{◌≡◌, ◌<◌, ◌≤◌, ◌+◌, Some, drop, true, false, OnOk};
-ghost use Rattle.std.specs.Prelude.{OnErr, IfOk, IfErr};
+ghost use Rattle.std.specs.Prelude.{OnErr, IfOk, IfErr, Ok, length, string_bytes};
 ghost use Rattle.std.specs.Option.{option_copied};
+ghost use Rattle.std.specs.Str.Iter.{LacksByte};
+ghost use Rattle.minisign_base.specs.Fault.{Named};
+ghost use Rattle.minisign_base.specs.declared.faults.NamedFault.TheVariants.{OutOfMemory};
+ghost use Rattle.minisign.specs.KeyTexts.{commented_public_key_text, read_public_key, read_secret_key};
+ghost use Rattle.minisign.specs.KeyTexts.{secret_key_text};
+ghost use Rattle.minisign_external.specs.PublicKeys.{is_public_key};
+ghost use Rattle.minisign_external.specs.Making.{HoldsReadPublicKey, HoldsReadSecretKey, IsEncodingRefusal};
+ghost use Rattle.minisign_external.specs.ValueRecords.{written_public_key};
 ghost use Rattle.minisign_external.specs.Making.{HoldsPublicKey, HoldsSecretKey, IsMadeRefusal};
 ghost use Rattle.minisign_external.specs.Making.{IsMakingRefusal, IsPublicKeyRefusal, IsReadInKey};
 ghost use Rattle.minisign_external.specs.Making.{IsKeyComment, IsUnwritable, IsWritable};
-ghost use Rattle.minisign_external.specs.SecretKeys.{is_opened};
+ghost use Rattle.minisign_external.specs.SecretKeys.{is_opened, is_read, unopened_record};
+ghost use Rattle.minisign_external.specs.declared.state.Misuse.TheVariants.{KeyNotRead, PublicKeyNotRead};
 
+use crate::public_keys::PublicKeyValue;
 use crate::secrets::SecretKeyValue;
 use crate::signed_texts::write_front;
 use crate::state::{Misuse, Refusal};
-use minisign::{Sealing, make_public_key, make_secret_key};
+use crate::unopened_keys::{UnopenedKeyValue, key_of};
+use minisign::{PublicKey, Sealing, SecretKey, make_public_key, make_secret_key};
 use minisign_base::NamedFault;
 use std::alloc::Global;
 
@@ -149,6 +160,143 @@ pub fn write_public_key(
         Some(len) => Ok(len),
         None => Err(Refusal::WrongUse(Misuse::NoRoom)),
     }
+}
+
+/// Writes the public key file of a public key that was read, or obtained from a secret key, to the start of
+/// `to`. Its algorithm is `Ed`. Returns the length of the file, which is 77 bytes more than that of the
+/// comment.
+pub fn encode_public_key(
+    alloc: Global,
+    key: &PublicKeyValue,
+    comment: &[u8],
+    to: &mut [u8],
+) -> std::result::Result<usize, Refusal>
+    // On success, the public key file is at the start of the buffer and is 77 bytes longer than the
+    // comment. It parses to this public key, with the algorithm `Ed`. Minisign reads the whole comment. The
+    // rest of the buffer is unchanged.
+    ensures read { OnOk result (is_public_key key.now ≡ true) }
+    ensures text { IfOk result (HoldsReadPublicKey (written_public_key key.now) comment.now to.new) }
+    ensures readable { OnOk result (IsKeyComment comment.now) }
+    ensures rest { IfOk result (λ len. drop len to.new ≡ drop len to.old) }
+
+    // The errors are, in this order: the key was not read; the comment is not UTF-8; the comment has a line
+    // feed; Minisign does not read all of it; the buffer is too short; out of memory. After an error the
+    // buffer is unchanged.
+    ensures refused { IfErr result
+        (IsEncodingRefusal (is_public_key key.now) PublicKeyNotRead 77 comment.now to.old) }
+    ensures kept { OnErr result (to.new ≡ to.old) }
+{
+    if !key.is_public_key() {
+        return Err(Refusal::WrongUse(Misuse::PublicKeyNotRead));
+    }
+    let Ok(comment) = str::from_utf8(comment) else {
+        return Err(Refusal::Refused(NamedFault::NotUtf8.into()));
+    };
+    let bytes = comment.as_bytes();
+    test_writable(bytes, PUBLIC_KEY_BYTES, to)?;
+    let text = public_key_text(alloc, key, comment)?;
+    match write_front(text.as_bytes(), to) {
+        Some(len) => Ok(len),
+        None => Err(Refusal::WrongUse(Misuse::NoRoom)),
+    }
+}
+
+// Returns the public key file of a key that was read.
+fn public_key_text(alloc: Global, key: &PublicKeyValue, comment: &str) -> minisign::Result<String>
+    requires { is_public_key key.now ≡ true }
+    ensures written { IfOk result (λ t. string_bytes t
+        ≡ commented_public_key_text comment.now (written_public_key key.now)) }
+    ensures reads { LacksByte 10 comment.now → IfOk result (λ t. read_public_key (string_bytes t)
+        ≡ Ok (written_public_key key.now)) }
+    ensures size { IfOk result (λ t. length (string_bytes t) ≡ length comment.now + 77) }
+    ensures refused { IfErr result (λ e. e ≡ Named OutOfMemory) }
+{
+    let pk = public_key_of(key)?;
+    let text = pk.to_box_with_comment(alloc, comment)?;
+    Ok(text.into_string())
+}
+
+// Returns the public key in a struct, with the algorithm `Ed`. It is that of every secret key with this
+// public half.
+#[tactic(auto, unfolding(minisign::specs::Generation::unsealed_key))]
+fn public_key_of(key: &PublicKeyValue) -> minisign::Result<PublicKey>
+    ensures { result ≡ Ok (written_public_key key.now) }
+{
+    let secret = SecretKey::from_parts(key.key_id, with_public_half(&key.key));
+    PublicKey::from_secret_key(&secret)
+}
+
+// Returns 64 bytes of which the last 32 are these.
+fn with_public_half(key: &[u8; 32]) -> [u8; 64]
+    ensures { drop 32 result ≡ key.now }
+{
+    let mut secret = [0u8; 64];
+    write_public_half(&mut secret, key);
+    secret
+}
+
+fn write_public_half(secret: &mut [u8], key: &[u8; 32])
+    requires { length secret.old ≡ 64 }
+    ensures { drop 32 secret.new ≡ key.now }
+{
+    let (_, public_half) = secret.split_at_mut(32);
+    public_half.copy_from_slice(key);
+}
+
+/// Writes the secret key file of a secret key that was read to the start of `to`, as it is: nothing is
+/// encrypted, decrypted or checked. Returns the length of the file, which is 233 bytes more than that of
+/// the comment.
+pub fn encode_unopened_key(
+    alloc: Global,
+    key: &UnopenedKeyValue,
+    comment: &[u8],
+    to: &mut [u8],
+) -> std::result::Result<usize, Refusal>
+    // On success, the secret key file is at the start of the buffer and is 233 bytes longer than the
+    // comment. It parses to the key as it was read. Minisign reads the whole comment. The rest of the
+    // buffer is unchanged.
+    ensures read { OnOk result (is_read key.now ≡ true) }
+    ensures text { IfOk result (HoldsReadSecretKey (unopened_record key.now) comment.now to.new) }
+    ensures readable { OnOk result (IsKeyComment comment.now) }
+    ensures rest { IfOk result (λ len. drop len to.new ≡ drop len to.old) }
+
+    // The errors are, in this order: the key was not read; the comment is not UTF-8; the comment has a line
+    // feed; Minisign does not read all of it; the buffer is too short; out of memory. After an error the
+    // buffer is unchanged.
+    ensures refused { IfErr result (IsEncodingRefusal (is_read key.now) KeyNotRead 233 comment.now to.old) }
+    ensures kept { OnErr result (to.new ≡ to.old) }
+{
+    if !key.is_read() {
+        return Err(Refusal::WrongUse(Misuse::KeyNotRead));
+    }
+    let Ok(comment) = str::from_utf8(comment) else {
+        return Err(Refusal::Refused(NamedFault::NotUtf8.into()));
+    };
+    let bytes = comment.as_bytes();
+    test_writable(bytes, SECRET_KEY_BYTES, to)?;
+    let text = unopened_key_text(alloc, key, comment)?;
+    match write_front(text.as_bytes(), to) {
+        Some(len) => Ok(len),
+        None => Err(Refusal::WrongUse(Misuse::NoRoom)),
+    }
+}
+
+// Returns the secret key file of a key as it was read.
+fn unopened_key_text(
+    alloc: Global,
+    key: &UnopenedKeyValue,
+    comment: &str,
+) -> minisign::Result<String>
+    ensures written { IfOk result (λ t. string_bytes t
+        ≡ secret_key_text (Some comment.now) (unopened_record key.now)) }
+    ensures reads { LacksByte 10 comment.now → IfOk result (λ t. read_secret_key (string_bytes t)
+        ≡ Ok (unopened_record key.now)) }
+    ensures size { IfOk result (λ t. length (string_bytes t) ≡ length comment.now + 233) }
+    ensures refused { IfErr result (λ e. e ≡ Named OutOfMemory) }
+{
+    let sk = key_of(&key.bytes)?;
+    let text = sk.to_box(alloc, Some(comment))?;
+    Ok(text.into_string())
 }
 
 // Checks that Minisign reads the whole comment, and that the buffer is long enough for a file that is `more`

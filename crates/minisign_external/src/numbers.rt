@@ -2,11 +2,12 @@
 
 ghost use Rattle.std.specs.Prelude.{◌≡◌, ◌==◌, ◌<◌, IfSome, List, ℕ, find, length};
 ghost use Rattle.minisign_base.specs.Faults.{fault_row};
-ghost use Rattle.minisign_external.specs.Numbers.{IsMeaning, WritesCut, is_answer, fault_number};
+ghost use Rattle.minisign_external.specs.Numbers.{IsKindOf, IsMeaning, WritesCut, is_answer, fault_number};
+ghost use Rattle.minisign_external.specs.Numbers.{kind_number};
 ghost use Rattle.minisign_external.specs.Numbers.{misuse_number, misuse_text, refusal_number};
 
 use crate::state::{Misuse, Refusal};
-use minisign_base::{NamedFault, PError};
+use minisign_base::{ErrorKind, NamedFault, PError};
 
 /// The number of the answer yes of a signature scheme: the letters `yes`, each a byte. It is neither
 /// 0 nor 1, nor the number of an error.
@@ -69,7 +70,7 @@ impl<F: Numbered> Refusal<F> {
 
 impl Misuse {
     /// All kinds of API misuse.
-    pub const ALL: [Misuse; 19] = [
+    pub const ALL: [Misuse; 23] = [
         Misuse::NotBegun,
         Misuse::AlreadyAsked,
         Misuse::NotAsked,
@@ -89,10 +90,14 @@ impl Misuse {
         Misuse::PublicKeyNotRead,
         Misuse::EmptyPassword,
         Misuse::WeakSealing,
+        Misuse::ListNotVerified,
+        Misuse::OtherListText,
+        Misuse::BadHash,
+        Misuse::EntryNotRead,
     ];
 
     /// Returns the error number of the API misuse, which the table gives: 1 to 6, 9 to 15, 61 to 63, or 82 to
-    /// 84.
+    /// 88.
     pub fn number(&self) -> u32
         ensures { result ≡ misuse_number self.now }
     {
@@ -116,6 +121,10 @@ impl Misuse {
             Misuse::PublicKeyNotRead => 82,
             Misuse::EmptyPassword => 83,
             Misuse::WeakSealing => 84,
+            Misuse::ListNotVerified => 85,
+            Misuse::OtherListText => 86,
+            Misuse::BadHash => 87,
+            Misuse::EntryNotRead => 88,
         }
     }
 
@@ -124,33 +133,57 @@ impl Misuse {
         ensures { result.now ≡ misuse_text self.now }
     {
         match self {
-            Misuse::NotBegun => "the state was not initialized, or a verdict has finished it",
-            Misuse::AlreadyAsked => "minisign_ask or minisign_digest was already called",
-            Misuse::NotAsked => "minisign_ask and minisign_digest must be called first",
-            Misuse::BadAnswer => { "an answer must be MINISIGN_ANSWER_YES or MINISIGN_ANSWER_NO" },
-            Misuse::NoRoom => "the buffer is too small",
-            Misuse::BadLegacyFlag => "allow_legacy must be 0 or 1",
+            Misuse::NotBegun => {
+                "the state is not initialized, or its verdict was already returned: call minisign_init first"
+            }
+            Misuse::AlreadyAsked => {
+                "this call comes too late: minisign_ask or minisign_digest was already called for this state"
+            }
+            Misuse::NotAsked => {
+                "no verdict is possible yet: call minisign_ask and minisign_digest first"
+            }
+            Misuse::BadAnswer => {
+                "the result of an Ed25519 check must be MINISIGN_ANSWER_YES or MINISIGN_ANSWER_NO"
+            }
+            Misuse::NoRoom => "a buffer is too small for this call",
+            Misuse::BadLegacyFlag => "the parameter 'allow_legacy' must be 0 or 1",
             Misuse::BadComment => {
                 "a comment contains a line break, or the trusted comment begins or ends with white space"
             }
-            Misuse::BadPasswordFlag => "with_password must be 0, 1 or 2",
+            Misuse::BadPasswordFlag => "the parameter 'with_password' must be 0, 1 or 2",
             Misuse::UnreadableComment => {
                 "a comment is too long for Minisign, or contains a zero byte or a carriage return"
             }
-            Misuse::NotDue => "another call is due, or the arguments do not fit this call",
-            Misuse::BadOption => "each option of an installation must be 0 or 1",
+            Misuse::NotDue => {
+                "unexpected call or error number: minisign_install_due returns the step that is expected now"
+            }
+            Misuse::BadOption => {
+                "every option of an installation except 'numbering' must be 0 or 1"
+            }
             Misuse::BadNumbering => {
-                "numbering must be MINISIGN_NUMBERING_TIMESTAMP or MINISIGN_NUMBERING_VERSION"
+                "'numbering' must be MINISIGN_NUMBERING_TIMESTAMP or MINISIGN_NUMBERING_VERSION"
             }
-            Misuse::KeyNotOpened => "the secret key has not been opened",
-            Misuse::KeyNotRead => "the secret key has not been read",
-            Misuse::SignatureNotRead => "the signature has not been read",
-            Misuse::OtherSignatureText => "the signature was read from another text",
-            Misuse::PublicKeyNotRead => "the public key has not been read",
-            Misuse::EmptyPassword => "the password is empty",
+            Misuse::KeyNotOpened => {
+                "the secret key is not open: call minisign_open_sealed_key or minisign_open_unsealed_key first"
+            }
+            Misuse::KeyNotRead => "no secret key was read: call minisign_read_secret_key first",
+            Misuse::SignatureNotRead => {
+                "no signature was read, or it has no comments: call minisign_read_signature first"
+            }
+            Misuse::OtherSignatureText => {
+                "the signature was read from a different signature file than the one passed with it"
+            }
+            Misuse::PublicKeyNotRead => {
+                "no public key was read: call minisign_read_public_key first"
+            }
+            Misuse::EmptyPassword => "the password must not be empty",
             Misuse::WeakSealing => {
-                "the salt is all zeros, or a limit is below the minimum of Minisign"
+                "the salt is all zeros, or a scrypt limit is below Minisign's minimum"
             }
+            Misuse::ListNotVerified => "the list has not been verified",
+            Misuse::OtherListText => "the text is not the list that was verified",
+            Misuse::BadHash => "the hash function or the length of its digest is not accepted here",
+            Misuse::EntryNotRead => "the entry has not been read from a list",
         }
     }
 }
@@ -230,4 +263,46 @@ fn fault_of(number: u32) -> Option<NamedFault>
         .iter()
         .copied()
         .find(|fault| fault.number() == number)
+}
+
+/// The number of the kind of API misuse.
+pub const MISUSE_KIND: u32 = 1;
+
+/// Returns the number of a kind of errors: 2 to 12, in the order of `ErrorKind`.
+pub fn kind_number(kind: &ErrorKind) -> u32
+    ensures { result ≡ kind_number kind.now }
+{
+    match kind {
+        ErrorKind::Generate => 2,
+        ErrorKind::Sign => 3,
+        ErrorKind::Verify => 4,
+        ErrorKind::Io => 5,
+        ErrorKind::Misc => 6,
+        ErrorKind::Hash => 7,
+        ErrorKind::KDF => 8,
+        ErrorKind::RNG => 9,
+        ErrorKind::Encoding => 10,
+        ErrorKind::EncryptedKey => 11,
+        ErrorKind::OutOfMemory => 12,
+    }
+}
+
+/// Returns the number of the kind of the error that has this number: 1 for API misuse, otherwise that of
+/// `kind_number`. Returns 0 for 0 and for a number without a meaning.
+pub fn error_kind(number: u32) -> u32
+    ensures { IsKindOf number result }
+{
+    if number == 0 {
+        return 0;
+    }
+    if number == WEAK_ED25519 {
+        return kind_number(&ErrorKind::Verify);
+    }
+    if let Some(_misuse) = misuse_of(number) {
+        return MISUSE_KIND;
+    }
+    match fault_of(number) {
+        Some(fault) => kind_number(fault.kind()),
+        None => 0,
+    }
 }

@@ -25,7 +25,7 @@ use minisign_base::NamedFault;
 use minisign_hash::blake2b::Blake2b;
 
 // The mark of a signature that was read: the letters `minisigv`.
-const READ: u64 = 8531903963487693165;
+pub(crate) const READ: u64 = 8531903963487693165;
 
 /// A signature as its file contains it, 200 bytes with the layout of C. The mark and the digest are for
 /// `State::ask`; the other fields inform the caller too.

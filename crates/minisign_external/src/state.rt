@@ -7,6 +7,7 @@ ghost use Rattle.minisign_hash.specs.Blake2b.{blake2b_digest};
 ghost use Rattle.minisign_hash.specs.Fed.{IsFed, has_finalized, output_length};
 ghost use Rattle.minisign_external.specs.States.{HasToldDigest, IsBlank, IsFedState, IsMarkedFed};
 ghost use Rattle.minisign_external.specs.States.{IsMarkedTold, IsNotFed, KeepsAsked, fed_mark, is_asked};
+ghost use Rattle.minisign_external.specs.States.{is_asked_bare};
 ghost use Rattle.minisign_external.specs.States.{is_begun, no_questions};
 ghost use Rattle.minisign_external.specs.declared.state.Refusal.TheVariants.{Refused, WrongUse};
 
@@ -15,12 +16,15 @@ use minisign_hash::blake2b::Blake2b;
 use minisign_hash::blake2b::stored::StoredBlake2b;
 
 // The marks of a state that accepts data (the letters `minisign`), of one whose digest was returned
-// (`minissum`), and of questions that were asked (`minisask`).
+// (`minissum`), of questions that were asked (`minisask`), and of the question about a bare signature
+// (`minisbar`).
 pub(crate) const FED: u64 = 7955443211184269677;
 
 pub(crate) const TOLD: u64 = 7887337261936568685;
 
 pub(crate) const ASKED: u64 = 7742639332697991533;
+
+pub(crate) const BARE_ASKED: u64 = 8241977040894323053;
 
 /// A state, 512 bytes with the layout of C.
 #[repr(C)]
@@ -36,7 +40,8 @@ pub struct State {
 #[repr(C)]
 #[derive(Clone, Copy, Default)]
 pub(crate) struct Asked {
-    // `ASKED` if the questions were asked, otherwise anything else.
+    // `ASKED` if the questions were asked, `BARE_ASKED` if the one about a bare signature was, otherwise
+    // anything else.
     pub(crate) mark: u64,
     // 1 if the comment signature has its 64 bytes, otherwise 0.
     pub(crate) whole: u64,
@@ -69,46 +74,55 @@ pub struct Questions {
 /// A usage error of a state or of a call.
 #[derive(Clone, Copy, Debug, PartialEq, Eq)]
 pub enum Misuse {
-    /// The state was not initialized, or a verdict has finished it.
+    /// The state is not initialized, or its verdict was already returned.
     NotBegun,
-    /// `minisign_ask`, `minisign_install_ask` or `minisign_digest` was called already.
+    /// `minisign_ask`, `minisign_ask_bare` or `minisign_digest` was already called.
     AlreadyAsked,
-    /// `minisign_ask`, `minisign_install_ask` or `minisign_digest` was not called yet.
+    /// `minisign_ask`, `minisign_ask_bare` or `minisign_digest` was not called yet.
     NotAsked,
-    /// A result of a check is neither `MINISIGN_ANSWER_YES` nor `MINISIGN_ANSWER_NO`.
+    /// The result of an Ed25519 check is neither `MINISIGN_ANSWER_YES` nor `MINISIGN_ANSWER_NO`.
     BadAnswer,
-    /// A buffer is too short.
+    /// A buffer that was passed is too small.
     NoRoom,
-    /// `allow_legacy` is neither 0 nor 1.
+    /// The parameter `allow_legacy` is neither 0 nor 1.
     BadLegacyFlag,
-    /// This library would not read a comment back unchanged, for example because it contains a line
-    /// feed.
+    /// A comment would change when it is read back, because it contains a line feed, or begins or ends
+    /// with white space.
     BadComment,
-    /// `with_password` is not 0, 1 or 2.
+    /// The parameter `with_password` is not 0, 1 or 2.
     BadPasswordFlag,
-    /// This library would read a comment back, but Minisign would not, because it is too long or
-    /// contains a zero byte or a carriage return.
+    /// Minisign would not read a comment back, because it is too long, or contains a zero byte or a
+    /// carriage return.
     UnreadableComment,
-    /// The installation does not expect this call, or this error, at this point.
+    /// The installation expects a different call now, or this call cannot fail with this error.
     NotDue,
-    /// An option of an installation is neither 0 nor 1.
+    /// An option of an installation other than `numbering` is neither 0 nor 1.
     BadOption,
-    /// `numbering` is neither `MINISIGN_NUMBERING_TIMESTAMP` nor `MINISIGN_NUMBERING_VERSION`.
+    /// The option `numbering` is neither `MINISIGN_NUMBERING_TIMESTAMP` nor
+    /// `MINISIGN_NUMBERING_VERSION`.
     BadNumbering,
     /// The secret key was neither opened nor set by `minisign_take_secret_key`.
     KeyNotOpened,
-    /// The secret key that is to be opened was not read.
+    /// No secret key was read into the struct.
     KeyNotRead,
-    /// The signature was not read.
+    /// No signature was read into the struct, or it is a bare signature and the call needs comments.
     SignatureNotRead,
-    /// The signature was read from another signature file than the one that was passed.
+    /// The signature was read from a different signature file than the one that was passed with it.
     OtherSignatureText,
-    /// The public key was not read.
+    /// No public key was read into the struct.
     PublicKeyNotRead,
-    /// The password is empty, and `with_password` does not allow that.
+    /// The password is empty, and `with_password` does not allow an empty one.
     EmptyPassword,
-    /// The salt is all zeros, or a limit is below the minimum of Minisign.
+    /// The salt is all zeros, or a scrypt limit is below the minimum of Minisign.
     WeakSealing,
+    /// The list was not verified.
+    ListNotVerified,
+    /// The text is not the list that was verified.
+    OtherListText,
+    /// The hash function, or the length of its digest, is not one that this call accepts.
+    BadHash,
+    /// The entry was not read from a list.
+    EntryNotRead,
 }
 
 /// Why a call failed: API misuse, or an error, usually one of the library.
@@ -226,6 +240,13 @@ impl State {
         ensures { result ≡ is_asked self.now }
     {
         self.asked.mark == ASKED
+    }
+
+    // Returns true if the question about a bare signature was asked.
+    pub(crate) fn is_asked_bare(&self) -> bool
+        ensures { result ≡ is_asked_bare self.now }
+    {
+        self.asked.mark == BARE_ASKED
     }
 
     // Restores the hash of the data that the state was fed.

@@ -5,12 +5,15 @@ ghost use Rattle.std.specs.Prelude.{◌≡◌, ◌≤◌, ◌⊎◌, ℕ, List, 
 ghost use Rattle.std.specs.Prelude.{MatchResult};
 ghost use Rattle.std.specs.Prelude.{OnOk, OnErr, IfErr, IsOk, length, replicate};
 ghost use Rattle.std.specs.Option.{option_copied};
+ghost use Rattle.std.specs.Prelude.{take, drop};
+ghost use Rattle.std.specs.Int.{from_le_bytes, w64};
 ghost use Rattle.std.specs.Str.{IsUtf8};
+ghost use Rattle.minisign_base.specs.Limits.{sealing_limits};
 ghost use Rattle.minisign_base.specs.Fault.{Named};
 ghost use Rattle.minisign_base.specs.Steps.{without_value};
 ghost use Rattle.minisign_base.specs.declared.faults.NamedFault.TheVariants.{OutOfMemory};
 ghost use Rattle.minisign.specs.Sealing.{allowed_rows, opening_memory, opening_work, sealed_by_scrypt};
-ghost use Rattle.minisign.specs.Sealing.{wants_password};
+ghost use Rattle.minisign.specs.Sealing.{key_limits, wants_password};
 ghost use Rattle.minisign.specs.Records.{SecretKeyRecord};
 ghost use Rattle.minisign.specs.KeyTexts.{read_secret_key, secret_key_of_bytes};
 ghost use Rattle.minisign.specs.Texts.{and_then, map_ok};
@@ -23,16 +26,26 @@ ghost use Rattle.minisign_external.specs.SecretKeys.{makes_within};
 ghost use Rattle.minisign_external.specs.SecretKeys.{open_record, open_unsealed, open_within};
 ghost use Rattle.minisign_external.specs.SecretKeys.{opened_in_place, opened_or_kept, opened_sealed};
 ghost use Rattle.minisign_external.specs.SecretKeys.{opened_text, opened_unsealed, read_value, taken_key};
+ghost use Rattle.minisign_external.specs.SecretKeys.{sealed_within, tested_sealed};
 ghost use Rattle.minisign_external.specs.SecretKeys.{unopened_record, value_memory, with_refusal};
+ghost use Rattle.minisign_external.specs.ValueRecords.{told_unopened, unopened_in};
 
 use crate::secrets::SecretKeyValue;
 use crate::state::{Misuse, Refusal};
+use crate::value_records::array_of;
 use minisign::{PError, Result, SecretKey, clear_memory, read_secret_key};
 use minisign_base::NamedFault;
+use minisign_base::helpers::{load_u64_le, raw_scrypt_params};
 use std::alloc::Global;
 
 // The mark of a key that was read and is not opened yet: the letters `minisrec`.
 const READ: u64 = 7162256622418291053;
+
+// The greatest memory limit of a sealed (encrypted) key, in bytes, and the base-2 logarithm of the greatest
+// number of rows.
+const MOST_MEMORY: u64 = 1_073_741_824;
+
+const MOST_ROWS_LOG2: u8 = 20;
 
 // The key derivation of a sealed (encrypted) key: scrypt.
 const SCRYPT: [u8; 2] = [83, 99];
@@ -163,7 +176,7 @@ impl UnopenedKeyValue {
     }
 
     // Returns true if the key was read.
-    fn is_read(&self) -> bool
+    pub(crate) fn is_read(&self) -> bool
         ensures { result ≡ is_read self.now }
     {
         self.mark == READ
@@ -171,7 +184,7 @@ impl UnopenedKeyValue {
 }
 
 // Parses a key record of 158 bytes, which always succeeds.
-fn key_of(bytes: &[u8; 158]) -> Result<SecretKey>
+pub(crate) fn key_of(bytes: &[u8; 158]) -> Result<SecretKey>
     ensures { result ≡ Ok (secret_key_of_bytes bytes.now) }
 {
     SecretKey::from_bytes(bytes)
@@ -222,6 +235,97 @@ pub fn read_unopened_key(sk_text: &[u8], value: &mut UnopenedKeyValue) -> Result
             *value = UnopenedKeyValue::of_bytes(bytes);
             Ok(())
         }
+        Err(fault) => Err(fault),
+    }
+}
+
+/// Reads a secret key from its record, the first 158 bytes. Later bytes are ignored. The key can then be
+/// opened.
+///
+/// The only error is `RecordTooShort`, for fewer bytes. After an error `value` is unchanged. Does not
+/// allocate.
+pub fn read_unopened_record(record_bytes: &[u8], value: &mut UnopenedKeyValue) -> Result<()>
+    // On success, `value` holds the first 158 bytes and says how much work opening the key takes. If there
+    // are fewer bytes, the error is `RecordTooShort`, and `value` is unchanged.
+    ensures { (result, value.new) ≡ told_unopened (unopened_in record_bytes.now) value.old }
+{
+    if record_bytes.len() < 158 {
+        return Err(NamedFault::RecordTooShort.into());
+    }
+    let (bytes, _) = record_bytes.split_at(158);
+    *value = UnopenedKeyValue::of_bytes(array_of(bytes));
+    Ok(())
+}
+
+/// Makes all checks of an encrypted key that need no password, so that nobody is asked for the password of
+/// a key that cannot be decrypted.
+///
+/// The errors are, in this order: `KeyNotRead`; `KeyNotEncrypted`; `UnsupportedEncryptionAlgorithm`, if the
+/// key derivation is not scrypt; `ParametersTooHigh` or `InvalidParameters`, for the limits; `WorkTooHigh`,
+/// if more than `most_rows` rows are needed. Does not allocate.
+pub fn test_sealed_key(
+    unopened: &UnopenedKeyValue,
+    most_rows: u64,
+) -> std::result::Result<(), Refusal>
+    // The call succeeds exactly if the key was read and is encrypted with scrypt, with limits that are
+    // allowed and need at most `most_rows` rows. Otherwise the error is the first check that fails.
+    ensures { result ≡ tested_sealed unopened.now most_rows }
+{
+    if !unopened.is_read() {
+        return Err(Refusal::WrongUse(Misuse::KeyNotRead));
+    }
+    match test_within(unopened, most_rows) {
+        Ok(()) => Ok(()),
+        Err(fault) => Err(Refusal::Refused(fault)),
+    }
+}
+
+// Checks that the key is encrypted with scrypt, and that its limits are allowed and need at most
+// `most_rows` rows.
+fn test_within(unopened: &UnopenedKeyValue, most_rows: u64) -> Result<()>
+    ensures { result ≡ without_value (sealed_within (unopened_record unopened.now) most_rows) }
+{
+    let key = key_of(&unopened.bytes)?;
+    if !key.wants_password() {
+        return Err(NamedFault::KeyNotEncrypted.into());
+    }
+    if *key.key_derivation() != SCRYPT {
+        return Err(NamedFault::UnsupportedEncryptionAlgorithm.into());
+    }
+    test_limits(&unopened.bytes)?;
+    if !makes_within(&key, most_rows) {
+        return Err(NamedFault::WorkTooHigh.into());
+    }
+    Ok(())
+}
+
+// Checks that the limits of the key in these bytes are allowed.
+#[tactic(auto, unfolding(minisign::specs::Sealing::key_limits, minisign::specs::KeyTexts::secret_key_of_bytes))]
+fn test_limits(bytes: &[u8; 158]) -> Result<()>
+    ensures { result ≡ without_value (key_limits (secret_key_of_bytes bytes.now)) }
+{
+    test_sealing_limits(number_at(bytes, 46), number_at(bytes, 38))
+}
+
+// Returns the number in the 8 bytes from `at` on, little endian.
+fn number_at(bytes: &[u8; 158], at: usize) -> u64
+    requires { at ≤ 150 }
+    ensures { result ≡ from_le_bytes w64 (take 8 (drop at bytes.now)) }
+{
+    let (_, rest) = bytes.split_at(at);
+    let (number, _) = rest.split_at(8);
+    load_u64_le(&array_of::<8>(number))
+}
+
+// Checks that scrypt takes the parameters that these limits give, and that they are not too high.
+fn test_sealing_limits(memory_limit: u64, operations_limit: u64) -> Result<()>
+    ensures { result ≡ without_value (sealing_limits memory_limit operations_limit) }
+{
+    if memory_limit > MOST_MEMORY {
+        return Err(NamedFault::ParametersTooHigh.into());
+    }
+    match raw_scrypt_params(memory_limit, operations_limit, MOST_ROWS_LOG2) {
+        Ok(_) => Ok(()),
         Err(fault) => Err(fault),
     }
 }

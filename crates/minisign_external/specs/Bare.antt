@@ -1,0 +1,124 @@
+-- The state that is asked about a bare signature, one without comments: the only check that the caller's
+-- signature scheme must make, and the verdict that follows from its result.
+use Rattle.std.specs.Prelude.{◌≡◌, ⊤, ◌==◌, ◌&&◌, nat_le, ℕ, Bool, true, if◌then◌else◌, List, replicate}
+use Rattle.std.specs.Prelude.{None, Result, Ok, Err}
+use Rattle.minisign_base.specs.Fault.{Fault}
+use Rattle.minisign.specs.Records.{SignatureRecord, SignatureBoxRecord}
+use Rattle.minisign.specs.Acceptance.{Verifier, judge, judge_answers, judge_key, signed_bytes}
+use Rattle.minisign_external.specs.Numbers.{answer_yes, fault_number, is_answer, misuse_number}
+use Rattle.minisign_external.specs.PublicKeys.{key_of}
+use Rattle.minisign_external.specs.Signatures.{signature_of_value}
+use Rattle.minisign_external.specs.States.{asking_misuse, bare_asked_mark, decision, is_asked_bare}
+use Rattle.minisign_external.specs.States.{judged_before, may_ask, numbered, told_mark, verdict_misuse}
+use Rattle.minisign_external.specs.States.{with_public_key}
+use Rattle.minisign_external.specs.StrictCalls.{asked_number, asked_strictly}
+use Rattle.minisign_external.specs.StrictEd25519.{is_strict}
+use Rattle.minisign_external.specs.ValueRecords.{has_signature}
+use Rattle.minisign_external.specs.declared.public_keys.PublicKeyValue.{PublicKeyValue}
+use Rattle.minisign_external.specs.declared.signatures.SignatureValue.{SignatureValue}
+use Rattle.minisign_external.specs.declared.state.Misuse.TheVariants.{BadAnswer, BadLegacyFlag}
+use Rattle.minisign_external.specs.declared.state.Misuse.TheVariants.{SignatureNotRead}
+use Rattle.minisign_external.specs.declared.state.Refusal.{Refusal}
+use Rattle.minisign_external.specs.declared.state.Refusal.TheVariants.{WrongUse}
+use Rattle.minisign_external.specs.declared.state.State.{State}
+use Rattle.minisign_external.specs.declared.state.Questions.{Questions}
+
+-- == Verdicts ==
+
+-- The signature box of a bare signature.
+abbrev pub bare_box : SignatureRecord → SignatureBoxRecord
+bare_box s = record { signature = s; comments = None }
+
+-- The verdict on a key, a bare signature and a message: success if the signature is valid, or the first check
+-- that fails.
+abbrev pub bare_verdict_under : Verifier → PublicKeyValue → SignatureRecord → List ℕ → Bool → Result ⊤ Fault
+bare_verdict_under accepts v s message legacy = judge accepts (key_of v) (bare_box s) message legacy
+
+-- The result of the check: the scheme accepts the signature of the digest of the message, or of the message
+-- itself if the signature is a legacy one.
+abbrev pub AnswersBare : Verifier → PublicKeyValue → SignatureRecord → List ℕ → Bool → Type 0
+AnswersBare accepts v s message first = accepts (signed_bytes (bare_box s) message) v.key s.signature ≡ first
+
+-- == Asking ==
+
+-- The question about the key and the signature in a struct, without the digest. Everything about the
+-- comment is 0.
+abbrev pub bare_question : PublicKeyValue → SignatureValue → Questions
+bare_question v s = record {
+  public_key = v.key;
+  digest = replicate 64 0;
+  signature = s.signature;
+  comment_signature = replicate 64 0;
+  message_len = 0;
+  comment_offset = 0;
+  comment_len = 0;
+  legacy = s.legacy;
+  reserved = 0;
+}
+
+-- The state after it was asked about a bare signature.
+abbrev pub bare_asked : State → State
+bare_asked s = record s { asked = record { mark = bare_asked_mark; whole = 0 } }
+
+-- Asking goes on if the signature was read.
+abbrev pub with_signature : SignatureValue → Result Unit (Refusal Fault) → Result Unit (Refusal Fault)
+with_signature s more = if has_signature s then more else Err (WrongUse SignatureNotRead)
+
+-- The result of asking about a key and a signature, for any state. The errors are, in this order: the public
+-- key was not read; the signature was not read; those of checking the signature under the key.
+abbrev pub bare_asked_of : PublicKeyValue → SignatureValue → Bool → Result Unit (Refusal Fault)
+bare_asked_of v s legacy = with_public_key v (with_signature s
+    (judged_before (judge_key v.key_id (signature_of_value s) legacy) (Ok tt)))
+
+-- The result of asking. First, the state must accept data and must not have been asked before. It is false if
+-- the only problem is that the key or the signature is weak.
+abbrev pub bare_asking : State → PublicKeyValue → SignatureValue → Bool → Result Bool (Refusal Fault)
+bare_asking state v s legacy = asked_strictly (is_strict v.key s.signature)
+    (if may_ask state then bare_asked_of v s legacy else Err (WrongUse (asking_misuse state)))
+
+-- The result of asking, the state and the questions afterwards. They are unchanged unless the result is true.
+abbrev pub told_bare_asking : Result Bool (Refusal Fault) → PublicKeyValue → SignatureValue → State
+    → Questions
+    → Result Bool (Refusal Fault) × State × Questions
+told_bare_asking (Ok true) v s state q = (Ok true, bare_asked state, bare_question v s)
+told_bare_asking r v s state q = (r, state, q)
+
+-- The state was asked about this key and this signature, which has passed the checks that need no scheme.
+pub record HasAskedBare (state : State) (v : PublicKeyValue) (s : SignatureRecord) (legacy : Bool)
+    : Type 0 where
+  pub asked : state.asked.mark ≡ bare_asked_mark
+  pub judged : judge_key v.key_id s legacy ≡ Ok tt
+
+-- The verdict from the result of the check, and the state after it. If the state was asked about a bare
+-- signature and its digest was returned, the result decides, and the state is finished. Otherwise the call is
+-- API misuse, and the state is unchanged.
+abbrev pub told_bare_verdict : State → Bool → Result Unit (Refusal Fault) × State
+told_bare_verdict s first =
+    if is_asked_bare s && (s.mark == told_mark)
+    then (decision (judge_answers first true), record s { mark = 0 })
+    else (Err (WrongUse (verdict_misuse s)), s)
+
+-- == With numbers as results ==
+
+-- The result of asking as a number, the state and the questions afterwards. The flag must be 0 or 1; the
+-- other errors come after this one.
+abbrev pub numbered_asking : Result Bool (Refusal Fault) × State × Questions → ℕ × State × Questions
+numbered_asking (r, s, q) = (asked_number r, s, q)
+
+abbrev pub told_bare_asking_number : State → PublicKeyValue → SignatureValue → ℕ → Questions
+    → ℕ × State × Questions
+told_bare_asking_number state v s legacy q =
+    if nat_le 2 legacy then (misuse_number BadLegacyFlag, state, q) else
+    numbered_asking (told_bare_asking (bare_asking state v s (legacy == 1)) v s state q)
+
+-- The number of the verdict from a number, and the state after it. If that is not a result, the state is
+-- unchanged.
+abbrev pub told_bare_verdict_number : State → ℕ → ℕ × State
+told_bare_verdict_number s first =
+    if is_answer first then numbered (told_bare_verdict s (first == answer_yes)) else
+    (misuse_number BadAnswer, s)
+
+-- The number of a verdict: 0 for success, otherwise that of the first check that fails.
+abbrev pub judged_number : Result ⊤ Fault → ℕ
+judged_number (Ok t) = 0
+judged_number (Err e) = fault_number e

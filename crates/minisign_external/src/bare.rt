@@ -1,0 +1,131 @@
+//! Asks about a bare signature, one without comments, and returns the verdict, with the state that a
+//! program in another language holds. Nothing here allocates.
+
+ghost use Rattle.std.specs.Prelude.{◌≡◌, ℕ, Bool, List, Ok, true};
+ghost use Rattle.minisign.specs.Acceptance.{Verifier};
+ghost use Rattle.minisign.specs.Records.{SignatureRecord};
+ghost use Rattle.minisign_external.specs.Bare.{AnswersBare, HasAskedBare, bare_asked_of, bare_asking};
+ghost use Rattle.minisign_external.specs.Bare.{bare_question, bare_verdict_under, told_bare_asking};
+ghost use Rattle.minisign_external.specs.Bare.{told_bare_verdict};
+ghost use Rattle.minisign_external.specs.Signatures.{signature_of_value};
+ghost use Rattle.minisign_external.specs.States.{IsFedState, IsMarkedTold, decision};
+ghost use Rattle.minisign_external.specs.declared.public_keys.PublicKeyValue.{PublicKeyValue};
+
+use crate::public_keys::PublicKeyValue;
+use crate::signatures::SignatureValue;
+use crate::state::{Asked, BARE_ASKED, FED, Misuse, Questions, Refusal, State, TOLD};
+use crate::strict::is_strict;
+use crate::verdict::verdict;
+use minisign::judge_key;
+
+impl State {
+    /// Writes the only question that a scheme must answer to verify the data with a bare signature, or with
+    /// the signature of a text if its comments are not verified. Returns true if it asked, and false if the
+    /// only problem is that the key or the signature is weak.
+    ///
+    /// The errors are, in this order: the state was already asked or its digest returned (`AlreadyAsked`),
+    /// or it was never initialized (`NotBegun`); `PublicKeyNotRead`; `SignatureNotRead`; `DifferentKeyIds`;
+    /// `LegacyNotAccepted`. Does not allocate.
+    pub fn ask_bare(
+        &mut self,
+        key: &PublicKeyValue,
+        signature: &SignatureValue,
+        allow_legacy: bool,
+        questions: &mut Questions,
+    ) -> Result<bool, Refusal>
+        // If the result is true, `questions` holds the question about the key and the signature, with zeros
+        // in place of the digest and of everything about a comment, and the state records that it was asked
+        // about a bare signature. Otherwise the state and the questions are unchanged: the result is false
+        // if the key or the signature is weak, and before that the first error that applies.
+        ensures value { (result, self.new, questions.new) ≡ told_bare_asking
+            (bare_asking self.old key.now signature.now allow_legacy) key.now signature.now self.old
+            questions.old }
+
+        // The data that the state was fed is unchanged. If the result is true, the state was asked about this
+        // key and this signature, which has passed the checks that need no scheme.
+        ensures fed { (m : List ℕ) → IsFedState self.old m → IsFedState self.new m }
+        ensures asked { result ≡ Ok true
+            → HasAskedBare self.new key.now (signature_of_value signature.now) allow_legacy }
+    {
+        if self.mark != FED || self.is_asked() || self.is_asked_bare() {
+            return Err(Refusal::WrongUse(self.asking_misuse()));
+        }
+        test_bare(key, signature, allow_legacy)?;
+        if !is_strict(&key.key, &signature.signature) {
+            return Ok(false);
+        }
+        *questions = bare_question(key, signature);
+        self.asked = Asked {
+            mark: BARE_ASKED,
+            whole: 0,
+        };
+        Ok(true)
+    }
+
+    /// Returns the verdict on a bare signature from the scheme's result of the check, after the digest was
+    /// returned, and finishes the state.
+    ///
+    /// Succeeds exactly if the signature is valid for the data that the state was fed, under the scheme with
+    /// this result. It is API misuse if the state was not asked about a bare signature or the digest was not
+    /// returned; then the state is unchanged. Does not allocate.
+    pub fn bare_verdict(&mut self, first: bool) -> Result<(), Refusal>
+        // After a successful `ask_bare` and the digest, for every scheme and every message for which
+        // `first` is the result of the check: the result is the verdict on the key, the bare signature and
+        // the message.
+        ensures verdict { (v : PublicKeyValue) (s : SignatureRecord) (message : List ℕ) (legacy : Bool)
+            (accepts : Verifier) → HasAskedBare self.old v s legacy → IsMarkedTold self.old
+            → AnswersBare accepts v s message first
+            → result ≡ decision (bare_verdict_under accepts v s message legacy) }
+
+        // It is API misuse if the state was not asked about a bare signature or the digest was not
+        // returned; then the state is unchanged. Otherwise the state is finished, and the call succeeds
+        // exactly if `first` is true.
+        ensures value { (result, self.new) ≡ told_bare_verdict self.old first }
+    {
+        if self.mark != TOLD || !self.is_asked_bare() {
+            return Err(Refusal::WrongUse(self.verdict_misuse()));
+        }
+        self.mark = 0;
+        match verdict(true, first, true) {
+            Ok(()) => Ok(()),
+            Err(fault) => Err(Refusal::Refused(fault)),
+        }
+    }
+}
+
+// Returns what asking about a key and a signature would return for any state.
+fn test_bare(
+    key: &PublicKeyValue,
+    signature: &SignatureValue,
+    allow_legacy: bool,
+) -> Result<(), Refusal>
+    ensures { result ≡ bare_asked_of key.now signature.now allow_legacy }
+{
+    if !key.is_public_key() {
+        return Err(Refusal::WrongUse(Misuse::PublicKeyNotRead));
+    }
+    if !signature.has_signature() {
+        return Err(Refusal::WrongUse(Misuse::SignatureNotRead));
+    }
+    match judge_key(&key.key_id, &signature.signature(), allow_legacy) {
+        Ok(()) => Ok(()),
+        Err(fault) => Err(Refusal::Refused(fault)),
+    }
+}
+
+// Returns the question about a key and a signature.
+fn bare_question(key: &PublicKeyValue, signature: &SignatureValue) -> Questions
+    ensures { result ≡ bare_question key.now signature.now }
+{
+    Questions {
+        public_key: key.key,
+        digest: [0; 64],
+        signature: signature.signature,
+        comment_signature: [0; 64],
+        message_len: 0,
+        comment_offset: 0,
+        comment_len: 0,
+        legacy: u32::from(signature.legacy),
+        reserved: 0,
+    }
+}
