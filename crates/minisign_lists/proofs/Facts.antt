@@ -3,15 +3,16 @@
 -- (sha256sum, sha512sum, b2sum, cksum -a), OpenSSL 3.0 (dgst -r) and shasum 6.02.
 use Rattle.std.proofs.Common.{◌≡◌, refl, ℕ, true, false, List, [], ◌∷◌, ◌++◌, codes}
 use Rattle.std.specs.Prelude.{Option, Some, Result, Ok, Err}
-use Rattle.hex.specs.Hex.{decode_pairs}
+use Rattle.hex.specs.Hex.{decode_pairs, encode_with}
 use Rattle.minisign_lists.specs.Comments.{names_list}
 use Rattle.minisign_lists.specs.Digests.{ListedDigest}
 use Rattle.minisign_lists.specs.declared.digests.ListedDigest.TheVariants as listed
 use Rattle.minisign_lists.specs.Faults.{ListFault, MalformedLine}
 use Rattle.minisign_lists.specs.Lines.{Entry, read_line}
 use Rattle.minisign_lists.specs.declared.lines.LongDigest.TheVariants as long
-use Rattle.minisign_lists.specs.Lists.{read_list}
 use Rattle.minisign_lists.specs.Names.{is_name, is_path}
+use Rattle.minisign_lists.specs.Positions.{line_start}
+use Rattle.minisign_lists.specs.Writing.{written_line}
 
 -- FIPS 180-4, example of SHA-256.
 abbrev sha256_of_abc : List ℕ
@@ -158,3 +159,16 @@ named_list = refl
 pub other_named_list : names_list (codes "SHA256SUMS") (codes "timestamp:1700000000" ++ 9 ∷ codes "file:MALWARE" ++
     9 ∷ codes "file:SHA256SUMS") ≡ false
 other_named_list = refl
+
+-- The line that is written for a file, which is that of sha256sum --tag.
+pub written_line_of_sha256 : written_line (listed.Sha256 sha256_of_abc) (codes "a b") ≡
+    codes "SHA256 (a b) = " ++ (sha256_digits ++ 10 ∷ [])
+unfolding encode_with
+written_line_of_sha256 = refl
+
+-- The positions of lines.
+pub first_line_start : line_start 1 (codes "ab" ++ 10 ∷ codes "cd") ≡ 0
+first_line_start = refl
+
+pub second_line_start : line_start 2 (codes "ab" ++ 10 ∷ codes "cd") ≡ 3
+second_line_start = refl

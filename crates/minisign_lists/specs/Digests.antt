@@ -1,5 +1,5 @@
 -- The digests in a list: how hexadecimal digits encode them, and which data has them.
-use Rattle.std.specs.Prelude.{◌≡◌, ℕ, Bool, List, Option, option_map, bytes_eq}
+use Rattle.std.specs.Prelude.{ℕ, Bool, List, Option, option_map, bytes_eq}
 use Rattle.std.specs.Result.{result_ok}
 use Rattle.hex.specs.Hex.{decode_sized}
 use Rattle.sha2.specs.Sha256.{sha256}

@@ -1,6 +1,10 @@
 -- The errors of checking a file against a signed list, and results with these errors.
-use Rattle.std.specs.Prelude.{Result, Ok, Err}
-use Rattle.minisign_base.specs.Fault.{Fault}
+use Rattle.std.specs.Prelude.{Bool, ℕ, ◌==◌, codes, false, true, Option, Some, None, Result, Ok, Err}
+use Rattle.std.specs.Prelude.{if◌then◌else◌}
+use Rattle.minisign_base.specs.Fault.{Fault, kind_of, text_of}
+use Rattle.minisign_base.specs.Faults.{FaultRow, row}
+use Rattle.minisign_base.specs.declared.errors.ErrorKind.TheVariants.{Misc, Verify}
+use Rattle.minisign_external.specs.Numbers.{fault_number}
 pub use Rattle.minisign_lists.specs.declared.faults.ListFault.{ListFault}
 pub use Rattle.minisign_lists.specs.declared.faults.ListFault.TheVariants.{Library, OtherList, BadName}
 pub use Rattle.minisign_lists.specs.declared.faults.ListFault.TheVariants.{MalformedLine, NotListed}
@@ -25,3 +29,38 @@ map_ok f (Err e) = Err e
 abbrev pub checked : {V : Type 0} → Result V ListFault → Result Unit ListFault
 checked (Ok v) = Ok tt
 checked (Err e) = Err e
+
+-- The number, the kind and the text of each error.
+abbrev pub list_row : ListFault → FaultRow
+list_row (Library fault) = row (fault_number fault) (kind_of fault) (text_of fault)
+list_row OtherList = row 89 Verify (codes "the trusted comment does not name the list")
+list_row BadName = row 90 Misc (codes "no list can contain this name")
+list_row (MalformedLine line) = row 91 Misc (codes "a line of the list is malformed")
+list_row NotListed = row 92 Verify (codes "no line of the list has this name")
+list_row (ListedTwice line) = row 93 Verify (codes "two lines of the list have this name")
+list_row DigestMismatch = row 94 Verify (codes "the data does not have the listed digest")
+
+-- The number of an error.
+abbrev pub list_number : ListFault → ℕ
+list_number e = (list_row e).number
+
+-- The error of lists with this number, with 0 as its line.
+abbrev pub list_fault_numbered : ℕ → Option ListFault
+list_fault_numbered n =
+    if n == 89 then Some OtherList
+    else if n == 90 then Some BadName
+    else if n == 91 then Some (MalformedLine 0)
+    else if n == 92 then Some NotListed
+    else if n == 93 then Some (ListedTwice 0)
+    else if n == 94 then Some DigestMismatch else None
+
+-- The error is one of lists, and none of the library.
+abbrev pub is_own : ListFault → Bool
+is_own (Library fault) = false
+is_own e = true
+
+-- The number of the line at fault, or 0 if no line is at fault.
+abbrev pub with_line : ListFault → ℕ
+with_line (MalformedLine line) = line
+with_line (ListedTwice line) = line
+with_line e = 0

@@ -7,3 +7,7 @@ pub mod Lists
 pub mod Comments
 pub mod Verdicts
 pub mod Pieces
+pub mod Numbers
+pub mod Positions
+pub mod Values
+pub mod Writing

@@ -1,5 +1,5 @@
 -- The entries of a list, and the only entry of a name.
-use Rattle.std.specs.Prelude.{◌≡◌, ◌+◌, true, false, ℕ, Bool, List, [], ◌∷◌, ◌++◌, Option, Result, Ok}
+use Rattle.std.specs.Prelude.{◌≡◌, ◌+◌, true, false, ℕ, Bool, List, [], ◌∷◌, ◌++◌, Result, Ok}
 use Rattle.std.specs.Prelude.{Err}
 use Rattle.std.specs.Prelude.{bytes_eq, filter, option_to_list, if◌then◌else◌}
 use Rattle.std.specs.List.{list_any}

@@ -2,7 +2,7 @@
 use Rattle.std.specs.Prelude.{◌≡◌, ◌==◌, ⊤, ℕ, Bool, ◌+◌, ◌-◌, ◌≤◌, ◌^◌, false, List, length, filter}
 use Rattle.std.specs.Prelude.{Result, Ok, Err, if◌then◌else◌}
 use Rattle.std.specs.Str.Lines.{lines}
-use Rattle.sha2.specs.Hashers.{Holds256, Holds512}
+use Rattle.minisign_sha2.specs.Hashers.{IsFed256, IsFed512}
 use Rattle.minisign_hash.specs.Fed.{IsFed, has_finalized, output_length}
 use Rattle.minisign_lists.specs.Digests.{ListedDigest, has_digest}
 use Rattle.minisign_lists.specs.declared.digests.ListedDigest.TheVariants as listed
@@ -17,8 +17,8 @@ use Rattle.minisign_lists.specs.declared.verifying.ListedFile.{ListedFile}
 -- The check compares with this digest and was fed this data. Callers use this definition and
 -- the next one without unfolding them.
 unfoldable pub IsFedCheck : FileCheck → ListedDigest → List ℕ → Type 0
-IsFedCheck (check.Sha256 hasher digest) d m = (d ≡ listed.Sha256 digest) × Holds256 hasher m
-IsFedCheck (check.Sha512 hasher digest) d m = (d ≡ listed.Sha512 digest) × Holds512 hasher m
+IsFedCheck (check.Sha256 hasher digest) d m = (d ≡ listed.Sha256 digest) × IsFed256 hasher m
+IsFedCheck (check.Sha512 hasher digest) d m = (d ≡ listed.Sha512 digest) × IsFed512 hasher m
 IsFedCheck (check.Blake2b hasher digest) d m = (d ≡ listed.Blake2b digest) × IsFed hasher m
 
 -- The check accepts more data.

@@ -6,27 +6,27 @@ ghost use Rattle.std.specs.List.{slice_split};
 ghost use Rattle.minisign_lists.specs.Comments.{file_label, has_label, is_field_of, is_tab, names_list};
 
 // Returns true if a field begins with `file:`.
-fn has_label(field: &str) -> bool
+fn has_label(field: &[u8]) -> bool
     ensures { result ≡ has_label field.now }
 {
-    field.as_bytes().starts_with(b"file:")
+    field.starts_with(b"file:")
 }
 
 // Splits a text at its first tab.
-fn split_field(text: &str) -> Option<(&str, &str)>
+fn split_field(text: &[u8]) -> Option<(&[u8], &[u8])>
     ensures some { IfSome result
         (λ p. slice_split is_tab text.now ≡ p.0.now ∷ slice_split is_tab p.1.now) }
     ensures shorter { IfSome result (λ p. length p.1.now < length text.now) }
     ensures none { IfNone result (slice_split is_tab text.now ≡ text.now ∷ []) }
 {
-    match text.split_once('\t') {
-        Some((field, more)) => Some((field, more)),
+    match text.iter().position(|&letter| letter == b'\t') {
+        Some(at) => Some((&text[..at], &text[at + 1..])),
         None => None,
     }
 }
 
 // Returns the first field of a comment that begins with `file:`.
-fn file_field(comment: &str) -> Option<&str>
+fn file_field(comment: &[u8]) -> Option<&[u8]>
     ensures { option_copied result ≡ find has_label (slice_split is_tab comment.now) }
 {
     let mut rest = comment;
@@ -39,6 +39,19 @@ fn file_field(comment: &str) -> Option<&str>
     if has_label(rest) { Some(rest) } else { None }
 }
 
+// Returns true if the first `file:` field of the trusted comment has exactly this name.
+pub(crate) fn field_names_list(comment: &[u8], list_name: &[u8]) -> bool
+    ensures { result ≡ names_list list_name.now comment.now }
+{
+    match file_field(comment) {
+        Some(field) => match field.strip_prefix(b"file:") {
+            Some(name) => name == list_name,
+            None => false,
+        },
+        None => false,
+    }
+}
+
 /// Returns true if the first `file:` field of the trusted comment has exactly this name. Fields are
 /// separated by tabs. Signing writes the last part of the signed path into this field. A signed
 /// text that only looks like a list of files has another name there, or none.
@@ -46,11 +59,5 @@ pub fn names_list(comment: &str, list_name: &str) -> bool
     // The result is true exactly if the first `file:` field of the comment has exactly this name.
     ensures { result ≡ names_list list_name.now comment.now }
 {
-    match file_field(comment) {
-        Some(field) => match field.as_bytes().strip_prefix(b"file:") {
-            Some(name) => name == list_name.as_bytes(),
-            None => false,
-        },
-        None => false,
-    }
+    field_names_list(comment.as_bytes(), list_name.as_bytes())
 }

@@ -6,7 +6,7 @@ ghost use Rattle.minisign_lists.specs.Pieces.{IsFedCheck, IsUsable};
 
 use hex::decode_to_slice;
 use minisign_hash::blake2b::Blake2b;
-use sha2::Digest;
+use minisign_sha2::{Sha256, Sha512};
 
 /// The hash function of a digest.
 #[derive(Clone, Copy, Debug, PartialEq, Eq)]
@@ -34,9 +34,9 @@ pub enum ListedDigest {
 #[derive(Drop)]
 pub enum FileCheck {
     /// A hasher and a digest of SHA-256.
-    Sha256(sha2::Sha256, [u8; 32]),
+    Sha256(Sha256, [u8; 32]),
     /// A hasher and a digest of SHA-512.
-    Sha512(sha2::Sha512, [u8; 64]),
+    Sha512(Sha512, [u8; 64]),
     /// A hasher and a digest of BLAKE2b.
     Blake2b(Blake2b, [u8; 64]),
 }
@@ -92,8 +92,8 @@ impl FileCheck {
         ensures usable { IsUsable result }
     {
         match digest {
-            ListedDigest::Sha256(bytes) => FileCheck::Sha256(sha2::Sha256::new(), bytes),
-            ListedDigest::Sha512(bytes) => FileCheck::Sha512(sha2::Sha512::new(), bytes),
+            ListedDigest::Sha256(bytes) => FileCheck::Sha256(Sha256::new(), bytes),
+            ListedDigest::Sha512(bytes) => FileCheck::Sha512(Sha512::new(), bytes),
             ListedDigest::Blake2b(bytes) => FileCheck::Blake2b(Blake2b::new(64), bytes),
         }
     }

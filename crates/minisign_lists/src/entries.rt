@@ -8,6 +8,7 @@ ghost use Rattle.std.specs.Str.Lines.{lines, strip_carriage_return};
 ghost use Rattle.minisign_lists.specs.Faults.{map_ok};
 ghost use Rattle.minisign_lists.specs.Lists.{read_list};
 ghost use Rattle.minisign_lists.specs.Pieces.{IsNumbered, ahead, is_feed, left};
+ghost use Rattle.minisign_lists.specs.Positions.{after_line};
 
 use crate::faults::Result;
 use crate::lines::{EntryView, LongDigest, read_line};
@@ -61,8 +62,9 @@ impl<'a> Entries<'a> {
 }
 
 // Splits off the first line, without its line ending.
-fn next_line(text: &[u8]) -> Option<(&[u8], &[u8])>
+pub(crate) fn next_line(text: &[u8]) -> Option<(&[u8], &[u8])>
     ensures some { IfSome result (λ p. lines text.now ≡ p.0.now ∷ lines p.1.now) }
+    ensures rest { IfSome result (λ p. p.1.now ≡ after_line text.now) }
     ensures shorter { IfSome result (λ p. length p.1.now < length text.now) }
     ensures none { IfNone result (lines text.now ≡ []) }
 {
@@ -75,12 +77,24 @@ fn next_line(text: &[u8]) -> Option<(&[u8], &[u8])>
     }
 }
 
+// Returns the text after its first line feed, or nothing if there is no line feed.
+pub(crate) fn after_line(text: &[u8]) -> &[u8]
+    ensures { result.now ≡ after_line text.now }
+{
+    match split_line(text) {
+        Some((_, more)) => more,
+        None => &[],
+    }
+}
+
 // Splits a text at its first line feed.
 fn split_line(text: &[u8]) -> Option<(&[u8], &[u8])>
     ensures some { IfSome result
         (λ p. slice_split is_feed text.now ≡ p.0.now ∷ slice_split is_feed p.1.now) }
+    ensures rest { IfSome result (λ p. p.1.now ≡ after_line text.now) }
     ensures shorter { IfSome result (λ p. length p.1.now < length text.now) }
     ensures none { IfNone result (slice_split is_feed text.now ≡ text.now ∷ []) }
+    ensures last { IfNone result (after_line text.now ≡ []) }
 {
     match text.iter().position(|&letter| letter == b'\n') {
         Some(at) => Some((&text[..at], &text[at + 1..])),

@@ -1,11 +1,17 @@
-//! The errors of checking a file against a signed list.
+//! The errors of checking a file against a signed list. None of these functions allocates.
 
-ghost use Rattle.std.specs.Prelude.{◌≡◌};
-ghost use Rattle.minisign_lists.specs.Faults.{Library};
+ghost use Rattle.std.specs.Prelude.{◌≡◌, ◌<◌, Some, true, IfOk, MatchResult, length};
+ghost use Rattle.minisign_base.specs.Fault.{Named};
+ghost use Rattle.minisign_base.specs.Faults.{row};
+ghost use Rattle.minisign_lists.specs.Faults.{Library, is_own, list_fault_numbered, list_number};
+ghost use Rattle.minisign_lists.specs.Faults.{list_row, with_line};
 
-use minisign_base::PError;
+use minisign_base::ErrorKind::{self, Misc, Verify};
+use minisign_base::{NamedFault, PError};
+use minisign_external::numbers::Numbered;
+use std::fmt;
 
-/// The reason for which a file is rejected.
+/// The reason for which a file is rejected. `Display` writes the text.
 #[derive(Debug, Drop)]
 pub enum ListFault {
     /// An error of the library: the public key, the signature, or the verdict on the list.
@@ -27,11 +33,110 @@ pub enum ListFault {
 /// The result of a call of this crate.
 pub type Result<T> = std::result::Result<T, ListFault>;
 
+impl ListFault {
+    /// What the error concerns.
+    pub fn kind(&self) -> &ErrorKind
+        // The result is the kind that the table gives for an error of lists, and for an error of the library
+        // that error's own kind.
+        ensures { result.now ≡ (list_row self.now).kind }
+    {
+        match self.row() {
+            Ok((_, kind, _)) => kind,
+            Err(fault) => fault.kind(),
+        }
+    }
+
+    /// Returns the number of the line at fault, or 0 if no line is at fault.
+    pub fn line(&self) -> u64
+        // The result is the number of the malformed line, or of the second line with the name. For every
+        // other error it is 0.
+        ensures { result ≡ with_line self.now }
+    {
+        match self {
+            ListFault::MalformedLine { line } => *line,
+            ListFault::ListedTwice { line } => *line,
+            _ => 0,
+        }
+    }
+
+    /// Returns the error of lists that has this number, with 0 as its line.
+    pub fn of_number(number: u32) -> Option<ListFault>
+        // The result is the error of lists with this number, if there is one.
+        ensures { result ≡ list_fault_numbered number }
+    {
+        use ListFault::*;
+        Some(match number {
+            89 => OtherList,
+            90 => BadName,
+            91 => MalformedLine { line: 0 },
+            92 => NotListed,
+            93 => ListedTwice { line: 0 },
+            94 => DigestMismatch,
+            _ => return None,
+        })
+    }
+
+    /// Returns the number, the kind and the text of an error of lists, and for an error of the
+    /// library that error.
+    pub fn row(&self) -> std::result::Result<&'static (u32, ErrorKind, &'static str), &PError>
+        ensures row { MatchResult result
+            (λ r. (is_own self.now ≡ true) × (row r.now.0 r.now.1 r.now.2.now ≡ list_row self.now))
+            (λ fault. self.now ≡ Library fault.now) }
+        ensures short { IfOk result (λ r. length r.now.2.now < 128) }
+    {
+        use ListFault::*;
+        Ok(match self {
+            Library(fault) => return Err(fault),
+            OtherList => &(89, Verify, "the trusted comment does not name the list"),
+            BadName => &(90, Misc, "no list can contain this name"),
+            MalformedLine { line: _ } => &(91, Misc, "a line of the list is malformed"),
+            NotListed => &(92, Verify, "no line of the list has this name"),
+            ListedTwice { line: _ } => &(93, Verify, "two lines of the list have this name"),
+            DigestMismatch => &(94, Verify, "the data does not have the listed digest"),
+        })
+    }
+}
+
+/// Returns the number that the table gives for an error of lists, and for an error of the library
+/// that error's own number.
+impl Numbered for ListFault {
+    ghost number_of = { list_number };
+
+    fn number(&self) -> u32 {
+        match self.row() {
+            Ok((number, _, _)) => *number,
+            Err(fault) => fault.number(),
+        }
+    }
+}
+
+/// Writes the text that the table gives for an error of lists, and for an error of the library that
+/// error's own text.
+impl fmt::Display for ListFault {
+    ghost output = { λ e. Some (list_row e).summary };
+
+    fn fmt<W: fmt::Write>(&self, f: &mut fmt::Formatter<W>) -> fmt::Result {
+        match self.row() {
+            Ok((_, _, text)) => f.write_str(text),
+            Err(fault) => fault.fmt(f),
+        }
+    }
+}
+
 /// Wraps an error of the library: the result is `Library` with this error.
 impl From<PError> for ListFault {
     ghost from_gives = { λ e f. f ≡ Library e };
 
     fn from(fault: PError) -> ListFault {
         ListFault::Library(fault)
+    }
+}
+
+/// Wraps a named error of the library: the result is `Library` with this error.
+impl From<NamedFault> for ListFault {
+    ghost from_gives = { λ e f. f ≡ Library (Named e) };
+
+    fn from(fault: NamedFault) -> ListFault {
+        ListFault::Library(fault.into())
     }
 }

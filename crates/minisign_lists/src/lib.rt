@@ -13,7 +13,9 @@ pub mod faults;
 pub mod finding;
 pub mod lines;
 pub mod names;
+pub mod values;
 pub mod verifying;
+pub mod writing;
 
 pub use comments::names_list;
 pub use digests::{Algorithm, FileCheck, ListedDigest};

@@ -74,6 +74,17 @@ impl<'a> Model for EntryView<'a> {
 }
 
 impl Algorithm {
+    // Returns the number of bytes of a digest.
+    pub(crate) fn size(self) -> usize
+        ensures { result + result ≡ digit_count self }
+    {
+        match self {
+            Algorithm::Sha256 => 32,
+            Algorithm::Sha512 => 64,
+            Algorithm::Blake2b => 64,
+        }
+    }
+
     // Returns the number of hexadecimal digits of a digest.
     pub(crate) fn digit_count(self) -> usize
         ensures { result ≡ digit_count self }

@@ -2,14 +2,12 @@
 use Rattle.std.specs.Prelude.{find}
 use Rattle.std.specs.List.{slice_split}
 use Rattle.std.proofs.Common.{◌≡◌, length}
-use denote.Text.{Utf8}
-use denote.Shadow.{shadow}
 use Rattle.minisign_lists.specs.Comments.{has_label, is_tab}
 use Rattle.minisign_lists.proofs.comments.file_field.Given as goal
 
 abbrev pub invariant-fields : goal.invariant-fields
-invariant-fields l = shadow (Utf8 l.rest)
-    × (find has_label (slice_split is_tab l.rest) ≡ find has_label (slice_split is_tab l.fn.comment))
+invariant-fields l =
+    find has_label (slice_split is_tab l.rest) ≡ find has_label (slice_split is_tab l.fn.comment)
 
 abbrev pub decreases-fields : goal.decreases-fields
 decreases-fields l = length l.rest

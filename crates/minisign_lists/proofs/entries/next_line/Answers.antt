@@ -1,5 +1,5 @@
 -- Proves the goals of `next_line` that the prover leaves open.
-use Rattle.std.proofs.Common.{◌≡◌, ◌∙◌, ◌∷◌, ◌<◌, ◌==◌, ℕ, List, [], false, ap, arith, length, cond, refl}
+use Rattle.std.proofs.Common.{◌≡◌, ◌∙◌, ◌∷◌, ◌<◌, ℕ, List, [], ap, arith, length, cond, refl}
 use Rattle.std.proofs.Common.{rules}
 use Rattle.std.proofs.lemmas.Bool.{ne_eqb}
 use Rattle.std.proofs.lemmas.List.Splits.{length-slice_split}

@@ -1,9 +1,8 @@
 -- Proves the goals of `split_part` that the prover leaves open.
-use Rattle.std.proofs.Common.{◌≡◌, ◌+◌, ◌<◌, ◌∙◌, length, take, drop, ap, sym, arith, rules}
+use Rattle.std.proofs.Common.{◌+◌, ◌<◌, length, arith, rules}
 use Rattle.std.proofs.lemmas.List.Sums.{position_or_len_is, fails_before_first}
 use Rattle.std.proofs.lemmas.List.{take_rest}
 use Rattle.std.proofs.lemmas.List.Splits.{slice_split_first, slice_split_none}
-use Rattle.std.specs.List.{position_or_len}
 use Rattle.minisign_lists.specs.Names.{is_slash}
 use Rattle.minisign_lists.proofs.names.split_part.Goals as goal
 

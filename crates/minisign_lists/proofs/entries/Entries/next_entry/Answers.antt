@@ -1,5 +1,5 @@
 -- Proves the goal of `Entries::next_entry` that the prover leaves open.
-use Rattle.std.specs.Prelude.{Option, Some, Ok}
+use Rattle.std.specs.Prelude.{Some, Ok}
 use Rattle.std.proofs.Common.{◌≡◌, ◌∙◌, ◌+◌, ◌∷◌, ℕ, List, refl, rules, sym}
 use Rattle.minisign_lists.specs.Faults.{map_ok}
 use Rattle.minisign_lists.specs.Lines.{Entry, LongDigest, read_line}

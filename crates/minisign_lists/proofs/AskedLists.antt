@@ -1,0 +1,139 @@
+-- Lemmas on asking about a list, and on its verdict.
+use Rattle.std.proofs.Common.{◌≡◌, ◌∙◌, ◌==◌, ◌+◌, ◌≤◌, ◌++◌, ℕ, Bool, true, false, if◌then◌else◌, List, []}
+use Rattle.std.proofs.Common.{Option, Some, None, Result, Ok, Err, length, take, drop, ap, sym, refl, arith}
+use Rattle.std.proofs.Common.{nat_le, ◌&&◌, length-append}
+use Rattle.std.specs.Prelude.{⊤}
+use Rattle.std.proofs.lemmas.Bool.{leb-true}
+use Rattle.std.proofs.lemmas.List.{drop-take, drop_at, length-take-le}
+use Rattle.minisign_base.specs.Fault.{Fault}
+use Rattle.minisign.specs.Acceptance.{Verifier, judge_answers, judge_key}
+use Rattle.minisign.specs.SignatureText.{SignatureTextRecord}
+use Rattle.minisign.specs.Texts as texts
+use Rattle.minisign_external.specs.PublicKeys.{is_public_key}
+use Rattle.minisign_external.specs.Questions.{Answers, has_whole_signature, read_under}
+use Rattle.minisign_external.specs.Signatures.{IsReadFrom, comment_of, signature_of_value}
+use Rattle.minisign_external.specs.States.{AreAsked, IsBlank, IsFedState, asked_of, asked_under}
+use Rattle.minisign_external.specs.States.{asking_misuse}
+use Rattle.minisign_external.specs.States.{asking_result, asking_under, judged_before, may_ask, placed_before}
+use Rattle.minisign_external.specs.States.{room_for, with_public_key}
+use Rattle.minisign_external.specs.StrictCalls.{asked_strictly}
+use Rattle.minisign_external.specs.declared.public_keys.PublicKeyValue.{PublicKeyValue}
+use Rattle.minisign_external.specs.declared.signatures.SignatureValue.{SignatureValue}
+use Rattle.minisign_external.specs.declared.state.Misuse.{Misuse}
+use Rattle.minisign_external.specs.declared.state.Misuse.TheVariants.{NoRoom, PublicKeyNotRead}
+use Rattle.minisign_external.specs.declared.state.Questions.{Questions}
+use Rattle.minisign_external.specs.declared.state.Refusal.{Refusal}
+use Rattle.minisign_external.specs.declared.state.Refusal.TheVariants.{WrongUse}
+use Rattle.minisign_external.specs.declared.state.State.{State}
+use Rattle.minisign_external.proofs.Laws.{decided}
+use Rattle.minisign_lists.specs.Comments.{names_list}
+use Rattle.minisign_lists.specs.Faults.{ListFault, OtherList, and_then, of_library}
+use Rattle.minisign_lists.specs.Values.{HasAskedList, asked_list, given_list, judged_list, list_verdict_under}
+use Rattle.minisign_lists.specs.Values.{named_number, told_list_verdict}
+use Rattle.minisign_lists.specs.Verdicts.{check_list_name}
+use Rattle.minisign_lists.specs.declared.values.ListValue.{ListValue}
+
+-- == A new state ==
+
+module _ (s : State) (fed : IsFedState s []) (blank : IsBlank s) where
+  may : may_ask s ≡ true
+  may = rw (fed.mark, blank.asked) refl
+
+  pub asks : (v : PublicKeyValue) (signature : SignatureValue) (text : List ℕ) (room : ℕ)
+      → asking_result s v signature text false room ≡ asked_of v signature text false room
+  asks v signature text room =
+      ap (λ (b : Bool). if b then asked_of v signature text false room else Err (WrongUse
+      (asking_misuse s))) may
+
+  pub asks_under : (v : PublicKeyValue) (text : List ℕ) (room : ℕ)
+      → asking_under s v text false room ≡ with_public_key v (asked_under (read_under v false text) room)
+  asks_under v text room =
+      ap (λ (b : Bool). if b then with_public_key v (asked_under (read_under v false text) room)
+      else Err (WrongUse (asking_misuse s))) may
+
+-- == The room for the message ==
+
+fits : (s b : Bool) → asked_strictly s (if b then Ok tt else Err (WrongUse NoRoom)) ≡ Ok true → b ≡ true
+fits s true h = refl
+fits s false h = cc h
+
+has_room : (s p : Bool) (c : Result (List ℕ) Misuse) (j : Result ⊤ Fault) (n room : ℕ)
+    → asked_strictly s (if p then placed_before c (judged_before j (room_for n room))
+    else Err (WrongUse PublicKeyNotRead)) ≡ Ok true
+    → 64 + n ≤ room
+has_room s true (Ok c) (Ok j) n room h = leb-true _ _ (fits s (nat_le (64 + n) room) h)
+has_room s true (Ok c) (Err e) n room h = cc h
+has_room s true (Err m) j n room h = cc h
+has_room s false c j n room h = cc h
+
+-- If asking succeeds, the buffer has room for the message.
+pub roomy : (s : Bool) (v : PublicKeyValue) (signature : SignatureValue) (text : List ℕ) (room : ℕ)
+    → asked_strictly s (asked_of v signature text false room) ≡ Ok true → 64 + signature.comment_len ≤ room
+roomy s v signature text room h =
+    has_room s (is_public_key v) (comment_of signature text)
+    (judge_key v.key_id (signature_of_value signature) false) signature.comment_len room h
+
+-- == The trusted comment in the message ==
+
+-- The bytes after the data signature are the trusted comment.
+pub comment_after : (s : SignatureValue) (text : List ℕ) (t : SignatureTextRecord) → IsReadFrom s text t
+    → (q : Questions) (v : PublicKeyValue) (message : List ℕ) → AreAsked q message v t
+    → take s.comment_len (drop 64 message) ≡ t.comments.trusted
+comment_after s text t from q v message asked =
+    let trusted : List ℕ = t.comments.trusted in
+    let signature : List ℕ = t.signature.signature in
+    let len : s.comment_len ≡ length trusted = ap (λ (x : SignatureValue). x.comment_len) from.value in
+    let many : q.message_len ≡ 64 + length trusted = ap (λ (x : Questions). x.message_len) asked.0 in
+    let whole : take (64 + length trusted) message ≡ signature ++ trusted =
+    ap (λ (n : ℕ). take n message) (sym many) ∙ asked.1.message in
+    let taken : length (take (64 + length trusted) message) ≡ 64 + length trusted =
+    length-take-le (64 + length trusted) message (omega (arith, many, asked.1.fits)) in
+    let both : length (take (64 + length trusted) message) ≡ length signature + length trusted =
+    ap length whole ∙ length-append signature trusted in
+    let size : length signature ≡ 64 = omega (arith, taken, both) in
+    ap (λ (n : ℕ). take n (drop 64 message)) len
+    ∙ sym (drop-take 64 (length trusted) message)
+    ∙ ap (drop 64) whole
+    ∙ drop_at signature trusted 64 size
+
+-- == The verdict ==
+
+one_or_zero : (b : Bool) → ((if b then 1 else 0) == 1) ≡ b
+one_or_zero true = refl
+one_or_zero false = refl
+
+abbrev named : Bool → Result ⊤ ListFault
+named b = if b then Ok tt else Err OtherList
+
+named_as : (b : Bool) (trusted : List ℕ) (l : ListValue)
+    → (judged_list (named ((if b then 1 else 0) == 1)) l).0
+    ≡ given_list (and_then (named b) (λ _. Ok trusted))
+named_as true trusted l = refl
+named_as false trusted l = refl
+
+judged_as : (j : Result ⊤ Fault) (name : Option (List ℕ)) (trusted : List ℕ) (l : ListValue)
+    → (judged_list (and_then (of_library j) (λ _. named (named_number name trusted == 1))) l).0
+    ≡ given_list (and_then (of_library (texts.and_then j (λ _. Ok trusted)))
+    (λ comment. and_then (check_list_name name comment) (λ _. Ok comment)))
+judged_as (Err e) name trusted l = refl
+judged_as (Ok t) None trusted l = refl
+judged_as (Ok t) (Some n) trusted l = named_as (names_list n trusted) trusted l
+
+-- The results of the two checks decide the verdict on the list.
+pub list_decided : (l : ListValue) (v : PublicKeyValue) (sig_text text : List ℕ) (name : Option (List ℕ))
+    (accepts : Verifier) (first second : Bool) (r : Result ⊤ (Refusal ListFault)) (new : ListValue)
+    → ◌≡◌ {A = Result ⊤ (Refusal ListFault) × ListValue} (r, new) (told_list_verdict l first second)
+    → HasAskedList l v sig_text name text → Answers accepts v sig_text text first second
+    → r ≡ given_list (list_verdict_under accepts v sig_text name text)
+list_decided l v sig_text text name accepts first second r new told has answers =
+    let s : SignatureValue = has.signature in
+    let t : SignatureTextRecord = has.signed in
+    let asked : ListValue = asked_list v s name text t.comments.trusted in
+    let whole : (s.whole == 1) ≡ has_whole_signature t.comments =
+    ap (λ (x : SignatureValue). x.whole == 1) has.from.value ∙ one_or_zero (has_whole_signature t.comments) in
+    ap (λ p. p.0) told
+    ∙ ap (λ (x : ListValue). (told_list_verdict x first second).0) has.is
+    ∙ judged_as (judge_answers first ((s.whole == 1) && second)) name t.comments.trusted asked
+    ∙ ap (λ r. given_list (and_then (of_library r)
+    (λ comment. and_then (check_list_name name comment) (λ _. Ok comment))))
+    (sym (decided accepts v sig_text text false t (s.whole == 1) first second has.read whole answers))

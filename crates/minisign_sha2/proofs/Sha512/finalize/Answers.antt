@@ -1,0 +1,7 @@
+use Rattle.sha2.specs.Sha512.{sha512}
+use Rattle.minisign_sha2.specs.Hashers.{IsFed512}
+use Rattle.minisign_sha2.proofs.Sha512.finalize.Goals as goal
+
+pub returns : goal.returns
+unfolding sha512 IsFed512
+returns c = λ m held. c.finalize.ensures _ m held
