@@ -7,8 +7,9 @@ use Rattle.std.proofs.Common.{refl, inl, inr, sym, ap, ◌∙◌, arith, lt-ltb,
 use Rattle.std.proofs.lemmas.Option.{none-some, same_Some}
 use Rattle.std.specs.Char.{digit_value}
 use Rattle.std.specs.Str.Parse.{AllDigits, digits_value}
-use Rattle.minisign_install.specs.Comments.{CommentSays, HasNumber, HasSize, IsBadlySized, IsExpiryRefused}
-use Rattle.minisign_install.specs.Comments.{IsNumberText, IsUnexpired, Numbering, Terms, expiries}
+use Rattle.minisign_install.specs.CommentChecks.{CommentSays, IsCommentRefused}
+use Rattle.minisign_install.specs.Comments.{HasNumber, HasSize, IsBadlySized, IsExpiryRefused}
+use Rattle.minisign_install.specs.Comments.{IsNumberText, IsUnexpired, Numbering, expiries}
 use Rattle.minisign_install.specs.Comments.{expiry_label, file_label, number_label, size_label, value_of}
 use Rattle.minisign_install.specs.Comments.{values_of}
 use Rattle.minisign_install.specs.Decisions.{Options, are_digits, comment_fault, expiry_fault, first_of}
@@ -16,7 +17,6 @@ use Rattle.minisign_install.specs.Decisions.{is_below, is_named, is_number, is_t
 use Rattle.minisign_install.specs.Decisions.{number_of, size_fault, unless, version_in}
 use Rattle.minisign_install.specs.Faults.{BadExpiry, BadSize, Expired, InstallFault, NoExpiry, NoNumber}
 use Rattle.minisign_install.specs.Faults.{OlderUpdate, OtherFile}
-use Rattle.minisign_install.specs.Refusals.{IsCommentRefused}
 
 bytes_eq-same : (a b : List ℕ) → bytes_eq a b ≡ true → a ≡ b
 bytes_eq-same a b is = (bytes_eq-Decides a b).0 is
@@ -87,19 +87,6 @@ version_reads numbering comment n is = rw is.numbered (number_reads is.value n i
 
 -- == The checks of a comment ==
 
--- The terms of these options, at this time. A time before 1970 counts as the greatest one.
-abbrev pub terms_of : Options → Option ℕ → Terms
-terms_of o time = record {
-  pk_text = [];
-  sig_text = [];
-  file = o.file;
-  numbering = o.numbering;
-  moment = unwrap_or time (2 ^ 64 - 1);
-  must_expire = o.must_expire;
-  heeds_size = true;
-  keys = [];
-}
-
 none_first : (first : Option InstallFault) (more : List (Option InstallFault))
     → first_of (first ∷ more) ≡ None
     → (first ≡ None) × (first_of more ≡ None)
@@ -153,7 +140,7 @@ says_of : (o : Options) (time : Option ℕ) (comment : List ℕ)
     → expiry_fault o.must_expire time (expiries o.must_expire comment)
     (number_of (value_of expiry_label comment)) ≡ None
     → size_fault (values_of size_label comment) ≡ None
-    → (n : ℕ) × (version_in o.numbering comment ≡ Some n) × CommentSays comment (terms_of o time) n
+    → (n : ℕ) × (version_in o.numbering comment ≡ Some n) × CommentSays o time comment n
 says_of o time comment file number expiry size =
     let (n, is) = some_number (version_in o.numbering comment) (holds_if _ _ number) in
     let has = reads_version o.numbering comment n is in (
@@ -165,14 +152,15 @@ says_of o time comment file number expiry size =
         numbered = has.numbered;
         number = has.number;
         unexpired = unexpired o.must_expire time comment _ _ refl refl expiry;
-        sized = λ heeds. sized comment _ refl size;
+        size = (sized comment _ refl size).0;
+        sized = (sized comment _ refl size).1;
       },
     )
 
 -- A comment that is not rejected says what is wanted.
 pub comment_says : (o : Options) (recorded time : Option ℕ) (comment : List ℕ)
     → comment_fault o recorded time comment ≡ None
-    → (n : ℕ) × (version_in o.numbering comment ≡ Some n) × CommentSays comment (terms_of o time) n
+    → (n : ℕ) × (version_in o.numbering comment ≡ Some n) × CommentSays o time comment n
     × (is_too_old o recorded (Some n) ≡ false)
 comment_says o recorded time comment none =
     let (file, rest) = none_first _ _ none in
@@ -270,9 +258,9 @@ badly_sized comment (field ∷ other ∷ more) e are some = (
 )
 
 older : (o : Options) (recorded : Option ℕ) (n : ℕ) → is_too_old o recorded (Some n) ≡ true
-    → n < unwrap_or recorded 0
+    → (k : ℕ) × (recorded ≡ Some k) × (n < k)
 older o None n is = absurd (true≢false (sym is))
-older o (Some k) n is = ltb-true n k (both (nat_lt n k) (not o.roll_back) is).0
+older o (Some k) n is = (k, refl, ltb-true n k (both (nat_lt n k) (not o.roll_back) is).0)
 
 was_false : (b : Bool) → not b ≡ false → b ≡ true
 was_false true is = refl
@@ -286,7 +274,7 @@ last_first (Some f) e is = is
 -- A comment is rejected for the first of these reasons that is true.
 pub comment_refused : (o : Options) (recorded time : Option ℕ) (comment : List ℕ) (e : InstallFault)
     → comment_fault o recorded time comment ≡ Some e
-    → IsCommentRefused (terms_of o time) (unwrap_or recorded 0) comment e
+    → IsCommentRefused o recorded time comment e
 comment_refused o recorded time comment e some = elim (some_first _ _ e some) [
   | inl file ↦
       let (not, fault) = fails_if _ _ e file in inl (fault, not_named o.file _ not)
@@ -311,21 +299,15 @@ comment_refused o recorded time comment e some = elim (some_first _ _ e some) [
               elim (some_first _ _ e rest) [
                 | inl size ↦
                     let (fault, badly) = badly_sized comment _ e refl size in
-                    inr (inr (inr (inl (fault, is_named, has, fresh, refl, badly))))
+                    inr (inr (inr (inl (fault, is_named, has, fresh, badly))))
                 | inr (size, rest) ↦
                     let old : unless (not (is_too_old o recorded
                     (version_in o.numbering comment))) OlderUpdate
                     ≡ Some e = last_first _ e rest in
                     let (not, fault) = fails_if _ _ e old in
                     let says = says_of o time comment file number expiry size in
-                    inr (inr (inr (inr (
-                      fault,
-                      (
-                        says.0,
-                        says.2,
-                        older o recorded says.0 (was_false _ (rw says.1 at not)),
-                      ),
-                    ))))
+                    let (k, there, below) = older o recorded says.0 (was_false _ (rw says.1 at not)) in
+                    inr (inr (inr (inr (fault, (says.0, k, says.2, there, below)))))
               ]
         ]
   ]

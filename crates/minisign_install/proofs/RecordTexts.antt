@@ -18,7 +18,7 @@ use Rattle.hex.proofs.HexLemmas.{decode_sized-encode_lower, length-encode_with}
 use Rattle.minisign_hash.specs.Blake2b.{blake2b_digest, compress}
 use Rattle.minisign_hash.specs.Words.{bytes_of_words64}
 use Rattle.minisign_install.specs.RecordTexts.{IsNumberFor, is_marked, mark_text, record_digest, record_of}
-use Rattle.minisign_install.specs.RecordTexts.{record_text}
+use Rattle.minisign_install.specs.RecordTexts.{IsRecordOf, record_key, record_text}
 use Rattle.minisign_install.specs.Comments.{IsNumberText, Numbering, Timestamp, Version, number_label, strip}
 use Rattle.minisign_install.proofs.Fields.{strips}
 
@@ -121,7 +121,7 @@ module _ (numbering : Numbering) (n : ℕ) (bound : n < 2 ^ 64) (key digest : Li
       rw (lt-leb (length xs) 64 (omega (arith, len)), is_written) (ap (λ i. take i xs) at
       ∙ take_at line (mark_text key digest) (length line) refl)
 
-label_utf8 : (numbering : Numbering) → IsUtf8 (number_label numbering)
+pub label_utf8 : (numbering : Numbering) → IsUtf8 (number_label numbering)
 unfolding lib.Utf8.encode
 label_utf8 Timestamp = (codes "timestamp:", (refl, refl))
 label_utf8 Version = (codes "version:", (refl, refl))
@@ -164,3 +164,38 @@ digest_reads numbering n bound key digest key_whole digest_whole bytes =
       tail,
       decode_sized-encode_lower digest 64 digest_whole bytes,
     ) refl
+
+-- so is the key
+pub key_reads : (numbering : Numbering) (n : ℕ) → n < 2 ^ 64 → (key digest : List ℕ) → length key ≡ 32
+    → length digest ≡ 64 → IsBytes key → record_key (record_of numbering n key digest) ≡ Some key
+key_reads numbering n bound key digest key_whole digest_whole bytes =
+    let xs = record_of numbering n key digest in
+    let whole = len numbering n bound key digest key_whole digest_whole in
+    let line = number_label numbering ++ decimal n in
+    let rest = encode_lower key ++ (10 ∷ encode_lower digest) in
+    let split : xs ≡ (line ++ (10 ∷ [])) ++ rest = sym (append_assoc line (10 ∷ []) rest) in
+    let at : length xs - 193 ≡ length (line ++ (10 ∷ [])) =
+    omega (arith, whole, length-append line (10 ∷ [])) in
+    let tail : drop (length xs - 193) xs ≡ rest =
+    ap (λ i. drop i xs) at ∙ ap (drop (length (line ++ (10 ∷ [])))) split
+    ∙ drop_at (line ++ (10 ∷ [])) rest (length (line ++ (10 ∷ []))) refl in
+    let digits : 64 ≡ length (encode_lower key) =
+    omega (arith, length-encode_with lower_digits key, key_whole) in
+    let text : take 64 (drop (length xs - 193) xs) ≡ encode_lower key =
+    ap (take 64) tail ∙ ap (λ i. take i rest) digits
+    ∙ take_at (encode_lower key) (10 ∷ encode_lower digest) (length (encode_lower key)) refl in
+    rw (
+      is_written numbering n bound key digest key_whole digest_whole,
+      text,
+      decode_sized-encode_lower key 32 key_whole bytes,
+    ) refl
+
+-- all of a record is read as it was written
+pub reads_back : (numbering : Numbering) (n : ℕ) → n < 2 ^ 64 → (key digest : List ℕ) → length key ≡ 32
+    → length digest ≡ 64 → IsBytes key → IsBytes digest
+    → IsRecordOf numbering n key digest (record_of numbering n key digest)
+reads_back numbering n bound key digest key_whole digest_whole key_bytes digest_bytes = record {
+  number = record_reads numbering n bound key digest key_whole digest_whole;
+  names = key_reads numbering n bound key digest key_whole digest_whole key_bytes;
+  fits = digest_reads numbering n bound key digest key_whole digest_whole digest_bytes;
+}

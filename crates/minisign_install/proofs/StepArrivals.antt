@@ -39,7 +39,9 @@ module _ (w : World) (o : Options) (g : IsGoodUpdate w o) where
   OnTrack n due.ReadSignature s = (s.options ≡ o) × (n ≡ 0) × (s.recorded ≡ g.recorded)
   OnTrack n due.CheckComment s =
       (s.options ≡ o) × (n ≡ 0) × (s.recorded ≡ g.recorded) × (s.fault ≡ None) × (s.version ≡ g.version)
-      × (s.signature ≡ g.text.signature.signature) × (s.left ≡ size_in g.text.comments.trusted)
+      × (s.signature ≡ g.text.signature.signature)
+      × (s.comment_signature ≡ take 64 g.text.comments.signature)
+      × (s.left ≡ size_in g.text.comments.trusted)
       × (first_signer w g.text s.signers ≡ Some g.key)
   OnTrack n due.RemoveLeftovers s = IsReady n s
   OnTrack n due.CreateFile s = IsReady n s
@@ -87,13 +89,13 @@ module _ (w : World) (o : Options) (g : IsGoodUpdate w o) where
       → Stays n due.ReadSignature (SignatureRead text time) s
   after_signature n s text time (is_o, none, recorded) fine is =
       rw (is_o, is ∙ g.parsed, g.passed, recorded)
-      (refl, none, refl, fine, ap (λ v. unwrap_or v 0) g.numbered, refl, refl, g.signed_comment)
+      (refl, none, refl, fine, ap (λ v. unwrap_or v 0) g.numbered, refl, refl, refl, g.signed_comment)
 
   after_comment : (n : ℕ) (s : State) → OnTrack n due.CheckComment s
       → IsTrueEvent w n s due.CheckComment (Answered true) → Stays n due.CheckComment (Answered true) s
-  after_comment n s (is_o, none, recorded, fault, version, signature, left, signer) is =
+  after_comment n s (is_o, none, recorded, fault, version, signature, second, left, signer) is =
       let accepted = is g.text g.parsed in
-      let accepts = rw signature at accepted in
+      let accepts = rw (signature, second) at accepted in
       let newer = is_newer g.recorded.version g.version g.newer in
       let installs : s.options.check ≡ false = ap (λ (x : Options). x.check) is_o ∙ g.installs in
       rw (fault, recorded, version, newer, installs) (
@@ -108,13 +110,14 @@ module _ (w : World) (o : Options) (g : IsGoodUpdate w o) where
       → false ≡ w.accepts (g.text.signature.signature ++ g.text.comments.trusted) (key_of signers)
       (take 64 g.text.comments.signature)
       → OnTrack n (due.next_key signers s).due (due.next_key signers s)
-  next_key n s [] at (is_o, none, recorded, fault, version, signature, left, signer) rejected =
+  next_key n s [] at (is_o, none, recorded, fault, version, signature, second, left, signer) rejected =
       absurd (none-some g.key signer)
-  next_key n s (v ∷ []) at (is_o, none, recorded, fault, version, signature, left, signer) rejected =
+  next_key n s (v ∷ []) at (is_o, none, recorded, fault, version, signature, second, left, signer) rejected =
       absurd (none-some g.key (rw (sym rejected) at signer))
-  next_key n s (v ∷ u ∷ more) at (is_o, none, recorded, fault, version, signature, left, signer) rejected =
+  next_key n s (v ∷ u ∷ more) at
+      (is_o, none, recorded, fault, version, signature, second, left, signer) rejected =
       let found = rw (sym rejected) at signer in
-      rw at (is_o, none, recorded, fault, version, signature, left, found)
+      rw at (is_o, none, recorded, fault, version, signature, second, left, found)
 
   after_piece : (n k : ℕ) (s : State) (left : Option ℕ) → s.due ≡ due.CopyData → Knows s → Left n left
       → s.left ≡ left → s.read ≡ [] → n + k ≤ length w.update
@@ -154,7 +157,7 @@ module _ (w : World) (o : Options) (g : IsGoodUpdate w o) where
       after_signature n s text time on fine is
   keeps n due.CheckComment (Answered true) s at on fine is = after_comment n s on is
   keeps n due.CheckComment (Answered false) s at on fine is =
-      next_key n s s.signers at on (rw on.5 at (is g.text g.parsed))
+      next_key n s s.signers at on (rw (on.5, on.6) at (is g.text g.parsed))
   keeps n due.CopyData (PieceCopied k) s at (knows, left, read, more) fine is =
       after_piece n k s s.left at knows left refl read is.1
   keeps n due.CopyData Done s at (knows, left, read, more) fine is =
@@ -232,9 +235,9 @@ module _ (w : World) (o : Options) (g : IsGoodUpdate w o) where
     has_next n due.ReadSignature s on = inr (SignatureRead w.text time, refl, refl, fresh)
     has_next n due.CheckComment s on =
         inr (
-          Answered (asks w (comment_question s g.text)),
+          Answered (asks w (comment_question s g.text.comments.trusted)),
           fits_comment s _,
-          λ t parsed. ap (λ x. asks w (comment_question s x)) (same_text t parsed),
+          λ t parsed. ap (λ x. asks w (comment_question s x.comments.trusted)) (same_text t parsed),
           tt,
         )
     has_next n due.RemoveLeftovers s on = inr (Done, refl, tt, tt)

@@ -66,7 +66,9 @@ module _ (w : World) (o : Options) where
       × (first_signer w text keys ≡ first_signer w text s.signers)
       × (s.fault ≡ comment_fault o s.recorded.version time text.comments.trusted)
       × (s.version ≡ unwrap_or (version_in o.numbering text.comments.trusted) 0)
-      × (s.signature ≡ text.signature.signature) × (s.left ≡ size_in text.comments.trusted) × (n ≡ 0)
+      × (s.signature ≡ text.signature.signature)
+      × (s.comment_signature ≡ take 64 text.comments.signature)
+      × (s.left ≡ size_in text.comments.trusted) × (n ≡ 0)
       × (0 < length s.signers)
 
   -- The comment is signed, and not rejected.
@@ -215,6 +217,7 @@ module _ (w : World) (o : Options) where
       rw same refl,
       refl,
       refl,
+      refl,
       none,
       some_signers o w.text t keys passed,
     ),
@@ -249,7 +252,7 @@ module _ (w : World) (o : Options) where
 
   after_comment : (n : ℕ) (s : State) (fault : Option InstallFault) (judged : IsJudged n s)
       → s.fault ≡ fault → true ≡ w.accepts (s.signature ++ judged.0.comments.trusted) (key_of s.signers)
-      (take 64 judged.0.comments.signature)
+      s.comment_signature
       → Holds n s (Answered true) (due.after_comment fault (record s { is_signed = true }))
   after_comment n s fault (
     text,
@@ -263,6 +266,7 @@ module _ (w : World) (o : Options) where
     is_fault,
     version,
     signature,
+    second,
     left,
     none,
     some,
@@ -275,7 +279,7 @@ module _ (w : World) (o : Options) where
         keys = keys;
         passed = passed;
         key = key_of s.signers;
-        signer = signers ∙ first_is text s.signers some (rw signature at accepted);
+        signer = signers ∙ first_is text s.signers some (rw (signature, second) at accepted);
       } in
       by_fault n s time g fault same refl (sym is_fault ∙ is) version signature refl
       (left_at n (size_in text.comments.trusted) s.left left none)
@@ -283,21 +287,63 @@ module _ (w : World) (o : Options) where
   next_key : (n : ℕ) (s : State) (signers : List PublicKeyValue) → s.due ≡ due.CheckComment
       → (judged : IsJudged n (record s { signers = signers }))
       → false ≡ w.accepts (s.signature ++ judged.0.comments.trusted) (key_of signers)
-      (take 64 judged.0.comments.signature)
+      s.comment_signature
       → Holds n s (Answered false) (due.next_key signers s)
-  next_key n s [] at
-      (text, keys, time, same, counts, parsed, passed, first, fault, version, signature, left, none, some)
-      wrong = reject n _ s s (Answered false) (inr (inr (inl (refl, (text, keys, passed, first)))))
-  next_key n s (v ∷ []) at
-      (text, keys, time, same, counts, parsed, passed, first, fault, version, signature, left, none, some)
-      wrong =
-      let wrong_key = rw signature at wrong in
+  next_key n s [] at (
+    text,
+    keys,
+    time,
+    same,
+    counts,
+    parsed,
+    passed,
+    first,
+    fault,
+    version,
+    signature,
+    second,
+    left,
+    none,
+    some,
+  ) wrong = reject n _ s s (Answered false) (inr (inr (inl (refl, (text, keys, passed, first)))))
+  next_key n s (v ∷ []) at (
+    text,
+    keys,
+    time,
+    same,
+    counts,
+    parsed,
+    passed,
+    first,
+    fault,
+    version,
+    signature,
+    second,
+    left,
+    none,
+    some,
+  ) wrong =
+      let wrong_key = rw (signature, second) at wrong in
       reject n _ s s (Answered false)
       (inr (inr (inl (refl, (text, keys, passed, rw (sym wrong_key) at first)))))
-  next_key n s (v ∷ u ∷ more) at
-      (text, keys, time, same, counts, parsed, passed, first, fault, version, signature, left, none, some)
-      wrong =
-      let wrong_key = rw signature at wrong in (
+  next_key n s (v ∷ u ∷ more) at (
+    text,
+    keys,
+    time,
+    same,
+    counts,
+    parsed,
+    passed,
+    first,
+    fault,
+    version,
+    signature,
+    second,
+    left,
+    none,
+    some,
+  ) wrong =
+      let wrong_key = rw (signature, second) at wrong in (
         rw at (
           text,
           keys,
@@ -310,6 +356,7 @@ module _ (w : World) (o : Options) where
           fault,
           version,
           signature,
+          second,
           left,
           none,
           omega arith,

@@ -2,7 +2,7 @@
 -- first.
 use Rattle.std.specs.Prelude.{◌≡◌, ◌≤◌, ⊤, ℕ, Bool, true, false, List, [], ◌∷◌, Option, Some, None, Result}
 use Rattle.std.specs.Prelude.{Ok, Err, IfSome, ◌++◌, ◌||◌, ◌&&◌, ◌==◌, nat_le, nat_lt, not, is_some}
-use Rattle.std.specs.Prelude.{if◌then◌else◌}
+use Rattle.std.specs.Prelude.{if◌then◌else◌, take}
 use Rattle.std.proofs.Common.{refl, inl, inr, sym, ap, ◌∙◌, append_assoc, arith, le_of_eq, ltb-false}
 use Rattle.std.proofs.Common.{true≢false, unwrap_or}
 use Rattle.std.proofs.lemmas.Option.{none-some, same_Some}
@@ -117,7 +117,7 @@ module _ (w : World) (o : Options) where
   forgotten (Some bytes) r is none = forgets bytes (recorded_version o.numbering bytes) r refl is none
 
   -- The record was judged, and the comment. fault says why the comment is rejected.
-  abbrev IsJudged : State → Type 0
+  abbrev pub IsJudged : State → Type 0
   IsJudged s =
       (text : SignatureTextRecord) × (keys : List PublicKeyValue) × (others : List PublicKeyValue)
       × (time : Option ℕ) × (s.options ≡ o) × (judge_record o w.found ≡ Ok s.recorded) × (w.text ≡ Ok text)
@@ -125,14 +125,16 @@ module _ (w : World) (o : Options) where
       × (s.fault ≡ comment_fault o s.recorded.version time text.comments.trusted)
       × (s.version ≡ unwrap_or (version_in o.numbering text.comments.trusted) 0)
       × (s.signature ≡ text.signature.signature)
+      × (s.comment_signature ≡ take 64 text.comments.signature)
 
   -- The comment is not rejected, and the first of the signers has signed it.
-  abbrev IsAccepted : State → Type 0
+  abbrev pub IsAccepted : State → Type 0
   IsAccepted s =
-      (judged : IsJudged s) × (s.fault ≡ None) × (asks w (comment_question s judged.0) ≡ true)
+      (judged : IsJudged s) × (s.fault ≡ None)
+      × (asks w (comment_question s judged.0.comments.trusted) ≡ true)
 
   -- The data has been accepted too.
-  abbrev IsWhole : State → Type 0
+  abbrev pub IsWhole : State → Type 0
   IsWhole s = IsAccepted s × (asks w (data_question due.CheckData s) ≡ true)
 
   not_below : (r : Option ℕ) (v k : ℕ) → r ≡ Some k
@@ -143,10 +145,10 @@ module _ (w : World) (o : Options) where
     | false ↦ λ not. omega (arith, same_Some j k is, ltb-false v j not)
   ] refl
 
-  update_of : (s : State) → IsWhole s → IsUpdate w o s
+  pub update_of : (s : State) → IsWhole s → IsUpdate w o s
   update_of s (
     (
-      (text, keys, others, time, same, counts, parsed, passed, given, fault, version, signature),
+      (text, keys, others, time, same, counts, parsed, passed, given, fault, version, signature, second),
       none,
       comment,
     ),
@@ -164,6 +166,7 @@ module _ (w : World) (o : Options) where
     wanted = sym fault ∙ none;
     version = version;
     signature = signature;
+    comment_signature = second;
     signed_comment = comment;
     signed_data = whole;
     not_older = λ k is. (
@@ -175,7 +178,7 @@ module _ (w : World) (o : Options) where
   }
 
   -- What is known at each operation.
-  abbrev Known : Operation → State → Type 0
+  abbrev pub Known : Operation → State → Type 0
   Known due.Lock s = s.options ≡ o
   Known due.ReadRecord s = s.options ≡ o
   Known due.ReadSignature s = (s.options ≡ o) × (judge_record o w.found ≡ Ok s.recorded)
@@ -199,7 +202,7 @@ module _ (w : World) (o : Options) where
 
   module _ (old : Disk) where
     -- What was changed by then.
-    abbrev Changed : Operation → State → Disk → Type 0
+    abbrev pub Changed : Operation → State → Disk → Type 0
     Changed due.SyncRecordName s new = (new.target ≡ old.target) × (new.record_bytes ≡ Some (new_record s))
     Changed due.RenameFile s new = (new.target ≡ old.target) × (new.record_bytes ≡ Some (new_record s))
     Changed due.SyncFileName s new = (new.target ≡ Some s.read) × (new.record_bytes ≡ Some (new_record s))
@@ -208,7 +211,7 @@ module _ (w : World) (o : Options) where
     Changed due.Rejected s new = IsSafe w o old new
     Changed op s new = new ≡ old
 
-    abbrev Holds : Operation → State → Disk → Type 0
+    abbrev pub Holds : Operation → State → Disk → Type 0
     Holds op s new = Known op s × Changed op s new
 
     safe_at : (op : Operation) (s : State) (new : Disk) → Holds op s new → IsSafe w o old new
@@ -261,7 +264,7 @@ module _ (w : World) (o : Options) where
     after_signature s new (Ok (t, keys)) time (same, counts) is passed =
         let parsed = text_parsed w.text t keys passed in
         let again : judge_text o (Ok t) ≡ Ok (t, keys) = rw parsed at passed in
-        ((t, keys, [], time, same, counts, parsed, again, refl, rw same refl, rw same refl, refl), is)
+        ((t, keys, [], time, same, counts, parsed, again, refl, rw same refl, rw same refl, refl, refl), is)
     after_signature s new (Err fault) time known is passed = reject (Library fault) s new (inl is)
 
     -- Whichever of the operations comes next.
@@ -287,7 +290,7 @@ module _ (w : World) (o : Options) where
         (either (due.is_rolling_back s) _ _ new (install s new accepted is) (accepted, is)))
 
     after_comment : (s : State) (new : Disk) (fault : Option InstallFault) → (judged : IsJudged s)
-        → s.fault ≡ fault → asks w (comment_question s judged.0) ≡ true → new ≡ old
+        → s.fault ≡ fault → asks w (comment_question s judged.0.comments.trusted) ≡ true → new ≡ old
         → Holds (due.after_comment fault (record s { is_signed = true })).due
         (due.after_comment fault (record s { is_signed = true })) new
     after_comment s new None judged none comment is =
@@ -301,7 +304,8 @@ module _ (w : World) (o : Options) where
     next_key s new [] at judged is = reject _ s new (inl is)
     next_key s new (v ∷ []) at judged is = reject _ s new (inl is)
     next_key s new (v ∷ u ∷ more) at
-        (text, keys, others, time, same, counts, parsed, passed, given, fault, version, signature) is =
+        (text, keys, others, time, same, counts, parsed, passed, given, fault, version, signature, second)
+        is =
         let now : (others ++ v ∷ []) ++ (u ∷ more) ≡ keys = append_assoc others (v ∷ []) (u ∷ more)
         ∙ given in
         rw at (
@@ -318,6 +322,7 @@ module _ (w : World) (o : Options) where
             fault,
             version,
             signature,
+            second,
           ),
           is,
         )
@@ -357,7 +362,8 @@ module _ (w : World) (o : Options) where
     maybe true t new holds = holds
     maybe false t new holds = tt
 
-    keeps : (n : ℕ) (op : Operation) (e : Event) (s : State) (mid new : Disk) → s.due ≡ op → Holds op s mid
+    pub keeps : (n : ℕ) (op : Operation) (e : Event) (s : State) (mid new : Disk) → s.due ≡ op
+        → Holds op s mid
         → Changes op s e mid new → IsTrueEvent w n s op e
         → IfSome (after op e s) (λ t. Holds t.due t new)
     keeps n due.Nothing (Failed f) s mid new at holds change is = tt
@@ -428,7 +434,7 @@ module _ (w : World) (o : Options) where
     keeps n op Done s mid new at (known, same) change is = (known, change ∙ same)
     keeps n op e s mid new at holds change is = tt
 
-    moves : (e : Event) (s : State) (new : Disk) (next : Option State) → is_some next ≡ true
+    pub moves : (e : Event) (s : State) (new : Disk) (next : Option State) → is_some next ≡ true
         → IfSome next (λ t. Holds t.due t new) → Holds (answer s next).1.due (answer s next).1 new
     moves e s new (Some t) fits holds = holds
     moves e s new None fits holds = absurd (true≢false (sym fits))
@@ -440,7 +446,7 @@ module _ (w : World) (o : Options) where
         run_holds (count n e) (step s e).1 disk more t new
         (moves e s disk (after s.due e s) fits (keeps n s.due e s mid disk refl holds change is)) rest
 
-    begins : (check : Bool) → Holds (if check then due.ReadRecord else due.Lock) (begin o) old
+    pub begins : (check : Bool) → Holds (if check then due.ReadRecord else due.Lock) (begin o) old
     begins true = (refl, refl)
     begins false = (refl, refl)
 

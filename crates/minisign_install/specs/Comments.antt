@@ -8,19 +8,6 @@ pub use Rattle.minisign_install.specs.declared.comments.Numbering.{Numbering}
 pub use Rattle.minisign_install.specs.declared.comments.Numbering.TheVariants.{Timestamp, Version}
 use Rattle.minisign_install.specs.Faults.{InstallFault, BadExpiry, Expired, NoExpiry}
 
--- which updates are wanted: the two texts, the file's name, where the number stands, at which moment they
--- must not have expired, in seconds since the beginning of 1970, whether the comment has to say when they do,
--- and whether what it says of the data's size counts; and the keys of which one has to have signed
-pub record Terms : Type 0 where
-  pub pk_text : List ℕ
-  pub sig_text : List ℕ
-  pub file : List ℕ
-  pub numbering : Numbering
-  pub moment : ℕ
-  pub must_expire : Bool
-  pub heeds_size : Bool
-  pub keys : List (List ℕ)
-
 -- the fields of a comment: what stands between its tabs
 abbrev pub fields : List ℕ → List (List ℕ)
 fields comment = slice_split (λ b. b == 9) comment
@@ -115,13 +102,3 @@ HasSize comment None = values_of size_label comment ≡ []
 -- there are more such fields than one, or one that has no number
 abbrev pub IsBadlySized : List ℕ → Type 0
 IsBadlySized comment = ¬ (values_of size_label comment ≡ []) × ((size : ℕ) → ¬ (SizedAs comment size))
-
--- the comment names this file, has this number, has not expired at this moment, and says nothing of the
--- data's size, or says it once, in a number
-pub record CommentSays (comment : List ℕ) (terms : Terms) (n : ℕ) : Type 0 where
-  pub value : List ℕ
-  pub named : value_of file_label comment ≡ Some terms.file
-  pub numbered : value_of (number_label terms.numbering) comment ≡ Some value
-  pub number : IsNumberText value n
-  pub unexpired : IsUnexpired terms.must_expire terms.moment comment
-  pub sized : terms.heeds_size ≡ true → (size : Option ℕ) × HasSize comment size

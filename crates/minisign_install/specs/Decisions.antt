@@ -1,8 +1,5 @@
 -- What the record, the signature file and the trusted comment decide, as functions of the options.
--- Comments and RecordTexts define the fields and the format. proofs/Decisions.antt proves that
--- comment_fault decides what CommentSays and IsCommentRefused say, and proofs/StepRecords.antt that a
--- record from which no version is read holds none, and that the record of a run is read as it was
--- written.
+-- Comments and RecordTexts define the fields and the format. CommentChecks says what comment_fault means.
 use Rattle.std.specs.Prelude.{ℕ, Bool, false, not, ◌&&◌, ◌||◌, ◌^◌, nat_lt, if◌then◌else◌, List, [], ◌∷◌}
 use Rattle.std.specs.Prelude.{map, filter, bytes_eq, is_some, Option, Some, None, Result, Ok, Err}
 use Rattle.std.specs.Char.{digit_value}
@@ -19,7 +16,8 @@ use Rattle.minisign_external.specs.declared.public_keys.PublicKeyValue.{PublicKe
 use Rattle.minisign_install.specs.Comments.{Numbering, expiries, expiry_label, file_label, number_label}
 use Rattle.minisign_install.specs.Comments.{size_label, strip, value_of, values_of}
 use Rattle.minisign_install.specs.Faults.{BadExpiry, BadSize, DamagedRecord, Expired, Fault, InstallFault}
-use Rattle.minisign_install.specs.Faults.{Named, NoExpiry, NoNumber, NoRecord, OlderUpdate, OtherFile}
+use Rattle.minisign_install.specs.Faults.{Library, Named, NoExpiry, NoNumber, NoRecord, OlderUpdate}
+use Rattle.minisign_install.specs.Faults.{OtherFile}
 use Rattle.minisign_install.specs.RecordTexts.{is_other, kept_by, other_field, record_digest, record_key}
 use Rattle.minisign_install.specs.RecordTexts.{record_text}
 
@@ -178,3 +176,30 @@ comment_fault o recorded time comment = first_of
     ∷ size_fault (values_of size_label comment)
     ∷ unless (not (is_too_old o recorded (version_in o.numbering comment))) OlderUpdate
     ∷ [])
+
+-- == A trusted comment alone ==
+
+-- Why a comment is rejected if the version must not be below this one, and it need not say when the update
+-- expires or how long the data is.
+abbrev pub alone_fault : List ℕ → Numbering → ℕ → ℕ → List ℕ → Option InstallFault
+alone_fault file numbering time least comment = first_of
+    (unless (is_named file (value_of file_label comment)) OtherFile
+    ∷ unless (is_some (version_in numbering comment)) NoNumber
+    ∷ expiry_fault false (Some time) (expiries false comment) (number_of (value_of expiry_label comment))
+    ∷ unless (not (is_below (version_in numbering comment) (Some least))) OlderUpdate
+    ∷ [])
+
+-- The version number of such a comment, or the first of these checks that fails.
+abbrev pub version_unless : Option InstallFault → Option ℕ → Result ℕ InstallFault
+version_unless None version = Ok (unwrap_or version 0)
+version_unless (Some fault) version = Err fault
+
+abbrev pub judge_alone : List ℕ → Numbering → ℕ → ℕ → List ℕ → Result ℕ InstallFault
+judge_alone file numbering time least comment =
+    version_unless (alone_fault file numbering time least comment) (version_in numbering comment)
+
+-- The same for bytes: the comment and the name must be UTF-8.
+abbrev pub judge_comment : List ℕ → Numbering → ℕ → ℕ → List ℕ → Result ℕ InstallFault
+judge_comment file numbering time least comment =
+    if is_utf8 comment && is_utf8 file then judge_alone file numbering time least comment
+    else Err (Library (Named named.NotUtf8))

@@ -1,6 +1,6 @@
 -- Why an installation is rejected: of each error the number by which a host in another language knows it, the
 -- kind, and the text, which a program shows word for word.
-use Rattle.std.specs.Prelude.{Bool, ℕ, codes, false, true}
+use Rattle.std.specs.Prelude.{◌≡◌, ◌≢◌, Bool, ℕ, List, codes, false, true}
 use Rattle.minisign_base.specs.Fault.{kind_of, text_of}
 use Rattle.minisign_base.specs.Faults.{FaultRow, row}
 use Rattle.minisign_base.specs.declared.errors.ErrorKind.TheVariants.{Io, Verify}
@@ -9,7 +9,7 @@ pub use Rattle.minisign_base.specs.Devices.{Rose}
 pub use Rattle.minisign_base.specs.declared.faults.NamedFault.TheVariants.{NotUtf8, OutOfMemory}
 pub use Rattle.minisign_base.specs.declared.faults.NamedFault.TheVariants.{RandomSourceFailed, ReadingFailed}
 pub use Rattle.minisign_base.specs.declared.faults.NamedFault.TheVariants.{WritingFailed}
-use Rattle.minisign_external.specs.Numbers.{fault_number}
+use Rattle.minisign_external.specs.Numbers.{IsListedMeaning, IsUnlisted, fault_number, unknown_text}
 pub use Rattle.minisign_install.specs.declared.faults.InstallFault.{InstallFault}
 pub use Rattle.minisign_install.specs.declared.faults.InstallFault.TheVariants.{Library, TargetInUse}
 pub use Rattle.minisign_install.specs.declared.faults.InstallFault.TheVariants.{NoRecord, DamagedRecord}
@@ -52,3 +52,11 @@ install_number e = (install_row e).number
 abbrev pub is_own : InstallFault → Bool
 is_own (Library fault) = false
 is_own e = true
+
+-- The text says what this error number means: that of the installation error with this number; that of the
+-- library's error, without key IDs; or that of an unknown error.
+pub record IsErrorText (n : ℕ) (text : List ℕ) : Type 0 where
+  pub library : IsListedMeaning n text
+  pub own : (e : InstallFault) → is_own e ≡ true → n ≡ install_number e → text ≡ (install_row e).summary
+  pub unknown : IsUnlisted n → ((e : InstallFault) → is_own e ≡ true → n ≢ install_number e)
+      → text ≡ unknown_text

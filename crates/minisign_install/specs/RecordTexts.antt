@@ -1,5 +1,6 @@
 -- What the record beside the target holds: the number of the newest update, behind the label of its field.
-use Rattle.std.specs.Prelude.{ℕ, Bool, false, List, [], ◌∷◌, ◌++◌, ◌-◌, ◌==◌, ◌&&◌, not, bytes_eq, Option}
+use Rattle.std.specs.Prelude.{◌≡◌, ℕ, Bool, false, List, [], ◌∷◌, ◌++◌, ◌-◌, ◌==◌, ◌&&◌, not, bytes_eq}
+use Rattle.std.specs.Prelude.{Option}
 use Rattle.std.specs.Prelude.{Some, None, Result, Ok, Err, length, take, drop, slice_index, nat_le}
 use Rattle.std.specs.Prelude.{if◌then◌else◌}
 use Rattle.std.specs.Fmt.{decimal}
@@ -71,6 +72,12 @@ pub record IsNumberFor (numbering : Numbering) (bytes : List ℕ) (n : ℕ) : Ty
 -- it holds none
 abbrev pub HasNoNumber : Numbering → List ℕ → Type 0
 HasNoNumber numbering bytes = (n : ℕ) → ¬ (IsNumberFor numbering bytes n)
+
+-- A record of these bytes is read as this number, key and digest.
+pub record IsRecordOf (numbering : Numbering) (n : ℕ) (key digest bytes : List ℕ) : Type 0 where
+  pub number : IsNumberFor numbering bytes n
+  pub names : record_key bytes ≡ Some key
+  pub fits : record_digest bytes ≡ Some digest
 
 abbrev pub other_field : Numbering → Numbering
 other_field Timestamp = Version

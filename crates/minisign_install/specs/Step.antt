@@ -55,39 +55,25 @@ use Rattle.minisign_install.specs.Decisions.{judge_text, nothing_recorded, size_
 use Rattle.minisign_install.specs.Faults.{DirectoryNotSynced, Fault, InstallFault, Library, Named}
 use Rattle.minisign_install.specs.Faults.{OtherSize, SameNumber, TargetInUse}
 use Rattle.minisign_install.specs.RecordTexts.{record_of}
+pub use Rattle.minisign_install.specs.declared.installation.Operation.{Operation}
+pub use Rattle.minisign_install.specs.declared.installation.Operation.TheVariants.{Nothing, Lock, ReadRecord}
+pub use Rattle.minisign_install.specs.declared.installation.Operation.TheVariants.{ReadSignature}
+pub use Rattle.minisign_install.specs.declared.installation.Operation.TheVariants.{CheckComment, CheckRecord}
+pub use Rattle.minisign_install.specs.declared.installation.Operation.TheVariants.{ReadTarget, CheckTarget}
+pub use Rattle.minisign_install.specs.declared.installation.Operation.TheVariants.{SyncTarget, SyncTargetName}
+pub use Rattle.minisign_install.specs.declared.installation.Operation.TheVariants.{RemoveLeftovers}
+pub use Rattle.minisign_install.specs.declared.installation.Operation.TheVariants.{CreateFile, CopyData}
+pub use Rattle.minisign_install.specs.declared.installation.Operation.TheVariants.{ReadBack, CheckData}
+pub use Rattle.minisign_install.specs.declared.installation.Operation.TheVariants.{SetPermissions, SyncFile}
+pub use Rattle.minisign_install.specs.declared.installation.Operation.TheVariants.{CreateRecord, WriteRecord}
+pub use Rattle.minisign_install.specs.declared.installation.Operation.TheVariants.{SyncRecord, RenameRecord}
+pub use Rattle.minisign_install.specs.declared.installation.Operation.TheVariants.{SyncRecordName, RenameFile}
+pub use Rattle.minisign_install.specs.declared.installation.Operation.TheVariants.{SyncFileName, RemoveFiles}
+pub use Rattle.minisign_install.specs.declared.installation.Operation.TheVariants.{Installed}
+pub use Rattle.minisign_install.specs.declared.installation.Operation.TheVariants.{AlreadyInstalled}
+pub use Rattle.minisign_install.specs.declared.installation.Operation.TheVariants.{WouldInstall, Rejected}
 
 -- == States ==
-
-pub data Operation : Type 0 where
-  Nothing : Operation
-  Lock : Operation
-  ReadRecord : Operation
-  ReadSignature : Operation
-  CheckComment : Operation
-  CheckRecord : Operation
-  ReadTarget : Operation
-  CheckTarget : Operation
-  SyncTarget : Operation
-  SyncTargetName : Operation
-  RemoveLeftovers : Operation
-  CreateFile : Operation
-  CopyData : Operation
-  ReadBack : Operation
-  CheckData : Operation
-  SetPermissions : Operation
-  SyncFile : Operation
-  CreateRecord : Operation
-  WriteRecord : Operation
-  SyncRecord : Operation
-  RenameRecord : Operation
-  SyncRecordName : Operation
-  RenameFile : Operation
-  SyncFileName : Operation
-  RemoveFiles : Operation
-  Installed : Operation
-  AlreadyInstalled : Operation
-  WouldInstall : Operation
-  Rejected : Operation
 
 -- The operations by their numbers, from 0 on. Nothing is due in a state that was never begun.
 abbrev pub operations : List Operation
@@ -98,18 +84,19 @@ operations =
     ∷ RenameFile ∷ SyncFileName ∷ RemoveFiles ∷ Installed ∷ AlreadyInstalled ∷ WouldInstall ∷ Rejected ∷ []
 
 -- What the installer knows. After the record was read, recorded says what counts of it. After the signature
--- file was read, signers are the keys that may have signed, signature is the signature of the data, and the
--- trusted comment was judged: fault says why it is rejected, version is its version number (0 if it has
--- none), and size is the signed size. All this counts only once is_signed is true. Then the first of the
--- signers has signed the comment. is_recorded says if the digest in the record is that of the update. read
--- are the bytes of the file that is being read. left is how many bytes of the signed size were not copied
--- yet. error is why the run is rejected.
+-- file was read, signers are the keys that may have signed, signature is the signature of the data,
+-- comment_signature is that of the trusted comment, and the comment was judged: fault says why it is
+-- rejected, version is its version number (0 if it has none), and size is the signed size. All this counts
+-- only once is_signed is true. Then the first of the signers has signed the comment. is_recorded says if the
+-- digest in the record is that of the update. read are the bytes of the file that is being read. left is how
+-- many bytes of the signed size were not copied yet. error is why the run is rejected.
 pub record State : Type 0 where
   pub due : Operation
   pub options : Options
   pub recorded : Recorded
   pub signers : List PublicKeyValue
   pub signature : List ℕ
+  pub comment_signature : List ℕ
   pub fault : Option InstallFault
   pub version : ℕ
   pub size : Option ℕ
@@ -127,6 +114,7 @@ begin o = record {
   recorded = nothing_recorded;
   signers = [];
   signature = [];
+  comment_signature = [];
   fault = None;
   version = 0;
   size = None;
@@ -168,11 +156,11 @@ key_of [] = []
 key_of (v ∷ more) = v.key
 
 -- The question about a trusted comment, which is signed together with the signature of the data.
-abbrev pub comment_question : State → SignatureTextRecord → Question
-comment_question s t = record {
+abbrev pub comment_question : State → List ℕ → Question
+comment_question s comment = record {
   key = key_of s.signers;
-  message = s.signature ++ t.comments.trusted;
-  signature = take 64 t.comments.signature;
+  message = s.signature ++ comment;
+  signature = s.comment_signature;
 }
 
 -- The digest in the record, or that of the file that was read.
@@ -243,6 +231,7 @@ after_signature (Ok (t, signers)) time s = record s {
   due = CheckComment;
   signers = signers;
   signature = t.signature.signature;
+  comment_signature = take 64 t.comments.signature;
   fault = comment_fault s.options s.recorded.version time t.comments.trusted;
   version = unwrap_or (version_in s.options.numbering t.comments.trusted) 0;
   size = size_in t.comments.trusted;

@@ -41,7 +41,7 @@ asks w q = w.accepts q.message q.key q.signature
 -- The answer is what Ed25519 says to the question at this operation.
 abbrev pub IsAnswer : World → State → Operation → Bool → Type 0
 IsAnswer w s CheckComment accepted =
-    (t : SignatureTextRecord) → w.text ≡ Ok t → accepted ≡ asks w (comment_question s t)
+    (t : SignatureTextRecord) → w.text ≡ Ok t → accepted ≡ asks w (comment_question s t.comments.trusted)
 IsAnswer w s op accepted = accepted ≡ asks w (data_question op s)
 
 -- At this operation the application reports the event only if it is true. n bytes were copied so far. A
@@ -150,6 +150,16 @@ Runs w n s d [] t d' = (t ≡ s) × (d' ≡ d)
 Runs w n s d ((e, mid) ∷ more) t d' =
     IsTrue w n s e × Changes s.due s e d mid × Runs w (count n e) (step s e).1 mid more t d'
 
+-- No operation has failed, and the lock was free.
+abbrev pub Succeeds : Event → Type 0
+Succeeds (Failed f) = ⊥
+Succeeds InUse = ⊥
+Succeeds e = ⊤
+
+abbrev pub AllSucceed : List (Event × Disk) → Type 0
+AllSucceed [] = ⊤
+AllSucceed ((e, disk) ∷ more) = Succeeds e × AllSucceed more
+
 -- No version is compared: there is no record with a version number, and --first was given; or the record
 -- names a key that was not given, and --first or --new-key was given.
 abbrev pub IsForgotten : Options → Option (List ℕ) → Type 0
@@ -180,7 +190,8 @@ pub record IsUpdate (w : World) (o : Options) (s : State) : Type 0 where
   pub wanted : comment_fault o s.recorded.version time text.comments.trusted ≡ None
   pub version : s.version ≡ unwrap_or (version_in o.numbering text.comments.trusted) 0
   pub signature : s.signature ≡ text.signature.signature
-  pub signed_comment : asks w (comment_question s text) ≡ true
+  pub comment_signature : s.comment_signature ≡ take 64 text.comments.signature
+  pub signed_comment : asks w (comment_question s text.comments.trusted) ≡ true
   pub signed_data : asks w (data_question CheckData s) ≡ true
   pub not_older : (k : ℕ) → s.recorded.version ≡ Some k → HasVersion o w.found k × (k ≤ new_version s)
   pub forgotten : s.recorded.version ≡ None → IsForgotten o w.found

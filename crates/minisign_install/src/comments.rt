@@ -1,18 +1,16 @@
 //! What the trusted comment says about an update.
 
-ghost use Rattle.std.specs.Prelude.{◌≡◌, ◌==◌, ◌<◌, ◌∷◌, [], ℕ, Bool, true, if◌then◌else◌, List, Option};
-ghost use Rattle.std.specs.Prelude.{Some, None, is_some, option_map, MatchOption, MatchResult, filter_map};
-ghost use Rattle.std.specs.Prelude.{length};
+ghost use Rattle.std.specs.Prelude.{◌≡◌, ◌==◌, ◌<◌, ◌∷◌, [], ℕ, Bool, if◌then◌else◌, List};
+ghost use Rattle.std.specs.Prelude.{Some, None, Option, false, is_some, option_map, MatchOption, filter_map};
+ghost use Rattle.std.specs.Prelude.{length, nat_le};
 ghost use Rattle.std.specs.Char.{to_ascii_lowercase};
-ghost use Rattle.minisign_install.specs.Comments.{HasNumber, HasSize, IsBadlySized, IsExpiryRefused};
-ghost use Rattle.minisign_install.specs.Comments.{IsNumberText, IsUnexpired, SizedAs, expiries, expiry_in};
-ghost use Rattle.minisign_install.specs.Comments.{fields, folded, number_label, strip, value_of, values_of};
+ghost use Rattle.minisign_install.specs.Comments.{IsNumberText, expiries, expiry_in, fields, folded};
+ghost use Rattle.minisign_install.specs.Comments.{number_label, strip, value_of, values_of};
+ghost use Rattle.minisign_install.specs.CommentChecks.{CommentSays, IsCommentRefused};
+ghost use Rattle.minisign_install.specs.Decisions.{Options, comment_fault, is_too_old, version_in};
+ghost use Rattle.minisign_install.specs.Faults.{InstallFault};
+ghost use Rattle.minisign_install.specs.Installations.{numbering_of};
 ghost use Rattle.minisign_install.specs.RecordTexts.{other_field};
-ghost use Rattle.minisign_install.specs.Hosted.{IsWorth, terms_by};
-ghost use Rattle.minisign_install.specs.Faults.{BadExpiry, BadSize, Expired, NoExpiry, NoNumber, OlderUpdate};
-ghost use Rattle.minisign_install.specs.Faults.{OtherFile};
-
-use crate::faults::InstallFault;
 
 /// The field of the trusted comment that holds the version number of an update. Fields end at tabs. If a
 /// label occurs more than once, the first field with it counts.
@@ -25,6 +23,17 @@ pub enum Numbering {
 }
 
 impl Numbering {
+    /// Returns the field with this number: 0 is the timestamp, 1 the version.
+    pub fn of_number(number: u32) -> Option<Numbering>
+        ensures { result ≡ (if nat_le number 1 then Some (numbering_of number) else None) }
+    {
+        match number {
+            0 => Some(Numbering::Timestamp),
+            1 => Some(Numbering::Version),
+            _ => None,
+        }
+    }
+
     // The label of the field.
     pub(crate) fn label(self) -> &'static str
         ensures { result.now ≡ number_label self }
@@ -46,69 +55,9 @@ impl Numbering {
     }
 }
 
-// The number of an update whose comment names this file and has not expired, where it is not below the kept
-// one. What the comment says of the data's size is passed over, but where it counts.
-pub(crate) fn check_comment(
-    comment: &str,
-    file: &str,
-    numbering: Numbering,
-    moment: u64,
-    must_expire: bool,
-    heeds_size: bool,
-    kept: u64,
-) -> Result<u64, InstallFault>
-    ensures { IsWorth (terms_by file.now numbering moment must_expire heeds_size) kept comment.now result }
-{
-    if value(comment, "file:") != Some(file) {
-        return Err(InstallFault::OtherFile);
-    }
-    let Some(number) = number_in(comment, numbering) else {
-        return Err(InstallFault::NoNumber);
-    };
-    check_expiry(comment, moment, must_expire)?;
-    check_size(comment, heeds_size)?;
-    if number < kept {
-        return Err(InstallFault::OlderUpdate);
-    }
-    Ok(number)
-}
-
-// The number of a comment, where it has one.
-pub(crate) fn number_in(comment: &str, numbering: Numbering) -> Option<u64>
-    ensures { MatchOption result ((n : ℕ) → ¬ (HasNumber comment.now numbering n))
-        (HasNumber comment.now numbering) }
-{
-    let digits = value(comment, numbering.label())?;
-    number_of(digits)
-}
-
-// Whether an update of this comment has not expired at this moment.
-fn check_expiry(comment: &str, moment: u64, must_expire: bool) -> Result<(), InstallFault>
-    ensures { MatchResult result (λ _. IsUnexpired must_expire moment comment.now)
-        (IsExpiryRefused must_expire moment comment.now) }
-{
-    let Some(rest) = first_expiry(comment, must_expire) else {
-        if must_expire {
-            return Err(InstallFault::NoExpiry);
-        }
-        return Ok(());
-    };
-    if first_expiry(rest, must_expire).is_some() {
-        return Err(InstallFault::BadExpiry);
-    }
-    let Some(digits) = value(comment, "expires:") else {
-        return Err(InstallFault::BadExpiry);
-    };
-    match number_of(digits) {
-        Some(until) if moment < until => Ok(()),
-        Some(_) => Err(InstallFault::Expired),
-        None => Err(InstallFault::BadExpiry),
-    }
-}
-
 // The fields behind the first one by which a comment says when its update expires.
 #[tactic(auto, using(crate::proofs::Fields::no_expiry))]
-fn first_expiry(comment: &str, must_expire: bool) -> Option<&str>
+pub(crate) fn first_expiry(comment: &str, must_expire: bool) -> Option<&str>
     ensures { MatchOption result (expiries must_expire comment.now ≡ [])
         (λ rest. (v : List ℕ) × (expiries must_expire comment.now ≡ v ∷ expiries must_expire rest.now)) }
 {
@@ -161,45 +110,8 @@ fn is_letter(letter: u8, wanted: u8) -> bool
     letter.to_ascii_lowercase() == wanted
 }
 
-// Whether a comment says nothing of the data's size, or says it once, in a number, if that counts.
-fn check_size(comment: &str, heeds_size: bool) -> Result<(), InstallFault>
-    ensures { MatchResult result (λ _. heeds_size ≡ true → (size : Option ℕ) × HasSize comment.now size)
-        (λ e. (e ≡ BadSize) × (heeds_size ≡ true) × IsBadlySized comment.now) }
-{
-    if heeds_size {
-        size_in(comment)?;
-    }
-    Ok(())
-}
-
-// How long the data of a comment is, where it says so.
-fn size_in(comment: &str) -> Result<Option<u64>, InstallFault>
-    ensures { MatchResult result (HasSize comment.now) (λ e. (e ≡ BadSize) × IsBadlySized comment.now) }
-{
-    let Some((digits, rest)) = first_value(comment, "size:") else {
-        return Ok(None);
-    };
-    if first_value(rest, "size:").is_some() {
-        return Err(InstallFault::BadSize);
-    }
-    match number_of(digits) {
-        Some(size) => Ok(Some(size)),
-        None => Err(InstallFault::BadSize),
-    }
-}
-
-// The same, where it says so once, in a number.
-pub(crate) fn told_size(comment: &str) -> Option<u64>
-    ensures { MatchOption result ((size : ℕ) → ¬ (SizedAs comment.now size)) (SizedAs comment.now) }
-{
-    match size_in(comment) {
-        Ok(size) => size,
-        Err(_) => None,
-    }
-}
-
 // What stands behind the label in the first field that begins with it.
-fn value<'a>(comment: &'a str, label: &str) -> Option<&'a str>
+pub(crate) fn value<'a>(comment: &'a str, label: &str) -> Option<&'a str>
     requires { 0 < length label.now }
     ensures { option_map (λ v. v.now) result ≡ value_of label.now comment.now }
 {
@@ -211,7 +123,7 @@ fn value<'a>(comment: &'a str, label: &str) -> Option<&'a str>
 
 // The same, and the fields behind that one.
 #[tactic(auto, using(crate::proofs::Fields::nothing))]
-fn first_value<'a>(comment: &'a str, label: &str) -> Option<(&'a str, &'a str)>
+pub(crate) fn first_value<'a>(comment: &'a str, label: &str) -> Option<(&'a str, &'a str)>
     requires { 0 < length label.now }
     ensures { MatchOption result (values_of label.now comment.now ≡ [])
         (λ (v, rest). values_of label.now comment.now ≡ v.now ∷ values_of label.now rest.now) }
@@ -261,3 +173,18 @@ pub(crate) fn number_of(text: &str) -> Option<u64>
         },
     }
 }
+
+/// States what the checks of a trusted comment mean. This function is a law: it does nothing, and its
+/// contract is what it is for.
+pub fn any_comment_is_judged()
+    // A comment that is not rejected names the file, has the version number, has not expired, and has a
+    // proper size or none; and the version is not below the recorded one, unless `roll_back` is set.
+    ensures accepted { (o : Options) (recorded time : Option ℕ) (comment : List ℕ)
+        → comment_fault o recorded time comment ≡ None
+        → (n : ℕ) × (version_in o.numbering comment ≡ Some n) × CommentSays o time comment n
+        × (is_too_old o recorded (Some n) ≡ false) }
+
+    // The error for which a comment is rejected is true of it, and the checks before have passed.
+    ensures rejected { (o : Options) (recorded time : Option ℕ) (comment : List ℕ) (e : InstallFault)
+        → comment_fault o recorded time comment ≡ Some e → IsCommentRefused o recorded time comment e }
+{}

@@ -1,13 +1,15 @@
 //! Why an installation is rejected: one enum of the errors of the library and of those that installing adds,
 //! of each of the latter the number, the kind and the text. None of these allocates.
 
-ghost use Rattle.std.specs.Prelude.{◌≡◌, Some, true, IfSome, MatchResult};
+ghost use Rattle.std.specs.Prelude.{◌≡◌, ◌<◌, List, ℕ, Some, true, IfSome, MatchResult, length};
+ghost use Rattle.minisign_external.specs.Numbers.{WritesCut};
 ghost use Rattle.minisign_base.specs.Faults.{row};
-ghost use Rattle.minisign_install.specs.Faults.{Named, is_own, install_number, install_row, Library};
+ghost use Rattle.minisign_install.specs.Faults.{IsErrorText, Named, is_own, install_number};
+ghost use Rattle.minisign_install.specs.Faults.{install_row, Library};
 
 use minisign_base::ErrorKind::{self, Io, Verify};
 use minisign_base::{NamedFault, PError};
-use minisign_external::numbers::Numbered;
+use minisign_external::numbers::{self, Numbered};
 use std::fmt;
 
 /// Why an installation is rejected. `Display` writes the text.
@@ -199,4 +201,33 @@ impl From<NamedFault> for InstallFault {
     fn from(fault: NamedFault) -> InstallFault {
         InstallFault::Library(fault.into())
     }
+}
+
+/// Returns the text of an error number in English. For an error of the library it omits the key IDs.
+pub fn error_text(number: u32) -> &'static str
+    // The result is the text of the API misuse, of the installation error or of the library's error that has
+    // this number, without key IDs. For 0 it is "no error", and for a number without a meaning "unknown
+    // error". It has fewer than 128 bytes.
+    ensures meaning { IsErrorText number result.now }
+    ensures room { length result.now < 128 }
+{
+    if let Some(fault) = InstallFault::of_number(number) {
+        if let Ok((_, _, text)) = fault.row() {
+            return text;
+        }
+    }
+    numbers::error_text(number)
+}
+
+/// Writes the text of an error number, in English, to the front of `to`, terminated by a 0 and truncated if
+/// `to` is too short. Returns the length of the whole text, at most 127 bytes. The bytes after the 0 are
+/// unchanged. If `to` is empty nothing is written.
+pub fn write_error_text(number: u32, to: &mut [u8]) -> usize
+    // The buffer holds as much of the text of `error_text` as fits before a terminating 0 byte, and the bytes
+    // after the 0 are unchanged. The result is the length of the whole text.
+    ensures written { (text : List ℕ) × IsErrorText number text × (result ≡ length text)
+        × WritesCut text to.old to.new }
+    ensures room { result < 128 }
+{
+    numbers::write_cut(error_text(number), to)
 }

@@ -5,11 +5,11 @@
 
 pub mod comments;
 pub mod faults;
-pub mod hosted;
-pub mod hosted_judging;
-pub mod order;
+pub mod histories;
+pub mod installation;
 mod recording;
-pub mod sequences;
+pub mod steps;
+pub mod traces;
 
 pub use comments::Numbering;
 pub use faults::InstallFault;

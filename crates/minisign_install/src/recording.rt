@@ -1,15 +1,13 @@
 //! The record beside the target: the version number of the newest update after the label of its field, the
 //! key that signed the update, and the digest of its data.
 
-ghost use Rattle.std.specs.Prelude.{option_map, Some, ◌≡◌, ◌⊎◌, ℕ, ◌==◌, ◌<◌, ◌≤◌, ◌+◌, ◌*◌, ◌++◌, ◌∷◌, []};
-ghost use Rattle.std.specs.Prelude.{MatchOption, MatchResult, length, take, drop};
+ghost use Rattle.std.specs.Prelude.{Some, ◌≡◌, ◌⊎◌, ℕ, ◌==◌, ◌<◌, ◌≤◌, ◌+◌, ◌*◌, ◌++◌, ◌∷◌, []};
+ghost use Rattle.std.specs.Prelude.{MatchOption, length, take, drop};
 ghost use Rattle.hex.specs.Hex.{encode_lower};
 ghost use Rattle.minisign_install.specs.Faults.{DamagedRecord};
-ghost use Rattle.minisign_install.specs.RecordTexts.{kept_by, other_field, HasNoNumber, IsNumberFor, counted};
+ghost use Rattle.minisign_install.specs.RecordTexts.{kept_by, other_field, HasNoNumber, IsNumberFor};
 ghost use Rattle.minisign_install.specs.RecordTexts.{is_marked, is_other, mark_text, marked_line};
 ghost use Rattle.minisign_install.specs.RecordTexts.{record_digest, record_key, record_of, record_text};
-ghost use Rattle.minisign_install.specs.Installing.{IsKeptOrNone};
-ghost use Rattle.minisign_install.specs.Refusals.{IsRecordRefused};
 
 use crate::comments::{Numbering, number_of, strip};
 use crate::faults::InstallFault;
@@ -30,30 +28,8 @@ pub(crate) struct Mark {
     pub(crate) digest: [u8; 64],
 }
 
-// The number that the record was found to hold for the field; where it holds none, there is none, if this is
-// the first installation.
-pub(crate) fn kept_in(
-    found: Option<&[u8]>,
-    numbering: Numbering,
-    is_first: bool,
-) -> Result<Option<u64>, InstallFault>
-    ensures number { MatchResult result
-        (IsKeptOrNone numbering is_first (option_map (λ b. b.now) found.entry))
-        (IsRecordRefused numbering is_first (option_map (λ b. b.now) found.entry)) }
-{
-    match found {
-        Some(bytes) => match number_for(bytes, numbering) {
-            Some(number) => Ok(Some(number)),
-            None if is_first => Ok(None),
-            None => Err(unfit(bytes, numbering)),
-        },
-        None if is_first => Ok(None),
-        None => Err(InstallFault::NoRecord),
-    }
-}
-
 // Why a record of these bytes, which holds no number for the field, is refused.
-fn unfit(bytes: &[u8], numbering: Numbering) -> InstallFault
+pub(crate) fn unfit(bytes: &[u8], numbering: Numbering) -> InstallFault
     ensures why { ((result ≡ kept_by (other_field numbering))
         × ((n : ℕ) × IsNumberFor (other_field numbering) bytes.now n))
         ⊎ ((result ≡ DamagedRecord) × HasNoNumber (other_field numbering) bytes.now) }
@@ -67,7 +43,7 @@ fn unfit(bytes: &[u8], numbering: Numbering) -> InstallFault
 }
 
 // The number that a record of these bytes holds for the field, where it holds one.
-fn number_for(bytes: &[u8], numbering: Numbering) -> Option<u64>
+pub(crate) fn number_for(bytes: &[u8], numbering: Numbering) -> Option<u64>
     ensures { MatchOption result (HasNoNumber numbering bytes.now) (IsNumberFor numbering bytes.now) }
 {
     let Ok(text) = str::from_utf8(record_text(bytes)) else {
@@ -137,7 +113,7 @@ pub(crate) fn record_digest(bytes: &[u8]) -> Option<[u8; 64]>
 }
 
 // The key that a record of these bytes names, where it names one.
-fn record_key(bytes: &[u8]) -> Option<[u8; 32]>
+pub(crate) fn record_key(bytes: &[u8]) -> Option<[u8; 32]>
     ensures { result ≡ record_key bytes.now }
 {
     if !is_marked(bytes) {
@@ -153,7 +129,7 @@ fn record_key(bytes: &[u8]) -> Option<[u8; 32]>
 }
 
 // Whether a record of these bytes names a key that is none of these two.
-fn is_other(bytes: &[u8], key: &[u8; 32], other: &[u8; 32]) -> bool
+pub(crate) fn is_other(bytes: &[u8], key: &[u8; 32], other: &[u8; 32]) -> bool
     ensures { result ≡ is_other (key.now ∷ other.now ∷ []) (record_key bytes.now) }
 {
     match record_key(bytes) {
@@ -167,23 +143,6 @@ fn is_neither(named: &[u8; 32], key: &[u8; 32], other: &[u8; 32]) -> bool
     ensures { result ≡ is_other (key.now ∷ other.now ∷ []) (Some named.now) }
 {
     *named != *key && *named != *other
-}
-
-// What of the record counts: at the first installation one that names another key than these two counts as
-// none.
-pub(crate) fn counted<'a>(
-    found: Option<&'a [u8]>,
-    key: &[u8; 32],
-    other: &[u8; 32],
-    is_first: bool,
-) -> Option<&'a [u8]>
-    ensures { option_map (λ b. b.now) result
-        ≡ counted is_first (key.now ∷ other.now ∷ []) (option_map (λ b. b.now) found.entry) }
-{
-    match found {
-        Some(bytes) if is_first && is_other(bytes, key, other) => None,
-        found => found,
-    }
 }
 
 // Writes a record to the front of `to`, and returns how long that is; where it has no room, nothing.

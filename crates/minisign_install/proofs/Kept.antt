@@ -1,0 +1,457 @@
+-- The struct and its state after each event.
+use Rattle.std.specs.Prelude.{◌≡◌, ◌<◌, ◌==◌, ◌++◌, ℕ, Bool, true, false, List, Option, Some, None, Result}
+use Rattle.std.specs.Prelude.{Ok, Err}
+use Rattle.std.specs.Prelude.{if◌then◌else◌, ◌≢◌, ◌&&◌, not, is_some, IfSome, [], ◌∷◌, option_map, ◌≤◌}
+use Rattle.std.specs.Prelude.{length, take, drop, ◌^◌}
+use Rattle.std.specs.Option.{unwrap_or}
+use Rattle.std.proofs.Common.{refl, sym, ap, ◌∙◌, arith, lit<, true≢false, subst}
+use Rattle.std.proofs.lemmas.Option.{none-some, same_Some}
+use Rattle.minisign_base.specs.Fault.{Fault, Named, Worded}
+use Rattle.minisign_base.specs.Faults.{fault_row}
+use Rattle.minisign_base.specs.declared.faults.NamedFault.{NamedFault}
+use Rattle.minisign_base.specs.declared.faults.NamedFault.TheVariants.{OutOfMemory, SignatureRefused}
+use Rattle.minisign_external.specs.Numbers.{fault_number}
+use Rattle.minisign_external.specs.declared.public_keys.PublicKeyValue.{PublicKeyValue}
+use Rattle.minisign_external.specs.declared.state.Misuse.TheVariants.{NotDue}
+use Rattle.minisign_external.specs.declared.state.Refusal.{Refusal}
+use Rattle.minisign_external.specs.declared.state.Refusal.TheVariants.{Refused, WrongUse}
+use Rattle.minisign_install.specs.Comments.{Numbering}
+use Rattle.minisign_install.specs.Decisions.{Recorded, is_below, judge_record}
+use Rattle.minisign_install.specs.Faults.{InstallFault, Library, TargetInUse, install_number, is_own}
+use Rattle.minisign_install.specs.RecordTexts.{record_of}
+use Rattle.minisign_install.specs.Installations.{IsNewRecord, IsWritten}
+use Rattle.hex.specs.Hex.{IsBytes}
+use Rattle.minisign_hash.specs.Blake2b.{blake2b_digest}
+use Rattle.minisign_install.proofs.RecordTexts.{digest_bytes, length_digest, reads_back}
+use Rattle.minisign_install.specs.Installations.{IsKept, IsOwnNumber, IsStored, IsStoredIf, Leads, Steps}
+use Rattle.minisign_install.specs.Installations.{begun_mark, error_number, is_copying}
+use Rattle.minisign_install.specs.Installations.{is_locking, is_over, is_reading, is_reading_target}
+use Rattle.minisign_install.specs.Installations.{is_reading_record, is_removing, operation_of, options_of}
+use Rattle.minisign_install.specs.Installations.{first_key, is_writing_record, numbering_of, record_due}
+use Rattle.minisign_install.specs.Installations.{recorded_of, state_of, when, written_if}
+use Rattle.minisign_install.specs.Step.{Answered, Event, step, Done, InUse, Failed, PieceCopied, PieceRead}
+use Rattle.minisign_install.specs.Step.{RecordRead, TargetMissing, after_record}
+use Rattle.minisign_install.specs.Step.{Operation, State, after, after_copy, after_piece, failure, go}
+use Rattle.minisign_install.specs.Step.{after_comment, after_digest, after_target, answer, compare}
+use Rattle.minisign_install.specs.Step.{is_newer, is_rolling_back, key_of, new_key, new_record, new_version}
+use Rattle.minisign_install.specs.Step.{next_key}
+use Rattle.minisign_install.specs.Step.{has_files, install, is_failure, next, proceed, reject, result_of}
+use Rattle.minisign_install.specs.Step as due
+use Rattle.minisign_install.specs.Installations.{question_by, question_due, question_of}
+use Rattle.minisign_install.specs.declared.installation.Installation.{Installation}
+use Rattle.minisign_install.specs.declared.installation.Question.{Question}
+use Rattle.minisign_install.specs.declared.installation.progress.Progress.{Progress}
+use Rattle.minisign_install.specs.declared.installation.progress.RecordedValue.{RecordedValue}
+
+-- == The struct ==
+
+pub due_is : (p : Progress) (s : State) → IsKept p s → s.due ≡ operation_of p.due
+due_is p s kept = ap (λ (x : State). x.due) kept.state
+
+pub error_is : (p : Progress) (s : State) → IsKept p s → p.error ≡ error_number s.error
+error_is p s kept = kept.error_number ∙ ap error_number (sym (ap (λ (x : State). x.error) kept.state))
+
+pub with_error : (p : Progress) (s : State) (n : ℕ) (fault : InstallFault) → n ≡ install_number fault
+    → IsKept p s → IsKept (record p { error = n }) (record s { error = Some fault })
+with_error p s n fault is kept = record {
+  file = kept.file;
+  read = kept.read;
+  fault = kept.fault;
+  error = Some fault;
+  state = ap (λ (x : State). record x { error = Some fault }) kept.state;
+  fault_number = kept.fault_number;
+  error_number = is;
+  fed = kept.fed;
+}
+
+-- == Results ==
+
+named_positive : (f : NamedFault) → 0 < (fault_row f).number
+named_positive OutOfMemory = lit< tt
+named_positive _ = lit< tt
+
+library_positive : (e : Fault) → 0 < fault_number e
+library_positive (Named f) = named_positive f
+library_positive (Worded kind text) = lit< tt
+
+positive : (e : InstallFault) → 0 < install_number e
+positive (Library f) = library_positive f
+positive TargetInUse = lit< tt
+positive _ = lit< tt
+
+-- The first error is returned.
+pub first_error : (e : Option InstallFault) (fault : InstallFault) → error_number e ≡ 0
+    → Err (Refused fault) ≡ result_of e (Some fault)
+first_error None fault none = refl
+first_error (Some f) fault none = absurd (omega (arith, none, positive f))
+
+pub later_error : (e : Option InstallFault) (fault : InstallFault) → error_number e ≢ 0
+    → Ok tt ≡ result_of e (Some fault)
+later_error None fault some = absurd (some refl)
+later_error (Some f) fault some = refl
+
+pub calm : (e : Option InstallFault) → Ok tt ≡ result_of e e
+calm None = refl
+calm (Some f) = refl
+
+pub rejected : (p q : Progress) (s : State) (fault : InstallFault) (op : Operation) → IsKept p s
+    → op ≡ (if has_files (operation_of p.due) then due.RemoveFiles else due.Rejected)
+    → IsKept q (go op (record s { error = Some fault })) → IsKept q (reject fault s)
+rejected p q s fault op kept is after_it =
+    subst (λ (d : Operation). IsKept q (record s { due = d; error = Some fault }))
+    (is ∙ ap (λ (d : Operation). if has_files d then due.RemoveFiles else due.Rejected)
+    (sym (due_is p s kept))) after_it
+
+-- A state that is reached without an error.
+pub quiet : (s t : State) → t.error ≡ s.error → Ok tt ≡ result_of s.error t.error
+quiet s t is = calm s.error ∙ ap (result_of s.error) (sym is)
+
+pick_error : (b : Bool) (x y : State) (e : Option InstallFault) → x.error ≡ e → y.error ≡ e
+    → (if b then x else y).error ≡ e
+pick_error true x y e one other = one
+pick_error false x y e one other = other
+
+pub compare_error : (s : State) → (compare s).error ≡ s.error
+compare_error s =
+    pick_error (is_newer s) _ _ s.error refl
+    (pick_error (is_some s.recorded.digest) _ _ s.error refl
+    (pick_error (is_rolling_back s) _ _ s.error refl refl))
+
+pub digest_error : (a : Bool) (s : State) → (after_digest a s).error ≡ s.error
+digest_error a s = pick_error (not a && is_rolling_back s) _ _ s.error refl refl
+
+-- == The record ==
+
+pub recorded_as : (p : Progress) (s : State) (n : ℕ) (b : Bool) → (n == 1) ≡ b → IsKept p s
+    → IsKept (record p { is_recorded = n }) (record s { is_recorded = b })
+recorded_as p s n b is kept = record {
+  file = kept.file;
+  read = kept.read;
+  fault = kept.fault;
+  error = kept.error;
+  state = ap (λ (x : State). record x { is_recorded = b }) kept.state
+      ∙ ap (λ (a : Bool). record (state_of p kept.file kept.read kept.fault kept.error) { is_recorded = a })
+      (sym is);
+  fault_number = kept.fault_number;
+  error_number = kept.error_number;
+  fed = kept.fed;
+}
+
+pub digest_yes : (q : Progress) (s : State) (a : Bool) → a ≡ true
+    → IsKept q (go due.ReadTarget (record s { is_recorded = true })) → IsKept q (after_digest a s)
+digest_yes q s a is kept = subst (λ (b : Bool). IsKept q (after_digest b s)) (sym is) kept
+
+pub digest_no : (q : Progress) (s : State) (a : Bool) → a ≡ false → is_rolling_back s ≡ false
+    → IsKept q (go due.ReadTarget (record s { is_recorded = false })) → IsKept q (after_digest a s)
+digest_no q s a is old kept =
+    subst (λ (b : Bool). IsKept q (after_digest b s)) (sym is)
+    (subst (λ (b : Bool).
+    IsKept q (if b then install s else record s { due = due.ReadTarget; is_recorded = false }))
+    (sym old) kept)
+
+-- The record was read.
+pub recorded_with : (p : Progress) (s : State) (r : RecordedValue) → IsKept p s
+    → IsKept (record p { recorded = r }) (record s { recorded = recorded_of r })
+recorded_with p s r kept = record {
+  file = kept.file;
+  read = kept.read;
+  fault = kept.fault;
+  error = kept.error;
+  state = ap (λ (x : State). record x { recorded = recorded_of r }) kept.state;
+  fault_number = kept.fault_number;
+  error_number = kept.error_number;
+  fed = kept.fed;
+}
+
+pub options_are : (p : Progress) (s : State) (kept : IsKept p s)
+    → s.options ≡ options_of p.chosen kept.file
+options_are p s kept = ap (λ (x : State). x.options) kept.state
+
+pub record_at : (op : Operation) (found : Option (List ℕ)) (s : State) (r : Result Recorded InstallFault)
+    → is_reading_record op ≡ true → judge_record s.options found ≡ r
+    → after op (RecordRead found) s ≡ Some (after_record r s)
+record_at due.ReadRecord found s r is judged = ap (λ j. Some (after_record j s)) judged
+record_at _ found s r is judged = absurd (true≢false (sym is))
+
+pub no_record_at : (op : Operation) (found : Option (List ℕ)) (s : State) → is_reading_record op ≡ false
+    → after op (RecordRead found) s ≡ None
+no_record_at due.ReadRecord found s is = absurd (true≢false is)
+no_record_at _ found s is = refl
+
+-- == The question ==
+
+pub nothing_asked : (is_read : Bool) (key : Option (List ℕ)) (s : State) → s.due ≡ due.Nothing
+    → None ≡ question_by is_read key s.due s
+nothing_asked true (Some key) s at = sym (ap (λ (op : Operation). question_of op key s) at)
+nothing_asked true None s at = refl
+nothing_asked false key s at = refl
+
+pub unread : (s : State) → (length s.signature == 64) ≡ false → None ≡ question_due s
+unread s is = rw is refl
+
+pub no_key : (s : State) → (length s.signature == 64) ≡ true → None ≡ first_key s.signers
+    → None ≡ question_due s
+no_key s is none =
+    ap (λ (key : Option (List ℕ)). question_by true key s.due s) none
+    ∙ ap (λ (b : Bool). question_by b (first_key s.signers) s.due s) (sym is)
+
+pub asked : (s : State) (key : List ℕ) (q : Option Question) → (length s.signature == 64) ≡ true
+    → Some key ≡ first_key s.signers → q ≡ question_of s.due key s → q ≡ question_due s
+asked s key q is first same =
+    same ∙ ap (λ (k : Option (List ℕ)). question_by true k s.due s) first
+    ∙ ap (λ (b : Bool). question_by b (first_key s.signers) s.due s) (sym is)
+
+-- == The new record ==
+
+pub key_is : (signers : List PublicKeyValue) (key : List ℕ) → first_key signers ≡ Some key
+    → key_of signers ≡ key
+key_is [] key is = absurd (none-some key is)
+key_is (v ∷ more) key is = same_Some v.key key is
+
+below_when : (b : Bool) (v r : ℕ) → is_below (Some v) (when b r) ≡ true → unwrap_or (when b r) v ≡ r
+below_when true v r is = refl
+below_when false v r is = absurd (true≢false (sym is))
+
+pub version_back : (p : Progress) (s : State) → IsKept p s → is_rolling_back s ≡ true
+    → new_version s ≡ p.recorded.version
+version_back p s kept is =
+    rw is (rw kept.state (below_when (p.recorded.has_version == 1) p.judged.version p.recorded.version
+    (rw kept.state at is)))
+
+pub version_on : (p : Progress) (s : State) → IsKept p s → is_rolling_back s ≡ false
+    → new_version s ≡ p.judged.version
+version_on p s kept is = rw is (ap (λ (x : State). x.version) kept.state)
+
+pub key_back : (s : State) (signer key : List ℕ) → key_of s.signers ≡ signer → is_rolling_back s ≡ true
+    → key ≡ unwrap_or s.recorded.key signer → key ≡ new_key s
+key_back s signer key first is named = rw (is, first) named
+
+pub key_on : (s : State) (signer : List ℕ) → key_of s.signers ≡ signer → is_rolling_back s ≡ false
+    → signer ≡ new_key s
+key_on s signer first is = rw is (sym first)
+
+pub numbering_is : (p : Progress) (s : State) → IsKept p s
+    → s.options.numbering ≡ numbering_of p.chosen.numbering
+numbering_is p s kept = ap (λ (x : State). x.options.numbering) kept.state
+
+pub read_is : (p : Progress) (s : State) (kept : IsKept p s) → s.read ≡ kept.read
+read_is p s kept = ap (λ (x : State). x.read) kept.state
+
+pub not_writing : (s : State) (op : Operation) (n : ℕ) (old new : List ℕ) → s.due ≡ op
+    → is_writing_record op ≡ false → n ≡ 0 → new ≡ old → written_if (record_due s) n old new
+not_writing s op n old new at is none same =
+    subst (λ (b : Bool).
+    written_if (if b then option_map (λ key. new_record s) (first_key s.signers) else None) n old new)
+    (sym (ap is_writing_record at ∙ is)) (none, same)
+
+pub writing : (s : State) (op : Operation) (key : Option (List ℕ)) (n : ℕ) (old new : List ℕ) → s.due ≡ op
+    → is_writing_record op ≡ true → first_key s.signers ≡ key
+    → written_if (option_map (λ key. new_record s) key) n old new
+    → written_if (record_due s) n old new
+writing s op key n old new at is first written =
+    subst (λ (b : Bool).
+    written_if (if b then option_map (λ key. new_record s) (first_key s.signers) else None) n old new)
+    (sym (ap is_writing_record at ∙ is))
+    (subst (λ (k : Option (List ℕ)). written_if (option_map (λ key. new_record s) k) n old new)
+    (sym first) written)
+
+pub record_same : {a b : Numbering} {n m : ℕ} {key other digest also : List ℕ} → a ≡ b → n ≡ m → key ≡ other
+    → digest ≡ also → record_of a n key digest ≡ record_of b m other also
+record_same numbering version key digest = λ i. record_of (numbering i) (version i) (key i) (digest i)
+
+pub written : (text same : List ℕ) (n : ℕ) (old new : List ℕ) → text ≡ same
+    → (0 < n → (n ≤ length new) × (take n new ≡ text)) → drop n new ≡ drop n old
+    → (n ≡ 0 → (new ≡ old) × (length old < length text)) → IsWritten same n old new
+written text same n old new is some rest none =
+    subst (λ (t : List ℕ). IsWritten t n old new) is (record { front = some; rest = rest; room = none })
+
+pub new_record_is : (s : State) (numbering : Numbering) (n : ℕ) (key digest : List ℕ) {bytes : List ℕ}
+    → s.options.numbering ≡ numbering → new_version s ≡ n → new_key s ≡ key → blake2b_digest 64 s.read
+    ≡ digest
+    → n < 2 ^ 64 → length key ≡ 32 → IsBytes key → bytes ≡ record_of numbering n key digest
+    → IsNewRecord s bytes
+new_record_is s numbering n key digest numbered version named fits bound whole are is =
+    rw (is, numbered, version, named, sym fits)
+    (reads_back numbering n bound key (blake2b_digest 64 s.read) whole (length_digest s.read) are
+    (digest_bytes s.read))
+
+-- == The comment ==
+
+pub signed : (p : Progress) (s : State) → IsKept p s
+    → IsKept (record p { is_signed = 1 }) (record s { is_signed = true })
+signed p s kept = record {
+  file = kept.file;
+  read = kept.read;
+  fault = kept.fault;
+  error = kept.error;
+  state = ap (λ (x : State). record x { is_signed = true }) kept.state;
+  fault_number = kept.fault_number;
+  error_number = kept.error_number;
+  fed = kept.fed;
+}
+
+pub fault_found : (f : Option InstallFault) (n : ℕ) (r : Option InstallFault) → IsOwnNumber n f
+    → ((e : InstallFault) → is_own e ≡ true → n ≡ install_number e → r ≡ Some e)
+    → IfSome r (λ e. (is_own e ≡ true) × (n ≡ install_number e)) → r ≡ f
+fault_found None n None none found holds = refl
+fault_found None n (Some e) none found (own, is) = absurd (omega (arith, none, is, positive e))
+fault_found (Some f) n r (is, own) found holds = found f own is
+
+-- == Steps ==
+
+abbrev StepsTo : Event → State → Result Unit (Refusal InstallFault) → Progress → Option State → Type 0
+StepsTo e s r q o = IsKept q (answer s o).1 × (r ≡ (answer s o).0)
+
+pub fits : (s t : State) (e : Event) (p q : Progress) (r : Result Unit (Refusal InstallFault))
+    → IsKept p s → after (operation_of p.due) e s ≡ Some t → Leads s t r q → Steps e s r q
+fits s t e p q r kept is leads =
+    subst (StepsTo e s r q) (sym (ap (λ (op : Operation). after op e s) (due_is p s kept) ∙ is)) leads
+
+pub misfits : (s : State) (e : Event) (p : Progress) (r : Result Unit (Refusal InstallFault)) → IsKept p s
+    → after (operation_of p.due) e s ≡ None → r ≡ Err (WrongUse NotDue) → Steps e s r p
+misfits s e p r kept is wrong =
+    subst (StepsTo e s r p) (sym (ap (λ (op : Operation). after op e s) (due_is p s kept) ∙ is)) (kept, wrong)
+
+pub comment_yes : (op : Operation) (a : Bool) (s : State) → op ≡ due.CheckComment → a ≡ true
+    → after op (Answered a) s ≡ Some (after_comment s.fault (record s { is_signed = true }))
+comment_yes op a s at is = rw (at, is) refl
+
+pub comment_no : (op : Operation) (a : Bool) (s : State) → op ≡ due.CheckComment → a ≡ false
+    → after op (Answered a) s ≡ Some (next_key s.signers s)
+comment_no op a s at is = rw (at, is) refl
+
+pub record_either : (op : Operation) (a : Bool) (s : State) → op ≡ due.CheckRecord
+    → after op (Answered a) s ≡ Some (after_digest a s)
+record_either op a s at = rw at refl
+
+pub target_either : (op : Operation) (a b : Bool) (s : State) → op ≡ due.CheckTarget → a ≡ b
+    → after op (Answered a) s ≡ Some (after_target b s)
+target_either op a b s at is = rw (at, is) refl
+
+pub data_yes : (op : Operation) (a : Bool) (s : State) → op ≡ due.CheckData → a ≡ true
+    → after op (Answered a) s ≡ Some (go due.SetPermissions s)
+data_yes op a s at is = rw (at, is) refl
+
+pub data_no : (op : Operation) (a : Bool) (s : State) → op ≡ due.CheckData → a ≡ false
+    → after op (Answered a) s ≡ Some (reject (Library (Named SignatureRefused)) s)
+data_no op a s at is = rw (at, is) refl
+
+-- The operations that ask Ed25519.
+pub no_answer_at : (op : Operation) (a : Bool) (s : State) → op ≢ due.CheckComment → op ≢ due.CheckRecord
+    → op ≢ due.CheckTarget → op ≢ due.CheckData → after op (Answered a) s ≡ None
+no_answer_at due.CheckComment a s comment recorded target data_is = absurd (comment refl)
+no_answer_at due.CheckRecord a s comment recorded target data_is = absurd (recorded refl)
+no_answer_at due.CheckTarget a s comment recorded target data_is = absurd (target refl)
+no_answer_at due.CheckData a s comment recorded target data_is = absurd (data_is refl)
+no_answer_at _ a s comment recorded target data_is = refl
+
+-- == An installation ==
+
+pub stored : (i : Installation) (s : State) → (i.mark == begun_mark) ≡ true → IsStored i s
+    → IsKept i.progress s
+stored i s is held = subst (λ (b : Bool). IsStoredIf b i.progress s) is held
+
+pub unbegun : (i : Installation) (s : State) → (i.mark == begun_mark) ≡ false → IsStored i s
+    → (s.due ≡ due.Nothing) × (s.is_signed ≡ false) × (s.error ≡ None)
+unbegun i s is held = subst (λ (b : Bool). IsStoredIf b i.progress s) is held
+
+pub begun_steps : (i : Installation) (p : Progress) (s : State) (e : Event)
+    (r : Result Unit (Refusal InstallFault)) → (i.mark == begun_mark) ≡ true → Steps e s r p
+    → IsStored (record i { progress = p }) (step s e).1 × (r ≡ (step s e).0)
+begun_steps i p s e r is (kept, result) =
+    (subst (λ (b : Bool). IsStoredIf b p (step s e).1) (sym is) kept, result)
+
+nothing_at : (e : Event) (s : State) → after due.Nothing e s ≡ None
+nothing_at Done s = refl
+nothing_at (Failed f) s = refl
+nothing_at _ s = refl
+
+pub unbegun_steps : (i : Installation) (s : State) (e : Event) (r : Result Unit (Refusal InstallFault))
+    → (i.mark == begun_mark) ≡ false → IsStored i s → r ≡ Err (WrongUse NotDue)
+    → IsStored i (step s e).1 × (r ≡ (step s e).0)
+unbegun_steps i s e r is held wrong =
+    let at = (unbegun i s is held).0 in
+    subst (λ (o : Option State). IsStored i (answer s o).1 × (r ≡ (answer s o).0))
+    (sym (ap (λ (op : Operation). after op e s) at ∙ nothing_at e s)) (held, wrong)
+
+pub done_at : (op : Operation) (s : State) → is_copying op ≡ false → after op Done s ≡ proceed (next op) s
+done_at due.CopyData s is = absurd (true≢false is)
+done_at _ s is = refl
+
+pub copied_at : (op : Operation) (s : State) → is_copying op ≡ true
+    → after op Done s ≡ Some (after_copy s.left s)
+copied_at due.CopyData s is = refl
+copied_at _ s is = absurd (true≢false (sym is))
+
+pub piece_at : (op : Operation) (n : ℕ) (s : State) → is_copying op ≡ true
+    → after op (PieceCopied n) s ≡ Some (after_piece n s.left s)
+piece_at due.CopyData n s is = refl
+piece_at _ n s is = absurd (true≢false (sym is))
+
+pub no_piece_at : (op : Operation) (n : ℕ) (s : State) → is_copying op ≡ false
+    → after op (PieceCopied n) s ≡ None
+no_piece_at due.CopyData n s is = absurd (true≢false is)
+no_piece_at _ n s is = refl
+
+pub read_at : (op : Operation) (bytes : List ℕ) (s : State) → is_reading op ≡ true
+    → after op (PieceRead bytes) s ≡ Some (record s { read = s.read ++ bytes })
+read_at due.ReadTarget bytes s is = refl
+read_at due.ReadBack bytes s is = refl
+read_at _ bytes s is = absurd (true≢false (sym is))
+
+pub no_read_at : (op : Operation) (bytes : List ℕ) (s : State) → is_reading op ≡ false
+    → after op (PieceRead bytes) s ≡ None
+no_read_at due.ReadTarget bytes s is = absurd (true≢false is)
+no_read_at due.ReadBack bytes s is = absurd (true≢false is)
+no_read_at _ bytes s is = refl
+
+pub missing_at : (op : Operation) (s : State) → is_reading_target op ≡ true
+    → after op TargetMissing s ≡ Some (install s)
+missing_at due.ReadTarget s is = refl
+missing_at _ s is = absurd (true≢false (sym is))
+
+pub no_missing_at : (op : Operation) (s : State) → is_reading_target op ≡ false
+    → after op TargetMissing s ≡ None
+no_missing_at due.ReadTarget s is = absurd (true≢false is)
+no_missing_at _ s is = refl
+
+pub in_use_at : (op : Operation) (s : State) → is_locking op ≡ true
+    → after op InUse s ≡ Some (reject TargetInUse s)
+in_use_at due.Lock s is = refl
+in_use_at _ s is = absurd (true≢false (sym is))
+
+pub no_use_at : (op : Operation) (s : State) → is_locking op ≡ false → after op InUse s ≡ None
+no_use_at due.Lock s is = absurd (true≢false is)
+no_use_at _ s is = refl
+
+pub over_at : (op : Operation) (f : NamedFault) (s : State) → is_over op ≡ true → after op (Failed f) s ≡ None
+over_at due.Nothing f s is = refl
+over_at due.Installed f s is = refl
+over_at due.AlreadyInstalled f s is = refl
+over_at due.WouldInstall f s is = refl
+over_at due.Rejected f s is = refl
+over_at _ f s is = absurd (true≢false (sym is))
+
+pub removing_at : (op : Operation) (f : NamedFault) (s : State) → is_removing op ≡ true
+    → is_failure f ≡ true → after op (Failed f) s ≡ Some (go due.Rejected s)
+removing_at due.RemoveFiles f s is fault = rw fault refl
+removing_at _ f s is fault = absurd (true≢false (sym is))
+
+pub failed_at : (op : Operation) (f : NamedFault) (s : State) → is_over op ≡ false → is_removing op ≡ false
+    → is_failure f ≡ true → s.due ≡ op → after op (Failed f) s ≡ Some (reject (failure op f) s)
+failed_at due.RemoveFiles f s over is fault at = absurd (true≢false is)
+failed_at due.Nothing f s over is fault at = absurd (true≢false over)
+failed_at due.Installed f s over is fault at = absurd (true≢false over)
+failed_at due.AlreadyInstalled f s over is fault at = absurd (true≢false over)
+failed_at due.WouldInstall f s over is fault at = absurd (true≢false over)
+failed_at due.Rejected f s over is fault at = absurd (true≢false over)
+failed_at _ f s over is fault at = rw (fault, at) refl
+
+pub no_failure_at : (op : Operation) (f : NamedFault) (s : State) → is_failure f ≡ false
+    → after op (Failed f) s ≡ None
+no_failure_at due.Nothing f s is = refl
+no_failure_at due.Installed f s is = refl
+no_failure_at due.AlreadyInstalled f s is = refl
+no_failure_at due.WouldInstall f s is = refl
+no_failure_at due.Rejected f s is = refl
+no_failure_at _ f s is = rw is refl

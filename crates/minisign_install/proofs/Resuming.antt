@@ -1,0 +1,292 @@
+-- An interrupted run is finished by the next one, and a roll-back installs.
+use Rattle.std.specs.Prelude.{◌≡◌, ◌<◌, ◌≤◌, ◌+◌, ◌⊎◌, ⊤, ℕ, Bool, true, false, List, [], ◌∷◌, length}
+use Rattle.std.specs.Prelude.{Option}
+use Rattle.std.specs.Prelude.{Some, None, Result, IfSome, ◌++◌, ◌||◌, not, is_some, take, if◌then◌else◌}
+use Rattle.std.proofs.Common.{refl, subst, sym, inl, inr, ap, ◌∙◌, arith, lt-ltb, ⊎_elim}
+use Rattle.std.proofs.lemmas.Bool.{le-ltb}
+use Rattle.std.proofs.Common.{le-leb, eq-eqb, true≢false, unwrap_or}
+use Rattle.std.proofs.lemmas.Option.{none-some, same_Some}
+use Rattle.minisign.specs.SignatureText.{SignatureTextRecord}
+use Rattle.minisign_external.specs.declared.public_keys.PublicKeyValue.{PublicKeyValue}
+use Rattle.minisign_hash.specs.Blake2b.{blake2b_digest}
+use Rattle.minisign_install.specs.Decisions.{Options, Recorded, is_below, size_in}
+use Rattle.minisign_install.specs.Faults.{Fault}
+use Rattle.minisign_install.specs.Step.{Event, Done, InUse, Failed, RecordRead, SignatureRead, Answered}
+use Rattle.minisign_install.specs.Step.{PieceRead, PieceCopied, State, begin, step, Operation, after}
+use Rattle.minisign_install.specs.Step.{answer, has_ended, key_of}
+use Rattle.minisign_install.specs.Step as due
+use Rattle.minisign_install.specs.Applications.{Applies, Call, Moment}
+use Rattle.minisign_install.specs.Histories.{EachEvent, IsFineFor, IsOwnUpdate, IsThere}
+use Rattle.minisign_install.specs.StepRuns.{IsTrueEvent, World, count}
+use Rattle.minisign_install.specs.StepRuns.{first_signer}
+use Rattle.minisign_install.proofs.SafeCalls.{Invariant, next, true_event}
+use Rattle.minisign_install.proofs.SafeCalls as safe_calls
+
+module _ (w : World) (o : Options) (g : IsOwnUpdate w o) where
+  -- n bytes were copied, and this many of the signed size are left.
+  abbrev Left : ℕ → Option ℕ → Type 0
+  Left n None = ⊤
+  Left n (Some left) = left + n ≡ length w.update
+
+  -- The signature and the key of the update are known.
+  abbrev Knows : State → Type 0
+  Knows s = (s.signature ≡ g.text.signature.signature) × (key_of s.signers ≡ g.key)
+
+  -- The data can be copied.
+  abbrev IsReady : ℕ → State → Type 0
+  IsReady n s = Knows s × Left n s.left × (s.read ≡ []) × (n ≤ length w.update)
+
+  -- The update can be installed.
+  abbrev CanInstall : ℕ → State → Type 0
+  CanInstall n s = Knows s × Left n s.left × (n ≡ 0) × (s.options.check ≡ false)
+
+  -- The installed file is compared with the update.
+  abbrev Compares : ℕ → State → Type 0
+  Compares n s = CanInstall n s × (s.is_recorded ≡ true)
+
+  -- What is so if the run is on its way to the installation of the update.
+  abbrev OnTrack : ℕ → Operation → State → Type 0
+  OnTrack n due.Lock s = (s.options ≡ o) × (n ≡ 0)
+  OnTrack n due.ReadRecord s = (s.options ≡ o) × (n ≡ 0)
+  OnTrack n due.ReadSignature s = (s.options ≡ o) × (n ≡ 0) × (s.recorded ≡ g.recorded)
+  OnTrack n due.CheckComment s =
+      (s.options ≡ o) × (n ≡ 0) × (s.recorded ≡ g.recorded) × (s.fault ≡ None) × (s.version ≡ g.version)
+      × (s.signature ≡ g.text.signature.signature)
+      × (s.comment_signature ≡ take 64 g.text.comments.signature)
+      × (s.left ≡ size_in g.text.comments.trusted)
+      × (first_signer w g.text s.signers ≡ Some g.key)
+  OnTrack n due.CheckRecord s =
+      CanInstall n s
+      × ((s.recorded.digest ≡ Some (blake2b_digest 64 w.update)) ⊎ (due.is_rolling_back s ≡ true))
+  OnTrack n due.ReadTarget s = Compares n s
+  OnTrack n due.CheckTarget s = Compares n s
+  OnTrack n due.SyncTarget s = ⊤
+  OnTrack n due.SyncTargetName s = ⊤
+  OnTrack n due.AlreadyInstalled s = ⊤
+  OnTrack n due.RemoveLeftovers s = IsReady n s
+  OnTrack n due.CreateFile s = IsReady n s
+  OnTrack n due.CopyData s = IsReady n s
+  OnTrack n due.ReadBack s = Knows s × ((rest : List ℕ) × (s.read ++ rest ≡ w.update))
+  OnTrack n due.CheckData s = Knows s × (s.read ≡ w.update)
+  OnTrack n due.SetPermissions s = ⊤
+  OnTrack n due.SyncFile s = ⊤
+  OnTrack n due.CreateRecord s = ⊤
+  OnTrack n due.WriteRecord s = ⊤
+  OnTrack n due.SyncRecord s = ⊤
+  OnTrack n due.RenameRecord s = ⊤
+  OnTrack n due.SyncRecordName s = ⊤
+  OnTrack n due.RenameFile s = ⊤
+  OnTrack n due.SyncFileName s = ⊤
+  OnTrack n due.Installed s = ⊤
+  OnTrack n op s = ⊥
+
+  -- So it stays after an event that fits.
+  abbrev Stays : ℕ → Operation → Event → State → Type 0
+  Stays n op e s = IfSome (after op e s) (λ t. OnTrack (count n e) t.due t)
+
+  left_at : (n : ℕ) (size : Option ℕ) → n ≡ 0 → ((k : ℕ) → size ≡ Some k → length w.update ≡ k) → Left n size
+  left_at n None none is = tt
+  left_at n (Some k) none is = omega (arith, none, is k refl)
+
+  -- The update is not newer than the recorded version, and the record has a digest.
+  is_not_newer : (r : Option ℕ) (v last : ℕ) → r ≡ Some last → v ≤ last
+      → (not (is_some r) || is_below r (Some v)) ≡ false
+  is_not_newer None v last is most = cc is
+  is_not_newer (Some k) v last is most = le-ltb k v (omega (arith, same_Some k last is, most))
+
+  first : (n : ℕ) (b : Bool) (x y : State) → b ≡ true → OnTrack n x.due x
+      → OnTrack n (if b then x else y).due (if b then x else y)
+  first n true x y is on = on
+  first n false x y is on = absurd (true≢false (sym is))
+
+  second : (n : ℕ) (b c : Bool) (x y z : State) → b ≡ false → c ≡ true → OnTrack n y.due y
+      → OnTrack n (if b then x else if c then y else z).due (if b then x else if c then y else z)
+  second n true c x y z is some on = absurd (true≢false is)
+  second n false true x y z is some on = on
+  second n false false x y z is some on = absurd (true≢false (sym some))
+
+  last_two : (n : ℕ) (b c d : Bool) (x y z u : State) → b ≡ false → d ≡ true → OnTrack n y.due y
+      → OnTrack n z.due z → OnTrack n (if b then x else if c then y else if d then z else u).due
+      (if b then x else if c then y else if d then z else u)
+  last_two n true c d x y z u is back one other = absurd (true≢false is)
+  last_two n false true d x y z u is back one other = one
+  last_two n false false true x y z u is back one other = other
+  last_two n false false false x y z u is back one other = absurd (true≢false (sym back))
+
+  -- The update is older.
+  rolls_back : (r : Option ℕ) (v last : ℕ) → r ≡ Some last → v < last → is_below (Some v) r ≡ true
+  rolls_back None v last is less = cc is
+  rolls_back (Some k) v last is less = lt-ltb v k (omega (arith, same_Some k last is, less))
+
+  install : (n : ℕ) (s : State) → CanInstall n s → OnTrack n (due.install s).due (due.install s)
+  install n s (knows, left, none, installs) = rw installs (knows, left, refl, omega (arith, none))
+
+  key_found : (signers : List PublicKeyValue)
+      → true ≡ w.accepts (g.text.signature.signature ++ g.text.comments.trusted) (key_of signers)
+      (take 64 g.text.comments.signature) → first_signer w g.text signers ≡ Some g.key
+      → key_of signers ≡ g.key
+  key_found [] accepted is = absurd (none-some g.key is)
+  key_found (v ∷ more) accepted is = same_Some v.key g.key (rw (sym accepted) at is)
+
+  after_record : (n : ℕ) (s : State) (found : Option (List ℕ)) → (s.options ≡ o) × (n ≡ 0) → found ≡ w.found
+      → Stays n due.ReadRecord (RecordRead found) s
+  after_record n s found (is_o, none) is = rw (is_o, is, g.counts) (refl, none, refl)
+
+  after_signature : (n : ℕ) (s : State) (text : Result SignatureTextRecord Fault) (time : Option ℕ)
+      → OnTrack n due.ReadSignature s → IsFineFor g (SignatureRead text time) → text ≡ w.text
+      → Stays n due.ReadSignature (SignatureRead text time) s
+  after_signature n s text time (is_o, none, recorded) fine is =
+      rw (is_o, is ∙ g.parsed, g.passed, recorded)
+      (refl, none, refl, fine, ap (λ v. unwrap_or v 0) g.numbered, refl, refl, refl, g.signed_comment)
+
+  after_comment : (n : ℕ) (s : State) → OnTrack n due.CheckComment s
+      → IsTrueEvent w n s due.CheckComment (Answered true) → Stays n due.CheckComment (Answered true) s
+  after_comment n s (is_o, none, recorded, fault, version, signature, also, left, signer) is =
+      let accepted = is g.text g.parsed in
+      let accepts = rw (signature, also) at accepted in
+      let older = is_not_newer s.recorded.version s.version g.last
+      (ap (λ (r : Recorded). r.version) recorded ∙ g.last_is) (omega (arith, version, g.not_newer)) in
+      let installs : s.options.check ≡ false = ap (λ (x : Options). x.check) is_o ∙ g.installs in
+      let ready : Left n s.left = rw left (left_at n (size_in g.text.comments.trusted) none g.sized) in
+      let signed : State = record s { is_signed = true } in
+      let knows : Knows signed = (signature, key_found s.signers accepts signer) in
+      let can : CanInstall n signed = (knows, ready, none, installs) in
+      let on : OnTrack n (due.compare signed).due (due.compare signed) =
+      ⊎_elim
+      (λ own.
+      let has : s.recorded.digest ≡ Some (blake2b_digest 64 w.update) =
+      ap (λ (r : Recorded). r.digest) recorded ∙ own in
+      second n (due.is_newer signed) (is_some signed.recorded.digest) (due.install signed)
+      (due.go due.CheckRecord signed)
+      (if due.is_rolling_back signed then due.install signed else due.go due.ReadTarget signed)
+      older (ap is_some has) (can, inl has))
+      (λ less.
+      let back : due.is_rolling_back signed ≡ true =
+      rolls_back s.recorded.version s.version g.last
+      (ap (λ (r : Recorded). r.version) recorded ∙ g.last_is) (omega (arith, version, less)) in
+      last_two n (due.is_newer signed) (is_some signed.recorded.digest) (due.is_rolling_back signed)
+      (due.install signed) (due.go due.CheckRecord signed) (due.install signed)
+      (due.go due.ReadTarget signed) older back (can, inr back) (install n signed can)) g.own in
+      subst (λ f. OnTrack n (due.after_comment f signed).due (due.after_comment f signed)) (sym fault) on
+
+  next_key : (n : ℕ) (s : State) (signers : List PublicKeyValue) → s.due ≡ due.CheckComment
+      → OnTrack n due.CheckComment (record s { signers = signers })
+      → false ≡ w.accepts (g.text.signature.signature ++ g.text.comments.trusted) (key_of signers)
+      (take 64 g.text.comments.signature)
+      → OnTrack n (due.next_key signers s).due (due.next_key signers s)
+  next_key n s [] at (is_o, none, recorded, fault, version, signature, also, left, signer) rejected =
+      absurd (none-some g.key signer)
+  next_key n s (v ∷ []) at (is_o, none, recorded, fault, version, signature, also, left, signer) rejected =
+      absurd (none-some g.key (rw (sym rejected) at signer))
+  next_key n s (v ∷ u ∷ more) at
+      (is_o, none, recorded, fault, version, signature, also, left, signer) rejected =
+      let found = rw (sym rejected) at signer in
+      rw at (is_o, none, recorded, fault, version, signature, also, left, found)
+
+  after_piece : (n k : ℕ) (s : State) (left : Option ℕ) → s.due ≡ due.CopyData → Knows s → Left n left
+      → s.left ≡ left → s.read ≡ [] → n + k ≤ length w.update
+      → OnTrack (n + k) (due.after_piece k left s).due (due.after_piece k left s)
+  after_piece n k s None at knows is none read more = rw (at, none) (knows, tt, read, more)
+  after_piece n k s (Some left) at knows is none read more =
+      rw (le-leb k left (omega (arith, is, more)), at) (knows, omega (arith, is, more), read, more)
+
+  after_copy : (n : ℕ) (s : State) (left : Option ℕ) → Knows s → Left n left → s.read ≡ []
+      → n ≡ length w.update
+      → OnTrack n (due.after_copy left s).due (due.after_copy left s)
+  after_copy n s None knows is read all = (knows, (w.update, rw read refl))
+  after_copy n s (Some left) knows is read all =
+      rw (eq-eqb left 0 (omega (arith, is, all))) (knows, (w.update, rw read refl))
+
+  check_data : {P : Type 0} (s : State) → Knows s × (s.read ≡ w.update)
+      → false ≡ w.accepts (blake2b_digest 64 s.read) (key_of s.signers) s.signature → P
+  check_data s ((signature, key), read) rejected =
+      absurd (true≢false (sym g.signed_data ∙ sym (rw (read, key, signature) at rejected)))
+
+  digest_known : (n : ℕ) (s : State) (accepted : Bool) → OnTrack n due.CheckRecord s
+      → accepted ≡ w.accepts (unwrap_or s.recorded.digest []) (key_of s.signers) s.signature
+      → OnTrack n (due.after_digest accepted s).due (due.after_digest accepted s)
+  digest_known n s true (can, own) is = (can, refl)
+  digest_known n s false (((signature, key), left, none, installs), inl own) is =
+      absurd (true≢false (sym g.signed_data ∙ sym (rw (own, key, signature) at is)))
+  digest_known n s false (can, inr back) is =
+      first n (due.is_rolling_back s) (due.install s) _ back (install n s can)
+
+  target_known : (n : ℕ) (s : State) (accepted : Bool) → Compares n s
+      → OnTrack n (due.after_target accepted s).due (due.after_target accepted s)
+  target_known n s true ((knows, left, none, installs), own) = rw installs tt
+  target_known n s false (can, own) =
+      first n (s.is_recorded || s.options.again) (due.install s) _ (ap (λ b. b || s.options.again) own)
+      (install n s can)
+
+  keeps : (n : ℕ) (op : Operation) (e : Event) (s : State) → s.due ≡ op → OnTrack n op s → IsFineFor g e
+      → IsTrueEvent w n s op e → Stays n op e s
+  keeps n op (Failed f) s at on fine is = absurd fine
+  keeps n op InUse s at on fine is = absurd fine
+  keeps n due.Nothing e s at on fine is = absurd on
+  keeps n due.RemoveFiles e s at on fine is = absurd on
+  keeps n due.WouldInstall e s at on fine is = absurd on
+  keeps n due.Rejected e s at on fine is = absurd on
+  keeps n due.ReadRecord (RecordRead found) s at on fine is = after_record n s found on is
+  keeps n due.ReadSignature (SignatureRead text time) s at on fine is =
+      after_signature n s text time on fine is
+  keeps n due.CheckComment (Answered true) s at on fine is = after_comment n s on is
+  keeps n due.CheckComment (Answered false) s at on fine is =
+      next_key n s s.signers at on (rw (on.5, on.6) at (is g.text g.parsed))
+  keeps n due.CheckRecord (Answered accepted) s at on fine is = digest_known n s accepted on is
+  keeps n due.ReadTarget (PieceRead bytes) s at on fine is = rw at on
+  keeps n due.ReadTarget due.TargetMissing s at on fine is = install n s on.0
+  keeps n due.ReadTarget Done s at on fine is = on
+  keeps n due.CheckTarget (Answered accepted) s at on fine is = target_known n s accepted on
+  keeps n due.AlreadyInstalled e s at on fine is = tt
+  keeps n due.CopyData (PieceCopied k) s at (knows, left, read, more) fine is =
+      after_piece n k s s.left at knows left refl read is.1
+  keeps n due.CopyData Done s at (knows, left, read, more) fine is =
+      after_copy n s s.left knows left read is
+  keeps n due.ReadBack (PieceRead bytes) s at (knows, rest) fine is = rw at (knows, is.1)
+  keeps n due.ReadBack Done s at (knows, rest) fine is = (knows, is)
+  keeps n due.CheckData (Answered true) s at on fine is = tt
+  keeps n due.CheckData (Answered false) s at on fine is = check_data s on is
+  keeps n due.Lock Done s at on fine is = on
+  keeps n due.RemoveLeftovers Done s at on fine is = on
+  keeps n due.CreateFile Done s at on fine is = on
+  keeps n op Done s at on fine is = tt
+  keeps n op e s at on fine is = tt
+
+  moves : (n : ℕ) (e : Event) (s : State) (next : Option State) → is_some next ≡ true
+      → IfSome next (λ t. OnTrack (count n e) t.due t)
+      → OnTrack (count n e) (answer s next).1.due (answer s next).1
+  moves n e s (Some t) fits stays = stays
+  moves n e s None fits stays = absurd (true≢false (sym fits))
+
+  begins : (check : Bool) → OnTrack 0 (if check then due.ReadRecord else due.Lock) (begin o)
+  begins true = (refl, refl)
+  begins false = (refl, refl)
+
+  -- In a run of an application.
+  stays_on : (n : ℕ) (s : State) (m : Moment) (calls : List Call) (t : State) (end : Moment)
+      → OnTrack n s.due s → Invariant w o ⊤ ⊥ n s m → Applies w s m calls t end
+      → EachEvent (IsFineFor g) calls → (k : ℕ) × OnTrack k t.due t
+  stays_on n s m [] t end on known (is, same) fine = (n, rw is on)
+  stays_on n s m (c ∷ more) t end on known (others, fits, is, run) (fine, rest) =
+      stays_on (count n c.event) (step s c.event).1 c.after more t end
+      (moves n c.event s (after s.due c.event s) fits
+      (keeps n s.due c.event s refl on fine
+      (true_event w o ⊤ ⊥ n s m c known others (λ q. absurd q) fits is).1))
+      (next w o ⊤ ⊥ n s m c known others (λ q. absurd q) fits is (λ found. tt)) run rest
+
+  there : (n : ℕ) (op : Operation) (s : State) → OnTrack n op s → has_ended op ≡ true → IsThere op
+  there n due.Installed s on ended = inl refl
+  there n due.AlreadyInstalled s on ended = inr refl
+  there n due.WouldInstall s on ended = absurd on
+  there n due.Rejected s on ended = absurd on
+  there n op s on ended = absurd (true≢false (sym ended))
+
+-- If nothing fails, and the record was written for this update or the update is older, a run that has ended
+-- has installed it, or it was installed before.
+pub interrupted_run_is_finished : (w : World) (o : Options) (g : IsOwnUpdate w o) (m : Moment)
+    (calls : List Call) (t : State) (end : Moment) → Applies w (begin o) m calls t end
+    → EachEvent (IsFineFor g) calls → has_ended t.due ≡ true → IsThere t.due
+interrupted_run_is_finished w o g m calls t end run fine ended =
+    let (n, on) = stays_on w o g 0 (begin o) m calls t end (begins w o g o.check)
+    (safe_calls.begins w o ⊤ ⊥ m) run fine in
+    there w o g n t.due t on ended

@@ -1,0 +1,308 @@
+-- Each operation of a lawful application is safe, also if the machine crashes then.
+use Rattle.std.specs.Prelude.{◌≡◌, ◌==◌, ◌⊎◌, ⊤, ℕ, Bool, true, false, List, [], ◌∷◌, Option, Some, None}
+use Rattle.std.specs.Prelude.{is_some, map, if◌then◌else◌}
+use Rattle.std.proofs.Common.{refl, inl, inr, ap, ◌∙◌}
+use Rattle.std.proofs.lemmas.Option.{same_Some}
+use Rattle.minisign_install.specs.Applications.{Applies, Call, File, MayFindRecord, MayFindTarget, MayRemain}
+use Rattle.minisign_install.specs.Applications.{MayRemainOf, Moment, Others, Performs, content, data_renamed}
+use Rattle.minisign_install.specs.Applications.{names_synced, record_renamed, synced_if}
+use Rattle.minisign_install.specs.Decisions.{Options}
+use Rattle.minisign_install.specs.Histories.{EndLasts, IsLasting, LeavesTarget, OthersLeaveTarget}
+use Rattle.minisign_install.specs.Histories.{EachCall, IsRecordedUpdate, IsSafeCall, IsUpdateRecord}
+use Rattle.minisign_install.specs.Step.{Done, Event, Failed, Operation, State, after, begin, new_record, step}
+use Rattle.minisign_install.specs.Step as due
+use Rattle.minisign_install.specs.StepRuns.{Changes, Disk, IsTrue, IsUpdate, IsRun, World, count}
+use Rattle.minisign_install.proofs.Applying.{Has, IsOnDisk, is_true, stays}
+use Rattle.minisign_install.proofs.Applying as there
+use Rattle.minisign_install.proofs.StepSafety.{Known, update_of}
+use Rattle.minisign_install.proofs.StepSafety as known
+
+-- == What can be found ==
+
+-- Of a file on the disk nothing else remains.
+remains_whole : (place : Option File) (bytes : List ℕ) (found : Option (List ℕ)) → IsOnDisk place bytes
+    → MayRemain place found → found ≡ Some bytes
+remains_whole (Some file) bytes found (other, at, holds, synced) (left, is, same) =
+    let one : file ≡ other = same_Some file other at in
+    is ∙ ap (λ x. Some x) (same (ap (λ (f : File). f.synced) one ∙ synced)
+    ∙ ap (λ (f : File). f.bytes) one ∙ holds)
+remains_whole None bytes found (other, at, holds, synced) remains = cc at
+
+-- Syncing leaves no more.
+if_synced : (is : Bool) (file : File) (found : Option (List ℕ))
+    → MayRemain (if is then Some (record file { synced = true }) else Some file) found
+    → MayRemain (Some file) found
+if_synced true file found (bytes, is, same) = (bytes, is, λ on_disk. same refl)
+if_synced false file found remains = remains
+
+less_remains : (opened : Option ℕ) (place : Option File) (found : Option (List ℕ))
+    → MayRemain (synced_if opened place) found → MayRemain place found
+less_remains (Some n) (Some file) found remains = if_synced (file.number == n) file found remains
+less_remains (Some n) None found remains = remains
+less_remains None place found remains = remains
+
+only_one : (place : Option File) (found : Option (List ℕ)) (more : List (Option File))
+    → MayRemainOf (place ∷ []) found → MayRemainOf (place ∷ more) found
+only_one place found more (inl is) = inl is
+only_one place found more (inr none) = absurd none
+
+-- All that can be found at the record is this.
+only_this : (place : Option File) (left : List (Option File)) (bytes : List ℕ) (other : Option (List ℕ))
+    → IsOnDisk place bytes → left ≡ [] → MayRemainOf (place ∷ left) other → other ≡ Some bytes
+only_this place [] bytes other is none (inl remains) = remains_whole place bytes other is remains
+only_this place [] bytes other is none (inr remains) = absurd remains
+only_this place (x ∷ more) bytes other is none remains = cc none
+
+module _ (w : World) (o : Options) (F Q : Type 0) where
+  -- What an operation may add to what can be found at the record, with what is known of the one read.
+  abbrev pub IsNewRecord : Option (List ℕ) → Type 0
+  IsNewRecord found = F × IsUpdateRecord w o found
+
+  abbrev pub Safe : Moment → Moment → Type 0
+  Safe old new =
+      ((found : Option (List ℕ)) → MayFindTarget new found
+      → MayFindTarget old found ⊎ IsRecordedUpdate w o new found)
+      × ((found : Option (List ℕ)) → MayFindRecord new found → MayFindRecord old found ⊎ IsNewRecord found)
+
+  names : (old : Moment) → Safe old (names_synced old)
+  names old = (
+    λ found is. inl (only_one old.target found old.target_left is),
+    λ found is. inl (only_one old.recorded found old.recorded_left is),
+  )
+
+  target_kept : (opened : Option ℕ) (place : Option File) (left : List (Option File))
+      (found : Option (List ℕ)) → MayRemainOf (synced_if opened place ∷ left) found
+      → MayRemainOf (place ∷ left) found
+  target_kept opened place left found (inl is) = inl (less_remains opened place found is)
+  target_kept opened place left found (inr is) = inr is
+
+  new_found : (s : State) (place : Option File) (rest : List (Option File)) (found : Option (List ℕ)) → F
+      → IsUpdate w o s → IsOnDisk place (new_record s) → MayRemainOf (place ∷ rest) found
+      → MayRemainOf rest found ⊎ IsNewRecord found
+  new_found s place rest found known update is (inl remains) =
+      inr (known, (s, update, remains_whole place (new_record s) found is remains))
+  new_found s place rest found known update is (inr remains) = inl remains
+
+  renames_record : (n : ℕ) (s : State) (old : Moment) → Known w o due.RenameRecord s
+      → Has w F Q n due.RenameRecord s old → Safe old (record_renamed old)
+  renames_record n s old knows (kept, whole, is) = (
+    λ found is. inl is,
+    λ found remains.
+        new_found s old.record_file (old.recorded ∷ old.recorded_left) found kept.1 (update_of w o s knows) is
+        remains,
+  )
+
+  new_target : (s : State) (place : Option File) (rest : List (Option File)) (m : Moment)
+      (found : Option (List ℕ)) → IsUpdate w o s → IsOnDisk place s.read → IsOnDisk m.recorded (new_record s)
+      → m.recorded_left ≡ [] → MayRemainOf (place ∷ rest) found
+      → MayRemainOf rest found ⊎ IsRecordedUpdate w o m found
+  new_target s place rest m found update is recorded left (inl remains) =
+      inr (
+        s,
+        update,
+        remains_whole place s.read found is remains,
+        λ other. only_this m.recorded m.recorded_left (new_record s) other recorded left,
+      )
+  new_target s place rest m found update is recorded left (inr remains) = inl remains
+
+  renames_data : (n : ℕ) (s : State) (old : Moment) → Known w o due.RenameFile s
+      → Has w F Q n due.RenameFile s old → Safe old (data_renamed old)
+  renames_data n s old knows (kept, (file, at, holds, permitted, synced), recorded, left) = (
+    λ found remains.
+        new_target s old.data_file (old.target ∷ old.target_left) (data_renamed old) found
+        (update_of w o s knows) (file, at, holds, synced) recorded left remains,
+    λ found is. inl is,
+  )
+
+  pub safe_at : (n : ℕ) (op : Operation) (e : Event) (s : State) (old new : Moment) → Known w o op s
+      → Has w F Q n op s old → Performs w s op e old new → Safe old new
+  safe_at n due.RenameRecord Done s old new knows has is = rw is (renames_record n s old knows has)
+  safe_at n due.RenameRecord (Failed f) s old new knows has (inl is) =
+      rw is (λ found x. inl x, λ found x. inl x)
+  safe_at n due.RenameRecord (Failed f) s old new knows has (inr is) =
+      rw is (renames_record n s old knows has)
+  safe_at n due.RenameFile Done s old new knows has is = rw is (renames_data n s old knows has)
+  safe_at n due.RenameFile (Failed f) s old new knows has (inl is) =
+      rw is (λ found x. inl x, λ found x. inl x)
+  safe_at n due.RenameFile (Failed f) s old new knows has (inr is) = rw is (renames_data n s old knows has)
+  safe_at n due.SyncTarget Done s old new knows has is =
+      rw is (
+        λ found remains. inl (target_kept old.opened old.target old.target_left found remains),
+        λ found remains. inl remains,
+      )
+  safe_at n due.SyncTargetName Done s old new knows has is = rw is (names old)
+  safe_at n due.SyncRecordName Done s old new knows has is = rw is (names old)
+  safe_at n due.SyncFileName Done s old new knows has is = rw is (names old)
+  safe_at n due.Lock Done s old new knows has is = rw is.1 (λ found x. inl x, λ found x. inl x)
+  safe_at n due.Lock due.InUse s old new knows has is = rw is.1 (λ found x. inl x, λ found x. inl x)
+  safe_at n due.ReadRecord (due.RecordRead found) s old new knows has is =
+      rw is.2 (λ found x. inl x, λ found x. inl x)
+  safe_at n due.ReadSignature (due.SignatureRead text time) s old new knows has is =
+      rw is.1 (λ found x. inl x, λ found x. inl x)
+  safe_at n due.ReadTarget (due.PieceRead bytes) s old new knows has is =
+      rw is.2 (λ found x. inl x, λ found x. inl x)
+  safe_at n due.ReadTarget Done s old new knows has is = rw is.3 (λ found x. inl x, λ found x. inl x)
+  safe_at n due.ReadTarget due.TargetMissing s old new knows has is =
+      rw is.1 (λ found x. inl x, λ found x. inl x)
+  safe_at n due.RemoveLeftovers Done s old new knows has is = rw is (λ found x. inl x, λ found x. inl x)
+  safe_at n due.CreateFile Done s old new knows has is = rw is.1 (λ found x. inl x, λ found x. inl x)
+  safe_at n due.CopyData (due.PieceCopied k) s old new knows has (some, (piece, rest, long, is, same)) =
+      rw same (λ found x. inl x, λ found x. inl x)
+  safe_at n due.CopyData Done s old new knows has is = rw is.1 (λ found x. inl x, λ found x. inl x)
+  safe_at n due.ReadBack (due.PieceRead bytes) s old new knows has is =
+      rw is.2 (λ found x. inl x, λ found x. inl x)
+  safe_at n due.ReadBack Done s old new knows has is = rw is.1 (λ found x. inl x, λ found x. inl x)
+  safe_at n due.SetPermissions Done s old new knows has is = rw is (λ found x. inl x, λ found x. inl x)
+  safe_at n due.SyncFile Done s old new knows has is = rw is (λ found x. inl x, λ found x. inl x)
+  safe_at n due.CreateRecord Done s old new knows has is = rw is.1 (λ found x. inl x, λ found x. inl x)
+  safe_at n due.WriteRecord Done s old new knows has is = rw is (λ found x. inl x, λ found x. inl x)
+  safe_at n due.SyncRecord Done s old new knows has is = rw is (λ found x. inl x, λ found x. inl x)
+  safe_at n due.RemoveFiles Done s old new knows has is = rw is (λ found x. inl x, λ found x. inl x)
+  safe_at n due.CreateFile (Failed f) s old new knows has is = rw is.1 (λ found x. inl x, λ found x. inl x)
+  safe_at n due.CopyData (Failed f) s old new knows has is = rw is.1 (λ found x. inl x, λ found x. inl x)
+  safe_at n due.SetPermissions (Failed f) s old new knows has is =
+      rw is.1 (λ found x. inl x, λ found x. inl x)
+  safe_at n due.SyncFile (Failed f) s old new knows has is = rw is.1 (λ found x. inl x, λ found x. inl x)
+  safe_at n due.CreateRecord (Failed f) s old new knows has is = rw is.1 (λ found x. inl x, λ found x. inl x)
+  safe_at n due.WriteRecord (Failed f) s old new knows has is = rw is.1 (λ found x. inl x, λ found x. inl x)
+  safe_at n due.SyncRecord (Failed f) s old new knows has is = rw is.1 (λ found x. inl x, λ found x. inl x)
+  safe_at n due.RemoveFiles (Failed f) s old new knows has is = rw is.2 (λ found x. inl x, λ found x. inl x)
+  safe_at n op (due.Answered accepted) s old new knows has is = rw is.1 (λ found x. inl x, λ found x. inl x)
+  safe_at n op (Failed f) s old new knows has is = rw is (λ found x. inl x, λ found x. inl x)
+  safe_at n op e s old new knows has is = absurd is
+
+  -- == From one operation to the next ==
+
+  -- The disk of this run alone.
+  abbrev changed : Operation → Event → State → Disk → Disk
+  changed due.RenameRecord Done s d = record d { record_bytes = Some (new_record s) }
+  changed due.RenameFile Done s d = record d { target = Some s.read }
+  changed op e s d = d
+
+  changes : (op : Operation) (e : Event) (s : State) (d : Disk) → Changes op s e d (changed op e s d)
+  changes due.RenameRecord Done s d = refl
+  changes due.RenameRecord (Failed f) s d = inl refl
+  changes due.RenameFile Done s d = refl
+  changes due.RenameFile (Failed f) s d = inl refl
+  changes op e s d = refl
+
+  abbrev nothing : Disk
+  nothing = record { target = None; record_bytes = None }
+
+  -- What is known at each operation.
+  abbrev pub Invariant : ℕ → State → Moment → Type 0
+  Invariant n s m = ((d : Disk) × known.Holds w o nothing s.due s d) × Has w F Q n s.due s m
+
+  pub begins : (m : Moment) → Invariant 0 (begin o) m
+  begins m = ((nothing, known.begins w o nothing o.check), there.begins w F Q o.check o m refl)
+
+  pub knows : (n : ℕ) (s : State) (m : Moment) → Invariant n s m → Known w o s.due s
+  knows n s m ((d, holds), has) = holds.0
+
+  pub true_event : (n : ℕ) (s : State) (m : Moment) (c : Call) → Invariant n s m → Others m c.before
+      → (Q → LeavesTarget m c.before)
+      → is_some (after s.due c.event s) ≡ true → Performs w s s.due c.event c.before c.after
+      → IsTrue w n s c.event
+  true_event n s m c (holds, has) others leaves fits is =
+      let before = stays w F Q n s.due s m c.before others leaves has in
+      (fits, is_true w F Q n s.due c.event s c.before c.after before is)
+
+  pub next : (n : ℕ) (s : State) (m : Moment) (c : Call) → Invariant n s m → Others m c.before
+      → (Q → LeavesTarget m c.before)
+      → is_some (after s.due c.event s) ≡ true → Performs w s s.due c.event c.before c.after
+      → (content c.before.recorded ≡ w.found → F)
+      → Invariant (count n c.event) (step s c.event).1 c.after
+  next n s m c ((d, holds), has) others leaves fits is reads =
+      let before = stays w F Q n s.due s m c.before others leaves has in
+      let true = is_true w F Q n s.due c.event s c.before c.after before is in (
+        (
+          changed s.due c.event s d,
+          known.moves w o nothing c.event s (changed s.due c.event s d) (after s.due c.event s) fits
+              (known.keeps w o nothing n s.due c.event s d (changed s.due c.event s d) refl holds
+              (changes s.due c.event s d) true),
+        ),
+        there.moves w F Q (count n c.event) s (after s.due c.event s) c.after fits
+            (there.keeps w F Q n s.due c.event s c.before c.after refl reads before is),
+      )
+
+  pub safe_now : (n : ℕ) (s : State) (m : Moment) (c : Call) → Invariant n s m → Others m c.before
+      → (Q → LeavesTarget m c.before)
+      → Performs w s s.due c.event c.before c.after → Safe c.before c.after
+  safe_now n s m c (holds, has) others leaves is =
+      let before = stays w F Q n s.due s m c.before others leaves has in
+      safe_at n s.due c.event s c.before c.after holds.1.0 before is
+
+-- == Whole runs ==
+
+without : (old : Moment) (w : World) (o : Options) (found : Option (List ℕ))
+    → MayFindRecord old found ⊎ IsNewRecord w o ⊤ ⊥ found → MayFindRecord old found ⊎ IsUpdateRecord w o found
+without old w o found (inl is) = inl is
+without old w o found (inr is) = inr is.1
+
+safe_call : (w : World) (o : Options) (old new : Moment) → Safe w o ⊤ ⊥ old new → IsSafeCall w o old new
+safe_call w o old new (target, recorded) =
+    record { target_is = target; record_is = λ found is. without old w o found (recorded found is) }
+
+safe_from : (w : World) (o : Options) (n : ℕ) (s : State) (m : Moment) (calls : List Call) (t : State)
+    (end : Moment) → Invariant w o ⊤ ⊥ n s m → Applies w s m calls t end → EachCall (IsSafeCall w o) calls
+safe_from w o n s m [] t end known run = tt
+safe_from w o n s m (c ∷ more) t end known (others, fits, is, run) = (
+  safe_call w o c.before c.after (safe_now w o ⊤ ⊥ n s m c known others (λ q. absurd q) is),
+  safe_from w o (count n c.event) (step s c.event).1 c.after more t end
+      (next w o ⊤ ⊥ n s m c known others (λ q. absurd q) fits is (λ found. tt)) run,
+)
+
+-- Whatever any operation of a run leaves at the target or at the record, now or after a crash, was there
+-- before, or is an update that a given key has signed and its record, and the record is on the disk first.
+pub safe_calls : (w : World) (o : Options) (m : Moment) (calls : List Call) (t : State) (end : Moment)
+    → Applies w (begin o) m calls t end → EachCall (IsSafeCall w o) calls
+safe_calls w o m calls t end run = safe_from w o 0 (begin o) m calls t end (begins w o ⊤ ⊥ m) run
+
+true_from : (w : World) (o : Options) (n : ℕ) (s : State) (m : Moment) (calls : List Call) (t : State)
+    (end : Moment) → Invariant w o ⊤ ⊥ n s m → Applies w s m calls t end
+    → IsRun (IsTrue w) n s (map (λ (c : Call). c.event) calls) t
+true_from w o n s m [] t end known run = run.0
+true_from w o n s m (c ∷ more) t end known (others, fits, is, run) = (
+  true_event w o ⊤ ⊥ n s m c known others (λ q. absurd q) fits is,
+  true_from w o (count n c.event) (step s c.event).1 c.after more t end
+      (next w o ⊤ ⊥ n s m c known others (λ q. absurd q) fits is (λ found. tt)) run,
+)
+
+-- The events of a lawful application are those of a run in this world. So all laws on such runs hold.
+pub true_run : (w : World) (o : Options) (m : Moment) (calls : List Call) (t : State) (end : Moment)
+    → Applies w (begin o) m calls t end
+    → IsRun (IsTrue w) 0 (begin o) (map (λ (c : Call). c.event) calls) t
+true_run w o m calls t end run = true_from w o 0 (begin o) m calls t end (begins w o ⊤ ⊥ m) run
+
+last_from : (w : World) (o : Options) (n : ℕ) (s : State) (m : Moment) (calls : List Call) (t : State)
+    (end : Moment) → Invariant w o ⊤ ⊤ n s m → Applies w s m calls t end → OthersLeaveTarget m calls
+    → (k : ℕ) × Invariant w o ⊤ ⊤ k t end
+last_from w o n s m [] t end known (is, same) leaves = (n, rw (is, same) known)
+last_from w o n s m (c ∷ more) t end known (others, fits, is, run) (leaves, rest) =
+    last_from w o (count n c.event) (step s c.event).1 c.after more t end
+    (next w o ⊤ ⊤ n s m c known others (λ q. leaves) fits is (λ found. tt)) run rest
+
+on_disk : {place : Option File} {left : List (Option File)} {bytes : List ℕ} → IsOnDisk place bytes
+    → left ≡ [] → IsLasting place left bytes
+on_disk (file, there, holds, synced) none = (file, there, holds, synced, none)
+
+lasts : (w : World) (o : Options) (n : ℕ) (op : Operation) (s : State) (m : Moment) → Known w o op s
+    → Has w ⊤ ⊤ n op s m → EndLasts w o op s m
+lasts w o n due.Installed s m knows (kept, recorded, left, complete) =
+    let (there, target_left) = complete tt in (
+      update_of w o s knows,
+      on_disk recorded left,
+      (there.0, there.1, there.2, there.3, there.4, target_left),
+      kept.2,
+    )
+lasts w o n due.AlreadyInstalled s m knows (signed, inl check) = (signed, inl check)
+lasts w o n due.AlreadyInstalled s m knows (signed, inr holds) =
+    let (there, left) = holds tt in (signed, inr (on_disk there left))
+lasts w o n op s m knows has = tt
+
+-- A run that has ended with Installed or AlreadyInstalled has put the update on the disk.
+pub ends_last : (w : World) (o : Options) (m : Moment) (calls : List Call) (t : State) (end : Moment)
+    → Applies w (begin o) m calls t end → OthersLeaveTarget m calls → EndLasts w o t.due t end
+ends_last w o m calls t end run leaves =
+    let (n, (known, has)) = last_from w o 0 (begin o) m calls t end (begins w o ⊤ ⊤ m) run leaves in
+    lasts w o n t.due t end known.1.0 has

@@ -1,0 +1,495 @@
+-- What the recorded effects of operations mean.
+use Rattle.std.specs.Prelude.{◌≡◌, ◌<◌, ◌==◌, ◌&&◌, ◌++◌, ℕ, Bool, true, false, not, bytes_eq, length, take}
+use Rattle.std.specs.Prelude.{List, [], ◌∷◌, Option, Some, None, option_map, is_some, Result, Ok, Err}
+use Rattle.std.specs.Prelude.{◌≢◌, if◌then◌else◌, IfSome, ⊤, ◌||◌, ◌-◌, ◌+◌, get_or, nat_le}
+use Rattle.std.proofs.Common.{refl, inl, inr, sym, ap, ◌∙◌, append-nil, append_assoc, arith, true≢false}
+use Rattle.std.proofs.Common.{Bor, add-one, subst, drop}
+use Rattle.std.proofs.Math.Seq.{drop-cons}
+use Rattle.std.proofs.lemmas.Bool.{eqb-true}
+use Rattle.std.proofs.lemmas.Option.{none-some, same_Some}
+use Rattle.std.proofs.lemmas.Slice.Eq.{bytes_eq-Decides}
+use Rattle.minisign_base.specs.declared.faults.NamedFault.{NamedFault}
+use Rattle.minisign_install.specs.Applications.{Applies, Call, File, Moment, Others, Performs, bytes_of}
+use Rattle.minisign_install.specs.Applications.{grown}
+use Rattle.minisign.specs.SignatureText.{SignatureTextRecord, read_signature}
+use Rattle.minisign_external.specs.PublicKeys.{read_utf8}
+use Rattle.minisign_external.specs.declared.state.Misuse.TheVariants.{NotDue}
+use Rattle.minisign_external.specs.declared.state.Refusal.{Refusal}
+use Rattle.minisign_external.specs.declared.state.Refusal.TheVariants.{WrongUse}
+use Rattle.minisign_external.specs.declared.public_keys.PublicKeyValue.{PublicKeyValue}
+use Rattle.minisign_install.specs.Decisions.{Options, Recorded, judge_record, judge_text}
+use Rattle.minisign_install.specs.Faults.{Fault, InstallFault, Library, Named, OtherSize, SameNumber}
+use Rattle.minisign_install.specs.Faults.{TargetInUse}
+use Rattle.minisign_base.specs.declared.faults.NamedFault.TheVariants as named
+use Rattle.minisign_install.specs.Installations.{HasMessage, comment_message, reads_into}
+use Rattle.minisign_install.specs.Step.{Event, Operation, State, after, answer, begin, step}
+use Rattle.minisign_install.proofs.SafeCalls.{Invariant, knows, next}
+use Rattle.minisign_install.proofs.SafeCalls as safe_calls
+use Rattle.minisign_install.proofs.StepSafety.{Known, Passed, text_parsed}
+use Rattle.minisign_install.specs.Step as due
+use Rattle.minisign_install.specs.StepRuns.{World, count}
+use Rattle.minisign_install.specs.Traces.{Follows, IsFollowed, IsLawful, Knows, calls_of, changed, event_of}
+use Rattle.minisign_install.specs.Traces.{IsAsked, IsSeen, Seen, affected, bytes_seen, has_failed, is_done}
+use Rattle.minisign_install.specs.Traces.{is_plain}
+use Rattle.minisign_install.specs.Traces.{installs, is_growing, is_nothing, is_read, read_after, seen}
+use Rattle.minisign_install.specs.Traces.{seen_as, with_bytes}
+use Rattle.minisign_install.specs.declared.traces.Change.TheVariants as change
+use Rattle.minisign_install.specs.declared.traces.Effect.{Effect}
+use Rattle.minisign_install.specs.declared.traces.Effect.TheVariants as effect
+use Rattle.minisign_install.specs.declared.traces.FileView.{FileView}
+use Rattle.minisign_install.specs.declared.traces.Files.{Files}
+use Rattle.minisign_install.specs.declared.traces.Follower.{Follower}
+use Rattle.minisign_install.specs.declared.traces.Line.{Line}
+use Rattle.minisign_install.specs.declared.traces.Line.TheVariants as line
+
+same_bytes : (one other : List ℕ) → bytes_eq one other ≡ true → one ≡ other
+same_bytes one other is = (bytes_eq-Decides one other).0 is
+
+-- == The files ==
+
+-- The bytes that are seen are those of the file.
+pub bytes_are : (place : Option File) (v : Option FileView)
+    → option_map seen place ≡ option_map seen_as v → bytes_of place ≡ bytes_seen v
+bytes_are (Some file) (Some v) is = ap (λ (x : Seen). x.bytes) (same_Some (seen file) (seen_as v) is)
+bytes_are (Some file) None is = absurd (none-some (seen file) (sym is))
+bytes_are None (Some v) is = absurd (none-some (seen_as v) is)
+bytes_are None None is = refl
+
+both : (a b : Bool) → (a && b) ≡ true → (a ≡ true) × (b ≡ true)
+both true b is = (refl, is)
+both false b is = absurd (true≢false (sym is))
+
+is_not : (b : Bool) → not b ≡ true → b ≡ false
+is_not true is = absurd (true≢false (sym is))
+is_not false is = refl
+
+pub file_is_read : (place : Option File) (v : Option FileView) (number : ℕ) (read : List ℕ)
+    → option_map seen place ≡ option_map seen_as v → is_read number read v ≡ true
+    → (file : File) × (place ≡ Some file) × (file.bytes ≡ read) × (number ≡ file.number)
+file_is_read (Some file) (Some v) number read is holds =
+    let one = same_Some (seen file) (seen_as v) is in
+    let (same, equal) = both (v.number == number) (bytes_eq v.bytes.now read) holds in (
+      file,
+      refl,
+      ap (λ (x : Seen). x.bytes) one ∙ same_bytes v.bytes.now read equal,
+      sym (ap (λ (x : Seen). x.number) one ∙ eqb-true v.number number same),
+    )
+file_is_read (Some file) None number read is holds = absurd (true≢false (sym holds))
+file_is_read None (Some v) number read is holds = absurd (none-some (seen_as v) is)
+file_is_read None None number read is holds = absurd (true≢false (sym holds))
+
+-- == Operations that are done, and that have failed ==
+
+plain_performs : (w : World) (s : State) (op : Operation) (did : Effect) (m : Moment)
+    → is_plain op did ≡ true → Performs w s op due.Done m (affected did m)
+plain_performs w s due.SyncTarget effect.TargetSynced m is = refl
+plain_performs w s due.SyncTargetName effect.NamesSynced m is = refl
+plain_performs w s due.RemoveLeftovers effect.LeftoversRemoved m is = refl
+plain_performs w s due.CreateFile (effect.DataCreated number) m is = (number, refl)
+plain_performs w s due.SetPermissions effect.DataPermitted m is = refl
+plain_performs w s due.SyncFile effect.DataSynced m is = refl
+plain_performs w s due.CreateRecord (effect.RecordCreated number) m is = (number, refl)
+plain_performs w s due.SyncRecord effect.RecordSynced m is = refl
+plain_performs w s due.RenameRecord effect.RecordRenamed m is = refl
+plain_performs w s due.SyncRecordName effect.NamesSynced m is = refl
+plain_performs w s due.RenameFile effect.DataRenamed m is = refl
+plain_performs w s due.SyncFileName effect.NamesSynced m is = refl
+plain_performs w s due.RemoveFiles effect.FilesRemoved m is = refl
+plain_performs w s op did m is = absurd (true≢false (sym is))
+
+pub done_performs : (w : World) (s : State) (op : Operation) (did : Effect) (f : Files) (m : Moment)
+    (read update : List ℕ) → IsSeen f m → read ≡ s.read → w.update ≡ update
+    → is_done op did f read update ≡ true → Performs w s op due.Done m (affected did m)
+done_performs w s due.Lock effect.Locked f m read update there same offered is =
+    (there.busy ∙ is_not f.is_busy is, refl)
+done_performs w s due.ReadTarget (effect.TargetOpened number) f m read update there same offered is =
+    let (file, at, holds, one) = file_is_read m.target f.target number read there.target is in
+    (file, at, holds ∙ same, ap (λ (n : ℕ). record m { opened = Some n }) one)
+done_performs w s due.CopyData effect.Nothing f m read update there same offered is =
+    (bytes_are m.data_file f.data_file there.data_file ∙ same_bytes _ update is ∙ sym offered, refl)
+done_performs w s due.ReadBack effect.Nothing f m read update there same offered is =
+    (sym same ∙ same_bytes read _ is ∙ sym (bytes_are m.data_file f.data_file there.data_file), refl)
+done_performs w s op did f m read update there same offered is = plain_performs w s op did m is
+
+pub failed_performs : (w : World) (s : State) (op : Operation) (f : NamedFault) (did : Effect) (m : Moment)
+    → has_failed op did ≡ true → Performs w s op (due.Failed f) m (affected did m)
+failed_performs w s due.RenameRecord f effect.RecordRenamed m is = inr refl
+failed_performs w s due.RenameRecord f effect.Nothing m is = inl refl
+failed_performs w s due.RenameFile f effect.DataRenamed m is = inr refl
+failed_performs w s due.RenameFile f effect.Nothing m is = inl refl
+failed_performs w s due.RemoveFiles f effect.FilesRemoved m is = (None, None, refl)
+failed_performs w s due.RemoveFiles f effect.Nothing m is = (m.data_file, m.record_file, refl)
+failed_performs w s due.CreateFile f effect.Nothing m is = (m.data_file, refl)
+failed_performs w s due.CopyData f effect.Nothing m is = (m.data_file, refl)
+failed_performs w s due.SetPermissions f effect.Nothing m is = (m.data_file, refl)
+failed_performs w s due.SyncFile f effect.Nothing m is = (m.data_file, refl)
+failed_performs w s due.CreateRecord f effect.Nothing m is = (m.record_file, refl)
+failed_performs w s due.WriteRecord f effect.Nothing m is = (m.record_file, refl)
+failed_performs w s due.SyncRecord f effect.Nothing m is = (m.record_file, refl)
+failed_performs w s op f effect.Nothing m is = refl
+failed_performs w s op f did m is = absurd (true≢false (sym is))
+
+-- == Results ==
+
+answered_fits : (s : State) (next : Option State) (r : Result Unit (Refusal InstallFault)) (is_due : Bool)
+    → r ≡ (answer s next).0 → (r ≡ Err (WrongUse NotDue) → is_due ≡ false) → is_due ≡ true
+    → is_some next ≡ true
+answered_fits s (Some t) r is_due same wrong is = refl
+answered_fits s None r is_due same wrong is = absurd (true≢false (sym is ∙ wrong same))
+
+pub fits : (s : State) (e : Event) (r : Result Unit (Refusal InstallFault)) (is_due : Bool)
+    → r ≡ (step s e).0 → (r ≡ Err (WrongUse NotDue) → is_due ≡ false) → is_due ≡ true
+    → is_some (after s.due e s) ≡ true
+fits s e r is_due same wrong is = answered_fits s (after s.due e s) r is_due same wrong is
+
+pub signature_is : (w : World) (s : State) (op : Operation) (text : Result SignatureTextRecord Fault)
+    (time : Option ℕ) (old new : Moment) → Performs w s op (due.SignatureRead text time) old new
+    → (op ≡ due.ReadSignature) × (text ≡ w.text)
+signature_is w s due.ReadSignature text time old new is = (refl, is.0)
+signature_is w s op text time old new is = absurd is
+
+-- == The message of the question ==
+
+abbrev ok : SignatureTextRecord → Result SignatureTextRecord Fault
+ok t = Ok t
+
+same_ok : (t u : SignatureTextRecord) → ok t ≡ ok u → t ≡ u
+same_ok t u is = cc is
+
+-- text_parsed holds for any findings.
+abbrev nothing_found : Result SignatureTextRecord Fault → World
+nothing_found text = record {
+  accepts = λ message key signature. false;
+  found = None;
+  text = text;
+  update = [];
+  most = 0;
+}
+
+written : (o : Options) (text : Result SignatureTextRecord Fault) (judged : Passed) (n : ℕ)
+    (before now : List ℕ) → judge_text o text ≡ judged → HasMessage (comment_message judged) n before now
+    → 0 < n → (t : SignatureTextRecord) → text ≡ Ok t
+    → take n now ≡ t.signature.signature ++ t.comments.trusted
+written o text (Ok (u, keys)) n before now judged (long, room, is, rest) some t parsed =
+    let one = same_ok u t (sym (text_parsed (nothing_found text) o text u keys judged) ∙ parsed) in
+    is ∙ ap (λ (x : SignatureTextRecord). x.signature.signature ++ x.comments.trusted) one
+written o text (Err e) n before now judged (none, same) some t parsed = absurd (omega (arith, none, some))
+
+pub message_is : (w : World) (s : State) (text : List ℕ) (n : ℕ) (before now : List ℕ)
+    → w.text ≡ read_utf8 read_signature text
+    → HasMessage (comment_message (reads_into s text)) n before now → IsAsked w n now
+message_is w s text n before now is has =
+    λ some t parsed.
+    written s.options (read_utf8 read_signature text) (reads_into s text) n before now refl has some t
+    (sym is ∙ parsed)
+
+-- == Steps ==
+
+pub some_of : {A : Type 0} (r : Option A) (P : A → Type 0) → IfSome r P → is_some r ≡ true → (x : A) × P x
+some_of (Some x) P holds is = (x, holds)
+some_of None P holds is = absurd (true≢false (sym is))
+
+pub if_some : {A : Type 0} (r : Option A) (P Q : A → Type 0) → ((x : A) → P x → Q x) → IfSome r P
+    → IfSome r Q
+if_some (Some x) P Q leads holds = leads x holds
+if_some None P Q leads holds = tt
+
+pub nothing_is : (did : Effect) → is_nothing did ≡ true → did ≡ effect.Nothing
+nothing_is effect.Nothing is = refl
+nothing_is did is = absurd (true≢false (sym is))
+
+pub not_growing : (did : Effect) → ((piece : Bor (List ℕ)) → did ≢ effect.DataGrown piece)
+    → is_growing did ≡ false
+not_growing (effect.DataGrown piece) other = absurd (other piece refl)
+not_growing did other = refl
+
+grown_is : (place : Option File) (v : Option FileView) (bytes piece : List ℕ)
+    → option_map seen place ≡ option_map seen_as v → bytes ≡ bytes_seen v ++ piece
+    → option_map seen (grown piece place) ≡ with_bytes bytes (option_map seen_as v)
+grown_is (Some file) (Some v) bytes piece is same =
+    ap (λ (x : Seen). Some (record { number = x.number; bytes = x.bytes ++ piece }))
+    (same_Some (seen file) (seen_as v) is)
+    ∙ ap (λ (b : List ℕ). Some (record { number = v.number; bytes = b })) (sym same)
+grown_is (Some file) None bytes piece is same = absurd (none-some (seen file) (sym is))
+grown_is None (Some v) bytes piece is same = absurd (none-some (seen_as v) is)
+grown_is None None bytes piece is same = refl
+
+pub grown_seen : (f : Files) (g : Option FileView) (m : Moment) (bytes piece : List ℕ) → IsSeen f m
+    → bytes ≡ bytes_seen f.data_file ++ piece
+    → option_map seen_as g ≡ with_bytes bytes (option_map seen_as f.data_file)
+    → IsSeen (record f { data_file = g }) (record m { data_file = grown piece m.data_file })
+grown_seen f g m bytes piece there is same = record {
+  target = there.target;
+  recorded = there.recorded;
+  data_file = grown_is m.data_file f.data_file bytes piece there.data_file is ∙ sym same;
+  record_file = there.record_file;
+  locked = there.locked;
+  busy = there.busy;
+}
+
+-- == What was read ==
+
+abbrev Reads : Event → List ℕ → State → Type 0
+Reads e read t = t.read ≡ (if installs t.due then [] else read_after e read)
+
+abbrev Keeps : List ℕ → State → Type 0
+Keeps read t = t.read ≡ (if installs t.due then [] else read)
+
+rejected : (is : Bool) (fault : InstallFault) (s : State)
+    → Keeps s.read (record s { due = if is then due.RemoveFiles else due.Rejected; error = Some fault })
+rejected true fault s = refl
+rejected false fault s = refl
+
+reject : (fault : InstallFault) (s : State) → Keeps s.read (due.reject fault s)
+reject fault s = rejected (due.has_files s.due) fault s
+
+begins : (check : Bool) (read : List ℕ) (s : State)
+    → Keeps read (record s { due = if check then due.WouldInstall else due.RemoveLeftovers; read = [] })
+begins true read s = refl
+begins false read s = refl
+
+install : (s : State) → Keeps s.read (due.install s)
+install s = begins s.options.check s.read s
+
+either : (is : Bool) (read : List ℕ) (x y : State) → Keeps read x → Keeps read y
+    → Keeps read (if is then x else y)
+either true read x y one other = one
+either false read x y one other = other
+
+compare : (s : State) → Keeps s.read (due.compare s)
+compare s =
+    let older = either (due.is_rolling_back s) s.read (due.install s) (due.go due.ReadTarget s) (install s)
+    refl in
+    let same = either (is_some s.recorded.digest) s.read (due.go due.CheckRecord s)
+    (if due.is_rolling_back s then due.install s else due.go due.ReadTarget s) refl older in
+    either (due.is_newer s) s.read (due.install s) (if is_some s.recorded.digest then due.go due.CheckRecord s
+    else if due.is_rolling_back s then due.install s else due.go due.ReadTarget s) (install s) same
+
+after_record : (r : Result Recorded InstallFault) (s : State) → Keeps s.read (due.after_record r s)
+after_record (Ok r) s = refl
+after_record (Err fault) s = reject fault s
+
+after_signature : (r : Passed) (time : Option ℕ) (s : State) → Keeps s.read (due.after_signature r time s)
+after_signature (Ok (t, keys)) time s = refl
+after_signature (Err fault) time s = reject (Library fault) s
+
+after_comment : (fault : Option InstallFault) (s : State)
+    → Keeps s.read (due.after_comment fault (record s { is_signed = true }))
+after_comment None s = compare (record s { is_signed = true })
+after_comment (Some fault) s = reject fault (record s { is_signed = true })
+
+next_key : (signers : List PublicKeyValue) (s : State) → s.due ≡ due.CheckComment
+    → Keeps s.read (due.next_key signers s)
+next_key [] s at = reject (Library (Named named.CommentSignatureRefused)) s
+next_key (v ∷ []) s at = reject (Library (Named named.CommentSignatureRefused)) s
+next_key (v ∷ u ∷ more) s at = rw at refl
+
+after_digest : (accepted : Bool) (s : State) → Keeps s.read (due.after_digest accepted s)
+after_digest accepted s =
+    either (not accepted && due.is_rolling_back s) s.read (due.install s)
+    (record s { due = due.ReadTarget; is_recorded = accepted }) (install s) refl
+
+stands : (check : Bool) (s : State)
+    → Keeps s.read (due.go (if check then due.AlreadyInstalled else due.SyncTarget) s)
+stands true s = refl
+stands false s = refl
+
+after_target : (accepted : Bool) (s : State) → Keeps s.read (due.after_target accepted s)
+after_target true s = stands s.options.check s
+after_target false s =
+    either (s.is_recorded || s.options.again) s.read (due.install s) (due.reject SameNumber s) (install s)
+    (reject SameNumber s)
+
+after_piece : (n : ℕ) (left : Option ℕ) (s : State) → s.due ≡ due.CopyData
+    → Keeps s.read (due.after_piece n left s)
+after_piece n None s at = rw at refl
+after_piece n (Some left) s at =
+    either (nat_le n left) s.read (record s { left = Some (left - n) }) (due.reject OtherSize s) (rw at refl)
+    (reject OtherSize s)
+
+after_copy : (left : Option ℕ) (s : State) → Keeps s.read (due.after_copy left s)
+after_copy None s = refl
+after_copy (Some left) s =
+    either (left == 0) s.read (due.go due.ReadBack s) (due.reject OtherSize s) refl (reject OtherSize s)
+
+maybe : (is : Bool) (e : Event) (read : List ℕ) (t : State) → Reads e read t
+    → IfSome (if is then Some t else None) (Reads e read)
+maybe true e read t holds = holds
+maybe false e read t holds = tt
+
+reads : (op : Operation) (e : Event) (s : State) → s.due ≡ op → IfSome (after op e s) (Reads e s.read)
+reads due.Nothing (due.Failed f) s at = tt
+reads due.Installed (due.Failed f) s at = tt
+reads due.AlreadyInstalled (due.Failed f) s at = tt
+reads due.WouldInstall (due.Failed f) s at = tt
+reads due.Rejected (due.Failed f) s at = tt
+reads due.RemoveFiles (due.Failed f) s at =
+    maybe (due.is_failure f) (due.Failed f) s.read (due.go due.Rejected s) refl
+reads op (due.Failed f) s at =
+    maybe (due.is_failure f) (due.Failed f) s.read (due.reject (due.failure s.due f) s)
+    (reject (due.failure s.due f) s)
+reads due.Lock due.InUse s at = reject TargetInUse s
+reads due.ReadRecord (due.RecordRead found) s at = after_record (judge_record s.options found) s
+reads due.ReadSignature (due.SignatureRead text time) s at =
+    after_signature (judge_text s.options text) time s
+reads due.CheckComment (due.Answered true) s at = after_comment s.fault s
+reads due.CheckComment (due.Answered false) s at = next_key s.signers s at
+reads due.CheckRecord (due.Answered accepted) s at = after_digest accepted s
+reads due.ReadTarget (due.PieceRead bytes) s at = rw at refl
+reads due.ReadTarget due.TargetMissing s at = install s
+reads due.CheckTarget (due.Answered accepted) s at = after_target accepted s
+reads due.CopyData (due.PieceCopied n) s at = after_piece n s.left s at
+reads due.CopyData due.Done s at = after_copy s.left s
+reads due.ReadBack (due.PieceRead bytes) s at = rw at refl
+reads due.CheckData (due.Answered true) s at = refl
+reads due.CheckData (due.Answered false) s at = reject (Library (Named named.SignatureRefused)) s
+reads due.Lock due.Done s at = refl
+reads due.ReadTarget due.Done s at = refl
+reads due.SyncTarget due.Done s at = refl
+reads due.SyncTargetName due.Done s at = refl
+reads due.RemoveLeftovers due.Done s at = refl
+reads due.CreateFile due.Done s at = refl
+reads due.ReadBack due.Done s at = refl
+reads due.SetPermissions due.Done s at = refl
+reads due.SyncFile due.Done s at = refl
+reads due.CreateRecord due.Done s at = refl
+reads due.WriteRecord due.Done s at = refl
+reads due.SyncRecord due.Done s at = refl
+reads due.RenameRecord due.Done s at = refl
+reads due.SyncRecordName due.Done s at = refl
+reads due.RenameFile due.Done s at = refl
+reads due.SyncFileName due.Done s at = refl
+reads due.RemoveFiles due.Done s at = refl
+reads op e s at = tt
+
+moved : (s : State) (next : Option State) (e : Event) → is_some next ≡ true → IfSome next (Reads e s.read)
+    → Reads e s.read (answer s next).1
+moved s (Some t) e is holds = holds
+moved s None e is holds = absurd (true≢false (sym is))
+
+pub read_is : (s : State) (e : Event) → is_some (after s.due e s) ≡ true
+    → (step s e).1.read ≡ (if installs (step s e).1.due then [] else read_after e s.read)
+read_is s e fits = moved s (after s.due e s) e fits (reads s.due e s refl)
+
+-- == Whole runs ==
+
+-- One more call.
+snoc : (w : World) (s : State) (m : Moment) (calls : List Call) (t : State) (end : Moment) (c : Call)
+    → Applies w s m calls t end → Others end c.before → is_some (after t.due c.event t) ≡ true
+    → Performs w t t.due c.event c.before c.after
+    → Applies w s m (calls ++ c ∷ []) (step t c.event).1 c.after
+snoc w s m [] t end c (is, same) others fits done =
+    (rw same at others, rw is at fits, rw is at done, (rw is refl, refl))
+snoc w s m (d ∷ more) t end c (other, fit, is, run) others fits done =
+    (other, fit, is, snoc w (step s d.event).1 d.after more t end c run others fits done)
+
+known_from : (w : World) (o : Options) (n : ℕ) (s : State) (m : Moment) (calls : List Call) (t : State)
+    (end : Moment) → Invariant w o ⊤ ⊥ n s m → Applies w s m calls t end
+    → (k : ℕ) × Invariant w o ⊤ ⊥ k t end
+known_from w o n s m [] t end known (is, same) = (n, rw (is, same) known)
+known_from w o n s m (c ∷ more) t end known (others, fits, is, run) =
+    known_from w o (count n c.event) (step s c.event).1 c.after more t end
+    (next w o ⊤ ⊥ n s m c known others (λ q. absurd q) fits is (λ found. tt)) run
+
+named_by : (w : World) (o : Options) (op : Operation) (s : State) → Known w o op s → op ≡ due.ReadSignature
+    → s.options.file ≡ o.file
+named_by w o due.ReadSignature s known is = ap (λ (x : Options). x.file) known.0
+named_by w o op s known is = cc is
+
+signature_by : (w : World) (o : Options) (op : Operation) (s : State) → Known w o op s
+    → op ≡ due.CheckComment → (t : SignatureTextRecord) → w.text ≡ Ok t
+    → s.signature ≡ t.signature.signature
+signature_by w o due.CheckComment s known is t parsed =
+    known.11 ∙ ap (λ (x : SignatureTextRecord). x.signature.signature)
+    (same_ok known.0 t (sym known.6 ∙ parsed))
+signature_by w o op s known is t parsed = cc is
+
+-- What is known after a lawful run.
+pub knows_of : (w : World) (o : Options) (m : Moment) (calls : List Call) (s : State) (end : Moment)
+    → Applies w (begin o) m calls s end → Knows w o.file s
+knows_of w o m calls s end run =
+    let (k, invariant) = known_from w o 0 (begin o) m calls s end (safe_calls.begins w o ⊤ ⊥ m) run in
+    let known = knows w o ⊤ ⊥ k s end invariant in record {
+      named = λ is. named_by w o s.due s known is;
+      signature = λ is t parsed. signature_by w o s.due s known is t parsed;
+    }
+
+-- Up to here the run is that of a lawful application, and these lines are left.
+abbrev pub Reached : World → Options → Moment → Follower → List ℕ → List Line → List Line → Type 0
+Reached w o m f message trace rest =
+    (calls : List Call) × (s : State) × (last : Moment) × (now : Moment) × Applies w (begin o) m calls s last
+    × Others last now × Follows w f message s now × (calls_of m trace ≡ calls ++ calls_of now rest)
+
+others_again : (one two three : Moment) → Others one two → Others two three → Others one three
+others_again one two three a b = record {
+  data_stays = b.data_stays ∙ a.data_stays;
+  record_stays = b.record_stays ∙ a.record_stays;
+  opened_stays = b.opened_stays ∙ a.opened_stays;
+  lock_stays = b.lock_stays ∙ a.lock_stays;
+  recorded_stays = λ is. b.recorded_stays (a.lock_stays ∙ is) ∙ a.recorded_stays is;
+  left_stays = λ is. b.left_stays (a.lock_stays ∙ is) ∙ a.left_stays is;
+  leftovers_stay = λ is. b.leftovers_stay (a.lock_stays ∙ is) ∙ a.leftovers_stay is;
+}
+
+nobody : (m : Moment) → Others m m
+nobody m = record {
+  data_stays = refl;
+  record_stays = refl;
+  opened_stays = refl;
+  lock_stays = refl;
+  recorded_stays = λ is. refl;
+  left_stays = λ is. refl;
+  leftovers_stay = λ is. refl;
+}
+
+pub starts : (w : World) (o : Options) (m : Moment) (f : Follower) (message : List ℕ) (trace : List Line)
+    → Follows w f message (begin o) m → Reached w o m f message trace trace
+starts w o m f message trace follows = ([], begin o, m, m, (refl, refl), nobody m, follows, refl)
+
+pub goes_on : (w : World) (o : Options) (m : Moment) (f g : Follower) (message written : List ℕ)
+    (trace rest : List Line) (first : Line) → Reached w o m f message trace (first ∷ rest)
+    → IsFollowed w o.file first f g message written → Reached w o m g written trace rest
+goes_on w o m f g message written trace rest (line.Others other)
+    (calls, s, last, now, run, others, follows, same) followed =
+    let (allowed, after_it) = followed s now follows in (
+      calls,
+      s,
+      last,
+      changed other now,
+      run,
+      others_again last now (changed other now) others allowed,
+      after_it,
+      same,
+    )
+goes_on w o m f g message written trace rest (line.Call reported did)
+    (calls, s, last, now, run, others, follows, same) followed =
+    let ((fits, performs), after_it) = followed s now (knows_of w o m calls s last run) follows in
+    let c : Call = record { event = event_of reported; before = now; after = affected did now } in (
+      calls ++ c ∷ [],
+      (step s (event_of reported)).1,
+      affected did now,
+      affected did now,
+      snoc w (begin o) m calls s last c run others fits performs,
+      nobody (affected did now),
+      after_it,
+      same ∙ sym (append_assoc calls (c ∷ []) (calls_of (affected did now) rest)),
+    )
+
+abbrev no_line : Line
+no_line = line.Others (change.Target None)
+
+pub goes_on_at : (w : World) (o : Options) (m : Moment) (f g : Follower) (message written : List ℕ)
+    (trace : List Line) (at : ℕ) → at < length trace → Reached w o m f message trace (drop at trace)
+    → IsFollowed w o.file (get_or trace at no_line) f g message written
+    → Reached w o m g written trace (drop (at + 1) trace)
+goes_on_at w o m f g message written trace at within reached followed =
+    let cut : drop at trace ≡ get_or trace at no_line ∷ drop (at + 1) trace =
+    drop-cons trace at no_line within
+    ∙ ap (λ (j : ℕ). get_or trace at no_line ∷ drop j trace) (sym (add-one at)) in
+    goes_on w o m f g message written trace (drop (at + 1) trace) (get_or trace at no_line)
+    (subst (Reached w o m f message trace) cut reached) followed
+
+pub arrives : (w : World) (o : Options) (m : Moment) (f : Follower) (message : List ℕ) (trace : List Line)
+    → Reached w o m f message trace [] → IsLawful w o m trace
+arrives w o m f message trace (calls, s, last, now, run, others, follows, same) =
+    (s, last, rw (same ∙ append-nil calls) run)

@@ -1,0 +1,18 @@
+use Rattle.minisign_install.proofs.Applications.{application_ends, reported_ends_are_true}
+use Rattle.minisign_install.proofs.Applications.{reported_errors_are_true}
+use Rattle.minisign_install.proofs.Checking.{check_changes_nothing}
+use Rattle.minisign_install.proofs.SafeCalls.{ends_last, safe_calls}
+use Rattle.minisign_install.proofs.Timely.{accepted_in_time, judged_in_time}
+use Rattle.minisign_install.proofs.histories.any_application_is_safe.Goals as goal
+
+pub returns : goal.returns
+returns c = record {
+  safe = safe_calls;
+  judged = judged_in_time;
+  timely = accepted_in_time;
+  check = check_changes_nothing;
+  errors = reported_errors_are_true;
+  ends = reported_ends_are_true;
+  lasts = ends_last;
+  bounded = application_ends;
+}

@@ -1,0 +1,17 @@
+use Rattle.minisign_install.proofs.StepArrivals.{good_update_has_run}
+use Rattle.minisign_install.proofs.StepChecks.{check_decides_alike}
+use Rattle.minisign_install.proofs.StepExamples.{good_update_exists}
+use Rattle.minisign_install.proofs.StepFiles.{files_are_gone}
+use Rattle.minisign_install.proofs.StepRefusals.{rejected_changes_nothing}
+use Rattle.minisign_install.proofs.StepSyncs.{synced_first}
+use Rattle.minisign_install.proofs.steps.any_run_of_steps.Goals as goal
+
+pub returns : goal.returns
+returns c = record {
+  files = files_are_gone;
+  synced = synced_first;
+  check = check_decides_alike;
+  rejected = rejected_changes_nothing;
+  met = good_update_has_run;
+  there = good_update_exists;
+}

@@ -1,0 +1,374 @@
+-- An installation as a struct of fixed size, and the state of the installer that it stands for. The contract
+-- of each call is an equation with `step`.
+use Rattle.std.specs.Prelude.{◌≡◌, ◌==◌, ◌++◌, ◌&&◌, ◌||◌, not, nat_le, ℕ, Bool, true, false, if◌then◌else◌}
+use Rattle.std.specs.Prelude.{List, [], ◌∷◌}
+use Rattle.std.specs.Prelude.{Option, Some, None, MatchOption, Result, Ok, Err, get_or, length, option_map}
+use Rattle.std.specs.Prelude.{◌<◌, ◌≤◌, ◌≢◌, take, drop, replicate, filter, bytes_eq, IfOk, MatchResult}
+use Rattle.std.specs.Option.{unwrap_or}
+use Rattle.minisign.specs.Records.{is_prehashed}
+use Rattle.minisign.specs.SignatureText.{SignatureTextRecord, read_signature}
+use Rattle.minisign.specs.Texts.{require}
+use Rattle.minisign_base.specs.declared.faults.NamedFault.TheVariants as named
+use Rattle.minisign_external.specs.PublicKeys.{read_utf8}
+use Rattle.minisign_external.specs.Questions.{has_whole_signature}
+use Rattle.minisign_external.specs.declared.state.Misuse.TheVariants.{NoRoom}
+use Rattle.minisign_external.specs.declared.state.Refusal.TheVariants.{WrongUse}
+use Rattle.minisign_install.specs.Decisions.{comment_fault, judge_text, size_in, version_in}
+use Rattle.minisign_install.specs.Faults.{Fault}
+use Rattle.minisign_install.specs.Step.{ReadSignature, SignatureRead, after_signature}
+use Rattle.minisign_install.specs.declared.installation.progress.Judged.{Judged}
+use Rattle.minisign_hash.specs.Blake2b.{blake2b_digest}
+use Rattle.minisign_hash.specs.Stored.{WasFed}
+use Rattle.minisign_external.specs.declared.public_keys.PublicKeyValue.{PublicKeyValue}
+use Rattle.minisign_external.specs.declared.state.Misuse.{Misuse}
+use Rattle.minisign_external.specs.declared.state.Misuse.TheVariants.{BadNumbering, BadOption}
+use Rattle.minisign_external.specs.declared.state.Refusal.{Refusal}
+use Rattle.minisign_install.specs.Comments.{Numbering, Timestamp, Version}
+use Rattle.minisign_install.specs.Decisions.{Options, Recorded}
+use Rattle.minisign_install.specs.Faults.{InstallFault}
+use Rattle.minisign_install.specs.Faults.{install_number, is_own}
+use Rattle.minisign_install.specs.RecordTexts.{IsRecordOf, record_digest, record_key}
+use Rattle.minisign_install.specs.Step.{CopyData, Done, Lock, PieceRead, ReadBack, ReadRecord, ReadTarget}
+use Rattle.minisign_install.specs.Step.{RemoveFiles, WriteRecord, new_key, new_record, new_version}
+use Rattle.minisign_install.specs.Step.{CheckComment, CheckData, CheckRecord, CheckTarget}
+use Rattle.minisign_install.specs.Step.{has_ended}
+use Rattle.minisign_install.specs.declared.installation.Choices.{Choices}
+use Rattle.minisign_install.specs.declared.installation.Question.{Question}
+use Rattle.minisign_install.specs.Step.{Event, Nothing, Operation, State, operations, result_of, step}
+use Rattle.minisign_install.specs.declared.installation.Installation.{Installation}
+use Rattle.minisign_install.specs.declared.installation.progress.Chosen.{Chosen}
+use Rattle.minisign_install.specs.declared.installation.progress.Progress.{Progress}
+use Rattle.minisign_install.specs.declared.installation.progress.RecordedValue.{RecordedValue}
+
+-- == The state of a struct ==
+
+-- The operation with this number. No other number is one.
+abbrev pub operation_of : ℕ → Operation
+operation_of n = get_or operations n Nothing
+
+-- The number of a field, and the field with a number.
+abbrev pub numbering_number : Numbering → ℕ
+numbering_number Timestamp = 0
+numbering_number Version = 1
+
+abbrev pub numbering_of : ℕ → Numbering
+numbering_of n = if n == numbering_number Version then Version else Timestamp
+
+abbrev pub when : {A : Type 0} → Bool → A → Option A
+when holds value = if holds then Some value else None
+
+abbrev pub options_of : Chosen → List ℕ → Options
+options_of c file = record {
+  keys = c.key ∷ c.other ∷ [];
+  file = file;
+  numbering = numbering_of c.numbering;
+  first = c.is_first == 1;
+  again = c.again == 1;
+  check = c.is_check == 1;
+  must_expire = c.must_expire == 1;
+  new_key = c.new_key == 1;
+  roll_back = c.roll_back == 1;
+}
+
+abbrev pub recorded_of : RecordedValue → Recorded
+recorded_of r = record {
+  version = when (r.has_version == 1) r.version;
+  key = when (r.has_key == 1) r.key;
+  digest = when (r.has_digest == 1) r.digest;
+}
+
+-- What counts of a record of these bytes, with this version number.
+abbrev pub numbered : ℕ → List ℕ → Recorded
+numbered n bytes = record { version = Some n; key = record_key bytes; digest = record_digest bytes }
+
+-- What counts of the record, or why it is rejected.
+abbrev pub judgment_of : Result RecordedValue InstallFault → Result Recorded InstallFault
+judgment_of (Ok r) = Ok (recorded_of r)
+judgment_of (Err fault) = Err fault
+
+-- The first key, if it may have signed, and then the other one, if that one may.
+abbrev pub signers_of : Progress → List PublicKeyValue
+signers_of p =
+    (if p.by_key == 1 then p.chosen.key ∷ [] else []) ++ (if p.by_other == 1 then p.chosen.other ∷ [] else [])
+
+-- The state that the struct stands for. The struct has neither the name of the file nor what was read, of
+-- which it has the hash, and of errors it has only the numbers.
+abbrev pub state_of : Progress → List ℕ → List ℕ → Option InstallFault → Option InstallFault → State
+state_of p file read fault error = record {
+  due = operation_of p.due;
+  options = options_of p.chosen file;
+  recorded = recorded_of p.recorded;
+  signers = signers_of p;
+  signature = if p.judged.is_judged == 1 then p.judged.signature else [];
+  comment_signature = if p.judged.is_judged == 1 then p.judged.comment_signature else [];
+  fault = fault;
+  version = p.judged.version;
+  size = when (p.judged.has_size == 1) p.judged.size;
+  is_signed = p.is_signed == 1;
+  is_recorded = p.is_recorded == 1;
+  read = read;
+  left = when (p.has_left == 1) p.left;
+  error = error;
+}
+
+-- The number of an error that installing adds, or 0.
+abbrev pub IsOwnNumber : ℕ → Option InstallFault → Type 0
+IsOwnNumber n fault = MatchOption fault (n ≡ 0) (λ e. (n ≡ install_number e) × (is_own e ≡ true))
+
+-- The number of an error, or 0.
+abbrev pub error_number : Option InstallFault → ℕ
+error_number None = 0
+error_number (Some e) = install_number e
+
+-- The struct stands for the state.
+pub record IsKept (p : Progress) (s : State) : Type 0 where
+  pub file : List ℕ
+  pub read : List ℕ
+  pub fault : Option InstallFault
+  pub error : Option InstallFault
+  pub state : s ≡ state_of p file read fault error
+  pub fault_number : IsOwnNumber p.judged.fault fault
+  pub error_number : p.error ≡ error_number error
+  pub fed : WasFed p.hash read
+
+-- An installation that was begun begins with the letters "minstall".
+abbrev pub begun_mark : ℕ
+begun_mark = 7812726606361684333
+
+abbrev pub IsStoredIf : Bool → Progress → State → Type 0
+IsStoredIf true p s = IsKept p s
+IsStoredIf false p s = (s.due ≡ Nothing) × (s.is_signed ≡ false) × (s.error ≡ None)
+
+-- **The installation stands for the state. One that was never begun stands for each state in which nothing is
+-- due, nothing is signed and no error was found.**
+abbrev pub IsStored : Installation → State → Type 0
+IsStored i s = IsStoredIf (i.mark == begun_mark) i.progress s
+
+-- == Operations ==
+
+abbrev pub is_copying : Operation → Bool
+is_copying CopyData = true
+is_copying op = false
+
+abbrev pub is_locking : Operation → Bool
+is_locking Lock = true
+is_locking op = false
+
+abbrev pub is_removing : Operation → Bool
+is_removing RemoveFiles = true
+is_removing op = false
+
+-- The run has ended, or was never begun.
+abbrev pub is_over : Operation → Bool
+is_over Nothing = true
+is_over op = has_ended op
+
+abbrev pub is_reading_record : Operation → Bool
+is_reading_record ReadRecord = true
+is_reading_record op = false
+
+abbrev pub is_reading_signature : Operation → Bool
+is_reading_signature ReadSignature = true
+is_reading_signature op = false
+
+abbrev pub is_reading_target : Operation → Bool
+is_reading_target ReadTarget = true
+is_reading_target op = false
+
+abbrev pub is_reading : Operation → Bool
+is_reading ReadTarget = true
+is_reading ReadBack = true
+is_reading op = false
+
+abbrev pub is_writing_record : Operation → Bool
+is_writing_record WriteRecord = true
+is_writing_record op = false
+
+-- == What the application gets ==
+
+-- The first of the keys that may have signed.
+abbrev pub first_key : List PublicKeyValue → Option (List ℕ)
+first_key [] = None
+first_key (v ∷ more) = Some v.key
+
+-- The question about this digest.
+abbrev pub about : List ℕ → List ℕ → List ℕ → Question
+about key signature digest = record { key = key; signature = signature; digest = digest; is_comment = 0 }
+
+-- The question that is due, under this key. That about the trusted comment has zeros instead of a digest: its
+-- message is the one that the call `signature` wrote.
+abbrev pub question_of : Operation → List ℕ → State → Option Question
+question_of CheckComment key s = Some (record {
+  key = key;
+  signature = s.comment_signature;
+  digest = replicate 64 0;
+  is_comment = 1;
+})
+question_of CheckRecord key s = option_map (about key s.signature) s.recorded.digest
+question_of CheckTarget key s = Some (about key s.signature (blake2b_digest 64 s.read))
+question_of CheckData key s = Some (about key s.signature (blake2b_digest 64 s.read))
+question_of op key s = None
+
+abbrev pub question_by : Bool → Option (List ℕ) → Operation → State → Option Question
+question_by true (Some key) op s = question_of op key s
+question_by is_read key op s = None
+
+-- The question that is due, once the signature file was read and a key may have signed.
+abbrev pub question_due : State → Option Question
+question_due s = question_by (length s.signature == 64) (first_key s.signers) s.due s
+
+-- The new record, if writing it is due and there is a key that has signed.
+abbrev pub record_due : State → Option (List ℕ)
+record_due s =
+    if is_writing_record s.due then option_map (λ key. new_record s) (first_key s.signers) else None
+
+-- These bytes are read as the record that the run writes: the recorded version does not decrease by a
+-- roll-back, and the digest is that of what was read.
+abbrev pub IsNewRecord : State → List ℕ → Type 0
+IsNewRecord s bytes =
+    IsRecordOf s.options.numbering (new_version s) (new_key s) (blake2b_digest 64 s.read) bytes
+
+-- The first n bytes of the buffer are the text, and the rest is unchanged. If n is 0, the buffer was too
+-- short, and is unchanged.
+pub record IsWritten (text : List ℕ) (n : ℕ) (old new : List ℕ) : Type 0 where
+  pub front : 0 < n → (n ≤ length new) × (take n new ≡ text)
+  pub rest : drop n new ≡ drop n old
+  pub room : n ≡ 0 → (new ≡ old) × (length old < length text)
+
+abbrev pub written_if : Option (List ℕ) → ℕ → List ℕ → List ℕ → Type 0
+written_if None n old new = (n ≡ 0) × (new ≡ old)
+written_if (Some text) n old new = IsWritten text n old new
+
+-- == Calls ==
+
+-- The options that an application passes.
+abbrev pub options_by : PublicKeyValue → PublicKeyValue → Choices → List ℕ → Options
+options_by key other c file = record {
+  keys = key ∷ other ∷ [];
+  file = file;
+  numbering = numbering_of c.numbering;
+  first = c.is_first == 1;
+  again = c.again == 1;
+  check = c.is_check == 1;
+  must_expire = c.must_expire == 1;
+  new_key = c.new_key == 1;
+  roll_back = c.roll_back == 1;
+}
+
+-- Why the options are rejected: one is neither 0 nor 1, or two of them must not be combined; or there is no
+-- field with this number.
+abbrev pub is_flag : ℕ → Bool
+is_flag n = nat_le n 1
+
+abbrev pub are_flags : Choices → Bool
+are_flags c = is_flag c.is_first && is_flag c.again && is_flag c.is_check && is_flag c.must_expire
+    && is_flag c.new_key && is_flag c.roll_back
+
+abbrev pub choices_fit : Choices → Bool
+choices_fit c = not (c.is_first == 1 && (c.new_key == 1 || c.roll_back == 1))
+
+abbrev pub choices_misuse : Choices → Option Misuse
+choices_misuse c =
+    if are_flags c && choices_fit c then if nat_le c.numbering 1 then None else Some BadNumbering
+    else Some BadOption
+
+-- What a piece of no bytes reports: the end, if a file is being read.
+abbrev pub end_event : Operation → Event
+end_event op = if is_reading op then Done else PieceRead []
+
+abbrev pub piece_event : Operation → List ℕ → Event
+piece_event op bytes = if length bytes == 0 then end_event op else PieceRead bytes
+
+-- The result and the new struct are those of the step with this event, from the state of the old struct.
+abbrev pub Steps : Event → State → Result Unit (Refusal InstallFault) → Progress → Type 0
+Steps e s result new = IsKept new (step s e).1 × (result ≡ (step s e).0)
+
+-- == The signature file ==
+
+-- The event that the call `signature` reports.
+abbrev pub signature_read : List ℕ → Option ℕ → Event
+signature_read sig_text time = SignatureRead (read_utf8 read_signature sig_text) time
+
+-- What the checks that need no Ed25519 find.
+abbrev pub reads_into : State → List ℕ → Result (SignatureTextRecord × List PublicKeyValue) Fault
+reads_into s sig_text = judge_text s.options (read_utf8 read_signature sig_text)
+
+-- The keys that may have signed.
+abbrev pub given : Chosen → SignatureTextRecord → List PublicKeyValue
+given c t = filter (λ v. bytes_eq t.signature.keynum v.key_id) (c.key ∷ c.other ∷ [])
+
+-- The checks of judge_keys if there is such a key.
+abbrev pub judge_form : SignatureTextRecord → List PublicKeyValue
+    → Result (SignatureTextRecord × List PublicKeyValue) Fault
+judge_form t signers =
+    require (is_prehashed t.signature) named.LegacyNotAccepted
+    (require (has_whole_signature t.comments) named.CommentSignatureRefused
+    (Ok (t, signers)))
+
+-- The checks found this: the signature file with these signers, and this is the signature of its comment; or
+-- the first check that fails.
+abbrev pub IsJudgedAs : Result (SignatureTextRecord × List PublicKeyValue) Fault → SignatureTextRecord
+    → List PublicKeyValue → Result (List ℕ) Fault → Type 0
+IsJudgedAs judged t signers result = MatchResult result
+    (λ second. (judged ≡ Ok (t, signers)) × (second ≡ take 64 t.comments.signature)) (λ e. judged ≡ Err e)
+
+-- The message of the question about the trusted comment.
+abbrev pub comment_message : Result (SignatureTextRecord × List PublicKeyValue) Fault → Option (List ℕ)
+comment_message (Ok (t, signers)) = Some (t.signature.signature ++ t.comments.trusted)
+comment_message (Err fault) = None
+
+-- The buffer begins with this message of n bytes, and the rest is unchanged. Without a message n is 0.
+abbrev pub HasMessage : Option (List ℕ) → ℕ → List ℕ → List ℕ → Type 0
+HasMessage (Some m) n old new =
+    (n ≡ length m) × (n ≤ length new) × (take n new ≡ m) × (drop n new ≡ drop n old)
+HasMessage None n old new = (n ≡ 0) × (new ≡ old)
+
+-- There is a message, and it does not fit into a buffer of this length.
+abbrev pub IsTooLong : Option (List ℕ) → ℕ → Type 0
+IsTooLong message room = (m : List ℕ) × (message ≡ Some m) × (room < length m)
+
+-- The result without the length of the message.
+abbrev pub plain : Result ℕ (Refusal InstallFault) → Result Unit (Refusal InstallFault)
+plain (Ok n) = Ok tt
+plain (Err r) = Err r
+
+-- What the struct has of a signature file, with this signature of the comment, after the comment was judged.
+pub record IsReadAs (j : Judged) (o : Options) (t : SignatureTextRecord) (second : List ℕ)
+    (recorded time : Option ℕ)
+    : Type 0 where
+  pub judged : j.is_judged ≡ 1
+  pub signature : j.signature ≡ t.signature.signature
+  pub comment_signature : j.comment_signature ≡ second
+  pub version : j.version ≡ unwrap_or (version_in o.numbering t.comments.trusted) 0
+  pub size : when (j.has_size == 1) j.size ≡ size_in t.comments.trusted
+  pub fault : IsOwnNumber j.fault (comment_fault o recorded time t.comments.trusted)
+
+-- The run went on with this state, from the one before.
+abbrev pub Leads : State → State → Result Unit (Refusal InstallFault) → Progress → Type 0
+Leads s t result new = IsKept new t × (result ≡ result_of s.error t.error)
+
+-- The signature file was judged like this: the run went on, the message was written, or it does not fit into
+-- the buffer.
+pub record SignatureLeads (judged : Result (SignatureTextRecord × List PublicKeyValue) Fault)
+    (time : Option ℕ) (s : State) (result : Result ℕ (Refusal InstallFault)) (new : Progress)
+    (before after : List ℕ) : Type 0 where
+  pub leads : result ≢ Err (WrongUse NoRoom) → Leads s (after_signature judged time s) (plain result) new
+  pub message : IfOk result (λ n. HasMessage (comment_message judged) n before after)
+  pub room : result ≡ Err (WrongUse NoRoom) → IsTooLong (comment_message judged) (length before)
+
+-- The result is that of the step, the new struct stands for its state, and the message was written; or it
+-- does not fit into the buffer.
+pub record SignatureSteps (sig_text : List ℕ) (time : Option ℕ) (s : State)
+    (result : Result ℕ (Refusal InstallFault)) (NowStands : State → Type 0) (before after : List ℕ)
+    : Type 0 where
+  pub steps : result ≢ Err (WrongUse NoRoom) → NowStands (step s (signature_read sig_text time)).1
+      × (plain result ≡ (step s (signature_read sig_text time)).0)
+  pub message : IfOk result (λ n. HasMessage (comment_message (reads_into s sig_text)) n before after)
+  pub room : result ≡ Err (WrongUse NoRoom)
+      → (s.due ≡ ReadSignature) × IsTooLong (comment_message (reads_into s sig_text)) (length before)
+
+-- **For every state for which the old installation stands, the new one stands for the state after the step
+-- with this event, and the result is that of the step.**
+abbrev pub CallSteps : Event → Installation → Installation → Result Unit (Refusal InstallFault) → Type 0
+CallSteps e old new result =
+    (s : State) → IsStored old s → IsStored new (step s e).1 × (result ≡ (step s e).0)

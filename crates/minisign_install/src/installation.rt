@@ -1,0 +1,666 @@
+//! An installation as a value of fixed size, for applications in other languages. The application performs
+//! the operation that is due and reports what happened. Nothing here allocates.
+
+ghost use Rattle.std.specs.Prelude.{◌≡◌, ◌==◌, List, Some, None, Err, MatchResult, OnErr};
+ghost use Rattle.std.specs.Prelude.{if◌then◌else◌, true, false, ℕ, ◌<◌, take, drop};
+ghost use Rattle.minisign_external.specs.Numbers.{answer_yes, is_answer};
+ghost use Rattle.minisign_external.specs.declared.state.Misuse.TheVariants.{BadAnswer, NoRoom, NotDue};
+ghost use Rattle.minisign_external.specs.declared.state.Refusal.TheVariants.{WrongUse};
+ghost use Rattle.minisign_install.specs.Installations.{CallSteps, IsStored, are_flags, choices_fit};
+ghost use Rattle.minisign_install.specs.Installations.{SignatureSteps};
+ghost use Rattle.minisign_install.specs.Installations.{begun_mark, choices_misuse, error_number};
+ghost use Rattle.minisign_install.specs.Installations.{options_by, piece_event};
+ghost use Rattle.minisign_install.specs.Step.{Answered, Done, Failed, InUse, PieceCopied, State};
+ghost use Rattle.minisign_install.specs.Step.{RecordRead, TargetMissing, begin, step};
+ghost use Rattle.minisign_install.specs.Installations.{is_copying, is_locking, is_over, is_reading};
+ghost use Rattle.minisign_install.specs.Installations.{is_reading_record, is_reading_target, is_removing};
+ghost use Rattle.minisign_install.specs.Installations.{is_writing_record, operation_of, record_due};
+ghost use Rattle.minisign_install.specs.Installations.{IsNewRecord, is_reading_signature, question_due};
+ghost use Rattle.minisign_install.specs.Installations.{written_if};
+ghost use Rattle.minisign_install.specs.Step.{Rejected, RemoveFiles, failure, has_files, next};
+
+mod judging;
+mod output;
+mod progress;
+mod recorded;
+mod signature;
+
+use crate::faults::InstallFault;
+pub use judging::judge_comment;
+use minisign_base::NamedFault;
+use minisign_external::numbers::{ANSWER_YES, is_answer};
+use minisign_external::public_keys::PublicKeyValue;
+use minisign_external::state::{Misuse, Refusal};
+use progress::Progress;
+
+// An installation that was begun begins with the letters `minstall`.
+const BEGUN: u64 = 7812726606361684333;
+
+/// An installation, 1024 bytes with the layout of C.
+#[repr(C)]
+#[derive(Clone, Copy)]
+pub struct Installation {
+    mark: u64,
+    progress: Progress,
+    reserved: [u64; 28],
+}
+
+/// A question for Ed25519: is the signature valid under the key? Its message is the digest, or, if
+/// `is_comment` is 1, the message that `signature` wrote. 164 bytes with the layout of C.
+#[repr(C)]
+#[derive(Clone, Copy)]
+pub struct Question {
+    /// The public key.
+    pub key: [u8; 32],
+    /// The signature.
+    pub signature: [u8; 64],
+    /// The digest of the data, or zeros if `is_comment` is 1.
+    pub digest: [u8; 64],
+    /// 1 if the question is about the trusted comment, otherwise 0.
+    pub is_comment: u32,
+}
+
+/// The options of an installation, with the layout of C. All except `numbering` are 0 or 1.
+#[repr(C)]
+#[derive(Clone, Copy)]
+pub struct Choices {
+    /// The field that has the version number: 0 for `timestamp:`, 1 for `version:`.
+    pub numbering: u32,
+    /// Install even if no version is recorded.
+    pub is_first: u32,
+    /// Replace different data that has the recorded version.
+    pub again: u32,
+    /// Only find out what a run would do.
+    pub is_check: u32,
+    /// Reject an update whose comment does not say when it expires.
+    pub must_expire: u32,
+    /// Ignore a record of a key that was not given.
+    pub new_key: u32,
+    /// Install an older update.
+    pub roll_back: u32,
+}
+
+/// The operation that is due, or how the run has ended. The numbers go from 0 on.
+#[derive(Clone, Copy, PartialEq, Eq, Debug)]
+pub enum Operation {
+    /// Nothing: the installation was never begun.
+    Nothing,
+    /// Lock the target, and wait as long as the user allows. Report done, or failed with target in use.
+    Lock,
+    /// Read the record, and report its bytes, or that there is none.
+    ReadRecord,
+    /// Read the signature file and the clock, once.
+    ReadSignature,
+    /// Ask Ed25519 about the trusted comment, and report the answer.
+    CheckComment,
+    /// Ask Ed25519 about the digest in the record, and report the answer.
+    CheckRecord,
+    /// Read the installed file and report its bytes piece by piece, or that there is no such file.
+    ReadTarget,
+    /// Ask Ed25519 about the digest of the installed file, and report the answer.
+    CheckTarget,
+    /// Sync the installed file, which is already the update.
+    SyncTarget,
+    /// Sync the directory, so that a crash does not undo the name of the installed file.
+    SyncTargetName,
+    /// Remove the temporary files that killed runs have left behind, as far as possible.
+    RemoveLeftovers,
+    /// Create the temporary file of the data under a random name.
+    CreateFile,
+    /// Copy the data to its temporary file, and report the length of each piece.
+    CopyData,
+    /// Read back the temporary file of the data through the same descriptor, and report its bytes piece by
+    /// piece.
+    ReadBack,
+    /// Ask Ed25519 about the digest of what was read back, and report the answer.
+    CheckData,
+    /// Give the temporary file of the data the permissions of the installed file.
+    SetPermissions,
+    /// Sync the temporary file of the data.
+    SyncFile,
+    /// Create the temporary file of the record under a random name.
+    CreateRecord,
+    /// Write the new record to its temporary file.
+    WriteRecord,
+    /// Sync the temporary file of the record.
+    SyncRecord,
+    /// Rename the temporary file of the record to the record.
+    RenameRecord,
+    /// Sync the directory, so that a crash does not undo this rename.
+    SyncRecordName,
+    /// Rename the temporary file of the data to the target.
+    RenameFile,
+    /// Sync the directory, so that a crash does not undo this rename.
+    SyncFileName,
+    /// Remove the temporary files that this run made and did not rename.
+    RemoveFiles,
+    /// The run has ended: the update is installed.
+    Installed,
+    /// The run has ended: the update was installed already.
+    AlreadyInstalled,
+    /// The check has ended: a run with the same options would install the update.
+    WouldInstall,
+    /// The run has ended: the update is rejected.
+    Rejected,
+}
+
+impl Installation {
+    /// Begins an installation. Locking is due, or for a check reading the record. An application that has one
+    /// key passes it twice.
+    pub fn new(
+        key: &PublicKeyValue,
+        other: &PublicKeyValue,
+        choices: &Choices,
+    ) -> Result<Installation, Misuse>
+        ensures { MatchResult result
+            (λ i. (choices_misuse choices.now ≡ None) × ((file : List ℕ)
+            → IsStored i (begin (options_by key.now other.now choices.now file))))
+            (λ m. choices_misuse choices.now ≡ Some m) }
+    {
+        match choices.test() {
+            Ok(()) => Ok(Installation {
+                mark: BEGUN,
+                progress: Progress::begin(key, other, choices),
+                reserved: [0; 28],
+            }),
+            Err(misuse) => Err(misuse),
+        }
+    }
+
+    // Returns true if the installation was begun.
+    fn is_begun(&self) -> bool
+        ensures { result ≡ (self.now.mark == begun_mark) }
+    {
+        self.mark == BEGUN
+    }
+
+    /// Returns the operation that is due, or how the run has ended.
+    pub fn due(&self) -> Operation
+        ensures { (s : State) → IsStored self.now s → result ≡ s.due }
+    {
+        if self.is_begun() {
+            self.progress.due()
+        } else {
+            Operation::Nothing
+        }
+    }
+
+    /// Reports that the operation that is due was done.
+    pub fn done(&mut self) -> Result<(), Refusal<InstallFault>>
+        // For every state for which the installation stands, the result and the new state are those of the
+        // step.
+        ensures steps { CallSteps Done self.old self.new result }
+        // After `NotDue` the installation is unchanged.
+        ensures misuse { result ≡ Err (WrongUse NotDue) → self.new ≡ self.old }
+    {
+        if self.is_begun() {
+            self.progress.done()
+        } else {
+            Err(Refusal::WrongUse(Misuse::NotDue))
+        }
+    }
+
+    /// Reports that a piece of `len` bytes was copied.
+    pub fn copied(&mut self, len: u64) -> Result<(), Refusal<InstallFault>>
+        // For every state for which the installation stands, the result and the new state are those of the
+        // step.
+        ensures steps { CallSteps (PieceCopied len) self.old self.new result }
+        // After `NotDue` the installation is unchanged.
+        ensures misuse { result ≡ Err (WrongUse NotDue) → self.new ≡ self.old }
+    {
+        if self.is_begun() {
+            self.progress.copied(len)
+        } else {
+            Err(Refusal::WrongUse(Misuse::NotDue))
+        }
+    }
+
+    /// Reports that the operation that is due failed: out of memory, or reading, writing or the random
+    /// source failed.
+    pub fn failed(&mut self, fault: NamedFault) -> Result<(), Refusal<InstallFault>>
+        // For every state for which the installation stands, the result and the new state are those of the
+        // step.
+        ensures steps { CallSteps (Failed fault) self.old self.new result }
+        // After `NotDue` the installation is unchanged.
+        ensures misuse { result ≡ Err (WrongUse NotDue) → self.new ≡ self.old }
+    {
+        if self.is_begun() {
+            self.progress.failed(fault)
+        } else {
+            Err(Refusal::WrongUse(Misuse::NotDue))
+        }
+    }
+
+    /// Reports that another process holds the lock, and the application gave up waiting for it.
+    pub fn in_use(&mut self) -> Result<(), Refusal<InstallFault>>
+        // For every state for which the installation stands, the result and the new state are those of the
+        // step.
+        ensures steps { CallSteps InUse self.old self.new result }
+        // After `NotDue` the installation is unchanged.
+        ensures misuse { result ≡ Err (WrongUse NotDue) → self.new ≡ self.old }
+    {
+        if self.is_begun() {
+            self.progress.in_use()
+        } else {
+            Err(Refusal::WrongUse(Misuse::NotDue))
+        }
+    }
+
+    /// Reports the bytes of the record.
+    pub fn record(&mut self, bytes: &[u8]) -> Result<(), Refusal<InstallFault>>
+        // For every state for which the installation stands, the result and the new state are those of the
+        // step.
+        ensures steps { CallSteps (RecordRead (Some bytes.now)) self.old self.new result }
+        // After `NotDue` the installation is unchanged.
+        ensures misuse { result ≡ Err (WrongUse NotDue) → self.new ≡ self.old }
+    {
+        if self.is_begun() {
+            self.progress.record(bytes)
+        } else {
+            Err(Refusal::WrongUse(Misuse::NotDue))
+        }
+    }
+
+    /// Reports that there is no record.
+    pub fn no_record(&mut self) -> Result<(), Refusal<InstallFault>>
+        // For every state for which the installation stands, the result and the new state are those of the
+        // step.
+        ensures steps { CallSteps (RecordRead None) self.old self.new result }
+        // After `NotDue` the installation is unchanged.
+        ensures misuse { result ≡ Err (WrongUse NotDue) → self.new ≡ self.old }
+    {
+        if self.is_begun() {
+            self.progress.no_record()
+        } else {
+            Err(Refusal::WrongUse(Misuse::NotDue))
+        }
+    }
+
+    /// Reports the next bytes of the file that is read. No bytes report its end.
+    pub fn piece(&mut self, bytes: &[u8]) -> Result<(), Refusal<InstallFault>>
+        ensures steps { (s : State) → IsStored self.old s
+            → IsStored self.new (step s (piece_event s.due bytes.now)).1
+            × (result ≡ (step s (piece_event s.due bytes.now)).0) }
+        // After `NotDue` the installation is unchanged.
+        ensures misuse { result ≡ Err (WrongUse NotDue) → self.new ≡ self.old }
+    {
+        if self.is_begun() {
+            self.progress.bytes(bytes)
+        } else {
+            Err(Refusal::WrongUse(Misuse::NotDue))
+        }
+    }
+
+    /// Reports that there is no file at the target.
+    pub fn no_target(&mut self) -> Result<(), Refusal<InstallFault>>
+        // For every state for which the installation stands, the result and the new state are those of the
+        // step.
+        ensures steps { CallSteps TargetMissing self.old self.new result }
+        // After `NotDue` the installation is unchanged.
+        ensures misuse { result ≡ Err (WrongUse NotDue) → self.new ≡ self.old }
+    {
+        if self.is_begun() {
+            self.progress.no_target()
+        } else {
+            Err(Refusal::WrongUse(Misuse::NotDue))
+        }
+    }
+
+    /// Reports the signature file and the time, in seconds since the beginning of 1970, or `None` for a time
+    /// before that. Writes the message of the question about the trusted comment to the start of `message`,
+    /// and returns its length. `file` is the name that the trusted comment must contain. A buffer as long as
+    /// the signature file is always long enough.
+    ///
+    /// If the message does not fit into the buffer, the result is `NoRoom`, and nothing is reported.
+    pub fn signature(
+        &mut self,
+        sig_text: &[u8],
+        file: &[u8],
+        time: Option<u64>,
+        message: &mut [u8],
+    ) -> Result<usize, Refusal<InstallFault>>
+        // For every state for which the installation stands and that has this name of the file, the result
+        // and the new state are those of the step. After `NoRoom` and `NotDue` the installation is unchanged,
+        // and after every error the buffer.
+        ensures steps { (s : State) → IsStored self.old s → s.options.file ≡ file.now
+            → SignatureSteps sig_text.now time s result (IsStored self.new) message.old message.new }
+        ensures kept { OnErr result (message.new ≡ message.old) }
+        ensures misuse { result ≡ Err (WrongUse NotDue) → self.new ≡ self.old }
+        ensures short { result ≡ Err (WrongUse NoRoom) → self.new ≡ self.old }
+    {
+        if self.is_begun() {
+            self.progress.signature(sig_text, file, time, message)
+        } else {
+            Err(Refusal::WrongUse(Misuse::NotDue))
+        }
+    }
+
+    /// Returns the question for Ed25519 that is due, or `None` if none is due.
+    pub fn question(&self) -> Option<Question>
+        ensures { (s : State) → IsStored self.now s → result ≡ question_due s }
+    {
+        if self.is_begun() {
+            self.progress.question()
+        } else {
+            None
+        }
+    }
+
+    /// Reports what Ed25519 answered: `ANSWER_YES` or `ANSWER_NO`.
+    pub fn answer(&mut self, accepted: u32) -> Result<(), Refusal<InstallFault>>
+        ensures steps { is_answer accepted ≡ true
+            → CallSteps (Answered (accepted == answer_yes)) self.old self.new result }
+        // Any other number is rejected, and the installation is unchanged.
+        ensures bad { is_answer accepted ≡ false
+            → (result ≡ Err (WrongUse BadAnswer)) × (self.new ≡ self.old) }
+        // After `NotDue` the installation is unchanged.
+        ensures misuse { result ≡ Err (WrongUse NotDue) → self.new ≡ self.old }
+    {
+        if is_answer(accepted) {
+            self.answered(accepted == ANSWER_YES)
+        } else {
+            Err(Refusal::WrongUse(Misuse::BadAnswer))
+        }
+    }
+
+    // Reports what Ed25519 answered.
+    fn answered(&mut self, accepted: bool) -> Result<(), Refusal<InstallFault>>
+        // For every state for which the installation stands, the result and the new state are those of the
+        // step.
+        ensures steps { CallSteps (Answered accepted) self.old self.new result }
+        // After `NotDue` the installation is unchanged.
+        ensures misuse { result ≡ Err (WrongUse NotDue) → self.new ≡ self.old }
+    {
+        if self.is_begun() {
+            self.progress.answer(accepted)
+        } else {
+            Err(Refusal::WrongUse(Misuse::NotDue))
+        }
+    }
+
+    /// Returns true if a key was found to have signed the trusted comment.
+    pub fn is_signed(&self) -> bool
+        ensures { (s : State) → IsStored self.now s → result ≡ s.is_signed }
+    {
+        if self.is_begun() {
+            self.progress.is_signed == 1
+        } else {
+            false
+        }
+    }
+
+    /// Returns the version number of the update, or 0 unless `is_signed` is true.
+    pub fn version(&self) -> u64
+        ensures { (s : State) → IsStored self.now s → result ≡ (if s.is_signed then s.version else 0) }
+    {
+        if self.is_begun() {
+            self.progress.version()
+        } else {
+            0
+        }
+    }
+
+    /// Returns the signed size, if the comment has one and `is_signed` is true.
+    pub fn size(&self) -> Option<u64>
+        ensures { (s : State) → IsStored self.now s → result ≡ (if s.is_signed then s.size else None) }
+    {
+        if self.is_begun() {
+            self.progress.size()
+        } else {
+            None
+        }
+    }
+
+    /// Writes the new record to the start of `to`, if writing it is due. Returns its length, or 0 if writing
+    /// it is not due or the buffer is too short. A record has at most 224 bytes.
+    pub fn record_text(&self, to: &mut [u8]) -> usize
+        ensures written { (s : State) → IsStored self.now s
+            → written_if (record_due s) result to.old to.new }
+        // What is written is read as the version number, the key and the digest that the run records: those
+        // of the update, or after a roll-back the recorded version and its key.
+        ensures reads_back { (s : State) → IsStored self.now s → 0 < result
+            → IsNewRecord s (take result to.new) }
+        // The rest of the buffer is unchanged, in every case.
+        ensures rest { drop result to.new ≡ drop result to.old }
+    {
+        if self.is_begun() {
+            self.progress.record_text(to)
+        } else {
+            0
+        }
+    }
+
+    /// Returns the number of the error for which the run is rejected, or 0.
+    pub fn error(&self) -> u32
+        ensures { (s : State) → IsStored self.now s → result ≡ error_number s.error }
+    {
+        if self.is_begun() {
+            self.progress.error
+        } else {
+            0
+        }
+    }
+}
+
+impl Choices {
+    // Returns true if each option is 0 or 1.
+    fn are_flags(&self) -> bool
+        ensures { result ≡ are_flags self.now }
+    {
+        self.is_first <= 1
+            && self.again <= 1
+            && self.is_check <= 1
+            && self.must_expire <= 1
+            && self.new_key <= 1
+            && self.roll_back <= 1
+    }
+
+    // Returns true if the first installation is not combined with options that need a record.
+    fn fit_together(&self) -> bool
+        ensures { result ≡ choices_fit self.now }
+    {
+        self.is_first != 1 || (self.new_key != 1 && self.roll_back != 1)
+    }
+
+    // Tests the options, and then the numbering.
+    fn test(&self) -> Result<(), Misuse>
+        ensures { MatchResult result (λ _. choices_misuse self.now ≡ None)
+            (λ m. choices_misuse self.now ≡ Some m) }
+    {
+        if !self.are_flags() || !self.fit_together() {
+            return Err(Misuse::BadOption);
+        }
+        if self.numbering > 1 {
+            return Err(Misuse::BadNumbering);
+        }
+        Ok(())
+    }
+}
+
+impl Operation {
+    /// Returns the number of the operation.
+    pub fn number(self) -> u32
+        ensures { operation_of result ≡ self }
+    {
+        self as u32
+    }
+
+    // Returns the operation with this number, or `Nothing` if there is none.
+    pub(crate) fn of_number(number: u32) -> Operation
+        ensures { result ≡ operation_of number }
+    {
+        use Operation::*;
+        if number > 28 {
+            return Nothing;
+        }
+        match number {
+            0 => Nothing,
+            1 => Lock,
+            2 => ReadRecord,
+            3 => ReadSignature,
+            4 => CheckComment,
+            5 => CheckRecord,
+            6 => ReadTarget,
+            7 => CheckTarget,
+            8 => SyncTarget,
+            9 => SyncTargetName,
+            10 => RemoveLeftovers,
+            11 => CreateFile,
+            12 => CopyData,
+            13 => ReadBack,
+            14 => CheckData,
+            15 => SetPermissions,
+            16 => SyncFile,
+            17 => CreateRecord,
+            18 => WriteRecord,
+            19 => SyncRecord,
+            20 => RenameRecord,
+            21 => SyncRecordName,
+            22 => RenameFile,
+            23 => SyncFileName,
+            24 => RemoveFiles,
+            25 => Installed,
+            26 => AlreadyInstalled,
+            27 => WouldInstall,
+            28 => Rejected,
+            _ => Nothing,
+        }
+    }
+
+    // Returns the operation after this one was done, if nothing is decided then.
+    pub(crate) fn next(self) -> Option<Operation>
+        ensures { result ≡ next self }
+    {
+        use Operation::*;
+        Some(match self {
+            Lock => ReadRecord,
+            ReadTarget => CheckTarget,
+            SyncTarget => SyncTargetName,
+            SyncTargetName => AlreadyInstalled,
+            RemoveLeftovers => CreateFile,
+            CreateFile => CopyData,
+            ReadBack => CheckData,
+            SetPermissions => SyncFile,
+            SyncFile => CreateRecord,
+            CreateRecord => WriteRecord,
+            WriteRecord => SyncRecord,
+            SyncRecord => RenameRecord,
+            RenameRecord => SyncRecordName,
+            SyncRecordName => RenameFile,
+            RenameFile => SyncFileName,
+            SyncFileName => Installed,
+            RemoveFiles => Rejected,
+            _ => return None,
+        })
+    }
+
+    // Returns true if the run has made a temporary file that it has not renamed.
+    pub(crate) fn has_files(self) -> bool
+        ensures { result ≡ has_files self }
+    {
+        use Operation::*;
+        matches!(
+            self,
+            CopyData
+                | ReadBack
+                | CheckData
+                | SetPermissions
+                | SyncFile
+                | CreateRecord
+                | WriteRecord
+                | SyncRecord
+                | RenameRecord
+                | SyncRecordName
+                | RenameFile
+        )
+    }
+
+    // Returns the operation that is due if the run is rejected at this one.
+    pub(crate) fn rejected(self) -> Operation
+        ensures { result ≡ (if has_files self then RemoveFiles else Rejected) }
+    {
+        if self.has_files() {
+            Operation::RemoveFiles
+        } else {
+            Operation::Rejected
+        }
+    }
+
+    // Returns true if the run has ended, or was never begun.
+    pub(crate) fn has_ended(self) -> bool
+        ensures { result ≡ is_over self }
+    {
+        use Operation::*;
+        matches!(
+            self,
+            Nothing | Installed | AlreadyInstalled | WouldInstall | Rejected
+        )
+    }
+
+    // Returns true if temporary files are being removed.
+    pub(crate) fn is_removing(self) -> bool
+        ensures { result ≡ is_removing self }
+    {
+        matches!(self, Operation::RemoveFiles)
+    }
+
+    // Returns the error of this operation if it failed.
+    pub(crate) fn failure(self, fault: NamedFault) -> InstallFault
+        ensures { result ≡ failure self fault }
+    {
+        use Operation::*;
+        match self {
+            SyncTarget | SyncTargetName | SyncFileName => InstallFault::DirectoryNotSynced,
+            _ => fault.into(),
+        }
+    }
+
+    // Returns true if the lock is due.
+    pub(crate) fn is_locking(self) -> bool
+        ensures { result ≡ is_locking self }
+    {
+        matches!(self, Operation::Lock)
+    }
+
+    // Returns true if the record is to be read.
+    pub(crate) fn is_reading_record(self) -> bool
+        ensures { result ≡ is_reading_record self }
+    {
+        matches!(self, Operation::ReadRecord)
+    }
+
+    // Returns true if the signature file is to be read.
+    pub(crate) fn is_reading_signature(self) -> bool
+        ensures { result ≡ is_reading_signature self }
+    {
+        matches!(self, Operation::ReadSignature)
+    }
+
+    // Returns true if the new record is to be written.
+    pub(crate) fn is_writing_record(self) -> bool
+        ensures { result ≡ is_writing_record self }
+    {
+        matches!(self, Operation::WriteRecord)
+    }
+
+    // Returns true if the data is being copied.
+    pub(crate) fn is_copying(self) -> bool
+        ensures { result ≡ is_copying self }
+    {
+        matches!(self, Operation::CopyData)
+    }
+
+    // Returns true if the installed file is being read.
+    pub(crate) fn is_reading_target(self) -> bool
+        ensures { result ≡ is_reading_target self }
+    {
+        matches!(self, Operation::ReadTarget)
+    }
+
+    // Returns true if the installed file or the temporary file is being read.
+    pub(crate) fn is_reading(self) -> bool
+        ensures { result ≡ is_reading self }
+    {
+        matches!(self, Operation::ReadTarget | Operation::ReadBack)
+    }
+}

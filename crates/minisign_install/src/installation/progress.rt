@@ -1,0 +1,566 @@
+//! What an installation knows, and the step that follows each event. Nothing here allocates.
+
+ghost use Rattle.std.specs.Prelude.{◌≡◌, ◌≢◌, ◌++◌, ℕ, List, Err, IfErr, None, true, false, if◌then◌else◌};
+ghost use Rattle.std.specs.Prelude.{◌==◌};
+ghost use Rattle.minisign_hash.specs.Blake2b.{blake2b_digest};
+ghost use Rattle.minisign_hash.specs.Stored.{WasFed};
+ghost use Rattle.minisign_external.specs.declared.state.Misuse.TheVariants.{NotDue};
+ghost use Rattle.minisign_external.specs.declared.state.Refusal.TheVariants.{Refused, WrongUse};
+ghost use Rattle.minisign_install.specs.Installations.{IsKept, Leads, Steps, operation_of};
+ghost use Rattle.minisign_install.specs.Installations.{end_event, options_by, piece_event};
+ghost use Rattle.minisign_install.specs.Step.{Answered, CheckComment, CheckData, CheckTarget, Done, Failed};
+ghost use Rattle.minisign_install.specs.Step.{InUse, Lock, ReadRecord};
+ghost use Rattle.minisign_install.specs.Step.{PieceCopied, PieceRead};
+ghost use Rattle.minisign_install.specs.Step.{State, TargetMissing, after_comment, after_copy};
+ghost use Rattle.minisign_install.specs.Step.{after_digest, after_piece, after_target, begin, compare, go};
+ghost use Rattle.minisign_install.specs.Step.{install};
+ghost use Rattle.minisign_install.specs.Step.{is_failure, is_newer, is_rolling_back, next_key, reject};
+
+use crate::faults::InstallFault;
+use crate::installation::{Choices, Operation};
+use minisign_base::NamedFault;
+use minisign_external::numbers::Numbered;
+use minisign_external::public_keys::PublicKeyValue;
+use minisign_external::state::{Misuse, Refusal};
+use minisign_hash::blake2b::Blake2b;
+use minisign_hash::blake2b::stored::StoredBlake2b;
+
+/// What the application chose at the beginning, 128 bytes. An option is 1 or 0.
+#[repr(C)]
+#[derive(Clone, Copy)]
+pub struct Chosen {
+    pub(crate) key: PublicKeyValue,
+    pub(crate) other: PublicKeyValue,
+    pub(crate) numbering: u32,
+    pub(crate) is_first: u32,
+    pub(crate) again: u32,
+    pub(crate) is_check: u32,
+    pub(crate) must_expire: u32,
+    pub(crate) new_key: u32,
+    pub(crate) roll_back: u32,
+    pub(crate) reserved: u32,
+}
+
+/// What counts of the record, 120 bytes. Each value counts if its flag is 1.
+#[repr(C)]
+#[derive(Clone, Copy)]
+pub struct RecordedValue {
+    pub(crate) version: u64,
+    pub(crate) key: [u8; 32],
+    pub(crate) digest: [u8; 64],
+    pub(crate) has_version: u32,
+    pub(crate) has_key: u32,
+    pub(crate) has_digest: u32,
+    pub(crate) reserved: u32,
+}
+
+/// What the signature file says, 160 bytes. `fault` is the number of the error for which the trusted comment
+/// is rejected, or 0.
+#[repr(C)]
+#[derive(Clone, Copy)]
+pub struct Judged {
+    pub(crate) version: u64,
+    pub(crate) size: u64,
+    pub(crate) signature: [u8; 64],
+    pub(crate) comment_signature: [u8; 64],
+    pub(crate) is_judged: u32,
+    pub(crate) has_size: u32,
+    pub(crate) fault: u32,
+    pub(crate) reserved: u32,
+}
+
+/// What an installation knows, 792 bytes with the layout of C.
+#[repr(C)]
+#[derive(Clone, Copy)]
+pub struct Progress {
+    // The number of the operation that is due.
+    pub(crate) due: u32,
+    // The number of the error for which the run is rejected, or 0.
+    pub(crate) error: u32,
+    pub(crate) chosen: Chosen,
+    pub(crate) recorded: RecordedValue,
+    pub(crate) judged: Judged,
+    // 1 if the key, or the other one, may have signed.
+    pub(crate) by_key: u32,
+    pub(crate) by_other: u32,
+    // 1 if the first of these keys has signed the comment.
+    pub(crate) is_signed: u32,
+    // 1 if the digest in the record is that of the update.
+    pub(crate) is_recorded: u32,
+    // How many bytes of the signed size were not copied yet, if `has_left` is 1.
+    pub(crate) left: u64,
+    pub(crate) has_left: u32,
+    pub(crate) unused: u32,
+    // The hash of the file that is being read.
+    pub(crate) hash: StoredBlake2b,
+}
+
+impl Progress {
+    // Returns the operation that is due.
+    pub(crate) fn due(&self) -> Operation
+        ensures { result ≡ operation_of self.now.due }
+    {
+        Operation::of_number(self.due)
+    }
+
+    // Makes this operation due.
+    pub(crate) fn go(&mut self, due: Operation)
+        ensures { (s : State) → IsKept self.old s → IsKept self.new (go due s) }
+    {
+        self.due = due.number();
+    }
+
+    // Rejects the run, and removes its temporary files first.
+    pub(crate) fn reject(&mut self, fault: InstallFault) -> Result<(), Refusal<InstallFault>>
+        ensures leads { (s : State) → IsKept self.old s → Leads s (reject fault s) result self.new }
+        ensures proper { IfErr result (λ r. r ≢ WrongUse NotDue) }
+        ensures refused { IfErr result (λ r. r ≡ Refused fault) }
+    {
+        let is_first = self.error == 0;
+        self.error = fault.number();
+        self.go(self.due().rejected());
+        if is_first {
+            Err(Refusal::Refused(fault))
+        } else {
+            Ok(())
+        }
+    }
+
+    // Reports that the operation was done.
+    pub(crate) fn done(&mut self) -> Result<(), Refusal<InstallFault>>
+        ensures steps { (s : State) → IsKept self.old s → Steps Done s result self.new }
+        ensures misuse { result ≡ Err (WrongUse NotDue) → self.new ≡ self.old }
+    {
+        let due = self.due();
+        if due.is_copying() {
+            return self.end_copy();
+        }
+        match due.next() {
+            Some(next) => {
+                self.go(next);
+                Ok(())
+            }
+            None => Err(Refusal::WrongUse(Misuse::NotDue)),
+        }
+    }
+
+    // Reports the end of the file that is read.
+    pub(crate) fn end_piece(&mut self) -> Result<(), Refusal<InstallFault>>
+        ensures steps { (s : State) → IsKept self.old s → Steps (end_event s.due) s result self.new }
+        ensures misuse { result ≡ Err (WrongUse NotDue) → self.new ≡ self.old }
+    {
+        if !self.due().is_reading() {
+            return Err(Refusal::WrongUse(Misuse::NotDue));
+        }
+        self.done()
+    }
+
+    // Reports that another process holds the lock.
+    pub(crate) fn in_use(&mut self) -> Result<(), Refusal<InstallFault>>
+        ensures steps { (s : State) → IsKept self.old s → Steps InUse s result self.new }
+        ensures misuse { result ≡ Err (WrongUse NotDue) → self.new ≡ self.old }
+    {
+        if !self.due().is_locking() {
+            return Err(Refusal::WrongUse(Misuse::NotDue));
+        }
+        self.reject(InstallFault::TargetInUse)
+    }
+
+    // Reports that the operation failed with this error.
+    pub(crate) fn failed(&mut self, fault: NamedFault) -> Result<(), Refusal<InstallFault>>
+        ensures steps { (s : State) → IsKept self.old s → Steps (Failed fault) s result self.new }
+        ensures misuse { result ≡ Err (WrongUse NotDue) → self.new ≡ self.old }
+    {
+        if is_failure(fault) {
+            self.fail(fault)
+        } else {
+            Err(Refusal::WrongUse(Misuse::NotDue))
+        }
+    }
+
+    // Reports that the operation failed with one of the errors that an operation can fail with.
+    fn fail(&mut self, fault: NamedFault) -> Result<(), Refusal<InstallFault>>
+        requires { is_failure fault ≡ true }
+        ensures steps { (s : State) → IsKept self.old s → Steps (Failed fault) s result self.new }
+        ensures misuse { result ≡ Err (WrongUse NotDue) → self.new ≡ self.old }
+    {
+        let due = self.due();
+        if due.has_ended() {
+            Err(Refusal::WrongUse(Misuse::NotDue))
+        } else if due.is_removing() {
+            self.go(Operation::Rejected);
+            Ok(())
+        } else {
+            self.reject(due.failure(fault))
+        }
+    }
+
+    // All data was copied.
+    fn end_copy(&mut self) -> Result<(), Refusal<InstallFault>>
+        ensures leads { (s : State) → IsKept self.old s → Leads s (after_copy s.left s) result self.new }
+        ensures proper { IfErr result (λ r. r ≢ WrongUse NotDue) }
+    {
+        if self.has_left == 1 && self.left != 0 {
+            return self.reject(InstallFault::OtherSize);
+        }
+        self.go(Operation::ReadBack);
+        Ok(())
+    }
+
+    // Reports that `len` bytes were copied.
+    pub(crate) fn copied(&mut self, len: u64) -> Result<(), Refusal<InstallFault>>
+        ensures steps { (s : State) → IsKept self.old s → Steps (PieceCopied len) s result self.new }
+        ensures misuse { result ≡ Err (WrongUse NotDue) → self.new ≡ self.old }
+    {
+        if !self.due().is_copying() {
+            return Err(Refusal::WrongUse(Misuse::NotDue));
+        }
+        self.count(len)
+    }
+
+    // Counts a piece that was copied.
+    fn count(&mut self, len: u64) -> Result<(), Refusal<InstallFault>>
+        ensures leads { (s : State) → IsKept self.old s → Leads s (after_piece len s.left s) result self.new }
+        ensures proper { IfErr result (λ r. r ≢ WrongUse NotDue) }
+    {
+        if self.has_left != 1 {
+            return Ok(());
+        }
+        if len > self.left {
+            return self.reject(InstallFault::OtherSize);
+        }
+        self.left -= len;
+        Ok(())
+    }
+
+    // The update is to be installed. What was read of the installed file is forgotten.
+    fn install(&mut self)
+        ensures { (s : State) → IsKept self.old s → IsKept self.new (install s) }
+    {
+        self.hash = StoredBlake2b::store(&Blake2b::new(64));
+        let due = if self.chosen.is_check == 1 {
+            Operation::WouldInstall
+        } else {
+            Operation::RemoveLeftovers
+        };
+        self.due = due.number();
+    }
+
+    // Reports that there is no installed file.
+    pub(crate) fn no_target(&mut self) -> Result<(), Refusal<InstallFault>>
+        ensures steps { (s : State) → IsKept self.old s → Steps TargetMissing s result self.new }
+        ensures misuse { result ≡ Err (WrongUse NotDue) → self.new ≡ self.old }
+    {
+        if !self.due().is_reading_target() {
+            return Err(Refusal::WrongUse(Misuse::NotDue));
+        }
+        self.install();
+        Ok(())
+    }
+
+    // Reports the next bytes of the file that is read.
+    pub(crate) fn piece(&mut self, bytes: &[u8]) -> Result<(), Refusal<InstallFault>>
+        ensures steps { (s : State) → IsKept self.old s → Steps (PieceRead bytes.now) s result self.new }
+        ensures misuse { result ≡ Err (WrongUse NotDue) → self.new ≡ self.old }
+    {
+        if !self.due().is_reading() {
+            return Err(Refusal::WrongUse(Misuse::NotDue));
+        }
+        self.hash = fed(&self.hash, bytes);
+        Ok(())
+    }
+
+    // Reports the next bytes of the file that is read, or its end.
+    pub(crate) fn bytes(&mut self, bytes: &[u8]) -> Result<(), Refusal<InstallFault>>
+        ensures steps { (s : State) → IsKept self.old s
+            → Steps (piece_event s.due bytes.now) s result self.new }
+        ensures misuse { result ≡ Err (WrongUse NotDue) → self.new ≡ self.old }
+    {
+        if bytes.is_empty() {
+            self.end_piece()
+        } else {
+            self.piece(bytes)
+        }
+    }
+
+    // Continues after the comment was found to be signed and good.
+    fn compare(&mut self)
+        ensures { (s : State) → IsKept self.old s → IsKept self.new (compare s) }
+    {
+        if self.is_newer() {
+            self.install();
+        } else if self.recorded.has_digest == 1 {
+            self.go(Operation::CheckRecord);
+        } else if self.is_rolling_back() {
+            self.install();
+        } else {
+            self.go(Operation::ReadTarget);
+        }
+    }
+
+    // Returns true if the update is newer than the recorded version, or there is none.
+    fn is_newer(&self) -> bool
+        ensures { (s : State) → IsKept self.now s → result ≡ is_newer s }
+    {
+        self.recorded.has_version != 1 || self.recorded.version < self.judged.version
+    }
+
+    // Returns true if the update is older than the recorded version.
+    pub(crate) fn is_rolling_back(&self) -> bool
+        ensures { (s : State) → IsKept self.now s → result ≡ is_rolling_back s }
+    {
+        self.recorded.has_version == 1 && self.judged.version < self.recorded.version
+    }
+
+    // Reports what Ed25519 answered.
+    pub(crate) fn answer(&mut self, accepted: bool) -> Result<(), Refusal<InstallFault>>
+        ensures steps { (s : State) → IsKept self.old s → Steps (Answered accepted) s result self.new }
+        ensures misuse { result ≡ Err (WrongUse NotDue) → self.new ≡ self.old }
+    {
+        match self.due() {
+            Operation::CheckComment => self.answer_comment(accepted),
+            Operation::CheckRecord => {
+                self.answer_record(accepted);
+                Ok(())
+            }
+            Operation::CheckTarget => self.answer_target(accepted),
+            Operation::CheckData => self.answer_data(accepted),
+            _ => Err(Refusal::WrongUse(Misuse::NotDue)),
+        }
+    }
+
+    // Reports what Ed25519 answered about the comment.
+    fn answer_comment(&mut self, accepted: bool) -> Result<(), Refusal<InstallFault>>
+        requires { operation_of self.old.due ≡ CheckComment }
+        ensures steps { (s : State) → IsKept self.old s → Steps (Answered accepted) s result self.new }
+        ensures proper { IfErr result (λ r. r ≢ WrongUse NotDue) }
+    {
+        if accepted {
+            self.accept_comment()
+        } else {
+            self.next_key()
+        }
+    }
+
+    // Reports what Ed25519 answered about the digest of the installed file.
+    fn answer_target(&mut self, accepted: bool) -> Result<(), Refusal<InstallFault>>
+        requires { operation_of self.old.due ≡ CheckTarget }
+        ensures steps { (s : State) → IsKept self.old s → Steps (Answered accepted) s result self.new }
+        ensures proper { IfErr result (λ r. r ≢ WrongUse NotDue) }
+    {
+        if accepted {
+            self.accept_target();
+            Ok(())
+        } else {
+            self.replace_target()
+        }
+    }
+
+    // Reports what Ed25519 answered about the digest of the temporary file.
+    fn answer_data(&mut self, accepted: bool) -> Result<(), Refusal<InstallFault>>
+        requires { operation_of self.old.due ≡ CheckData }
+        ensures steps { (s : State) → IsKept self.old s → Steps (Answered accepted) s result self.new }
+        ensures proper { IfErr result (λ r. r ≢ WrongUse NotDue) }
+    {
+        if accepted {
+            self.go(Operation::SetPermissions);
+            Ok(())
+        } else {
+            self.reject(NamedFault::SignatureRefused.into())
+        }
+    }
+
+    // The comment is signed.
+    fn accept_comment(&mut self) -> Result<(), Refusal<InstallFault>>
+        ensures leads { (s : State) → IsKept self.old s
+            → Leads s (after_comment s.fault (record s { is_signed = true })) result self.new }
+        ensures proper { IfErr result (λ r. r ≢ WrongUse NotDue) }
+    {
+        self.is_signed = 1;
+        match self.fault() {
+            Some(fault) => self.reject(fault),
+            None => {
+                self.compare();
+                Ok(())
+            }
+        }
+    }
+
+    // Returns why the comment is rejected.
+    fn fault(&self) -> Option<InstallFault>
+        ensures { (s : State) → IsKept self.now s → result ≡ s.fault }
+    {
+        InstallFault::of_number(self.judged.fault)
+    }
+
+    // This key has not signed the comment.
+    fn next_key(&mut self) -> Result<(), Refusal<InstallFault>>
+        ensures leads { (s : State) → IsKept self.old s → Leads s (next_key s.signers s) result self.new }
+        ensures proper { IfErr result (λ r. r ≢ WrongUse NotDue) }
+    {
+        if self.by_key == 1 && self.by_other == 1 {
+            self.by_key = 0;
+            return Ok(());
+        }
+        self.reject(NamedFault::CommentSignatureRefused.into())
+    }
+
+    // The digest in the record is that of the update, or not.
+    fn answer_record(&mut self, accepted: bool)
+        ensures { (s : State) → IsKept self.old s → IsKept self.new (after_digest accepted s) }
+    {
+        if accepted {
+            self.is_recorded = 1;
+            self.go(Operation::ReadTarget);
+        } else if self.is_rolling_back() {
+            self.install();
+        } else {
+            self.is_recorded = 0;
+            self.go(Operation::ReadTarget);
+        }
+    }
+
+    // The installed file is the update.
+    fn accept_target(&mut self)
+        ensures { (s : State) → IsKept self.old s → IsKept self.new (after_target true s) }
+    {
+        if self.chosen.is_check == 1 {
+            self.go(Operation::AlreadyInstalled);
+        } else {
+            self.go(Operation::SyncTarget);
+        }
+    }
+
+    // The installed file is not the update.
+    fn replace_target(&mut self) -> Result<(), Refusal<InstallFault>>
+        ensures leads { (s : State) → IsKept self.old s → Leads s (after_target false s) result self.new }
+        ensures proper { IfErr result (λ r. r ≢ WrongUse NotDue) }
+    {
+        if self.is_recorded == 1 || self.chosen.again == 1 {
+            self.install();
+            return Ok(());
+        }
+        self.reject(InstallFault::SameNumber)
+    }
+
+    // Returns the version number of the update if a key has signed the comment.
+    pub(crate) fn version(&self) -> u64
+        ensures { (s : State) → IsKept self.now s → result ≡ (if s.is_signed then s.version else 0) }
+    {
+        if self.is_signed == 1 {
+            self.judged.version
+        } else {
+            0
+        }
+    }
+
+    // Returns the signed size if a key has signed the comment.
+    pub(crate) fn size(&self) -> Option<u64>
+        ensures { (s : State) → IsKept self.now s → result ≡ (if s.is_signed then s.size else None) }
+    {
+        if self.is_signed == 1 && self.judged.has_size == 1 {
+            Some(self.judged.size)
+        } else {
+            None
+        }
+    }
+
+    // Returns the digest of what was read.
+    pub(crate) fn digest(&self) -> [u8; 64]
+        ensures { (m : List ℕ) → WasFed self.now.hash m → result ≡ blake2b_digest 64 m }
+    {
+        let mut digest = [0u8; 64];
+        if let Some(mut hash) = self.hash.restore() {
+            hash.finalize(&mut digest);
+        }
+        digest
+    }
+
+    // Begins an installation.
+    pub(crate) fn begin(key: &PublicKeyValue, other: &PublicKeyValue, choices: &Choices) -> Progress
+        ensures { (file : List ℕ) → IsKept result (begin (options_by key.now other.now choices.now file)) }
+    {
+        let due = first_operation(choices).number();
+        let hash = StoredBlake2b::store(&Blake2b::new(64));
+        Progress {
+            due,
+            error: 0,
+            chosen: Chosen {
+                key: *key,
+                other: *other,
+                numbering: choices.numbering,
+                is_first: choices.is_first,
+                again: choices.again,
+                is_check: choices.is_check,
+                must_expire: choices.must_expire,
+                new_key: choices.new_key,
+                roll_back: choices.roll_back,
+                reserved: 0,
+            },
+            recorded: RecordedValue {
+                version: 0,
+                key: [0; 32],
+                digest: [0; 64],
+                has_version: 0,
+                has_key: 0,
+                has_digest: 0,
+                reserved: 0,
+            },
+            judged: Judged {
+                version: 0,
+                size: 0,
+                signature: [0; 64],
+                comment_signature: [0; 64],
+                is_judged: 0,
+                has_size: 0,
+                fault: 0,
+                reserved: 0,
+            },
+            by_key: 0,
+            by_other: 0,
+            is_signed: 0,
+            is_recorded: 0,
+            left: 0,
+            has_left: 0,
+            unused: 0,
+            hash,
+        }
+    }
+}
+
+// Returns true if an operation can fail with this error.
+fn is_failure(fault: NamedFault) -> bool
+    ensures { result ≡ is_failure fault }
+{
+    matches!(
+        fault,
+        NamedFault::OutOfMemory
+            | NamedFault::ReadingFailed
+            | NamedFault::WritingFailed
+            | NamedFault::RandomSourceFailed
+    )
+}
+
+// Returns the first operation. A check takes no lock.
+fn first_operation(choices: &Choices) -> Operation
+    ensures { result ≡ (if choices.now.is_check == 1 then ReadRecord else Lock) }
+{
+    if choices.is_check == 1 {
+        Operation::ReadRecord
+    } else {
+        Operation::Lock
+    }
+}
+
+// Returns the hash of what the old one was fed, followed by these bytes.
+fn fed(hash: &StoredBlake2b, bytes: &[u8]) -> StoredBlake2b
+    ensures { (m : List ℕ) → WasFed hash.now m → WasFed result (m ++ bytes.now) }
+{
+    match hash.restore() {
+        Some(mut restored) => {
+            restored.update(bytes);
+            StoredBlake2b::store(&restored)
+        }
+        None => *hash,
+    }
+}

@@ -1,0 +1,200 @@
+//! What the record decides. Nothing here allocates.
+
+ghost use Rattle.std.specs.Prelude.{◌≡◌, ◌==◌, ◌||◌, ◌&&◌, List, ℕ, Some, None, Err, IfErr};
+ghost use Rattle.std.specs.Prelude.{◌≢◌};
+ghost use Rattle.minisign_external.specs.declared.state.Misuse.TheVariants.{NotDue};
+ghost use Rattle.minisign_external.specs.declared.state.Refusal.TheVariants.{WrongUse};
+ghost use Rattle.minisign_install.specs.Decisions.{judge_record, judge_version, names_other_key};
+ghost use Rattle.minisign_install.specs.Decisions.{nothing_recorded, record_fault, recorded_version};
+ghost use Rattle.minisign_install.specs.Installations.{IsKept, Leads, Steps, judgment_of, numbering_of};
+ghost use Rattle.minisign_install.specs.Installations.{numbered, options_of, recorded_of};
+ghost use Rattle.minisign_install.specs.Step.{ReadSignature, RecordRead, State, after_record};
+
+use crate::comments::Numbering;
+use crate::faults::InstallFault;
+use crate::installation::Operation;
+use crate::installation::progress::{Chosen, Progress, RecordedValue};
+use crate::recording::{is_other, number_for, record_digest, record_key, unfit};
+use minisign_external::state::{Misuse, Refusal};
+
+impl Progress {
+    // Reports the bytes of the record.
+    pub(crate) fn record(&mut self, bytes: &[u8]) -> Result<(), Refusal<InstallFault>>
+        ensures steps { (s : State) → IsKept self.old s
+            → Steps (RecordRead (Some bytes.now)) s result self.new }
+        ensures misuse { result ≡ Err (WrongUse NotDue) → self.new ≡ self.old }
+    {
+        if !self.due().is_reading_record() {
+            return Err(Refusal::WrongUse(Misuse::NotDue));
+        }
+        let judged = judge_record(&self.chosen, bytes);
+        self.take_record(judged)
+    }
+
+    // Reports that there is no record.
+    pub(crate) fn no_record(&mut self) -> Result<(), Refusal<InstallFault>>
+        ensures steps { (s : State) → IsKept self.old s → Steps (RecordRead None) s result self.new }
+        ensures misuse { result ≡ Err (WrongUse NotDue) → self.new ≡ self.old }
+    {
+        if !self.due().is_reading_record() {
+            return Err(Refusal::WrongUse(Misuse::NotDue));
+        }
+        let judged = judge_none(&self.chosen);
+        self.take_record(judged)
+    }
+
+    // Continues with what counts of the record, or rejects the run.
+    fn take_record(
+        &mut self,
+        judged: Result<RecordedValue, InstallFault>,
+    ) -> Result<(), Refusal<InstallFault>>
+        ensures leads { (s : State) → IsKept self.old s
+            → Leads s (after_record (judgment_of judged) s) result self.new }
+        ensures proper { IfErr result (λ r. r ≢ WrongUse NotDue) }
+    {
+        match judged {
+            Ok(recorded) => {
+                self.keep_record(recorded);
+                Ok(())
+            }
+            Err(fault) => self.reject(fault),
+        }
+    }
+
+    // Keeps what counts of the record. The signature file is due next.
+    fn keep_record(&mut self, recorded: RecordedValue)
+        ensures { (s : State) → IsKept self.old s
+            → IsKept self.new (record s { due = ReadSignature; recorded = recorded_of recorded }) }
+    {
+        self.recorded = recorded;
+        self.go(Operation::ReadSignature);
+    }
+}
+
+// Returns what counts of a record of these bytes, or why it is rejected.
+fn judge_record(chosen: &Chosen, bytes: &[u8]) -> Result<RecordedValue, InstallFault>
+    ensures { (file : List ℕ) → judge_record (options_of chosen.now file) (Some bytes.now)
+        ≡ judgment_of result }
+{
+    match version_for(bytes, chosen.numbering()) {
+        Some(version) => Ok(counted(chosen, bytes, version)),
+        None => judge_unnumbered(chosen, bytes),
+    }
+}
+
+// Returns what counts of a record without a version number for the field.
+fn judge_unnumbered(chosen: &Chosen, bytes: &[u8]) -> Result<RecordedValue, InstallFault>
+    ensures { (file : List ℕ) → judge_version (options_of chosen.now file) bytes.now None
+        ≡ judgment_of result }
+{
+    if chosen.is_first == 1 {
+        Ok(RecordedValue::nothing())
+    } else {
+        Err(fault_for(bytes, chosen.numbering()))
+    }
+}
+
+// Returns what counts if there is no record.
+fn judge_none(chosen: &Chosen) -> Result<RecordedValue, InstallFault>
+    ensures { (file : List ℕ) → judge_record (options_of chosen.now file) None ≡ judgment_of result }
+{
+    if chosen.is_first == 1 {
+        Ok(RecordedValue::nothing())
+    } else {
+        Err(InstallFault::NoRecord)
+    }
+}
+
+// Returns what counts of a record with this version.
+fn counted(chosen: &Chosen, bytes: &[u8], version: u64) -> RecordedValue
+    ensures { (file : List ℕ) → judge_version (options_of chosen.now file) bytes.now (Some version)
+        ≡ Ok (recorded_of result) }
+{
+    if is_ignored(chosen, bytes) {
+        RecordedValue::nothing()
+    } else {
+        RecordedValue::of(version, bytes)
+    }
+}
+
+// Returns true if a record of another key is ignored, and this is one.
+fn is_ignored(chosen: &Chosen, bytes: &[u8]) -> bool
+    ensures { (file : List ℕ) → result ≡ ((chosen.now.is_first == 1 || chosen.now.new_key == 1)
+        && names_other_key (options_of chosen.now file) bytes.now) }
+{
+    (chosen.is_first == 1 || chosen.new_key == 1)
+        && is_other(bytes, &chosen.key.key, &chosen.other.key)
+}
+
+// Returns the version number of a record, if it has one for this field.
+#[tactic(auto, using(crate::proofs::Recorded::version_is))]
+fn version_for(bytes: &[u8], numbering: Numbering) -> Option<u64>
+    ensures { result ≡ recorded_version numbering bytes.now }
+{
+    number_for(bytes, numbering)
+}
+
+// Returns why a record without a version number for this field is rejected.
+fn fault_for(bytes: &[u8], numbering: Numbering) -> InstallFault
+    ensures { result ≡ record_fault numbering bytes.now }
+{
+    unfit(bytes, numbering)
+}
+
+impl RecordedValue {
+    // Returns the version number that counts.
+    pub(crate) fn version(&self) -> Option<u64>
+        ensures { result ≡ (recorded_of self.now).version }
+    {
+        if self.has_version == 1 {
+            Some(self.version)
+        } else {
+            None
+        }
+    }
+
+    // Nothing of the record counts.
+    fn nothing() -> RecordedValue
+        ensures { recorded_of result ≡ nothing_recorded }
+    {
+        RecordedValue {
+            version: 0,
+            key: [0; 32],
+            digest: [0; 64],
+            has_version: 0,
+            has_key: 0,
+            has_digest: 0,
+            reserved: 0,
+        }
+    }
+
+    // This version counts, and the key and the digest that the record names.
+    fn of(version: u64, bytes: &[u8]) -> RecordedValue
+        ensures { recorded_of result ≡ numbered version bytes.now }
+    {
+        let key = record_key(bytes);
+        let digest = record_digest(bytes);
+        RecordedValue {
+            version,
+            key: key.unwrap_or([0; 32]),
+            digest: digest.unwrap_or([0; 64]),
+            has_version: 1,
+            has_key: u32::from(key.is_some()),
+            has_digest: u32::from(digest.is_some()),
+            reserved: 0,
+        }
+    }
+}
+
+impl Chosen {
+    // Returns the field that has the version number.
+    pub(crate) fn numbering(&self) -> Numbering
+        ensures { result ≡ numbering_of self.now.numbering }
+    {
+        if self.numbering == 1 {
+            Numbering::Version
+        } else {
+            Numbering::Timestamp
+        }
+    }
+}
