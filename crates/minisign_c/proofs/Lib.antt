@@ -1,3 +1,4 @@
+pub mod ListVerdicts
 pub mod MakingNumbers
 pub mod Positive
 pub mod PublicHalves

@@ -34,7 +34,7 @@ opened_of (Ok s) v t h = ap (λ x. Ok x) (read_same (judge_key v.key_id s.signat
 opened_of (Err e) v t h = cc h
 
 -- what is read of a text under a key is what the text reads as
-opened : (v : PublicKeyValue) (text : List ℕ) (t : SignatureTextRecord) → read_under v false text ≡ Ok t
+pub opened : (v : PublicKeyValue) (text : List ℕ) (t : SignatureTextRecord) → read_under v false text ≡ Ok t
     → read_utf8 read_signature text ≡ Ok t
 opened v text t h = opened_of (read_utf8 read_signature text) v t h
 
@@ -64,7 +64,7 @@ not_strict false q w r a b x h = refl
 
 -- == Numbers ==
 
-some_number : (n : ℕ) → 0 < n → (n == 0) ≡ false
+pub some_number : (n : ℕ) → 0 < n → (n == 0) ≡ false
 some_number n some = ne_eqb n 0 (λ none. omega arith)
 
 -- the number is 0 exactly of a success
@@ -77,7 +77,7 @@ read_zero : (s : Bool) (r : Result (List ℕ) Fault) → (s ≡ false → is_ok 
 read_zero true r h = number_zero r
 read_zero false r h = sym (h refl)
 
-chosen : (s : Bool) (n : ℕ) → s ≡ true → (if s then n else weak_number) ≡ n
+pub chosen : (s : Bool) (n : ℕ) → s ≡ true → (if s then n else weak_number) ≡ n
 chosen true n h = refl
 chosen false n h = cc h
 
@@ -107,7 +107,7 @@ module _ (accepts : Verifier) (v : PublicKeyValue) (text message : List ℕ) whe
         t.comments.trusted h
         ∙ rw read refl
 
-    not_accepted : is_strict_text v t ≡ false → is_ok strict_verdict ≡ false
+    pub not_accepted : is_strict_text v t ≡ false → is_ok strict_verdict ≡ false
     not_accepted h = ap (λ (r : Result (List ℕ) Fault). is_ok r) as_decided
         ∙ not_strict (is_strict_point v.key) (is_strict_signature t.signature.signature)
         (has_whole_signature t.comments) (is_strict_signature (take 64 t.comments.signature)) first second
@@ -139,13 +139,13 @@ accepted_with accepts text message (Err e) = some_number (fault_number e) (posit
 
 -- == What asking rejects ==
 
-roomy : (s b : Bool) → b ≡ true
+pub roomy : (s b : Bool) → b ≡ true
     → asked_number (asked_strictly s (if b then Ok tt else Err (WrongUse NoRoom)))
     ≡ (if s then 0 else weak_number)
 roomy s true h = refl
 roomy s false h = cc h
 
-of_strict : (s : Bool) (n : ℕ) → 0 < (if s then 0 else weak_number)
+pub of_strict : (s : Bool) (n : ℕ) → 0 < (if s then 0 else weak_number)
     → (if s then 0 else weak_number) ≡ (if s then n else weak_number)
 of_strict true n h = absurd (omega arith)
 of_strict false n h = refl

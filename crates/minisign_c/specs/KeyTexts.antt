@@ -1,6 +1,6 @@
 -- What a secret key file opens to, the error numbers of signing with it, and the API misuse in how a key is
 -- to be encrypted.
-use Rattle.std.specs.Prelude.{◌≡◌, ◌==◌, ◌&&◌, ◌||◌, not, nat_le, nat_lt, ℕ, Bool, List, length, replicate}
+use Rattle.std.specs.Prelude.{◌≡◌, ◌==◌, ◌&&◌, ◌||◌, not, nat_lt, ℕ, Bool, List, length, replicate}
 use Rattle.std.specs.Prelude.{if◌then◌else◌, bytes_eq, Option, None, Some, Result, option_copied}
 use Rattle.minisign_base.specs.Fault.{Fault}
 use Rattle.minisign_base.specs.Members.{SchemeOf}

@@ -1,4 +1,6 @@
 -- The definitions that the contracts of minisign_c use.
 pub mod InstallCalls
 pub mod KeyTexts
+pub mod ListCalls
+pub mod ListsInARow
 pub mod StateCalls

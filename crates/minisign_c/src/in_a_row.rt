@@ -98,7 +98,7 @@ fn verify_under<S: Scheme>(
 }
 
 // Returns a signature that was not read.
-fn no_signature() -> SignatureValue {
+pub(crate) fn no_signature() -> SignatureValue {
     SignatureValue {
         mark: 0,
         key_id: [0; 8],
@@ -189,7 +189,7 @@ fn answer<S: Scheme>(scheme: &S, state: &mut State, questions: &Questions, room:
 }
 
 // Returns the number by which a result of the scheme is passed in.
-fn answer_of(is_accepted: bool) -> u32
+pub(crate) fn answer_of(is_accepted: bool) -> u32
     ensures known { IsAnswer result }
     ensures same { (result == answer_yes) ≡ is_accepted }
 {
@@ -247,7 +247,7 @@ pub fn sign_in_a_row<S: Scheme>(
 }
 
 // Returns a public key that was not read.
-fn no_public_key() -> PublicKeyValue {
+pub(crate) fn no_public_key() -> PublicKeyValue {
     PublicKeyValue {
         mark: 0,
         key: [0; 32],

@@ -5,9 +5,8 @@
 #![tactic(auto)]
 
 ghost use Rattle.std.specs.Prelude.{◌≡◌, ◌≢◌, if◌then◌else◌, ◌==◌, ◌⊎◌, ◌<◌, ◌≤◌, ◌+◌, ◌++◌, ℕ, Bool, List};
-ghost use Rattle.std.specs.Prelude.{[], Some, None, Ok, Err, true, MatchOption, length, option_copied};
-ghost use Rattle.std.specs.Prelude.{replicate, take, drop};
-ghost use Rattle.std.specs.Str.{IsUtf8};
+ghost use Rattle.std.specs.Prelude.{[], Some, None, Ok, Err, true, length, option_copied};
+ghost use Rattle.std.specs.Prelude.{replicate, take, drop, false, Option};
 ghost use Rattle.minisign_base.specs.Fault.{Fault, Named};
 ghost use Rattle.minisign_base.specs.declared.faults.NamedFault.TheVariants.{OutOfMemory};
 ghost use Rattle.minisign_hash.specs.Blake2b.{blake2b_digest};
@@ -18,54 +17,72 @@ ghost use Rattle.minisign.specs.Signing.{comments_of};
 ghost use Rattle.minisign_external.specs.Questions.{IsKeyText, comment_verdict_under, read_under};
 ghost use Rattle.minisign_external.specs.Questions.{verdict_under};
 ghost use Rattle.minisign_external.specs.Numbers.{WritesCut, misuse_number, IsAnswer, answer_yes};
-ghost use Rattle.minisign_external.specs.Numbers.{fault_number, refusal_number};
+ghost use Rattle.minisign_external.specs.Numbers.{IsKindOf, fault_number, refusal_number};
 ghost use Rattle.minisign_external.specs.PublicKeys.{is_public_key, read_utf8, told_key_number};
 ghost use Rattle.minisign_external.specs.Making.{HoldsPublicKey, HoldsSecretKey, IsKeyComment};
+ghost use Rattle.minisign_external.specs.Making.{HoldsReadPublicKey, HoldsReadSecretKey, IsEncodingNumber};
 ghost use Rattle.minisign_external.specs.Making.{IsMakingRefusal};
 ghost use Rattle.minisign_external.specs.Making.{IsPublicKeyNumber};
 ghost use Rattle.minisign_external.specs.SecretKeys.{DerivesWithin, OpensAs, is_opened, opened_in_place};
 ghost use Rattle.minisign_external.specs.SecretKeys.{opened_sealed, opened_unsealed, passed_in};
 ghost use Rattle.minisign_external.specs.SecretKeys.{public_value_of, read_value, reading_number};
 ghost use Rattle.minisign_external.specs.SecretKeys.{unopened_record, taken_key, told_opened};
+ghost use Rattle.minisign_external.specs.SecretKeys.{is_read, tested_sealed};
 ghost use Rattle.minisign_external.specs.SecretKeys.{told_public_key, value_memory};
 ghost use Rattle.minisign_external.specs.Signatures.{IsReadFrom, read_signature_value, told_signature_value};
+ghost use Rattle.minisign_external.specs.Signatures.{signature_of_value};
 ghost use Rattle.minisign_external.specs.Signing.{AreReadByMinisign, HoldsText, IsWritingNumber};
 ghost use Rattle.minisign_external.specs.declared.public_keys.PublicKeyValue.{PublicKeyValue};
 ghost use Rattle.minisign_external.specs.declared.state.Refusal.{Refusal};
 ghost use Rattle.minisign_external.specs.declared.state.Refusal.TheVariants.{Refused};
 ghost use Rattle.minisign_external.specs.declared.state.Misuse.{Misuse};
-ghost use Rattle.minisign_external.specs.declared.state.Misuse.TheVariants.{BadAnswer, BadNumbering};
-ghost use Rattle.minisign_external.specs.declared.state.Misuse.TheVariants.{NoRoom, NotDue};
+ghost use Rattle.minisign_external.specs.declared.state.Misuse.TheVariants.{BadAnswer};
+ghost use Rattle.minisign_external.specs.declared.state.Misuse.TheVariants.{EntryNotRead, NotBegun};
+ghost use Rattle.minisign_external.specs.declared.state.Misuse.TheVariants.{KeyNotRead, NoRoom};
+ghost use Rattle.minisign_external.specs.declared.state.Misuse.TheVariants.{PublicKeyNotRead};
 ghost use Rattle.minisign_external.specs.States.{AreAsked, GivesNumber, HasAsked, HasToldDigest, IsAnswered};
 ghost use Rattle.minisign_external.specs.States.{IsBlank, IsFedState, IsMarkedFed, IsMarkedTold, KeepsAsked};
 ghost use Rattle.minisign_external.specs.States.{asking_under, comment_number, feeding_misuse};
-ghost use Rattle.minisign_external.specs.States.{told_verdict_number, verdict_number};
+ghost use Rattle.minisign_external.specs.States.{result_number, told_verdict_number, verdict_number};
+ghost use Rattle.minisign_external.specs.Bare.{AnswersBare, HasAskedBare, bare_verdict_under, judged_number};
+ghost use Rattle.minisign_external.specs.Bare.{told_bare_asking_number, told_bare_verdict_number};
+ghost use Rattle.minisign_external.specs.ValueRecords.{public_key_in, public_key_record, read_bare_value};
+ghost use Rattle.minisign_external.specs.ValueRecords.{secret_key_record, signature_record};
+ghost use Rattle.minisign_external.specs.ValueRecords.{told_record_number, told_unopened_number, unopened_in};
+ghost use Rattle.minisign_external.specs.ValueRecords.{written_public_key};
+ghost use Rattle.minisign.specs.Records.{SignatureRecord};
 ghost use Rattle.minisign_external.specs.StrictCalls.{asked_number, asked_strictly, strict_asking_number};
-ghost use Rattle.minisign_external.specs.StrictCalls.{is_strict_text};
-ghost use Rattle.minisign_install.specs.Hosted.{AnswerVouches, AnswersJudgeTarget, CallHasFailed};
-ghost use Rattle.minisign_install.specs.Hosted.{InstallationKeepsAsked, TargetIsMissing, WhereAnswered};
-ghost use Rattle.minisign_install.specs.Hosted.{WhereCommentAnswered, record_for, PieceCannotBeFed};
-ghost use Rattle.minisign_install.specs.Hosted.{StageGivesUpdate, InstallationHasAskedAbout, PieceWasRead};
-ghost use Rattle.minisign_install.specs.Hosted.{RecordWasRead, PieceWasTaken, IsDoneRefusal, IsMoreRefusal};
-ghost use Rattle.minisign_install.specs.Hosted.{IsAskRefusal, IsBegun, IsDue, IsHostMeaning, IsNumberOf};
-ghost use Rattle.minisign_install.specs.Hosted.{IsUnused, CallWasDone, due_of, failure, going_on};
-ghost use Rattle.minisign_install.specs.Hosted.{is_vouched, numbering_number, said_by, told_number};
-ghost use Rattle.minisign_install.specs.Comments.{CommentSays};
-ghost use Rattle.minisign_install.specs.Order.{due_number};
-ghost use Rattle.minisign_install.specs.declared.order.Due.TheVariants.{Answer, Judge, JudgeTarget, Look};
-ghost use Rattle.minisign_install.specs.declared.order.Due.TheVariants.{ReadRecord, WriteRecord};
-ghost use Rattle.minisign_c.specs.InstallCalls.{IsAnswerNumber, IsCommentNumber, IsJudgedNumber};
-ghost use Rattle.minisign_c.specs.InstallCalls.{IsNotDueNumber, IsRejectionNumber, are_flags, choices_of};
-ghost use Rattle.minisign_c.specs.InstallCalls.{starting_misuse};
+ghost use Rattle.minisign_external.specs.StrictCalls.{is_strict_text, is_strict_value};
+ghost use Rattle.minisign_external.specs.States.{asked_of};
+ghost use Rattle.minisign_install.specs.Faults.{IsErrorText};
+ghost use Rattle.minisign_c.specs.ListCalls.{IsCallKind, IsCallMeaning, all_entries_number};
+ghost use Rattle.minisign_c.specs.ListCalls.{appending_number, finding_number, line_at_fault, list_result};
+ghost use Rattle.minisign_c.specs.ListCalls.{AreListQuestions, IsAnsweredList, asking_list_number};
+ghost use Rattle.minisign_c.specs.ListCalls.{list_verdict_number};
+ghost use Rattle.minisign_c.specs.ListCalls.{told_list_number};
+ghost use Rattle.minisign_lists.specs.Digests.{has_digest};
+ghost use Rattle.minisign_lists.specs.declared.digests.ListedDigest.{ListedDigest};
+ghost use Rattle.minisign_lists.specs.Faults.{is_own, list_number, list_row};
+ghost use Rattle.minisign_lists.specs.Values.{IsFedValue, IsFinished, asked_list, compared, entry_digest};
+ghost use Rattle.minisign_lists.specs.Values.{file_mark, found_entry, given_digest, list_verdict_under};
+ghost use Rattle.minisign_lists.specs.Values.{long_numbered};
+ghost use Rattle.minisign_lists.specs.Lines.{Entry};
+ghost use Rattle.minisign_lists.specs.declared.lines.LongDigest.{LongDigest};
+ghost use Rattle.minisign_lists.specs.declared.faults.ListFault.TheVariants.{DigestMismatch};
 ghost use Rattle.minisign_c.specs.KeyTexts.{IsMakingNumber, is_weak, password_misuse, sealing_misuse};
 ghost use Rattle.minisign_c.specs.StateCalls.{CommentIsAnswered};
-ghost use Rattle.minisign_install.specs.declared.order.Due.TheVariants as ended;
 
 pub mod in_a_row;
+pub mod installing;
+pub mod lists_in_a_row;
 
 use minisign::Sealing;
-use minisign_external::making::{write_public_key, write_secret_key};
-use minisign_external::numbers::{ANSWER_YES, Numbered, WEAK_ED25519, is_answer};
+use minisign_external::making::{
+    encode_public_key, encode_unopened_key, write_public_key, write_secret_key,
+};
+use minisign_external::numbers::{
+    ANSWER_YES, Numbered, WEAK_ED25519, error_kind, is_answer, kind_number, write_cut,
+};
 use minisign_external::public_keys::{PublicKeyValue, tell_bare_public_key, tell_public_key};
 use minisign_external::secrets::SecretKeyValue;
 use minisign_external::signatures::SignatureValue;
@@ -73,11 +90,15 @@ use minisign_external::signed_texts::{write_comment_message, write_signed_text};
 use minisign_external::state::{Misuse, Questions, Refusal, State};
 use minisign_external::unopened_keys::{
     UnopenedKeyValue, memory_to_open, open_sealed_key, open_sealed_key_in_place, open_unsealed_key,
-    read_unopened_key,
+    read_unopened_key, read_unopened_record, test_sealed_key,
 };
-use minisign_install::Numbering;
-use minisign_install::hosted::{Choices, Installation, write_error_text};
-use minisign_install::hosted_judging::judge_comment;
+use minisign_external::value_records::{
+    read_public_key_record, write_public_key_record, write_secret_key_record,
+};
+use minisign_install::faults::write_error_text;
+use minisign_lists::values::{EntryValue, FileValue, ListValue, given_digest};
+use minisign_lists::writing::append_entry;
+use minisign_lists::{ListFault, LongDigest};
 use std::alloc::Global;
 
 // The lowest limits with which Minisign encrypts a key.
@@ -99,15 +120,45 @@ macro_rules! number_of {
 /// Returns the length of the whole text.
 #[unsafe(no_mangle)]
 pub extern "C" fn minisign_error_text(error: u32, text: &mut [u8]) -> usize
-    // The text is that of the API misuse, of the installation error or of the library's error that has this
-    // number, without key IDs. For 0 it is "no error", and for a number without a meaning "unknown error". It
-    // has fewer than 128 bytes. The buffer holds as much of it as fits before a terminating 0 byte, and the
-    // bytes after the 0 are unchanged. The result is the length of the whole text.
-    ensures written { (meaning : List ℕ) × IsHostMeaning error meaning × (result ≡ length meaning)
+    // The text is that of the API misuse, of the error of an installation or a list, or of the library's
+    // error that has this number, without key IDs. For 0 it is "no error", and for a number without a meaning
+    // "unknown error". It has fewer than 128 bytes. The buffer holds as much of it as fits before a
+    // terminating 0 byte, and the bytes after the 0 are unchanged. The result is the length of the whole
+    // text.
+    ensures written { (meaning : List ℕ) × IsCallMeaning error meaning × (result ≡ length meaning)
         × WritesCut meaning text.old text.new }
     ensures room { result < 128 }
 {
-    write_error_text(error, text)
+    match ListFault::of_number(error) {
+        Some(fault) => write_list_error(&fault, text),
+        None => write_error_text(error, text),
+    }
+}
+
+// Writes the text of an error of lists.
+fn write_list_error(fault: &ListFault, text: &mut [u8]) -> usize
+    requires { is_own fault.now ≡ true }
+    ensures written { (result ≡ length (list_row fault.now).summary)
+        × WritesCut (list_row fault.now).summary text.old text.new }
+    ensures room { result < 128 }
+{
+    match fault.row() {
+        Ok((_, _, meaning)) => write_cut(meaning, text),
+        Err(_) => 0,
+    }
+}
+
+/// Returns the number of the kind of an error.
+#[unsafe(no_mangle)]
+pub extern "C" fn minisign_error_kind(error: u32) -> u32
+    // The result is 1 for API misuse, the number of the kind for an error of the library or of lists, and 0
+    // for 0 and for a number without a meaning here.
+    ensures { IsCallKind error result }
+{
+    match ListFault::of_number(error) {
+        Some(fault) => kind_number(fault.kind()),
+        None => error_kind(error),
+    }
 }
 
 /// Begins: the state was fed nothing.
@@ -175,6 +226,26 @@ pub extern "C" fn minisign_read_bare_public_key(base64: &[u8], key: &mut PublicK
     number_of!(tell_bare_public_key(base64, key))
 }
 
+/// Reads a public key from its record. Does not allocate.
+#[unsafe(no_mangle)]
+pub extern "C" fn minisign_read_public_key_record(bytes: &[u8], key: &mut PublicKeyValue) -> u32
+    // On success, `key` holds the key and the key ID in the first 42 bytes, and is marked as read. If there
+    // are fewer bytes, the result is the number of that error, and `key` is unchanged.
+    ensures { (result, key.new) ≡ told_key_number (public_key_in bytes.now) key.old }
+{
+    number_of!(read_public_key_record(bytes, key))
+}
+
+/// Writes the record of a public key. Does not allocate.
+#[unsafe(no_mangle)]
+pub extern "C" fn minisign_public_key_record(key: &PublicKeyValue, bytes: &mut [u8; 42]) -> u32
+    // If the public key was read, the record is its 42 bytes, with the algorithm `Ed`. Otherwise the result
+    // is the number of that error, and the record is unchanged.
+    ensures { (result, bytes.new) ≡ told_record_number (public_key_record key.now) bytes.old }
+{
+    number_of!(write_public_key_record(key, bytes))
+}
+
 /// Reads the signature of a text. Does not allocate.
 #[unsafe(no_mangle)]
 pub extern "C" fn minisign_read_signature(sig_text: &[u8], signature: &mut SignatureValue) -> u32
@@ -192,6 +263,36 @@ pub extern "C" fn minisign_read_signature(sig_text: &[u8], signature: &mut Signa
         }
         Err(fault) => Refusal::Refused(fault).number(),
     }
+}
+
+/// Reads a bare signature from its record. Does not allocate.
+#[unsafe(no_mangle)]
+pub extern "C" fn minisign_read_signature_record(
+    bytes: &[u8],
+    signature: &mut SignatureValue,
+) -> u32
+    // On success, `signature` holds the key ID, the algorithm and the signature in the first 74 bytes, and
+    // nothing about comments. Otherwise the result is the number of the first check that fails, fewer bytes
+    // and then an algorithm other than `Ed` and `ED`, and `signature` is unchanged.
+    ensures { (result, signature.new) ≡ told_signature_value (read_bare_value bytes.now) signature.old }
+{
+    match SignatureValue::read_record(bytes) {
+        Ok(read) => {
+            *signature = read;
+            0
+        }
+        Err(fault) => fault.number(),
+    }
+}
+
+/// Writes the record of a signature. Does not allocate.
+#[unsafe(no_mangle)]
+pub extern "C" fn minisign_signature_record(signature: &SignatureValue, bytes: &mut [u8; 74]) -> u32
+    // If the signature was read, from a text or from a record, the record is its 74 bytes. Otherwise the
+    // result is the number of that error, and the record is unchanged.
+    ensures { (result, bytes.new) ≡ told_record_number (signature_record signature.now) bytes.old }
+{
+    number_of!(signature.write_record(bytes))
 }
 
 /// Asks what Ed25519 has to answer before it is known whether the key and the signature vouch for the data.
@@ -305,6 +406,63 @@ pub extern "C" fn minisign_verdict(state: &mut State, first: u32, second: u32) -
     number_of!(state.verdict(first == ANSWER_YES, second == ANSWER_YES))
 }
 
+/// Asks what Ed25519 has to answer before it is known whether a bare signature is valid. Does not allocate.
+#[unsafe(no_mangle)]
+pub extern "C" fn minisign_ask_bare(
+    state: &mut State,
+    key: &PublicKeyValue,
+    signature: &SignatureValue,
+    allow_legacy: u32,
+    questions: &mut Questions,
+) -> u32
+    // If the result is 0, `questions` holds the question about the key and the signature, with zeros in
+    // place of the digest and of everything about a comment, and the state records that it was asked about
+    // a bare signature. Otherwise the state and the questions are unchanged, and the result is the number
+    // of the first error that applies: `allow_legacy` is above 1; the state was asked before or its digest
+    // returned, or it was never initialized; the public key was not read; the signature was not read; the
+    // key IDs differ; the signature is a legacy one and these are not allowed; the key or the signature is
+    // weak.
+    ensures value { (result, state.new, questions.new)
+        ≡ told_bare_asking_number state.old key.now signature.now allow_legacy questions.old }
+
+    // The data that the state was fed is unchanged. If the result is 0, the state was asked about this key
+    // and this signature.
+    ensures fed { (m : List ℕ) → IsFedState state.old m → IsFedState state.new m }
+    ensures asked { result ≡ 0
+        → HasAskedBare state.new key.now (signature_of_value signature.now) (allow_legacy == 1) }
+{
+    if allow_legacy >= 2 {
+        return Misuse::BadLegacyFlag.number();
+    }
+    match state.ask_bare(key, signature, allow_legacy == 1, questions) {
+        Ok(is_strict) => { if is_strict { 0 } else { WEAK_ED25519 } }
+        Err(refusal) => refusal.number(),
+    }
+}
+
+/// Returns the verdict on a bare signature from the answer, `ANSWER_YES` or `ANSWER_NO`, and finishes the
+/// state. Does not allocate.
+#[unsafe(no_mangle)]
+pub extern "C" fn minisign_bare_verdict(state: &mut State, first: u32) -> u32
+    // **After a successful `minisign_ask_bare` and the digest, for every scheme and every message for which
+    // `first` is the result of the check: the result is 0 exactly if the bare signature is valid for the
+    // message under the key. Otherwise it is the number of the first check that fails.**
+    ensures verdict { (v : PublicKeyValue) (s : SignatureRecord) (message : List ℕ) (legacy : Bool)
+        (accepts : Verifier) → HasAskedBare state.old v s legacy → IsMarkedTold state.old → IsAnswer first
+        → AnswersBare accepts v s message (first == answer_yes)
+        → result ≡ judged_number (bare_verdict_under accepts v s message legacy) }
+
+    // It is API misuse, and the state is unchanged, if `first` is neither 7955827 (yes) nor 28271 (no), if
+    // the state was not asked about a bare signature, or if the digest was not returned. Otherwise the
+    // state is finished, and the result is 0 exactly if `first` is yes.
+    ensures value { (result, state.new) ≡ told_bare_verdict_number state.old first }
+{
+    if !is_answer(first) {
+        return Misuse::BadAnswer.number();
+    }
+    number_of!(state.bare_verdict(first == ANSWER_YES))
+}
+
 /// Reads the text of a secret key, which is not opened yet. Does not allocate.
 #[unsafe(no_mangle)]
 pub extern "C" fn minisign_read_secret_key(sk_text: &[u8], unopened: &mut UnopenedKeyValue) -> u32
@@ -321,6 +479,63 @@ pub extern "C" fn minisign_read_secret_key(sk_text: &[u8], unopened: &mut Unopen
     ensures opens { result ≡ 0 → OpensAs unopened.new sk_text.now }
 {
     number_of!(read_unopened_key(sk_text, unopened))
+}
+
+/// Reads a secret key from its record. Does not allocate.
+#[unsafe(no_mangle)]
+pub extern "C" fn minisign_read_secret_key_record(
+    bytes: &[u8],
+    unopened: &mut UnopenedKeyValue,
+) -> u32
+    // On success, `unopened` holds the first 158 bytes and says how much work opening the key takes. If
+    // there are fewer bytes, the result is the number of that error, and `unopened` is unchanged.
+    ensures { (result, unopened.new) ≡ told_unopened_number (unopened_in bytes.now) unopened.old }
+{
+    number_of!(read_unopened_record(bytes, unopened))
+}
+
+/// Writes the text of a secret key that was read, as it is.
+#[unsafe(no_mangle)]
+pub extern "C" fn minisign_encode_unopened_key(
+    alloc: Global,
+    unopened: &UnopenedKeyValue,
+    comment: &[u8],
+    text: &mut [u8],
+    text_len: &mut usize,
+) -> u32
+    // On success, the secret key file is at the start of the buffer, as `encode_unopened_key` promises: it
+    // parses to the key as it was read, and Minisign reads the whole comment. The rest of the buffer is
+    // unchanged.
+    ensures read { result ≡ 0 → is_read unopened.now ≡ true }
+    ensures text { result ≡ 0
+        → HoldsReadSecretKey (unopened_record unopened.now) comment.now text.new text_len.new }
+    ensures readable { result ≡ 0 → IsKeyComment comment.now }
+    ensures rest { result ≡ 0 → drop text_len.new text.new ≡ drop text_len.new text.old }
+
+    // The errors are, in this order: the key was not read; the comment is not UTF-8; it has a line feed;
+    // Minisign does not read all of it; the buffer is too short; out of memory. After an error the buffer
+    // and the length are unchanged.
+    ensures refused { 0 < result
+        → IsEncodingNumber (is_read unopened.now) KeyNotRead 233 comment.now text.old result }
+    ensures kept { 0 < result → (text.new ≡ text.old) × (text_len.new ≡ text_len.old) }
+{
+    match encode_unopened_key(alloc, unopened, comment, text) {
+        Ok(encoded_len) => {
+            *text_len = encoded_len;
+            0
+        }
+        Err(refusal) => refusal.number(),
+    }
+}
+
+/// Makes all checks of a sealed key that need no password. Does not allocate.
+#[unsafe(no_mangle)]
+pub extern "C" fn minisign_test_sealed_key(unopened: &UnopenedKeyValue, most_rows: u64) -> u32
+    // The result is 0 exactly if the key was read and is encrypted with scrypt, with limits that are
+    // allowed and need at most `most_rows` rows. Otherwise it is the number of the first check that fails.
+    ensures { result ≡ result_number (tested_sealed unopened.now most_rows) }
+{
+    number_of!(test_sealed_key(unopened, most_rows))
 }
 
 /// Opens a secret key that was read and was never sealed. Does not allocate.
@@ -422,6 +637,16 @@ pub extern "C" fn minisign_take_secret_key(new_key: &NewKey, key: &mut SecretKey
     ensures { key.new ≡ taken_key new_key.now.key_id new_key.now.secret }
 {
     *key = SecretKeyValue::take(&new_key.key_id, &new_key.secret);
+}
+
+/// Writes the record of an open secret key, as one that is not sealed. Does not allocate.
+#[unsafe(no_mangle)]
+pub extern "C" fn minisign_secret_key_record(key: &SecretKeyValue, bytes: &mut [u8; 158]) -> u32
+    // If the key is open, the record is the 158 bytes of the unencrypted secret key with its key ID and its
+    // 64 secret bytes. Otherwise the result is the number of that error, and the record is unchanged.
+    ensures { (result, bytes.new) ≡ told_record_number (secret_key_record key.now) bytes.old }
+{
+    number_of!(write_secret_key_record(key, bytes))
 }
 
 /// Overwrites a value with zeros. Does not allocate.
@@ -642,6 +867,40 @@ pub extern "C" fn minisign_public_key_text(
     }
 }
 
+/// Writes the text of a public key that was read, or told of a secret key.
+#[unsafe(no_mangle)]
+pub extern "C" fn minisign_encode_public_key(
+    alloc: Global,
+    key: &PublicKeyValue,
+    comment: &[u8],
+    text: &mut [u8],
+    text_len: &mut usize,
+) -> u32
+    // On success, the public key file is at the start of the buffer, as `encode_public_key` promises: it
+    // parses to this public key, with the algorithm `Ed`, and Minisign reads the whole comment. The rest of
+    // the buffer is unchanged.
+    ensures read { result ≡ 0 → is_public_key key.now ≡ true }
+    ensures text { result ≡ 0
+        → HoldsReadPublicKey (written_public_key key.now) comment.now text.new text_len.new }
+    ensures readable { result ≡ 0 → IsKeyComment comment.now }
+    ensures rest { result ≡ 0 → drop text_len.new text.new ≡ drop text_len.new text.old }
+
+    // The errors are, in this order: the key was not read; the comment is not UTF-8; it has a line feed;
+    // Minisign does not read all of it; the buffer is too short; out of memory. After an error the buffer
+    // and the length are unchanged.
+    ensures refused { 0 < result
+        → IsEncodingNumber (is_public_key key.now) PublicKeyNotRead 77 comment.now text.old result }
+    ensures kept { 0 < result → (text.new ≡ text.old) × (text_len.new ≡ text_len.old) }
+{
+    match encode_public_key(alloc, key, comment, text) {
+        Ok(encoded_len) => {
+            *text_len = encoded_len;
+            0
+        }
+        Err(refusal) => refusal.number(),
+    }
+}
+
 /// Writes the message of the second question: the first signature followed by the trusted comment.
 #[unsafe(no_mangle)]
 pub extern "C" fn minisign_comment_message(
@@ -705,343 +964,287 @@ pub extern "C" fn minisign_signed_text(
     }
 }
 
-/// The options of an installation, 24 bytes with the layout of C. Each but the first is 0 or 1.
-#[repr(C)]
-#[derive(Clone, Copy)]
-pub struct InstallOptions {
-    /// The number of the field that has the number of an update.
-    pub numbering: u32,
-    /// 1 to install an update even if no number is recorded.
-    pub is_first: u32,
-    /// 1 to replace other data of the recorded number.
-    pub again: u32,
-    /// 1 to learn only what a run would do.
-    pub is_check: u32,
-    /// 1 if the data may stand still, and is received first.
-    pub is_waiting: u32,
-    /// 1 if the comment has to say when the update expires.
-    pub must_expire: u32,
+// Converts the result of asking to a number.
+fn asked_number(answer: Result<bool, Refusal>) -> u32
+    ensures { result ≡ asked_number answer }
+{
+    match answer {
+        Ok(is_strict) if is_strict => 0,
+        Ok(_) => WEAK_ED25519,
+        Err(refusal) => refusal.number(),
+    }
 }
 
-/// Begins an installation: the lock is due, or of a check the record.
+/// Asks what Ed25519 has to answer before it is known whether the signature of a list is valid. Its trusted
+/// comment must name the list. Does not allocate.
 #[unsafe(no_mangle)]
-pub extern "C" fn minisign_install_init(
-    installation: &mut Installation,
+pub extern "C" fn minisign_list_ask(
+    list: &mut ListValue,
     key: &PublicKeyValue,
-    other: &PublicKeyValue,
-    options: &InstallOptions,
-) -> u32
-    // On success, the first call is due: reading the record for a check, and taking the lock otherwise. Both
-    // public keys were read. The keys and the options are stored, where 1 means yes. The installation was fed
-    // no data, and holds no version number, no error, no record and no judged comment.
-    ensures begun { result ≡ 0 → (field : Numbering) × (options.now.numbering ≡ numbering_number field)
-        × IsBegun key.now other.now (choices_of options.now field) installation.new }
-    ensures unused { result ≡ 0 → IsUnused installation.new }
-
-    // The errors are, in this order: an option is neither 0 nor 1; the numbering is neither the timestamp nor
-    // the version; a public key was not read. If none of them applies, the result is 0. After an error the
-    // installation is unchanged.
-    ensures number { MatchOption (starting_misuse key.now other.now options.now) (result ≡ 0)
-        (λ m. result ≡ misuse_number m) }
-    ensures kept { 0 < result → installation.new ≡ installation.old }
-{
-    if !are_flags(options) {
-        return Misuse::BadOption.number();
-    }
-    let Some(numbering) = Numbering::of_number(options.numbering) else {
-        return Misuse::BadNumbering.number();
-    };
-    if !(key.is_public_key() && other.is_public_key()) {
-        return Misuse::PublicKeyNotRead.number();
-    }
-    *installation = Installation::new(key, other, choices_by(options, numbering));
-    0
-}
-
-// Returns true if each option but the numbering is 0 or 1.
-fn are_flags(options: &InstallOptions) -> bool
-    ensures { result ≡ are_flags options.now }
-{
-    options.is_first < 2
-        && options.again < 2
-        && options.is_check < 2
-        && options.is_waiting < 2
-        && options.must_expire < 2
-}
-
-// Returns the choices of these options, where 1 means yes.
-fn choices_by(options: &InstallOptions, numbering: Numbering) -> Choices
-    ensures { result ≡ choices_of options.now numbering }
-{
-    Choices {
-        is_first: options.is_first == 1,
-        again: options.again == 1,
-        is_check: options.is_check == 1,
-        is_waiting: options.is_waiting == 1,
-        must_expire: options.must_expire == 1,
-        numbering,
-    }
-}
-
-/// The number of the call that is due.
-#[unsafe(no_mangle)]
-pub extern "C" fn minisign_install_due(installation: &Installation) -> u32
-    // The result is the number of the call that is due, or 0 if none is, for example because the installation
-    // was not begun.
-    ensures { MatchOption (due_of installation.now) (result ≡ 0) (λ due. result ≡ due_number due) }
-{
-    installation.due_number()
-}
-
-/// The call that was due was done.
-#[unsafe(no_mangle)]
-pub extern "C" fn minisign_install_done(installation: &mut Installation) -> u32
-    // On success, the call that comes next (`Due::next`) is due, and the count of bytes starts again at 0. If
-    // the call that is due cannot be reported as done, the result is API misuse, and nothing changes. If data
-    // was received or copied and does not have the size that the signed comment says, the run is rejected.
-    ensures gone { result ≡ 0 → CallWasDone installation.old installation.new }
-    ensures refused { 0 < result
-        → IsRejectionNumber (IsDoneRefusal installation.old installation.new) result }
-{
-    number_of!(installation.done())
-}
-
-/// A piece of so many bytes was copied or received, and there may be more.
-#[unsafe(no_mangle)]
-pub extern "C" fn minisign_install_more(installation: &mut Installation, piece_len: usize) -> u32
-    // On success, receiving or copying is still due, and the bytes of the piece are counted if the signed
-    // comment says the size. If neither is due, the result is API misuse, and nothing changes. If the data
-    // has more bytes than the signed comment says, the run is rejected.
-    ensures gone { result ≡ 0 → PieceWasTaken piece_len installation.old installation.new }
-    ensures refused { 0 < result
-        → IsRejectionNumber (IsMoreRefusal piece_len installation.old installation.new) result }
-{
-    number_of!(installation.more(piece_len))
-}
-
-/// The call that was due failed for the error of this number.
-#[unsafe(no_mangle)]
-pub extern "C" fn minisign_install_failed(installation: &mut Installation, why: u32) -> u32
-    // On success, the call that comes after this failure (`Due::next`) is due or, if the lock was due and
-    // data from a slow source was still to be received, receiving it. If the call that is due cannot fail
-    // with this error, the result is API misuse, and nothing changes.
-    ensures failed { result ≡ 0 → CallHasFailed why installation.old installation.new }
-    ensures refused { 0 < result
-        → IsNotDueNumber (λ due. failure due why ≡ None) installation.old installation.new result }
-{
-    number_of!(installation.failed(why))
-}
-
-/// The record holds these bytes, and was last written at this moment.
-#[unsafe(no_mangle)]
-pub extern "C" fn minisign_install_record(
-    installation: &mut Installation,
-    bytes: &[u8],
-    written: u64,
-) -> u32
-    // On success, judging the comment is due, and the recorded version for the field is stored with the
-    // digest and the time of the record; or, if the record holds no version for the field and this is not the
-    // first installation, the run is rejected. If reading the record is not due, the result is API misuse,
-    // and nothing changes.
-    ensures read { result ≡ 0 → RecordWasRead (Some bytes.now) written installation.old installation.new }
-    ensures refused { 0 < result
-        → IsNotDueNumber (λ due. due ≢ ReadRecord) installation.old installation.new result }
-{
-    number_of!(installation.record(Some(bytes), written))
-}
-
-/// There is no record.
-#[unsafe(no_mangle)]
-pub extern "C" fn minisign_install_no_record(installation: &mut Installation) -> u32
-    // On success, judging the comment is due if this is the first installation; otherwise the run is rejected
-    // because there is no record. If reading the record is not due, the result is API misuse, and nothing
-    // changes.
-    ensures read { result ≡ 0 → RecordWasRead None 0 installation.old installation.new }
-    ensures refused { 0 < result
-        → IsNotDueNumber (λ due. due ≢ ReadRecord) installation.old installation.new result }
-{
-    number_of!(installation.record(None, 0))
-}
-
-/// The next bytes of what the stage holds were read back; none at its end.
-#[unsafe(no_mangle)]
-pub extern "C" fn minisign_install_piece(installation: &mut Installation, piece: &[u8]) -> u32
-    // On success, the piece is added to what was read of the installed file or of the temporary file. After
-    // an empty piece, which means the end, the scheme's answers about the file are due. If no file is being
-    // read, the result is API misuse, and nothing changes.
-    ensures read { result ≡ 0 → PieceWasRead piece.now installation.old installation.new }
-    ensures refused { 0 < result → (installation.new ≡ installation.old)
-        × (m : Misuse) × (result ≡ misuse_number m) × PieceCannotBeFed installation.old m }
-{
-    number_of!(installation.piece(piece))
-}
-
-/// No file stands at the target.
-#[unsafe(no_mangle)]
-pub extern "C" fn minisign_install_no_target(installation: &mut Installation) -> u32
-    // On success, the run continues without an installed file, and the next file that is read is hashed from
-    // its start. If reading the installed file is not due, the result is API misuse, and nothing changes.
-    ensures gone { result ≡ 0 → TargetIsMissing installation.old installation.new }
-    ensures refused { 0 < result → (result ≡ misuse_number NotDue) × (installation.new ≡ installation.old)
-        × ((kept : ℕ) → ¬ (IsDue installation.old (Look kept))) }
-{
-    number_of!(installation.no_target())
-}
-
-/// Reads the text of the signature, asks what Ed25519 has to answer before it is known whether one of the
-/// keys and the text vouch, and judges the signed comment.
-#[unsafe(no_mangle)]
-pub extern "C" fn minisign_install_ask(
-    installation: &mut Installation,
+    signature: &SignatureValue,
     sig_text: &[u8],
-    file: &[u8],
-    now: u64,
+    list_name: &[u8],
+    text: &[u8],
     questions: &mut Questions,
     message: &mut [u8],
 ) -> u32
-    // On success, the questions are those about the signature file under the key that must have signed,
-    // chosen by its key ID, as `Installation::ask` promises. The trusted comment is judged against the
-    // recorded version.
-    ensures asked { result ≡ 0 → InstallationHasAskedAbout sig_text.now file.now now questions.new
-        message.new installation.old installation.new }
+    // Errors are checked in this order: the public key was not read; the signature was not read; the text is
+    // not the one that it was read from; the key IDs differ; the signature is a legacy one; the buffer is too
+    // short; the key or a signature is weak. If none of them applies, the result is 0.
+    ensures number { result ≡ asked_number (asked_strictly (is_strict_value key.now signature.now)
+        (asked_of key.now signature.now sig_text.now false (length message.old))) }
 
-    // The options are always unchanged.
-    ensures chosen { installation.new.chosen ≡ installation.old.chosen }
+    // If the signature was read from this text, the result is the same as if the text were parsed here and
+    // checked under this key.
+    ensures text { (t : SignatureTextRecord) → IsReadFrom signature.now sig_text.now t
+        → result ≡ asking_list_number key.now sig_text.now t (length message.old) }
 
-    // The errors are those of `Installation::ask`. API misuse changes nothing. After any other error the run
-    // is rejected. After every error the questions and the buffer are unchanged. On success, the buffer after
-    // the message is unchanged.
-    ensures refused { 0 < result → IsRejectionNumber (IsAskRefusal installation.old installation.new
-        sig_text.now file.now (length message.old)) result }
-    ensures kept { 0 < result → (questions.new ≡ questions.old) × (message.new ≡ message.old) }
+    // **On success, if the signature was read from this text, `questions` holds the two questions about the
+    // key and the text, with the digest of the list, and `list` records that digest, whether the comment
+    // signature has its 64 bytes, and whether the trusted comment names the list.**
+    ensures asked { result ≡ 0 → (t : SignatureTextRecord) → IsReadFrom signature.now sig_text.now t
+        → (read_under key.now false sig_text.now ≡ Ok t)
+        × AreListQuestions questions.new message.new key.now t text.now
+        × (list.new ≡ asked_list key.now signature.now (Some list_name.now) text.now t.comments.trusted) }
+
+    // On success, if the signature was read from this text, neither the key nor a signature in the text is
+    // weak. The comment signature counts if it has its 64 bytes.
+    ensures strict { result ≡ 0 → (t : SignatureTextRecord) → IsReadFrom signature.now sig_text.now t
+        → is_strict_text key.now t ≡ true }
+
+    // On success, the buffer after the message is unchanged. After an error, the list, the questions and the
+    // buffer are unchanged.
     ensures rest { result ≡ 0 → drop questions.new.message_len message.new
         ≡ drop questions.new.message_len message.old }
+    ensures kept { 0 < result → (list.new ≡ list.old) × (questions.new ≡ questions.old)
+        × (message.new ≡ message.old) }
 {
-    number_of!(installation.ask(sig_text, file, now, questions, message))
+    asked_number(list.ask(
+        key,
+        signature,
+        sig_text,
+        Some(list_name),
+        text,
+        questions,
+        message,
+    ))
 }
 
-/// Ed25519 answered so, `ANSWER_YES` or `ANSWER_NO` to each of the two questions.
+/// Asks as `minisign_list_ask` does. The trusted comment need not name the list.
 #[unsafe(no_mangle)]
-pub extern "C" fn minisign_install_answer(
-    installation: &mut Installation,
-    first: u32,
-    second: u32,
+pub extern "C" fn minisign_list_ask_any(
+    list: &mut ListValue,
+    key: &PublicKeyValue,
+    signature: &SignatureValue,
+    sig_text: &[u8],
+    text: &[u8],
+    questions: &mut Questions,
+    message: &mut [u8],
 ) -> u32
-    // **For every scheme and every file content for which `first` and `second` are the results of the two
-    // checks: the result is 0, or the number of the first check that fails, as `Installation::answer`
-    // promises for the comment, for the installed file and for the temporary file that was read back.**
-    ensures comment { IsAnswer first × IsAnswer second
-        → WhereCommentAnswered (second == answer_yes) installation.old (λ accepts key terms k.
-        IsCommentNumber accepts key terms k first installation.old installation.new result) }
-    ensures target { IsAnswer first × IsAnswer second → WhereAnswered JudgeTarget (first == answer_yes)
-        (second == answer_yes) installation.old (λ accepts terms k m. IsNumberOf
-        (AnswersJudgeTarget accepts terms k m installation.old installation.new) result) }
-    ensures stage { IsAnswer first × IsAnswer second → WhereAnswered Answer (first == answer_yes)
-        (second == answer_yes) installation.old (λ accepts terms k m. IsNumberOf
-        (StageGivesUpdate accepts terms k m installation.new) result) }
-
-    // If the run continues, or the installed file is to be read, the next file that is read is hashed from
-    // its start.
-    ensures fed { (kept : ℕ) → IsDue installation.old (Judge kept) → result ≡ 0
-        → IsFedState installation.new.state [] }
-    ensures again { (kept : ℕ) → IsDue installation.old (JudgeTarget kept) → result ≡ 0
-        → IsDue installation.new (going_on installation.old kept) → IsFedState installation.new.state [] }
-
-    // It is API misuse if a result is neither 7955827 (yes) nor 28271 (no), if no answers are due or if
-    // nothing was asked. API misuse changes nothing. After any other error the run is rejected.
-    ensures refused { 0 < result → IsAnswerNumber first second installation.old installation.new result }
-
-    // The trusted comment counts as signed exactly if the key signed it.
-    ensures vouched { IsAnswer first × IsAnswer second
-        → AnswerVouches (second == answer_yes) installation.old installation.new }
-
-    // The options, what was asked about, and what was found in the comment are unchanged.
-    ensures chosen { InstallationKeepsAsked installation.old installation.new }
+    // The clauses are those of `minisign_list_ask`, but every trusted comment names the list.
+    ensures number { result ≡ asked_number (asked_strictly (is_strict_value key.now signature.now)
+        (asked_of key.now signature.now sig_text.now false (length message.old))) }
+    ensures text { (t : SignatureTextRecord) → IsReadFrom signature.now sig_text.now t
+        → result ≡ asking_list_number key.now sig_text.now t (length message.old) }
+    ensures asked { result ≡ 0 → (t : SignatureTextRecord) → IsReadFrom signature.now sig_text.now t
+        → (read_under key.now false sig_text.now ≡ Ok t)
+        × AreListQuestions questions.new message.new key.now t text.now
+        × (list.new ≡ asked_list key.now signature.now None text.now t.comments.trusted) }
+    ensures strict { result ≡ 0 → (t : SignatureTextRecord) → IsReadFrom signature.now sig_text.now t
+        → is_strict_text key.now t ≡ true }
+    ensures rest { result ≡ 0 → drop questions.new.message_len message.new
+        ≡ drop questions.new.message_len message.old }
+    ensures kept { 0 < result → (list.new ≡ list.old) × (questions.new ≡ questions.old)
+        × (message.new ≡ message.old) }
 {
-    if !(is_answer(first) && is_answer(second)) {
+    asked_number(list.ask(key, signature, sig_text, None, text, questions, message))
+}
+
+/// The verdict on a list from what Ed25519 answered to the two questions.
+#[unsafe(no_mangle)]
+pub extern "C" fn minisign_list_verdict(list: &mut ListValue, first: u32, second: u32) -> u32
+    // **After a successful `minisign_list_ask` or `minisign_list_ask_any`, for every scheme for which `first`
+    // and `second` are the results of the two checks: the result is 0 exactly if the signature file is a
+    // valid prehashed signature of the list under the key, and the trusted comment names the list if it must.
+    // Otherwise it is the number of the first check that fails.**
+    ensures verdict { (v : PublicKeyValue) (sig_text text : List ℕ) (name : Option (List ℕ))
+        (accepts : Verifier) → IsAnsweredList list.old accepts v sig_text name text first second
+        → result ≡ list_verdict_number (list_verdict_under accepts v sig_text name text) }
+
+    // It is API misuse if a result is neither 7955827 (yes) nor 28271 (no), or if nothing was asked; then the
+    // list is unchanged. Otherwise the result is 0 and the list is verified exactly if `first` is yes, the
+    // comment signature has its 64 bytes and `second` is yes, and the trusted comment names the list if it
+    // must. After an error the list is not verified.
+    ensures number { (result, list.new) ≡ told_list_number list.old first second }
+{
+    if !is_answer(first) || !is_answer(second) {
         return Misuse::BadAnswer.number();
     }
-    number_of!(installation.answer(first == ANSWER_YES, second == ANSWER_YES))
+    number_of!(list.verdict(first == ANSWER_YES, second == ANSWER_YES))
 }
 
-/// Whether a key was found to have signed the comment that was asked about last: 1 or 0.
+/// Finds the only entry of a name in a verified list.
 #[unsafe(no_mangle)]
-pub extern "C" fn minisign_install_is_vouched(installation: &Installation) -> u32
-    // The result is 1 if `minisign_install_answer` found that the key signed the comment that was last asked
-    // about, and otherwise 0.
-    ensures { result ≡ (if is_vouched installation.now then 1 else 0) }
-{
-    u32::from(installation.is_vouched())
-}
-
-/// The number of the comment, where that is vouched for and has one; otherwise 0.
-#[unsafe(no_mangle)]
-pub extern "C" fn minisign_install_number(installation: &Installation) -> u64
-    // If `minisign_install_is_vouched` returns 1, the result is the version number that was found in the
-    // signed comment. Otherwise it is 0.
-    ensures { result ≡ told_number installation.now }
-{
-    installation.number()
-}
-
-/// Writes the record as it is to be written, and returns how long that is.
-#[unsafe(no_mangle)]
-pub extern "C" fn minisign_install_record_text(
-    installation: &Installation,
-    text: &mut [u8],
-) -> usize
-    // If writing the record is due and the buffer is long enough, the record is at its start, and the result
-    // is the length of the record. Otherwise the result is 0 and nothing is written. The rest of the buffer
-    // is unchanged.
-    ensures written { 0 < result → (n : ℕ) × IsDue installation.now (WriteRecord n)
-        × (result ≤ length text.new) × (take result text.new ≡ record_for installation.now n) }
-    ensures rest { drop result text.new ≡ drop result text.old }
-    ensures unwritten { result ≡ 0 → (text.new ≡ text.old)
-        × ((n : ℕ) → IsDue installation.now (WriteRecord n)
-        → length text.old < length (record_for installation.now n)) }
-{
-    installation.write_record(text)
-}
-
-/// The number of the error that the run was rejected for.
-#[unsafe(no_mangle)]
-pub extern "C" fn minisign_install_error(installation: &Installation) -> u32
-    // If the run was rejected, the result is the number of the error that is the reason. Otherwise it is 0.
-    ensures refused { (e : ℕ) → IsDue installation.now (ended.Refused e) → result ≡ e }
-    ensures none { ((e : ℕ) → ¬ (IsDue installation.now (ended.Refused e))) → result ≡ 0 }
-{
-    installation.refused_for()
-}
-
-/// Judges a signed comment by itself: tells its number.
-#[unsafe(no_mangle)]
-pub extern "C" fn minisign_judge_comment(
-    comment: &[u8],
-    file: &[u8],
-    numbering: u32,
-    moment: u64,
-    kept: u64,
-    number: &mut u64,
+pub extern "C" fn minisign_list_find(
+    list: &ListValue,
+    text: &[u8],
+    long_digest: u32,
+    name: &[u8],
+    entry: &mut EntryValue,
+    line: &mut u64,
 ) -> u32
-    // If the result is 0, the comment and the file name are UTF-8, the comment names the file, has not
-    // expired, and has a version number that is not below `kept`, and `number` is that version number.
-    // Otherwise the result is the number of the first check that fails, and `number` is unchanged.
-    ensures says { result ≡ 0 → (k : Numbering) × (numbering ≡ numbering_number k)
-        × IsUtf8 comment.now × IsUtf8 file.now
-        × CommentSays comment.now (said_by file.now k moment) number.new × (kept ≤ number.new) }
-    ensures refused { 0 < result → ((result ≡ misuse_number BadNumbering) × (1 < numbering))
-        ⊎ ((k : Numbering) × (numbering ≡ numbering_number k)
-        × IsJudgedNumber comment.now file.now (said_by file.now k moment) kept result) }
-    ensures kept { 0 < result → number.new ≡ number.old }
+    // **The result is 0 exactly if the list was verified and this is its text, every line is well formed, and
+    // exactly one entry has the name.** Then `entry` is that entry, and `line` is 0. Otherwise the result is
+    // the number of the first check that fails, `entry` is unchanged, and `line` is the number of the line at
+    // fault, or 0 if no line is at fault.
+    ensures number { (result, (entry.new, line.new))
+        ≡ finding_number (long_numbered long_digest) list.now text.now name.now entry.old }
+
+    // On success, `minisign_list_begin` with the entry compares with the digest in the list.
+    ensures digest { result ≡ 0 → (long : LongDigest) (e : Entry) → long_numbered long_digest ≡ Some long
+        → found_entry list.now text.now long name.now ≡ Ok e → entry_digest entry.new ≡ Ok e.digest }
 {
-    let Some(numbering) = Numbering::of_number(numbering) else {
-        return Misuse::BadNumbering.number();
+    *line = 0;
+    let Some(long) = LongDigest::of_number(long_digest) else {
+        return Misuse::BadHash.number();
     };
-    match judge_comment(comment, file, numbering, moment, kept) {
-        Ok(told) => {
-            *number = told;
+    match list.find(text, long, name, entry) {
+        Ok(()) => 0,
+        Err(refusal) => {
+            *line = line_of(&refusal);
+            refusal.number()
+        }
+    }
+}
+
+/// Writes all entries of a verified list.
+#[unsafe(no_mangle)]
+pub extern "C" fn minisign_list_entries(
+    list: &ListValue,
+    text: &[u8],
+    long_digest: u32,
+    entries: &mut [EntryValue],
+    count: &mut usize,
+    line: &mut u64,
+) -> u32
+    // The result is 0 exactly if the list was verified and this is its text, every line is well formed, and
+    // the buffer has room for all entries. Then the buffer begins with them, in the order of their lines, its
+    // rest is unchanged, and `count` is their number. Otherwise the result is the number of the first check
+    // that fails, and the buffer and `count` are unchanged. `line` is the number of the line at fault, or 0.
+    ensures { (result, (entries.new, (count.new, line.new)))
+        ≡ all_entries_number (long_numbered long_digest) list.now text.now entries.old count.old }
+{
+    *line = 0;
+    let Some(long) = LongDigest::of_number(long_digest) else {
+        return Misuse::BadHash.number();
+    };
+    match list.entries(text, long, entries) {
+        Ok(found) => {
+            *count = found;
             0
         }
-        Err(fault) => fault.number(),
+        Err(refusal) => {
+            *line = line_of(&refusal);
+            refusal.number()
+        }
+    }
+}
+
+// Returns the number of the line at fault, or 0 if no line is at fault.
+fn line_of(refusal: &Refusal<ListFault>) -> u64
+    ensures { result ≡ line_at_fault refusal.now }
+{
+    match refusal {
+        Refusal::WrongUse(_) => 0,
+        Refusal::Refused(fault) => fault.line(),
+    }
+}
+
+/// Begins a check of data against the digest of an entry.
+#[unsafe(no_mangle)]
+pub extern "C" fn minisign_list_begin(entry: &EntryValue, file: &mut FileValue) -> u32
+    // If the entry was read, the result is 0, and the state compares with the digest of the entry and was fed
+    // no data. Otherwise the result is the number of that error, and the state is unchanged.
+    ensures begun { (d : ListedDigest) → entry_digest entry.now ≡ Ok d
+        → (result ≡ 0) × IsFedValue file.new d [] }
+    ensures refused { 0 < result → (entry_digest entry.now ≡ Err EntryNotRead)
+        × (result ≡ misuse_number EntryNotRead) × (file.new ≡ file.old) }
+{
+    match FileValue::begin(entry) {
+        Ok(begun) => {
+            *file = begun;
+            0
+        }
+        Err(misuse) => misuse.number(),
+    }
+}
+
+/// Feeds the next bytes of the data.
+#[unsafe(no_mangle)]
+pub extern "C" fn minisign_list_update(file: &mut FileValue, piece: &[u8]) -> u32
+    // On success, the piece is appended to the data that the state was fed. The call fails only if no check
+    // was begun. Then the result is the number of that error, and the state is unchanged.
+    ensures fed { (d : ListedDigest) (m : List ℕ) → IsFedValue file.old d m
+        → (result ≡ 0) × IsFedValue file.new d (m ++ piece.now) }
+    ensures begun { result ≡ 0 → file.old.mark ≡ file_mark }
+    ensures refused { 0 < result → (result ≡ misuse_number NotBegun) × (file.new ≡ file.old) }
+{
+    number_of!(file.update(piece))
+}
+
+/// Returns whether the data that was fed has the digest of the entry. It finishes the state.
+#[unsafe(no_mangle)]
+pub extern "C" fn minisign_list_finish(file: &mut FileValue) -> u32
+    // **The result is 0 exactly if all data that the state was fed has the digest of the entry. Otherwise it
+    // is the number of the error for another digest.**
+    ensures fed { (d : ListedDigest) (m : List ℕ) → IsFedValue file.old d m
+        → result ≡ (if has_digest d m then 0 else list_number DigestMismatch) }
+
+    // The state is finished, unless no check was begun: then the result is the number of that error, and the
+    // state is unchanged.
+    ensures finished { result ≢ misuse_number NotBegun → IsFinished file.old file.new }
+    ensures refused { result ≡ misuse_number NotBegun → file.new ≡ file.old }
+{
+    number_of!(file.finish())
+}
+
+/// Compares the digest of an entry with one that the caller computed, which is trusted.
+#[unsafe(no_mangle)]
+pub extern "C" fn minisign_list_compare_trusting_your_hash(
+    entry: &EntryValue,
+    hash: u32,
+    digest: &[u8],
+) -> u32
+    // The result is 0 exactly if the entry was read, this is its hash function, and these bytes are its
+    // digest. Otherwise it is the number of the first check that fails. Nothing is said about any data.
+    ensures { result ≡ list_result (compared entry.now hash digest.now) }
+{
+    number_of!(entry.compare_trusting_your_hash(hash, digest))
+}
+
+/// Appends an entry to a list.
+#[unsafe(no_mangle)]
+pub extern "C" fn minisign_list_append(
+    hash: u32,
+    digest: &[u8],
+    name: &[u8],
+    text: &mut [u8],
+    text_len: &mut usize,
+) -> u32
+    // On success, the line of the entry is written behind the list, the rest of the buffer is unchanged, and
+    // `text_len` is the new length of the list. Otherwise the result is the number of the first check that
+    // fails, and the buffer and `text_len` are unchanged.
+    ensures { (result, (text.new, text_len.new))
+        ≡ appending_number (given_digest hash digest.now) text.old text_len.old name.now }
+{
+    let Some(digest) = given_digest(hash, digest) else {
+        return Misuse::BadHash.number();
+    };
+    match append_entry(text, *text_len, digest, name) {
+        Ok(longer) => {
+            *text_len = longer;
+            0
+        }
+        Err(refusal) => refusal.number(),
     }
 }

@@ -1,47 +1,76 @@
 //! The calls of the web page that verifies downloads, for WebAssembly. They are the calls of `minisign_c`
-//! that verify, with the same contracts and error numbers. `bindings/javascript/calls.js` makes the calls and
-//! says what a caller has to do. Nothing here allocates.
+//! that verify, with the same contracts and error numbers, and calls that compute SHA-256 and SHA-512, with
+//! which the page finds a file in a signed list by its digest. `bindings/javascript/calls.js` makes the calls
+//! and says what a caller has to do. Nothing here allocates.
 
 #![tactic(auto)]
 
-ghost use Rattle.std.specs.Prelude.{◌≡◌, ◌⊎◌, ◌==◌, ◌<◌, ◌++◌, ℕ, Bool, List, [], Ok, true, false};
-ghost use Rattle.std.specs.Prelude.{length, drop};
+ghost use Rattle.std.specs.Prelude.{◌≡◌, ◌⊎◌, ◌==◌, ◌<◌, ◌++◌, ℕ, Bool, List, [], Ok, Option, Some, None};
+ghost use Rattle.std.specs.Prelude.{length, drop, true, false};
+ghost use Rattle.sha2.specs.Sha256.{sha256};
+ghost use Rattle.sha2.specs.Sha512.{sha512};
 ghost use Rattle.minisign_hash.specs.Blake2b.{blake2b_digest};
 ghost use Rattle.minisign.specs.KeyTexts.{read_bare_public_key, read_public_key};
 ghost use Rattle.minisign.specs.SignatureText.{SignatureTextRecord};
 ghost use Rattle.minisign.specs.Acceptance.{Verifier};
 ghost use Rattle.minisign_external.specs.Questions.{IsKeyText, read_under, verdict_under};
-ghost use Rattle.minisign_external.specs.Numbers.{IsMeaning, WritesCut, fault_number, misuse_number};
+ghost use Rattle.minisign_external.specs.Numbers.{WritesCut, fault_number, misuse_number};
 ghost use Rattle.minisign_external.specs.Numbers.{refusal_number};
 ghost use Rattle.minisign_external.specs.PublicKeys.{read_utf8, told_key_number};
 ghost use Rattle.minisign_external.specs.Signatures.{IsReadFrom, read_signature_value, told_signature_value};
 ghost use Rattle.minisign_external.specs.States.{AreAsked, GivesNumber, HasAsked, HasToldDigest, IsAnswered};
 ghost use Rattle.minisign_external.specs.States.{IsBlank, IsFedState, IsMarkedFed, IsMarkedTold, KeepsAsked};
-ghost use Rattle.minisign_external.specs.States.{asking_under, feeding_misuse};
+ghost use Rattle.minisign_external.specs.States.{asked_of, asking_under, feeding_misuse};
 ghost use Rattle.minisign_external.specs.States.{told_verdict_number, verdict_number};
 ghost use Rattle.minisign_external.specs.StrictCalls.{asked_number, asked_strictly, strict_asking_number};
-ghost use Rattle.minisign_external.specs.StrictCalls.{is_strict_text};
+ghost use Rattle.minisign_external.specs.StrictCalls.{is_strict_text, is_strict_value};
 ghost use Rattle.minisign_external.specs.declared.public_keys.PublicKeyValue.{PublicKeyValue};
+ghost use Rattle.minisign_page.specs.ListCalls.{all_entries_number, finding_number, line_at_fault};
+ghost use Rattle.minisign_page.specs.ListCalls.{list_refusal};
+ghost use Rattle.minisign_page.specs.ListCalls.{AreListQuestions, IsAnsweredList, IsListMeaning};
+ghost use Rattle.minisign_page.specs.ListCalls.{asking_list_number, list_result};
+ghost use Rattle.minisign_page.specs.ListCalls.{list_verdict_number, told_list_number};
+ghost use Rattle.minisign_lists.specs.Faults.{is_own, list_row};
+ghost use Rattle.minisign_lists.specs.Values.{asked_list, compared, list_verdict_under, long_numbered};
+ghost use Rattle.minisign_lists.specs.Lines.{Entry};
+ghost use Rattle.minisign_lists.specs.declared.lines.LongDigest.{LongDigest};
+ghost use Rattle.minisign_lists.specs.Values.{found_entry};
+ghost use Rattle.minisign_lists.specs.Values.{entry_digest};
+ghost use Rattle.minisign_sha2.specs.Hashers.{WasFed256, WasFed512};
 
-use minisign_external::numbers::{ANSWER_YES, WEAK_ED25519, is_answer, write_error_text};
+use minisign_external::numbers::{
+    ANSWER_YES, WEAK_ED25519, is_answer, write_cut, write_error_text,
+};
 use minisign_external::public_keys::{PublicKeyValue, tell_bare_public_key, tell_public_key};
 use minisign_external::signatures::SignatureValue;
 use minisign_external::state::{Misuse, Questions, Refusal, State};
+use minisign_lists::values::{EntryValue, ListValue};
+use minisign_lists::{ListFault, LongDigest};
+use minisign_sha2::stored::{StoredSha256, StoredSha512};
+use minisign_sha2::{Sha256, Sha512};
 use std::mem::forget;
 
 /// Writes what an error number means: the text, cut where there is no room for more, and a 0.
 /// Returns the length of the whole text.
 #[unsafe(no_mangle)]
 pub extern "C" fn page_error_text(error: u32, text: &mut [u8]) -> usize
-    // The text is that of the API misuse or of the library's error that has this
-    // number, without key IDs. For 0 it is "no error", and for a number without a meaning "unknown error". It
-    // has fewer than 128 bytes. The buffer holds as much of it as fits before a terminating 0 byte, and the
-    // bytes after the 0 are unchanged. The result is the length of the whole text.
-    ensures written { (meaning : List ℕ) × IsMeaning error meaning × (result ≡ length meaning)
+    // The text is that of the API misuse, of the error of a list, or of the library's
+    // error that has this number, without key IDs. For 0 it is "no error", and for a number without a meaning
+    // "unknown error". It has fewer than 128 bytes. The buffer holds as much of it as fits before a
+    // terminating 0 byte, and the bytes after the 0 are unchanged. The result is the length of the whole
+    // text.
+    ensures written { (meaning : List ℕ) × IsListMeaning error meaning × (result ≡ length meaning)
         × WritesCut meaning text.old text.new }
     ensures room { result < 128 }
 {
-    write_error_text(error, text)
+    match ListFault::of_number(error) {
+        Some(fault) => {
+            let length = write_list_error(&fault, text);
+            forget(fault);
+            length
+        }
+        None => write_error_text(error, text),
+    }
 }
 
 /// Begins: the state was fed nothing.
@@ -241,4 +270,300 @@ fn number_of(refusal: Refusal) -> u32
     let number = refusal.number();
     forget(refusal);
     number
+}
+
+/// Asks what Ed25519 has to answer before it is known whether the signature of a list is valid. Its trusted
+/// comment must name the list. Does not allocate.
+#[unsafe(no_mangle)]
+pub extern "C" fn page_list_ask(
+    list: &mut ListValue,
+    key: &PublicKeyValue,
+    signature: &SignatureValue,
+    sig_text: &[u8],
+    list_name: &[u8],
+    text: &[u8],
+    questions: &mut Questions,
+    message: &mut [u8],
+) -> u32
+    // Errors are checked in this order: the public key was not read; the signature was not read; the text is
+    // not the one that it was read from; the key IDs differ; the signature is a legacy one; the buffer is too
+    // short; the key or a signature is weak. If none of them applies, the result is 0.
+    ensures number { result ≡ asked_number (asked_strictly (is_strict_value key.now signature.now)
+        (asked_of key.now signature.now sig_text.now false (length message.old))) }
+
+    // If the signature was read from this text, the result is the same as if the text were parsed here and
+    // checked under this key.
+    ensures text { (t : SignatureTextRecord) → IsReadFrom signature.now sig_text.now t
+        → result ≡ asking_list_number key.now sig_text.now t (length message.old) }
+
+    // **On success, if the signature was read from this text, `questions` holds the two questions about the
+    // key and the text, with the digest of the list, and `list` records that digest, whether the comment
+    // signature has its 64 bytes, and whether the trusted comment names the list.**
+    ensures asked { result ≡ 0 → (t : SignatureTextRecord) → IsReadFrom signature.now sig_text.now t
+        → (read_under key.now false sig_text.now ≡ Ok t)
+        × AreListQuestions questions.new message.new key.now t text.now
+        × (list.new ≡ asked_list key.now signature.now (Some list_name.now) text.now t.comments.trusted) }
+
+    // On success, if the signature was read from this text, neither the key nor a signature in the text is
+    // weak. The comment signature counts if it has its 64 bytes.
+    ensures strict { result ≡ 0 → (t : SignatureTextRecord) → IsReadFrom signature.now sig_text.now t
+        → is_strict_text key.now t ≡ true }
+
+    // On success, the buffer after the message is unchanged. After an error, the list, the questions and the
+    // buffer are unchanged.
+    ensures rest { result ≡ 0 → drop questions.new.message_len message.new
+        ≡ drop questions.new.message_len message.old }
+    ensures kept { 0 < result → (list.new ≡ list.old) × (questions.new ≡ questions.old)
+        × (message.new ≡ message.old) }
+{
+    asked_number(list.ask(
+        key,
+        signature,
+        sig_text,
+        Some(list_name),
+        text,
+        questions,
+        message,
+    ))
+}
+
+/// Asks as `page_list_ask` does. The trusted comment need not name the list.
+#[unsafe(no_mangle)]
+pub extern "C" fn page_list_ask_any(
+    list: &mut ListValue,
+    key: &PublicKeyValue,
+    signature: &SignatureValue,
+    sig_text: &[u8],
+    text: &[u8],
+    questions: &mut Questions,
+    message: &mut [u8],
+) -> u32
+    // The clauses are those of `page_list_ask`, but every trusted comment names the list.
+    ensures number { result ≡ asked_number (asked_strictly (is_strict_value key.now signature.now)
+        (asked_of key.now signature.now sig_text.now false (length message.old))) }
+    ensures text { (t : SignatureTextRecord) → IsReadFrom signature.now sig_text.now t
+        → result ≡ asking_list_number key.now sig_text.now t (length message.old) }
+    ensures asked { result ≡ 0 → (t : SignatureTextRecord) → IsReadFrom signature.now sig_text.now t
+        → (read_under key.now false sig_text.now ≡ Ok t)
+        × AreListQuestions questions.new message.new key.now t text.now
+        × (list.new ≡ asked_list key.now signature.now None text.now t.comments.trusted) }
+    ensures strict { result ≡ 0 → (t : SignatureTextRecord) → IsReadFrom signature.now sig_text.now t
+        → is_strict_text key.now t ≡ true }
+    ensures rest { result ≡ 0 → drop questions.new.message_len message.new
+        ≡ drop questions.new.message_len message.old }
+    ensures kept { 0 < result → (list.new ≡ list.old) × (questions.new ≡ questions.old)
+        × (message.new ≡ message.old) }
+{
+    asked_number(list.ask(key, signature, sig_text, None, text, questions, message))
+}
+
+/// The verdict on a list from what Ed25519 answered to the two questions.
+#[unsafe(no_mangle)]
+pub extern "C" fn page_list_verdict(list: &mut ListValue, first: u32, second: u32) -> u32
+    // **After a successful `page_list_ask` or `page_list_ask_any`, for every scheme for which `first`
+    // and `second` are the results of the two checks: the result is 0 exactly if the signature file is a
+    // valid prehashed signature of the list under the key, and the trusted comment names the list if it must.
+    // Otherwise it is the number of the first check that fails.**
+    ensures verdict { (v : PublicKeyValue) (sig_text text : List ℕ) (name : Option (List ℕ))
+        (accepts : Verifier) → IsAnsweredList list.old accepts v sig_text name text first second
+        → result ≡ list_verdict_number (list_verdict_under accepts v sig_text name text) }
+
+    // It is API misuse if a result is neither 7955827 (yes) nor 28271 (no), or if nothing was asked; then the
+    // list is unchanged. Otherwise the result is 0 and the list is verified exactly if `first` is yes, the
+    // comment signature has its 64 bytes and `second` is yes, and the trusted comment names the list if it
+    // must. After an error the list is not verified.
+    ensures number { (result, list.new) ≡ told_list_number list.old first second }
+{
+    if !is_answer(first) || !is_answer(second) {
+        return Misuse::BadAnswer.number();
+    }
+    match list.verdict(first == ANSWER_YES, second == ANSWER_YES) {
+        Ok(()) => 0,
+        Err(refusal) => list_number_of(refusal),
+    }
+}
+
+/// Finds the only entry of a name in a verified list.
+#[unsafe(no_mangle)]
+pub extern "C" fn page_list_find(
+    list: &ListValue,
+    text: &[u8],
+    long_digest: u32,
+    name: &[u8],
+    entry: &mut EntryValue,
+    line: &mut u64,
+) -> u32
+    // **The result is 0 exactly if the list was verified and this is its text, every line is well formed, and
+    // exactly one entry has the name.** Then `entry` is that entry, and `line` is 0. Otherwise the result is
+    // the number of the first check that fails, `entry` is unchanged, and `line` is the number of the line at
+    // fault, or 0 if no line is at fault.
+    ensures number { (result, (entry.new, line.new))
+        ≡ finding_number (long_numbered long_digest) list.now text.now name.now entry.old }
+
+    // On success, `minisign_list_begin` with the entry compares with the digest in the list.
+    ensures digest { result ≡ 0 → (long : LongDigest) (e : Entry) → long_numbered long_digest ≡ Some long
+        → found_entry list.now text.now long name.now ≡ Ok e → entry_digest entry.new ≡ Ok e.digest }
+{
+    *line = 0;
+    let Some(long) = LongDigest::of_number(long_digest) else {
+        return Misuse::BadHash.number();
+    };
+    match list.find(text, long, name, entry) {
+        Ok(()) => 0,
+        Err(refusal) => {
+            *line = line_of(&refusal);
+            list_number_of(refusal)
+        }
+    }
+}
+
+/// Writes all entries of a verified list.
+#[unsafe(no_mangle)]
+pub extern "C" fn page_list_entries(
+    list: &ListValue,
+    text: &[u8],
+    long_digest: u32,
+    entries: &mut [EntryValue],
+    count: &mut usize,
+    line: &mut u64,
+) -> u32
+    // The result is 0 exactly if the list was verified and this is its text, every line is well formed, and
+    // the buffer has room for all entries. Then the buffer begins with them, in the order of their lines, its
+    // rest is unchanged, and `count` is their number. Otherwise the result is the number of the first check
+    // that fails, and the buffer and `count` are unchanged. `line` is the number of the line at fault, or 0.
+    ensures { (result, (entries.new, (count.new, line.new)))
+        ≡ all_entries_number (long_numbered long_digest) list.now text.now entries.old count.old }
+{
+    *line = 0;
+    let Some(long) = LongDigest::of_number(long_digest) else {
+        return Misuse::BadHash.number();
+    };
+    match list.entries(text, long, entries) {
+        Ok(found) => {
+            *count = found;
+            0
+        }
+        Err(refusal) => {
+            *line = line_of(&refusal);
+            list_number_of(refusal)
+        }
+    }
+}
+
+/// Compares the digest of an entry with one that the caller computed, which is trusted.
+#[unsafe(no_mangle)]
+pub extern "C" fn page_list_compare_trusting_your_hash(
+    entry: &EntryValue,
+    hash: u32,
+    digest: &[u8],
+) -> u32
+    // The result is 0 exactly if the entry was read, this is its hash function, and these bytes are its
+    // digest. Otherwise it is the number of the first check that fails. Nothing is said about any data.
+    ensures { result ≡ list_result (compared entry.now hash digest.now) }
+{
+    match entry.compare_trusting_your_hash(hash, digest) {
+        Ok(()) => 0,
+        Err(refusal) => list_number_of(refusal),
+    }
+}
+
+/// Begins to compute a SHA-256 digest.
+#[unsafe(no_mangle)]
+pub extern "C" fn page_sha256_begin(state: &mut StoredSha256)
+    // The state has been fed no data, whatever it held before.
+    ensures { WasFed256 state.new [] }
+{
+    *state = StoredSha256::store(&Sha256::new());
+}
+
+/// Feeds the next bytes of the data.
+#[unsafe(no_mangle)]
+pub extern "C" fn page_sha256_update(state: &mut StoredSha256, piece: &[u8])
+    // The piece is appended to the data that the state was fed.
+    ensures { (m : List ℕ) → WasFed256 state.old m → WasFed256 state.new (m ++ piece.now) }
+{
+    let mut hasher: Sha256 = state.restore();
+    hasher.update(piece);
+    *state = StoredSha256::store(&hasher);
+}
+
+/// Writes the digest of the data that was fed.
+#[unsafe(no_mangle)]
+pub extern "C" fn page_sha256_digest(state: &StoredSha256, digest: &mut [u8; 32])
+    // **The digest is the SHA-256 digest of all data that the state was fed.**
+    ensures { (m : List ℕ) → WasFed256 state.now m → digest.new ≡ sha256 m }
+{
+    *digest = state.restore().finalize();
+}
+
+/// Begins to compute a SHA-512 digest.
+#[unsafe(no_mangle)]
+pub extern "C" fn page_sha512_begin(state: &mut StoredSha512)
+    // The state has been fed no data, whatever it held before.
+    ensures { WasFed512 state.new [] }
+{
+    *state = StoredSha512::store(&Sha512::new());
+}
+
+/// Feeds the next bytes of the data.
+#[unsafe(no_mangle)]
+pub extern "C" fn page_sha512_update(state: &mut StoredSha512, piece: &[u8])
+    // The piece is appended to the data that the state was fed.
+    ensures { (m : List ℕ) → WasFed512 state.old m → WasFed512 state.new (m ++ piece.now) }
+{
+    let mut hasher = state.restore();
+    hasher.update(piece);
+    *state = StoredSha512::store(&hasher);
+}
+
+/// Writes the digest of the data that was fed.
+#[unsafe(no_mangle)]
+pub extern "C" fn page_sha512_digest(state: &StoredSha512, digest: &mut [u8; 64])
+    // **The digest is the SHA-512 digest of all data that the state was fed.**
+    ensures { (m : List ℕ) → WasFed512 state.now m → digest.new ≡ sha512 m }
+{
+    *digest = state.restore().finalize();
+}
+
+// Returns the number of the line at fault, or 0 if no line is at fault.
+fn line_of(refusal: &Refusal<ListFault>) -> u64
+    ensures { result ≡ line_at_fault refusal.now }
+{
+    match refusal {
+        Refusal::WrongUse(_) => 0,
+        Refusal::Refused(fault) => fault.line(),
+    }
+}
+
+// Returns the error number. The error is forgotten instead of dropped, as in `number_of`.
+fn list_number_of(refusal: Refusal<ListFault>) -> u32
+    ensures { result ≡ list_refusal refusal }
+{
+    let number = refusal.number();
+    forget(refusal);
+    number
+}
+
+// Writes the text of an error of lists.
+fn write_list_error(fault: &ListFault, text: &mut [u8]) -> usize
+    requires { is_own fault.now ≡ true }
+    ensures written { (result ≡ length (list_row fault.now).summary)
+        × WritesCut (list_row fault.now).summary text.old text.new }
+    ensures room { result < 128 }
+{
+    match fault.row() {
+        Ok((_, _, meaning)) => write_cut(meaning, text),
+        Err(_) => 0,
+    }
+}
+
+// Converts the result of asking to a number.
+fn asked_number(answer: Result<bool, Refusal>) -> u32
+    ensures { result ≡ asked_number answer }
+{
+    match answer {
+        Ok(is_strict) if is_strict => 0,
+        Ok(_) => WEAK_ED25519,
+        Err(refusal) => number_of(refusal),
+    }
 }

@@ -1,0 +1,143 @@
+-- The calls for lists: their results as numbers, and the structs after them.
+use Rattle.std.specs.Prelude.{◌≡◌, ⊤, ◌==◌, ◌&&◌, ℕ, false, List, Option, Some, None, Result, Ok, Err}
+use Rattle.std.specs.Prelude.{MatchOption}
+use Rattle.std.specs.Prelude.{if◌then◌else◌}
+use Rattle.minisign.specs.Acceptance.{Verifier}
+use Rattle.minisign.specs.SignatureText.{SignatureTextRecord}
+use Rattle.minisign_external.specs.Numbers.{IsAnswer, IsKindOf, answer_yes, is_answer, kind_number}
+use Rattle.minisign_external.specs.Numbers.{misuse_number, refusal_number}
+use Rattle.minisign_external.specs.Questions.{Answers, read_under}
+use Rattle.minisign_external.specs.States.{AreQuestions, asked_under, with_public_key}
+use Rattle.minisign_external.specs.declared.state.Questions.{Questions}
+use Rattle.minisign_hash.specs.Blake2b.{blake2b_digest}
+use Rattle.minisign_external.specs.StrictCalls.{asked_number, asked_strictly, is_strict_text}
+use Rattle.minisign_external.specs.declared.public_keys.PublicKeyValue.{PublicKeyValue}
+use Rattle.minisign_external.specs.declared.state.Misuse.TheVariants.{BadAnswer, BadHash}
+use Rattle.minisign_external.specs.declared.state.Refusal.{Refusal}
+use Rattle.minisign_external.specs.declared.state.Refusal.TheVariants.{Refused, WrongUse}
+use Rattle.minisign_install.specs.Faults.{IsErrorText}
+use Rattle.minisign_lists.specs.declared.digests.ListedDigest.{ListedDigest}
+use Rattle.minisign_lists.specs.declared.faults.ListFault.{ListFault}
+use Rattle.minisign_lists.specs.declared.lines.LongDigest.{LongDigest}
+use Rattle.minisign_lists.specs.Faults.{list_fault_numbered, list_number, list_row, with_line}
+use Rattle.minisign_lists.specs.Values.{HasAskedList, all_entries, found_entry, told_entries, told_entry}
+use Rattle.minisign_lists.specs.Values.{told_list_verdict}
+use Rattle.minisign_lists.specs.Writing.{appended}
+use Rattle.minisign_lists.specs.declared.values.EntryValue.{EntryValue}
+use Rattle.minisign_lists.specs.declared.values.ListValue.{ListValue}
+
+-- == Errors ==
+
+-- The text is the meaning of the number, of an error of lists or of any other number.
+abbrev pub IsCallMeaning : ℕ → List ℕ → Type 0
+IsCallMeaning n text =
+    MatchOption (list_fault_numbered n) (IsErrorText n text) (λ e. text ≡ (list_row e).summary)
+
+-- k is the number of the kind of the error that has the number n. The errors of lists have kinds of the
+-- library.
+abbrev pub IsCallKind : ℕ → ℕ → Type 0
+IsCallKind n k = MatchOption (list_fault_numbered n) (IsKindOf n k) (λ e. k ≡ kind_number (list_row e).kind)
+
+-- The error number of a failed call.
+abbrev pub list_refusal : Refusal ListFault → ℕ
+list_refusal r = refusal_number list_number r
+
+-- The number of the line at fault, or 0 if no line is at fault.
+abbrev pub line_at_fault : Refusal ListFault → ℕ
+line_at_fault (WrongUse m) = 0
+line_at_fault (Refused e) = with_line e
+
+-- The number of a result: 0 for success, otherwise the error number.
+abbrev pub list_result : Result ⊤ (Refusal ListFault) → ℕ
+list_result (Ok t) = 0
+list_result (Err r) = list_refusal r
+
+-- == The verdict on a list ==
+
+-- The number of asking about a list with this signature file, in terms of the file, which parses to t. After
+-- the public key come the errors of parsing the file and checking it under the key, then a buffer that is too
+-- short, and then a weak key or signature.
+abbrev pub asking_list_number : PublicKeyValue → List ℕ → SignatureTextRecord → ℕ → ℕ
+asking_list_number v sig_text t room =
+    asked_number (asked_strictly (is_strict_text v t)
+    (with_public_key v (asked_under (read_under v false sig_text) room)))
+
+-- These are the questions about the key and the parsed signature file, with the digest of the list. The bytes
+-- begin with the message of the second question.
+abbrev pub AreListQuestions : Questions → List ℕ → PublicKeyValue → SignatureTextRecord → List ℕ → Type 0
+AreListQuestions q bytes v t text = AreQuestions q bytes v t × (q.digest ≡ blake2b_digest 64 text)
+
+-- The list was asked about this key, signature file, name (if one is given) and text, and the two numbers are
+-- the scheme's results of both checks.
+pub record IsAnsweredList (l : ListValue) (accepts : Verifier) (v : PublicKeyValue) (sig_text : List ℕ)
+    (name : Option (List ℕ)) (text : List ℕ)
+    (first second : ℕ) : Type 0 where
+  pub asked : HasAskedList l v sig_text name text
+  pub first_known : IsAnswer first
+  pub second_known : IsAnswer second
+  pub answers : Answers accepts v sig_text text (first == answer_yes) (second == answer_yes)
+
+-- The number of a verdict on a list: 0 for success, otherwise the error number.
+abbrev pub list_verdict_number : Result (List ℕ) ListFault → ℕ
+list_verdict_number (Ok trusted) = 0
+list_verdict_number (Err e) = list_number e
+
+abbrev pub numbered_list : Result ⊤ (Refusal ListFault) × ListValue → ℕ × ListValue
+numbered_list p = (list_result p.0, p.1)
+
+-- The number of the verdict on a list, and the list after it. The results of the two checks must be
+-- numbers that mean yes or no.
+abbrev pub told_list_number : ListValue → ℕ → ℕ → ℕ × ListValue
+told_list_number l first second =
+    if is_answer first && is_answer second
+    then numbered_list (told_list_verdict l (first == answer_yes) (second == answer_yes))
+    else (misuse_number BadAnswer, l)
+
+-- == Entries ==
+
+-- The number of a lookup, the entry after it, and the line at fault.
+abbrev pub found_number : Result ⊤ (Refusal ListFault) → EntryValue → ℕ × (EntryValue × ℕ)
+found_number (Ok t) entry = (0, (entry, 0))
+found_number (Err r) entry = (list_refusal r, (entry, line_at_fault r))
+
+abbrev pub told_entry_number : Result ⊤ (Refusal ListFault) × EntryValue → ℕ × (EntryValue × ℕ)
+told_entry_number p = found_number p.0 p.1
+
+-- The same, unless the number of the meaning of 128 digits is none.
+abbrev pub finding_number : Option LongDigest → ListValue → List ℕ → List ℕ → EntryValue
+    → ℕ × (EntryValue × ℕ)
+finding_number None l text name old = (misuse_number BadHash, (old, 0))
+finding_number (Some long) l text name old =
+    told_entry_number (told_entry (found_entry l text long name) text old)
+
+-- The number of asking for all entries, the buffer after it, the number of entries, and the line at fault.
+abbrev pub entries_number : Result ℕ (Refusal ListFault) → List EntryValue → ℕ
+    → ℕ × (List EntryValue × (ℕ × ℕ))
+entries_number (Ok n) to count = (0, (to, (n, 0)))
+entries_number (Err r) to count = (list_refusal r, (to, (count, line_at_fault r)))
+
+abbrev pub told_entries_number : Result ℕ (Refusal ListFault) × List EntryValue → ℕ
+    → ℕ × (List EntryValue × (ℕ × ℕ))
+told_entries_number p count = entries_number p.0 p.1 count
+
+-- The same, unless the number of the meaning of 128 digits is none.
+abbrev pub all_entries_number : Option LongDigest → ListValue → List ℕ → List EntryValue → ℕ
+    → ℕ × (List EntryValue × (ℕ × ℕ))
+all_entries_number None l text old count = (misuse_number BadHash, (old, (count, 0)))
+all_entries_number (Some long) l text old count =
+    told_entries_number (told_entries (all_entries l text long) text old) count
+
+-- == Writing ==
+
+-- The number of appending an entry, the buffer after it, and the length of the list.
+abbrev pub appended_number : Result ℕ (Refusal ListFault) → List ℕ → ℕ → ℕ × (List ℕ × ℕ)
+appended_number (Ok n) buffer len = (0, (buffer, n))
+appended_number (Err r) buffer len = (list_refusal r, (buffer, len))
+
+abbrev pub told_append_number : Result ℕ (Refusal ListFault) × List ℕ → ℕ → ℕ × (List ℕ × ℕ)
+told_append_number p len = appended_number p.0 p.1 len
+
+-- The same, unless the hash function or the length of the digest is not accepted.
+abbrev pub appending_number : Option ListedDigest → List ℕ → ℕ → List ℕ → ℕ × (List ℕ × ℕ)
+appending_number None buffer len name = (misuse_number BadHash, (buffer, len))
+appending_number (Some digest) buffer len name = told_append_number (appended buffer len digest name) len

@@ -1,0 +1,2 @@
+-- The definitions that the contracts of minisign_page use.
+pub mod ListCalls
