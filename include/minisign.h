@@ -109,8 +109,9 @@ extern "C" {
  *   functions of minisign_stream.h do: see there.) Before a call returns, it clears and frees the memory that it got
  *   from malloc. A program that replaces malloc must also replace free, and malloc must align a block of n bytes to
  *   every power of two up to 16 that divides n. Verifying does not allocate. The calls that allocate are
- *   minisign_open_sealed_key, minisign_signed_text, minisign_secret_key_text, minisign_secret_key_text_with_any_limits
- *   and minisign_public_key_text. Do not use them in a signal handler, or in the child of a process with several
+ *   minisign_open_sealed_key, minisign_signed_text, minisign_secret_key_text,
+ *   minisign_secret_key_text_with_any_limits, minisign_public_key_text, minisign_encode_public_key and
+ *   minisign_encode_unopened_key. Do not use them in a signal handler, or in the child of a process with several
  *   threads after fork.
  * - The thread of scrypt. When you open a sealed key or write one, scrypt runs. Meanwhile the library uses a second
  *   thread, which makes the system provide the memory pages before scrypt needs them. This thread blocks all signals
@@ -142,7 +143,7 @@ extern "C" {
  *   key or R that is not canonically encoded: its y coordinate is not below 2^255 - 19, or x is 0 and its sign bit is
  *   set. Third, a number S in the last 32 bytes of a signature that is not below the group order, 2^252 +
  *   27742317777372353535851937790883648493. minisign_ask rejects all three kinds, and so does
- *   crypto_sign_verify_detached of libsodium. minisign_install_ask rejects none of them, so there your Ed25519
+ *   crypto_sign_verify_detached of libsodium. minisign_install_question rejects none of them, so there your Ed25519
  *   implementation must. If small orders were accepted, anybody could forge signatures under such a key: with OpenSSL
  *   3.0, 64 zero bytes are a valid signature of one message in four under a public key of 32 zero bytes, which
  *   minisign_read_bare_public_key reads from 56 letters A. If a larger S were accepted, anybody could change a valid
@@ -155,7 +156,8 @@ extern "C" {
  * - minisign_update, minisign_digest or minisign_ask after minisign_digest;
  * - minisign_ask for the second time, or with a signature that was not read, or was read from another file;
  * - a public key that was not read;
- * - minisign_verdict before minisign_ask or before minisign_digest;
+ * - minisign_verdict before minisign_ask or before minisign_digest, and minisign_bare_verdict before minisign_ask_bare or
+ *   before minisign_digest;
  * - opening a secret key that was not read, or writing a key file from a secret key that was not opened.
  */
 
@@ -171,34 +173,35 @@ uint32_t minisign_version(void);
 /* Numbers, made by tools/header.py. */
 enum minisign_error {
     MINISIGN_OK = 0,
-    /* The state was not initialized, or a verdict has finished it. */
+    /* The state is not initialized, or its verdict was already returned. */
     MINISIGN_NOT_BEGUN = 1,
-    /* minisign_ask, minisign_install_ask or minisign_digest was called already. */
+    /* minisign_ask, minisign_ask_bare or minisign_digest was already called. */
     MINISIGN_ALREADY_ASKED = 2,
-    /* minisign_ask, minisign_install_ask or minisign_digest was not called yet. */
+    /* minisign_ask, minisign_ask_bare or minisign_digest was not called yet. */
     MINISIGN_NOT_ASKED = 3,
-    /* A result of a check is neither MINISIGN_ANSWER_YES nor MINISIGN_ANSWER_NO. */
+    /* The result of an Ed25519 check is neither MINISIGN_ANSWER_YES nor MINISIGN_ANSWER_NO. */
     MINISIGN_BAD_ANSWER = 4,
-    /* A buffer is too short. */
+    /* A buffer that was passed is too small. */
     MINISIGN_NO_ROOM = 5,
-    /* allow_legacy is neither 0 nor 1. */
+    /* The parameter allow_legacy is neither 0 nor 1. */
     MINISIGN_BAD_LEGACY_FLAG = 6,
     /* An allocation failed, or its size is too large for any allocation. */
     MINISIGN_OUT_OF_MEMORY = 7,
     /* The input is not UTF-8: a file, a typed line, a password, a comment or a name. */
     MINISIGN_NOT_UTF8 = 8,
-    /* This library would not read a comment back unchanged, for example because it contains a line feed. */
+    /* A comment would change when it is read back, because it contains a line feed, or begins or ends with white
+     * space. */
     MINISIGN_BAD_COMMENT = 9,
-    /* with_password is not 0, 1 or 2. */
+    /* The parameter with_password is not 0, 1 or 2. */
     MINISIGN_BAD_PASSWORD_FLAG = 10,
-    /* This library would read a comment back, but Minisign would not, because it is too long or contains a zero
-     * byte or a carriage return. */
+    /* Minisign would not read a comment back, because it is too long, or contains a zero byte or a carriage
+     * return. */
     MINISIGN_UNREADABLE_COMMENT = 11,
-    /* The installation does not expect this call, or this error, at this point. */
+    /* The installation expects a different call now, or this call cannot fail with this error. */
     MINISIGN_NOT_DUE = 12,
-    /* An option of an installation is neither 0 nor 1. */
+    /* An option of an installation other than numbering is neither 0 nor 1. */
     MINISIGN_BAD_OPTION = 13,
-    /* numbering is neither MINISIGN_NUMBERING_TIMESTAMP nor MINISIGN_NUMBERING_VERSION. */
+    /* The option numbering is neither MINISIGN_NUMBERING_TIMESTAMP nor MINISIGN_NUMBERING_VERSION. */
     MINISIGN_BAD_NUMBERING = 14,
     /* The secret key was neither opened nor set by minisign_take_secret_key. */
     MINISIGN_KEY_NOT_OPENED = 15,
@@ -292,11 +295,11 @@ enum minisign_error {
     MINISIGN_BAD_SIZE = 59,
     /* The data is longer or shorter than the trusted comment says. */
     MINISIGN_OTHER_SIZE = 60,
-    /* The signature was read from another signature file than the one that was passed. */
+    /* The signature was read from a different signature file than the one that was passed with it. */
     MINISIGN_OTHER_SIGNATURE_TEXT = 61,
-    /* The signature was not read. */
+    /* No signature was read into the struct, or it is a bare signature and the call needs comments. */
     MINISIGN_SIGNATURE_NOT_READ = 62,
-    /* The secret key that is to be opened was not read. */
+    /* No secret key was read into the struct. */
     MINISIGN_KEY_NOT_READ = 63,
     /* Reading from a source, a file or a prompt failed. */
     MINISIGN_READING_FAILED = 64,
@@ -307,12 +310,32 @@ enum minisign_error {
     /* The public key or a signature is one that strict Ed25519 rejects: a point has a small order or is not
      * canonical, or the second half of a signature is not below the group order. */
     MINISIGN_WEAK_ED25519 = 81,
-    /* The public key was not read. */
+    /* No public key was read into the struct. */
     MINISIGN_PUBLIC_KEY_NOT_READ = 82,
-    /* The password is empty, and with_password does not allow that. */
+    /* The password is empty, and with_password does not allow an empty one. */
     MINISIGN_EMPTY_PASSWORD = 83,
-    /* The salt is all zeros, or a limit is below the minimum of Minisign. */
-    MINISIGN_WEAK_SEALING = 84
+    /* The salt is all zeros, or a scrypt limit is below the minimum of Minisign. */
+    MINISIGN_WEAK_SEALING = 84,
+    /* The list was not verified. */
+    MINISIGN_LIST_NOT_VERIFIED = 85,
+    /* The text is not the list that was verified. */
+    MINISIGN_OTHER_LIST_TEXT = 86,
+    /* The hash function, or the length of its digest, is not one that this call accepts. */
+    MINISIGN_BAD_HASH = 87,
+    /* The entry was not read from a list. */
+    MINISIGN_ENTRY_NOT_READ = 88,
+    /* The trusted comment does not name the list. */
+    MINISIGN_OTHER_LIST = 89,
+    /* No list can contain the name. */
+    MINISIGN_BAD_NAME = 90,
+    /* A line of the list is malformed. */
+    MINISIGN_MALFORMED_LINE = 91,
+    /* No line of the list has the name. */
+    MINISIGN_NOT_LISTED = 92,
+    /* Two lines of the list have the name. */
+    MINISIGN_LISTED_TWICE = 93,
+    /* The data does not have the listed digest. */
+    MINISIGN_DIGEST_MISMATCH = 94
 };
 /* The end of the numbers. */
 
@@ -324,6 +347,44 @@ enum minisign_error {
  * error", and that of a number without a meaning is "unknown error". Returns the length of the whole text without the
  * 0 byte, as snprintf does. Since 0.1. */
 size_t minisign_error_text(uint32_t error, char *text MINISIGN_ROLE(room ERROR_TEXT_BYTES), size_t room);
+
+/* The kind of an error: a coarse class, for programs that treat many errors alike. API misuse and 0 have kinds of their
+ * own. The other kinds are those of the Rust crate minisign, which files every text that has the wrong form under
+ * MINISIGN_KIND_IO. */
+/* Kinds, made by tools/header.py. */
+enum minisign_kind {
+    /* The number is 0, or it has no meaning in this header. */
+    MINISIGN_KIND_NONE = 0,
+    /* API misuse. */
+    MINISIGN_KIND_MISUSE = 1,
+    /* Key generation. */
+    MINISIGN_KIND_GENERATE = 2,
+    /* Signing. */
+    MINISIGN_KIND_SIGN = 3,
+    /* Verifying a signature or a checksum. */
+    MINISIGN_KIND_VERIFY = 4,
+    /* A device, or a text that has the wrong form. */
+    MINISIGN_KIND_IO = 5,
+    /* Anything else. */
+    MINISIGN_KIND_MISC = 6,
+    /* Hashing. */
+    MINISIGN_KIND_HASH = 7,
+    /* Deriving a key from a password. */
+    MINISIGN_KIND_KDF = 8,
+    /* Generating random bytes. */
+    MINISIGN_KIND_RNG = 9,
+    /* Bytes that are not UTF-8, or a text that is not base64. */
+    MINISIGN_KIND_ENCODING = 10,
+    /* An encrypted key where a decrypted one is needed. */
+    MINISIGN_KIND_ENCRYPTED_KEY = 11,
+    /* A failed allocation. */
+    MINISIGN_KIND_OUT_OF_MEMORY = 12
+};
+/* The end of the kinds. */
+
+/* Returns the kind of an error. Errors that only the calls of minisign_install.h return have MINISIGN_KIND_NONE. Does not
+ * allocate. Since 0.3. */
+enum minisign_kind minisign_error_kind(uint32_t error);
 
 /* The state of verifying or signing one file. You allocate it. Only the library writes its bytes. */
 typedef struct minisign_state {
@@ -373,6 +434,26 @@ MINISIGN_MUST_USE enum minisign_error minisign_read_public_key(
 MINISIGN_MUST_USE enum minisign_error minisign_read_bare_public_key(
     const uint8_t *base64, size_t base64_len, minisign_public_key *key MINISIGN_ROLE(output));
 
+/* The sizes of records: a record is what the base64 in a file encodes. That of a public key has the algorithm in its
+ * first 2 bytes, then the key ID (8) and the key (32). That of a signature has the algorithm (2), the key ID (8) and the
+ * signature (64). That of a secret key has the algorithm (2), the key derivation (2), the checksum algorithm (2), the
+ * salt (32), the operations limit and the memory limit (8 each, little-endian), the key ID (8), the secret (64) and the
+ * checksum (32); the last three are encrypted if the key is sealed. */
+#define MINISIGN_PUBLIC_KEY_RECORD_BYTES 42
+#define MINISIGN_SIGNATURE_RECORD_BYTES 74
+#define MINISIGN_SECRET_KEY_RECORD_BYTES 158
+
+/* Reads a public key from its record, which is in the first 42 bytes; later bytes are ignored. The algorithm in it is
+ * not checked. Does not allocate. After an error the key is unchanged. The only error is MINISIGN_RECORD_TOO_SHORT, for
+ * fewer bytes. Since 0.3. */
+MINISIGN_MUST_USE enum minisign_error minisign_read_public_key_record(
+    const uint8_t *record, size_t record_len, minisign_public_key *key MINISIGN_ROLE(output));
+
+/* Writes the record of a public key, with the algorithm "Ed", which Minisign writes in every public key.
+ * minisign_read_public_key_record reads the same key from it. Does not allocate. The only error is
+ * MINISIGN_PUBLIC_KEY_NOT_READ, after which record is unchanged. Since 0.3. */
+MINISIGN_MUST_USE enum minisign_error minisign_public_key_record(const minisign_public_key *key, uint8_t record[42]);
+
 /* The content of a signature file. Nothing in it is verified yet. Only the library writes its fields, and only the
  * library uses mark and text_digest. You may read the other fields, for example to choose the public key by key_id, or
  * to detect a legacy signature before you call minisign_ask. */
@@ -403,6 +484,18 @@ typedef struct minisign_signature {
  */
 MINISIGN_MUST_USE enum minisign_error minisign_read_signature(
     const uint8_t *sig_text, size_t sig_text_len, minisign_signature *signature MINISIGN_ROLE(output));
+
+/* Reads a bare signature, which has no comments, from its record, which is in the first 74 bytes; later bytes are
+ * ignored. Only minisign_ask_bare and minisign_signature_record take the result: for minisign_ask it counts as not
+ * read. Its fields about comments are 0. Does not allocate. After an error the signature is unchanged. The errors, in
+ * this order: MINISIGN_RECORD_TOO_SHORT, for fewer than 74 bytes; MINISIGN_UNSUPPORTED_ALGORITHM. Since 0.3. */
+MINISIGN_MUST_USE enum minisign_error minisign_read_signature_record(
+    const uint8_t *record, size_t record_len, minisign_signature *signature MINISIGN_ROLE(output));
+
+/* Writes the record of a signature that was read from a file or from a record: the second line of the file, decoded.
+ * Does not allocate. The only error is MINISIGN_SIGNATURE_NOT_READ, after which record is unchanged. Since 0.3. */
+MINISIGN_MUST_USE enum minisign_error minisign_signature_record(const minisign_signature *signature,
+                                                                uint8_t record[74]);
 
 /* The two signatures to check with Ed25519, both under public_key. */
 typedef struct minisign_questions {
@@ -492,6 +585,36 @@ MINISIGN_MUST_USE enum minisign_error minisign_comment_verdict(const minisign_st
 MINISIGN_MUST_USE enum minisign_error minisign_verdict(minisign_state *state, enum minisign_answer first,
                                                        enum minisign_answer second);
 
+/*
+ * Prepares the only check of a bare signature, one without a trusted comment: writes the key and the signature to
+ * questions. signature was read by minisign_read_signature_record, or by minisign_read_signature if you do not want the
+ * comments of the file verified. Call it instead of minisign_ask; everything about the digest, about legacy signatures
+ * and about allow_legacy is as described there. Then minisign_bare_verdict gives the verdict, and the calls that give
+ * one for a signature with comments reject the state. The fields of questions about the comment are 0, and there is no
+ * second message. Does not allocate.
+ *
+ * After an error the state and the questions are unchanged. The errors, in this order: MINISIGN_BAD_LEGACY_FLAG;
+ * MINISIGN_NOT_BEGUN, MINISIGN_ALREADY_ASKED; MINISIGN_PUBLIC_KEY_NOT_READ; MINISIGN_SIGNATURE_NOT_READ;
+ * MINISIGN_DIFFERENT_KEY_IDS; MINISIGN_LEGACY_NOT_ACCEPTED; MINISIGN_WEAK_ED25519. Since 0.3.
+ */
+MINISIGN_MUST_USE enum minisign_error minisign_ask_bare(
+    minisign_state *state, const minisign_public_key *key, const minisign_signature *signature, uint32_t allow_legacy,
+    minisign_questions *questions MINISIGN_ROLE(output));
+
+/*
+ * Returns whether a bare signature is valid, by the result of its check. Call it after minisign_ask_bare and
+ * minisign_digest. It finishes the state, which takes no more calls until minisign_init. Does not allocate.
+ *
+ * MINISIGN_OK means that the signature is a valid signature of all data that was fed, under the public key: the key IDs
+ * are equal, the algorithm is allowed, and Ed25519 accepts the signature for the data. Nothing is verified about any
+ * comment.
+ *
+ * The errors, in this order: MINISIGN_BAD_ANSWER; MINISIGN_NOT_BEGUN; MINISIGN_NOT_ASKED, before minisign_ask_bare or
+ * minisign_digest, or after minisign_ask; MINISIGN_SIGNATURE_REFUSED, if the result is no. After the first three the
+ * state is unchanged. Since 0.3.
+ */
+MINISIGN_MUST_USE enum minisign_error minisign_bare_verdict(minisign_state *state, enum minisign_answer first);
+
 /* ---- Signing ---- */
 
 /* A secret key that was read and not opened yet. Only the library writes mark and bytes, and only they matter when
@@ -517,6 +640,35 @@ typedef struct minisign_unopened_key {
 MINISIGN_MUST_USE enum minisign_error minisign_read_secret_key(
     const uint8_t *sk_text MINISIGN_ROLE(secret), size_t sk_text_len,
     minisign_unopened_key *unopened MINISIGN_ROLE(output));
+
+/* Reads a secret key from its record, which is in the first 158 bytes; later bytes are ignored. They become the field
+ * `bytes` of unopened. Does not allocate. After an error the key is unchanged. The only error is
+ * MINISIGN_RECORD_TOO_SHORT, for fewer bytes. Since 0.3. */
+MINISIGN_MUST_USE enum minisign_error minisign_read_secret_key_record(
+    const uint8_t *secret_record MINISIGN_ROLE(secret), size_t secret_record_len,
+    minisign_unopened_key *unopened MINISIGN_ROLE(output));
+
+/*
+ * Writes an unopened key as a secret key file, as it is: nothing is encrypted, decrypted or checked, so the key stays
+ * sealed if it is sealed. Writes both lines to text, a buffer of room bytes, and their length to text_len.
+ * MINISIGN_SECRET_KEY_BYTES(comment_len) bytes are enough. minisign_read_secret_key reads the same key from the file.
+ *
+ * After an error, *text and *text_len are unchanged. The errors, in this order: MINISIGN_KEY_NOT_READ;
+ * MINISIGN_NOT_UTF8; MINISIGN_BAD_COMMENT, MINISIGN_UNREADABLE_COMMENT, as for minisign_secret_key_text;
+ * MINISIGN_NO_ROOM; MINISIGN_OUT_OF_MEMORY. Since 0.3.
+ */
+MINISIGN_MUST_USE enum minisign_error minisign_encode_unopened_key(
+    const minisign_unopened_key *unopened, const uint8_t *comment, size_t comment_len,
+    uint8_t *text MINISIGN_ROLE(room SECRET_KEY_BYTES + comment_len), size_t room, size_t *text_len);
+
+/* Checks everything about a sealed key that needs no password. Call it before you ask for the password, which is needed
+ * if is_sealed is 1: so nobody types one for a key that cannot be opened. If the call succeeds, the only errors that
+ * minisign_open_sealed_key can return for the same most_rows are MINISIGN_NOT_UTF8, MINISIGN_OUT_OF_MEMORY and
+ * MINISIGN_WRONG_PASSWORD. Does not allocate. The errors, in this order: MINISIGN_KEY_NOT_READ; MINISIGN_KEY_NOT_SEALED;
+ * MINISIGN_UNSUPPORTED_KEY_DERIVATION; MINISIGN_PARAMETERS_TOO_HIGH, MINISIGN_INVALID_PARAMETERS;
+ * MINISIGN_WORK_TOO_HIGH. Since 0.3. */
+MINISIGN_MUST_USE enum minisign_error minisign_test_sealed_key(const minisign_unopened_key *unopened,
+                                                               uint64_t most_rows);
 
 /* A secret key that was opened, or written by minisign_take_secret_key. Only the library sets mark, and it writes key
  * files and public keys only from a key that has the mark. So if opening a key fails and the error is ignored, you do
@@ -609,6 +761,13 @@ void minisign_take_secret_key(const minisign_new_key *new_key, minisign_secret_k
  * error is MINISIGN_KEY_NOT_OPENED, after which the public key is unchanged. Since 0.2. */
 MINISIGN_MUST_USE enum minisign_error minisign_public_key_of(
     const minisign_secret_key *key, minisign_public_key *public_key MINISIGN_ROLE(output));
+
+/* Writes the record of an opened secret key, not sealed: no key derivation, zeros as salt and limits, and the checksum.
+ * minisign_read_secret_key_record reads it, and minisign_open_unsealed_key then opens the same key. The record contains
+ * the secret, so clear it after its last use. Does not allocate. The only error is MINISIGN_KEY_NOT_OPENED, after which
+ * secret_record is unchanged. Since 0.3. */
+MINISIGN_MUST_USE enum minisign_error minisign_secret_key_record(
+    const minisign_secret_key *key, uint8_t secret_record[158] MINISIGN_ROLE(secret));
 
 /* Writes the second message to sign to message, a buffer of room bytes. The message is your signature of the digest
  * followed by the trusted comment, 64 + trusted_len bytes. Sign it with the same secret as the digest. Does not
@@ -763,6 +922,15 @@ MINISIGN_MUST_USE enum minisign_error minisign_public_key_text(
     const minisign_secret_key *key, const uint8_t *comment, size_t comment_len,
     uint8_t *text MINISIGN_ROLE(room PUBLIC_KEY_BYTES + comment_len), size_t room, size_t *text_len);
 
+/* Writes a public key file as minisign_public_key_text does, for a public key that was read, or that
+ * minisign_public_key_of wrote. The algorithm in the file is "Ed", which Minisign writes in every public key. After an
+ * error, *text and *text_len are unchanged. The errors, in this order: MINISIGN_PUBLIC_KEY_NOT_READ; MINISIGN_NOT_UTF8;
+ * MINISIGN_BAD_COMMENT, MINISIGN_UNREADABLE_COMMENT, as for minisign_secret_key_text; MINISIGN_NO_ROOM;
+ * MINISIGN_OUT_OF_MEMORY. Since 0.3. */
+MINISIGN_MUST_USE enum minisign_error minisign_encode_public_key(
+    const minisign_public_key *key, const uint8_t *comment, size_t comment_len,
+    uint8_t *text MINISIGN_ROLE(room PUBLIC_KEY_BYTES + comment_len), size_t room, size_t *text_len);
+
 /* Attributes, made by tools/header.py. */
 #if defined(__GNUC__) && !defined(__TINYC__)
 #pragma GCC diagnostic push
@@ -780,12 +948,22 @@ MINISIGN_WITH(minisign_digest, __nonnull__(1, 2));
 MINISIGN_WITH(minisign_clear, MINISIGN_ACCESS(__write_only__, 1, 2));
 MINISIGN_WITH(minisign_read_public_key, MINISIGN_ACCESS(__read_only__, 1, 2), __nonnull__(3));
 MINISIGN_WITH(minisign_read_bare_public_key, MINISIGN_ACCESS(__read_only__, 1, 2), __nonnull__(3));
+MINISIGN_WITH(minisign_read_public_key_record, MINISIGN_ACCESS(__read_only__, 1, 2), __nonnull__(3));
+MINISIGN_WITH(minisign_public_key_record, __nonnull__(1, 2));
 MINISIGN_WITH(minisign_read_signature, MINISIGN_ACCESS(__read_only__, 1, 2), __nonnull__(3));
+MINISIGN_WITH(minisign_read_signature_record, MINISIGN_ACCESS(__read_only__, 1, 2), __nonnull__(3));
+MINISIGN_WITH(minisign_signature_record, __nonnull__(1, 2));
 MINISIGN_WITH(minisign_ask, MINISIGN_ACCESS(__read_only__, 4, 5), MINISIGN_ACCESS(__write_only__, 8, 9),
                             __nonnull__(1, 2, 3, 7));
 MINISIGN_WITH(minisign_comment_verdict, __nonnull__(1));
 MINISIGN_WITH(minisign_verdict, __nonnull__(1));
+MINISIGN_WITH(minisign_ask_bare, __nonnull__(1, 2, 3, 5));
+MINISIGN_WITH(minisign_bare_verdict, __nonnull__(1));
 MINISIGN_WITH(minisign_read_secret_key, MINISIGN_ACCESS(__read_only__, 1, 2), __nonnull__(3));
+MINISIGN_WITH(minisign_read_secret_key_record, MINISIGN_ACCESS(__read_only__, 1, 2), __nonnull__(3));
+MINISIGN_WITH(minisign_encode_unopened_key, MINISIGN_ACCESS(__read_only__, 2, 3),
+                                            MINISIGN_ACCESS(__write_only__, 4, 5), __nonnull__(1, 6));
+MINISIGN_WITH(minisign_test_sealed_key, __nonnull__(1));
 MINISIGN_WITH(minisign_open_unsealed_key, __nonnull__(1, 2));
 MINISIGN_WITH(minisign_open_sealed_key, MINISIGN_ACCESS(__read_only__, 2, 3), __nonnull__(1, 6));
 MINISIGN_WITH(minisign_opening_memory, __nonnull__(1, 4, 5));
@@ -794,6 +972,7 @@ MINISIGN_WITH(minisign_open_sealed_key_in_place, MINISIGN_ACCESS(__read_only__, 
                                                  MINISIGN_ACCESS(__write_only__, 8, 9), __nonnull__(1, 10));
 MINISIGN_WITH(minisign_take_secret_key, __nonnull__(1, 2));
 MINISIGN_WITH(minisign_public_key_of, __nonnull__(1, 2));
+MINISIGN_WITH(minisign_secret_key_record, __nonnull__(1, 2));
 MINISIGN_WITH(minisign_comment_message, MINISIGN_ACCESS(__read_only__, 2, 3),
                                         MINISIGN_ACCESS(__write_only__, 4, 5), __nonnull__(1));
 MINISIGN_WITH(minisign_signed_text, MINISIGN_ACCESS(__write_only__, 3, 4), __nonnull__(1, 2, 5));
@@ -805,6 +984,8 @@ MINISIGN_WITH(minisign_secret_key_text_with_any_limits, MINISIGN_ACCESS(__read_o
                                                         __nonnull__(1, 5, 11));
 MINISIGN_WITH(minisign_public_key_text, MINISIGN_ACCESS(__read_only__, 2, 3),
                                         MINISIGN_ACCESS(__write_only__, 4, 5), __nonnull__(1, 6));
+MINISIGN_WITH(minisign_encode_public_key, MINISIGN_ACCESS(__read_only__, 2, 3),
+                                          MINISIGN_ACCESS(__write_only__, 4, 5), __nonnull__(1, 6));
 #undef MINISIGN_ACCESS
 #undef MINISIGN_WITH
 #pragma GCC diagnostic pop

@@ -8,47 +8,58 @@
  * to the target, and only if its version number is not below the recorded one. Whenever the installation is
  * interrupted, even by a crash of the machine, the target is a complete file: the old one or the update.
  *
- * The library makes no system calls. It tells you which step is due, you carry it out, and you report how it went.
- * Call minisign_install_init, which begins a run, and then repeat: get the next step from minisign_install_due, carry
- * it out, and report the outcome with the call listed here. The run ends when MINISIGN_DUE_INSTALLED,
- * MINISIGN_DUE_ALREADY, MINISIGN_DUE_WOULD_INSTALL or MINISIGN_DUE_REFUSED is due.
+ * If you use POSIX, call minisign_install_file of minisign_installing.h, which does all of this. The calls here are for
+ * other systems, and for programs that store files in another way.
  *
+ * The library makes no system calls. It tells you which operation is due, you perform it, and you report what happened.
+ * Call minisign_install_init, which begins a run, and then repeat: get the next operation from minisign_install_due,
+ * perform it, and report the outcome with the call listed here. The run ends when MINISIGN_DUE_INSTALLED,
+ * MINISIGN_DUE_ALREADY_INSTALLED, MINISIGN_DUE_WOULD_INSTALL or MINISIGN_DUE_REJECTED is due.
+ *
+ * - MINISIGN_DUE_LOCK: minisign_install_done if you hold the lock, or minisign_install_failed with
+ *   MINISIGN_TARGET_IN_USE if another process holds it and you do not wait any longer.
  * - MINISIGN_DUE_READ_RECORD: minisign_install_record, or minisign_install_no_record if there is no record.
- * - MINISIGN_DUE_JUDGE, MINISIGN_DUE_JUDGE_TARGET and MINISIGN_DUE_ANSWER: minisign_install_ask returns two
- *   signatures. Check them with Ed25519, and pass the results to minisign_install_answer.
- * - MINISIGN_DUE_LOOK and MINISIGN_DUE_READ_BACK: minisign_install_piece for each piece, and with 0 bytes at the end
- *   of the file; minisign_install_no_target if there is no file at the target.
- * - MINISIGN_DUE_RECEIVE and MINISIGN_DUE_COPY: minisign_install_more for each piece, and minisign_install_done at the
- *   end of the data. MINISIGN_DUE_RECEIVE is due only if the option is_waiting is set. After it MINISIGN_DUE_LOCK and
- *   the steps that follow it are due again, and MINISIGN_DUE_COPY copies the temporary file into which you received
- *   the data. If is_waiting is not set, MINISIGN_DUE_COPY copies the data from its source.
- * - MINISIGN_DUE_TAKE_PERMISSIONS: minisign_install_done. If there is no file at the target, give the new file the
+ * - MINISIGN_DUE_READ_SIGNATURE: minisign_install_signature.
+ * - MINISIGN_DUE_CHECK_COMMENT, MINISIGN_DUE_CHECK_RECORD, MINISIGN_DUE_CHECK_TARGET and MINISIGN_DUE_CHECK_DATA:
+ *   minisign_install_question returns a key and a signature. Check the signature with Ed25519, and pass the result to
+ *   minisign_install_answer.
+ * - MINISIGN_DUE_READ_TARGET and MINISIGN_DUE_READ_BACK: minisign_install_piece for each piece, and with 0 bytes at the
+ *   end of the file; minisign_install_no_target if there is no file at the target.
+ * - MINISIGN_DUE_COPY_DATA: minisign_install_copied for each piece, and minisign_install_done at the end of the data.
+ * - MINISIGN_DUE_SET_PERMISSIONS: minisign_install_done. If there is no file at the target, give the new file the
  *   permissions that you want; minisign-install uses mode 0600 unless --mode is given.
- * - All other steps: minisign_install_done.
- * - If any step fails: minisign_install_failed.
+ * - All other operations: minisign_install_done.
+ * - If any operation fails: minisign_install_failed.
  *
- * In the sources, c/install/installing.c is a complete program of this kind, and docs/INSTALLING.md has rules for the
+ * In the sources, c/install/installing.c does this for minisign_install_file, and docs/INSTALLING.md has rules for the
  * names and the modes of the files.
+ *
+ * Data that may arrive slowly, such as that of a pipe, must not be read while the target is locked, and not before the
+ * trusted comment is verified, because otherwise anybody could make you read without end. So first make a run with the
+ * same options and is_check set. If it ends with MINISIGN_DUE_WOULD_INSTALL, read the data into an unnamed file, at
+ * most the bytes that minisign_install_size returns, or at most a limit of your own if there is no signed size. Then
+ * install from this file. If the check ends with MINISIGN_DUE_ALREADY_INSTALLED, read nothing, and make a run with an
+ * empty file, which syncs the installed file.
  *
  * The record contains the version number, the field of the trusted comment from which it was read, the public key
  * under which the update was verified, and the digest of the data. New data and a new record are first written to
  * temporary files in the directory of the target, with random names. They are synced before they are renamed, so what
  * is renamed is always complete.
  *
- * If an update has the recorded version number, the installed file is read and verified. If it is the update, the file
- * and the directory are synced, and the run ends with MINISIGN_DUE_ALREADY. If it is another file, the update is
- * installed if the record was written for the data of this update, or if the option `again` is set. Otherwise the
- * update is rejected. So if a run was interrupted after it had renamed its record and before it renamed its data, the
- * next run completes the installation.
+ * If an update does not have a greater version number than the recorded one, the installed file may be the update. Then
+ * it is read and verified. If it is the update, the file and the directory are synced, and the run ends with
+ * MINISIGN_DUE_ALREADY_INSTALLED. If it is another file, the update is installed if the record was written for the data
+ * of this update, or if the option `again` is set. Otherwise the update is rejected. So if a run was interrupted after
+ * it had renamed its record and before it renamed its data, the next run completes the installation.
  *
  * You have to meet the "Requirements" of minisign.h, and those in the following list. If you break one, nothing is
  * guaranteed about the target.
  *
- * - Hold the lock from MINISIGN_DUE_LOCK to MINISIGN_DUE_UNLOCK or to the end of the run. All other programs that
- *   change the target or its record have to use the same lock. You choose the lock: minisign-install calls flock with
- *   LOCK_EX and LOCK_NB on an empty file in the directory of the target, such as .app.lock for a target with the name
- *   app. Do not lock the target itself, because it is replaced.
- * - Report a step as done only if you carried it out as this header says, and it succeeded.
+ * - Hold the lock from MINISIGN_DUE_LOCK to the end of the run. All other programs that change the target or its record
+ *   have to use the same lock. You choose the lock: minisign-install calls flock with LOCK_EX and LOCK_NB on an empty
+ *   file in the directory of the target, such as .app.lock for a target with the name app. Do not lock the target
+ *   itself, because it is replaced.
+ * - Report an operation as done only if you performed it as this header says, and it succeeded.
  * - Pass to minisign_install_piece all bytes of the file, from the first to the last. Read the installed file through
  *   the file descriptor with which you opened it, and the temporary file through the one with which you wrote it.
  */
@@ -61,46 +72,46 @@
 extern "C" {
 #endif
 
-/* The steps of an installation, roughly in the order in which they become due. The last four end it. */
-/* Calls of installing, made by tools/header.py. */
+/* The operations of an installation, roughly in the order in which they become due. The last four end the run. */
+/* Operations, made by tools/header.py. */
 enum minisign_due {
-    /* Nothing: the installation was not initialized. */
+    /* Nothing: the installation was never begun. */
     MINISIGN_DUE_NOTHING = 0,
-    /* Lock the lock file of the target, without waiting for another installation. */
+    /* Lock the target, and wait as long as the user allows. */
     MINISIGN_DUE_LOCK = 1,
-    /* Read the version record. */
+    /* Read the record, and report its bytes, or that there is none. */
     MINISIGN_DUE_READ_RECORD = 2,
-    /* Check both signatures: that of the trusted comment, and that of the digest in the record. */
-    MINISIGN_DUE_JUDGE = 3,
-    /* Read the next piece of the installed file. */
-    MINISIGN_DUE_LOOK = 4,
-    /* Check both signatures: that of the trusted comment, and that of the installed file. */
-    MINISIGN_DUE_JUDGE_TARGET = 5,
-    /* Sync the installed file, which already is the update. */
-    MINISIGN_DUE_SYNC_TARGET = 6,
+    /* Read the signature file and the clock, once. */
+    MINISIGN_DUE_READ_SIGNATURE = 3,
+    /* Ask Ed25519 about the trusted comment, and report the answer. */
+    MINISIGN_DUE_CHECK_COMMENT = 4,
+    /* Ask Ed25519 about the digest in the record, and report the answer. */
+    MINISIGN_DUE_CHECK_RECORD = 5,
+    /* Read the installed file and report its bytes piece by piece, or that there is no such file. */
+    MINISIGN_DUE_READ_TARGET = 6,
+    /* Ask Ed25519 about the digest of the installed file, and report the answer. */
+    MINISIGN_DUE_CHECK_TARGET = 7,
+    /* Sync the installed file, which is already the update. */
+    MINISIGN_DUE_SYNC_TARGET = 8,
     /* Sync the directory, so that a crash does not undo the name of the installed file. */
-    MINISIGN_DUE_SYNC_TARGET_NAME = 7,
-    /* Release the lock. */
-    MINISIGN_DUE_UNLOCK = 8,
-    /* Receive the next piece of slow data into an unnamed temporary file. */
-    MINISIGN_DUE_RECEIVE = 9,
-    /* Remove temporary files that killed runs have left behind, as far as possible. */
-    MINISIGN_DUE_CLEAR = 10,
+    MINISIGN_DUE_SYNC_TARGET_NAME = 9,
+    /* Remove the temporary files that killed runs have left behind, as far as possible. */
+    MINISIGN_DUE_REMOVE_LEFTOVERS = 10,
     /* Create the temporary file of the data under a random name. */
-    MINISIGN_DUE_CREATE = 11,
-    /* Copy the next piece of the data to its temporary file. */
-    MINISIGN_DUE_COPY = 12,
-    /* Read back the next piece of the temporary file of the data. */
+    MINISIGN_DUE_CREATE_FILE = 11,
+    /* Copy the data to its temporary file, and report the length of each piece. */
+    MINISIGN_DUE_COPY_DATA = 12,
+    /* Read back the temporary file of the data through the same descriptor, and report its bytes piece by piece. */
     MINISIGN_DUE_READ_BACK = 13,
-    /* Check both signatures: that of the trusted comment, and that of the data that was read back. */
-    MINISIGN_DUE_ANSWER = 14,
-    /* Give the temporary file of the data the permissions of the installed file, if there is one. */
-    MINISIGN_DUE_TAKE_PERMISSIONS = 15,
+    /* Ask Ed25519 about the digest of what was read back, and report the answer. */
+    MINISIGN_DUE_CHECK_DATA = 14,
+    /* Give the temporary file of the data the permissions of the installed file. */
+    MINISIGN_DUE_SET_PERMISSIONS = 15,
     /* Sync the temporary file of the data. */
-    MINISIGN_DUE_SYNC = 16,
+    MINISIGN_DUE_SYNC_FILE = 16,
     /* Create the temporary file of the record under a random name. */
     MINISIGN_DUE_CREATE_RECORD = 17,
-    /* Write the record to its temporary file. */
+    /* Write the new record to its temporary file. */
     MINISIGN_DUE_WRITE_RECORD = 18,
     /* Sync the temporary file of the record. */
     MINISIGN_DUE_SYNC_RECORD = 19,
@@ -109,23 +120,21 @@ enum minisign_due {
     /* Sync the directory, so that a crash does not undo this rename. */
     MINISIGN_DUE_SYNC_RECORD_NAME = 21,
     /* Rename the temporary file of the data to the target. */
-    MINISIGN_DUE_RENAME = 22,
+    MINISIGN_DUE_RENAME_FILE = 22,
     /* Sync the directory, so that a crash does not undo this rename. */
-    MINISIGN_DUE_SYNC_NAME = 23,
-    /* Remove the temporary file of the record, because the run was rejected. */
-    MINISIGN_DUE_REMOVE_RECORD = 24,
-    /* Remove the temporary file of the data, because the run was rejected. */
-    MINISIGN_DUE_REMOVE = 25,
-    /* Nothing: the update is installed. */
-    MINISIGN_DUE_INSTALLED = 26,
-    /* Nothing: the update was already installed. */
-    MINISIGN_DUE_ALREADY = 27,
-    /* Nothing: the update would be installed. */
-    MINISIGN_DUE_WOULD_INSTALL = 28,
-    /* Nothing: the run was rejected. */
-    MINISIGN_DUE_REFUSED = 29
+    MINISIGN_DUE_SYNC_FILE_NAME = 23,
+    /* Remove the temporary files that this run made and did not rename. */
+    MINISIGN_DUE_REMOVE_FILES = 24,
+    /* The run has ended: the update is installed. */
+    MINISIGN_DUE_INSTALLED = 25,
+    /* The run has ended: the update was installed already. */
+    MINISIGN_DUE_ALREADY_INSTALLED = 26,
+    /* The check has ended: a run with the same options would install the update. */
+    MINISIGN_DUE_WOULD_INSTALL = 27,
+    /* The run has ended: the update is rejected. */
+    MINISIGN_DUE_REJECTED = 28
 };
-/* The end of the calls. */
+/* The end of the operations. */
 
 /* The field of the trusted comment that contains the version number. */
 /* Numberings, made by tools/header.py. */
@@ -145,13 +154,17 @@ typedef struct minisign_install_options {
     uint32_t is_first;    /* install even if no version of this numbering is recorded: there is no record, it is damaged,
                            * or it has the other numbering. Also ignore a record that names neither of the two keys,
                            * which helps if a thief has signed a high version number with a key that you no longer use.
-                           * The version in every other record is compared as usual. If is_first is 0, the version in a
-                           * record that names neither key is compared too */
+                           * The version in every other record is compared as usual. If neither is_first nor new_key is
+                           * set, the version in a record that names neither key is compared too */
     uint32_t again;       /* install an update of the recorded version even if a different file is installed */
     uint32_t is_check;    /* only find out what a run would do: nothing is locked, synced or written */
-    uint32_t is_waiting;  /* the data may arrive slowly, as from a pipe: receive it while the target is not locked */
     uint32_t must_expire; /* reject an update without the field "expires:" in its trusted comment, or with a field
                            * that differs from it only in case or in white space */
+    uint32_t new_key;     /* ignore a record that names neither of the two keys, but reject an update if there is no
+                           * record or it is damaged. Use this only if your keys come from a file that is itself
+                           * installed with a record of its own, because it lets the recorded version decrease */
+    uint32_t roll_back;   /* install an update even if its version is below the recorded one. The record keeps its
+                           * version and key, and gets the digest of the data that is installed */
 } minisign_install_options;
 
 /* An installation. You allocate it. Only the library writes its bytes. No call on it allocates. */
@@ -160,74 +173,59 @@ typedef struct minisign_installation {
 } minisign_installation;
 
 /*
- * Initializes an installation. Then MINISIGN_DUE_LOCK is due, or MINISIGN_DUE_READ_RECORD if is_check is set. A
- * signature with the key ID of `key` is verified under `key`, and every other signature under `other`. If you have
- * only one key, pass it twice.
+ * Initializes an installation. Then MINISIGN_DUE_LOCK is due, or MINISIGN_DUE_READ_RECORD if is_check is set. The
+ * signature must have the key ID of `key` or of `other`. If both have this key ID, the signature may be from either of
+ * them. If you have only one key, pass it twice.
  *
- * If both keys have the same key ID, only `key` is used. In this case, if the run is rejected for
- * MINISIGN_COMMENT_SIGNATURE_REFUSED, initialize the installation again with the two keys exchanged. The run has
- * created no temporary file by then, except the one of MINISIGN_DUE_RECEIVE.
- *
- * After an error the installation is unchanged. The errors, in this order: MINISIGN_BAD_OPTION;
- * MINISIGN_BAD_NUMBERING; MINISIGN_PUBLIC_KEY_NOT_READ. Since 0.3.
+ * After an error the installation is unchanged. The errors, in this order: MINISIGN_BAD_OPTION, also if is_first is set
+ * together with new_key or roll_back; MINISIGN_BAD_NUMBERING; MINISIGN_PUBLIC_KEY_NOT_READ. Since 0.3.
  */
 MINISIGN_MUST_USE enum minisign_error minisign_install_init(
     minisign_installation *installation, const minisign_public_key *key, const minisign_public_key *other,
     const minisign_install_options *options);
 
-/* Returns the step that is due, or MINISIGN_DUE_NOTHING for an installation that was not initialized. Since 0.3. */
+/* Returns the operation that is due, or how the run has ended. Returns MINISIGN_DUE_NOTHING for an installation that
+ * was not initialized. Since 0.3. */
 enum minisign_due minisign_install_due(const minisign_installation *installation);
 
 /*
- * Reports that the step that is due was done. For example, you got the lock, created a temporary file, or copied all
- * of the data.
+ * Reports that the operation that is due was done. For example, you got the lock, created a temporary file, or copied
+ * all of the data.
  *
- * The errors, in this order: MINISIGN_NOT_DUE, after which nothing is changed, for steps that other calls report
- * (MINISIGN_DUE_READ_RECORD, MINISIGN_DUE_JUDGE, MINISIGN_DUE_LOOK, MINISIGN_DUE_JUDGE_TARGET, MINISIGN_DUE_READ_BACK
- * and MINISIGN_DUE_ANSWER), and after the end of the run; MINISIGN_OTHER_SIZE, for MINISIGN_DUE_RECEIVE and
- * MINISIGN_DUE_COPY, if the data is shorter than the field "size:" of the trusted comment says. Then the run is
- * rejected for this error, and you continue with the step that is due. Since 0.3.
+ * The errors, in this order: MINISIGN_NOT_DUE, after which nothing is changed, for operations that other calls report
+ * and after the end of the run; MINISIGN_OTHER_SIZE, for MINISIGN_DUE_COPY_DATA, if the data is shorter than the field
+ * "size:" of the trusted comment says. Then the run is rejected for this error, and you continue with the operation
+ * that is due. Since 0.3.
  */
 MINISIGN_MUST_USE enum minisign_error minisign_install_done(minisign_installation *installation);
 
 /*
- * Reports that a piece of piece_len bytes was received or copied, and that there may be more. The same step,
- * MINISIGN_DUE_RECEIVE or MINISIGN_DUE_COPY, remains due. Report every piece, even one of 0 bytes, and report the end
- * of the data with minisign_install_done.
- *
- * If the trusted comment has a field "size:", the library counts the bytes, separately for MINISIGN_DUE_RECEIVE and
- * MINISIGN_DUE_COPY. There is an exception: if another run held the lock, the data is received before the trusted
- * comment is verified. Then its size is checked only later, when it is copied.
+ * Reports that a piece of piece_len bytes was copied, and that there may be more. MINISIGN_DUE_COPY_DATA remains due.
+ * Report every piece, and report the end of the data with minisign_install_done.
  *
  * The errors, in this order: MINISIGN_NOT_DUE, after which nothing is changed; MINISIGN_OTHER_SIZE, if the data is
- * longer than the field "size:" says. Then the run is rejected for this error, and you continue with the step that is
- * due. Since 0.3.
+ * longer than the field "size:" of the trusted comment says. Then the run is rejected for this error, and you continue
+ * with the operation that is due. Since 0.3.
  */
-MINISIGN_MUST_USE enum minisign_error minisign_install_more(minisign_installation *installation, size_t piece_len);
+MINISIGN_MUST_USE enum minisign_error minisign_install_copied(
+    minisign_installation *installation, size_t piece_len);
 
 /*
- * Reports that the step that is due failed. why is MINISIGN_OUT_OF_MEMORY, MINISIGN_READING_FAILED,
+ * Reports that the operation that is due failed. why is MINISIGN_OUT_OF_MEMORY, MINISIGN_READING_FAILED,
  * MINISIGN_WRITING_FAILED or MINISIGN_RANDOM_SOURCE_FAILED, or for MINISIGN_DUE_LOCK also MINISIGN_TARGET_IN_USE. You
- * may report a failure of any step, even of one whose success you report with another call than minisign_install_done.
+ * may report a failure of any operation, even of one whose success you report with another call than
+ * minisign_install_done.
  *
- * If there are temporary files with names, MINISIGN_DUE_REMOVE_RECORD and MINISIGN_DUE_REMOVE become due next. Then
- * MINISIGN_DUE_REFUSED is due, and minisign_install_error returns why. This also holds if MINISIGN_DUE_CLEAR or
- * MINISIGN_DUE_UNLOCK failed. There are three exceptions:
+ * The run is rejected, and the call returns why. If there is a temporary file that was not renamed,
+ * MINISIGN_DUE_REMOVE_FILES becomes due before MINISIGN_DUE_REJECTED. There are two exceptions:
  *
- * - If MINISIGN_DUE_LOCK failed because the target is in use, is_waiting is set and the data was not received yet, then
- *   MINISIGN_DUE_RECEIVE is due, and after it MINISIGN_DUE_LOCK again.
- * - If MINISIGN_DUE_SYNC_TARGET, MINISIGN_DUE_SYNC_TARGET_NAME or MINISIGN_DUE_SYNC_NAME failed, the update is already
- *   installed. MINISIGN_DUE_REFUSED becomes due all the same, and minisign_install_error returns
- *   MINISIGN_DIRECTORY_NOT_SYNCED instead of why.
- * - If MINISIGN_DUE_REMOVE_RECORD or MINISIGN_DUE_REMOVE failed, the run goes on as if the file had been removed. The
- *   error of the run is still the first one.
+ * - If MINISIGN_DUE_SYNC_TARGET, MINISIGN_DUE_SYNC_TARGET_NAME or MINISIGN_DUE_SYNC_FILE_NAME failed, the update is
+ *   already installed. Then the call and minisign_install_error return MINISIGN_DIRECTORY_NOT_SYNCED instead of why.
+ * - If MINISIGN_DUE_REMOVE_FILES failed, the call returns MINISIGN_OK, and the run goes on as if the files had been
+ *   removed. The error of the run is still the first one.
  *
- * After a failure of MINISIGN_DUE_SYNC_RECORD_NAME, the temporary file of the record has been renamed, and after a
- * failure of MINISIGN_DUE_SYNC_NAME that of the data. Its removal becomes due all the same. There is nothing to
- * remove, so report that step as done.
- *
- * The only error is MINISIGN_NOT_DUE, if why is an error that is not listed above for this step, and after the end of
- * the run. Then nothing is changed. Since 0.3.
+ * It returns MINISIGN_NOT_DUE, and nothing is changed, if why is an error that is not listed above for this operation,
+ * and after the end of the run. Since 0.3.
  */
 MINISIGN_MUST_USE enum minisign_error minisign_install_failed(
     minisign_installation *installation, enum minisign_error why);
@@ -237,52 +235,46 @@ MINISIGN_MUST_USE enum minisign_error minisign_install_failed(
  * of the record. If there are more than MINISIGN_RECORD_TEXT_BYTES, report with minisign_install_failed that reading
  * failed.
  *
- * `written` is the time at which the record was last modified, according to the file system, in seconds since 1970. If
- * you do not know it, pass 0. A clock that shows an earlier time is wrong: see minisign_install_ask.
- *
  * The record is what minisign_install_record_text wrote. Records of versions 0.1 and 0.2 are accepted as well: they
  * are "timestamp:" or "version:" and a number, or only a number, which counts for both fields. A line feed at the end
  * is ignored.
  *
- * MINISIGN_OK means only that the call was due. The run is rejected nevertheless if the record has no version number
- * of the chosen numbering and is_first is not set. Then MINISIGN_DUE_REFUSED is due, and minisign_install_error
- * returns MINISIGN_NO_RECORD, MINISIGN_DAMAGED_RECORD, MINISIGN_KEPT_BY_TIMESTAMP or MINISIGN_KEPT_BY_VERSION.
- *
- * The only error is MINISIGN_NOT_DUE, if another step is due. Then nothing is changed. Since 0.3.
+ * The errors, in this order: MINISIGN_NOT_DUE, if another operation is due, after which nothing is changed;
+ * MINISIGN_NO_RECORD for minisign_install_no_record, and MINISIGN_KEPT_BY_TIMESTAMP, MINISIGN_KEPT_BY_VERSION or
+ * MINISIGN_DAMAGED_RECORD for minisign_install_record, if the record has no version number of the chosen numbering and
+ * is_first is not set. Then the run is rejected for this error. Since 0.3.
  */
 MINISIGN_MUST_USE enum minisign_error minisign_install_record(
-    minisign_installation *installation, const uint8_t *record, size_t record_len, uint64_t written);
+    minisign_installation *installation, const uint8_t *record, size_t record_len);
 MINISIGN_MUST_USE enum minisign_error minisign_install_no_record(minisign_installation *installation);
 
 /*
- * Passes the next bytes of the installed file, if MINISIGN_DUE_LOOK is due, or of the temporary file of the data, if
- * MINISIGN_DUE_READ_BACK is due. The pieces may have any length. At the end of the file pass 0 bytes. Then
- * MINISIGN_DUE_JUDGE_TARGET or MINISIGN_DUE_ANSWER is due.
+ * Passes the next bytes of the installed file, if MINISIGN_DUE_READ_TARGET is due, or of the temporary file of the data,
+ * if MINISIGN_DUE_READ_BACK is due. The pieces may have any length. At the end of the file pass 0 bytes. Then
+ * MINISIGN_DUE_CHECK_TARGET or MINISIGN_DUE_CHECK_DATA is due.
  *
- * The only error is MINISIGN_NOT_DUE, if another step is due. Then nothing is changed. Since 0.1.
+ * The only error is MINISIGN_NOT_DUE, if another operation is due. Then nothing is changed. Since 0.1.
  */
 MINISIGN_MUST_USE enum minisign_error minisign_install_piece(
     minisign_installation *installation, const uint8_t *piece, size_t piece_len);
 
-/* Reports that there is no file at the target, if MINISIGN_DUE_LOOK is due. The only error is MINISIGN_NOT_DUE, if
- * another step is due. Then nothing is changed. Since 0.3. */
+/* Reports that there is no file at the target, if MINISIGN_DUE_READ_TARGET is due. The only error is MINISIGN_NOT_DUE,
+ * if another operation is due. Then nothing is changed. Since 0.3. */
 MINISIGN_MUST_USE enum minisign_error minisign_install_no_target(minisign_installation *installation);
 
 /*
- * Reads the signature file, and writes the two signatures to check to questions and message, as minisign_ask and
- * minisign_digest do. Call it if MINISIGN_DUE_JUDGE, MINISIGN_DUE_JUDGE_TARGET or MINISIGN_DUE_ANSWER is due. sig_text
- * is the whole signature file. message is a buffer of room bytes. It needs 64 bytes and the length of the trusted
- * comment, so sig_text_len bytes are always enough. Legacy signatures are always rejected. For MINISIGN_DUE_JUDGE, the
- * digest is the one in the record, or zeros if the record has none. This check shows if the record was written for the
- * data of this update, so its result may well be no. Otherwise the digest is that of the bytes that you passed to
- * minisign_install_piece. Unlike minisign_ask, this call rejects no weak public keys and signatures, so your Ed25519
- * implementation must reject them: see "Ed25519" under "Requirements" in minisign.h.
+ * Passes the signature file and the time, if MINISIGN_DUE_READ_SIGNATURE is due. sig_text is the whole signature file.
+ * The call writes to `message` what the signature of the trusted comment is over, for MINISIGN_DUE_CHECK_COMMENT, and its
+ * length to *message_len. message is a buffer of room bytes. It needs 64 bytes and the length of the trusted comment, so
+ * 64 + sig_text_len bytes are always enough. The trusted comment is the part of the message after the first 64 bytes.
+ * Legacy signatures are always rejected.
  *
  * The call also checks what the trusted comment says. You get the result from minisign_install_answer, because until
  * then the comment may be forged. The comment consists of fields that are separated by tabs. It must have
  *
  * - a field "file:" whose value is exactly the parameter `file`;
- * - a field of the chosen numbering, with a number that is not below the recorded version number;
+ * - a field of the chosen numbering, with a number that is not below the recorded version number, unless roll_back is
+ *   set;
  * - no field "expires:", or exactly one, with a number that is greater than the parameter `now`. With must_expire
  *   there must be one, and no other field that differs from it only in case or in white space, such as "Expires:5" or
  *   "expires :5";
@@ -291,55 +283,65 @@ MINISIGN_MUST_USE enum minisign_error minisign_install_no_target(minisign_instal
  * A number consists of decimal digits only, and is below 2^64. If the comment has several fields "file:", the first of
  * them counts, and likewise for the fields of the chosen numbering.
  *
- * `now` is the time of your clock in seconds since 1970. In C, use clock_gettime with CLOCK_REALTIME and not time(),
- * because since Linux 6.13 time() can be some milliseconds behind the times of files. If `now` is less than the time
- * at which the record was written, the clock is wrong. Then every update with a field "expires:" counts as expired,
- * unless is_first is set.
+ * `now` is the time of your clock in seconds since 1970, and negative for a time before 1970, at which every update with
+ * a field "expires:" counts as expired. The library trusts this time: if your clock is behind, an update that has
+ * expired is installed.
  *
  * The errors, in this order: MINISIGN_NOT_DUE; MINISIGN_NOT_UTF8, for file; those of minisign_read_signature;
- * MINISIGN_ALREADY_ASKED, if minisign_install_answer was not called since the previous minisign_install_ask;
- * MINISIGN_DIFFERENT_KEY_IDS; MINISIGN_LEGACY_NOT_ACCEPTED; MINISIGN_NO_ROOM. After MINISIGN_NOT_DUE,
- * MINISIGN_ALREADY_ASKED and MINISIGN_NO_ROOM nothing is changed. After the others the run is rejected for this error,
- * and you continue with the step that is due. After every error questions and message are unchanged. Since 0.3.
+ * MINISIGN_DIFFERENT_KEY_IDS; MINISIGN_LEGACY_NOT_ACCEPTED; MINISIGN_COMMENT_SIGNATURE_REFUSED, if the signature of the
+ * trusted comment is shorter than 64 bytes; MINISIGN_NO_ROOM. After MINISIGN_NOT_DUE and MINISIGN_NO_ROOM nothing is
+ * changed. After the others the run is rejected for this error. After every error message and *message_len are
+ * unchanged. Since 0.3.
  */
-MINISIGN_MUST_USE enum minisign_error minisign_install_ask(
+MINISIGN_MUST_USE enum minisign_error minisign_install_signature(
     minisign_installation *installation, const uint8_t *sig_text, size_t sig_text_len, const uint8_t *file,
-    size_t file_len, uint64_t now, minisign_questions *questions MINISIGN_ROLE(output),
-    uint8_t *message MINISIGN_ROLE(room 64 + sig_text_len), size_t room);
+    size_t file_len, int64_t now, uint8_t *message MINISIGN_ROLE(room 64 + sig_text_len), size_t room,
+    size_t *message_len);
 
 /*
- * Passes the results of the two checks. Call it after minisign_install_ask. It returns MINISIGN_OK if the run goes on
- * or has ended well:
+ * Writes the signature to check and the public key under which to check it. For MINISIGN_DUE_CHECK_COMMENT, check the
+ * signature over the message that minisign_install_signature wrote; the digest is zeros. For MINISIGN_DUE_CHECK_RECORD,
+ * MINISIGN_DUE_CHECK_TARGET and MINISIGN_DUE_CHECK_DATA, check the signature over the 64 bytes of the digest.
+ * MINISIGN_DUE_CHECK_RECORD shows if the record was written for the data of this update, so its result may well be no.
+ * Unlike minisign_ask, this call rejects no weak public keys and signatures, so your Ed25519 implementation must reject
+ * them: see "Ed25519" under "Requirements" in minisign.h.
  *
- * - for MINISIGN_DUE_JUDGE, if the comment signature is valid, and the trusted comment is as minisign_install_ask
- *   demands;
- * - for MINISIGN_DUE_JUDGE_TARGET, if the installed file is the update, or is another file that may be replaced;
- * - for MINISIGN_DUE_ANSWER, exactly if the signature file is valid for the bytes that were read back, and its
- *   trusted comment is as minisign_install_ask demands.
+ * The only error is MINISIGN_NOT_DUE, if another operation is due. Then nothing is written. Since 0.3.
+ */
+MINISIGN_MUST_USE enum minisign_error minisign_install_question(
+    const minisign_installation *installation, uint8_t public_key[32], uint8_t signature[64], uint8_t digest[64]);
+
+/*
+ * Passes the result of the check that is due. It returns MINISIGN_OK if the run goes on or has ended well. Otherwise the
+ * run is rejected, and the call returns the reason:
  *
- * Otherwise the run is rejected, and the call returns the first reason: MINISIGN_SIGNATURE_REFUSED,
- * MINISIGN_COMMENT_SIGNATURE_REFUSED, MINISIGN_OTHER_FILE, MINISIGN_NO_NUMBER, MINISIGN_NO_EXPIRY,
- * MINISIGN_BAD_EXPIRY or MINISIGN_EXPIRED, MINISIGN_BAD_SIZE, MINISIGN_OLDER_UPDATE; for MINISIGN_DUE_JUDGE_TARGET
- * also MINISIGN_SAME_NUMBER. You continue with the step that is due.
+ * - for MINISIGN_DUE_CHECK_COMMENT, MINISIGN_COMMENT_SIGNATURE_REFUSED if the signature is not valid. But if the other
+ *   key has the same key ID and was not asked yet, MINISIGN_DUE_CHECK_COMMENT remains due, for that key. If the signature
+ *   is valid, the first reason of these: MINISIGN_OTHER_FILE; MINISIGN_NO_NUMBER; MINISIGN_NO_EXPIRY,
+ *   MINISIGN_BAD_EXPIRY or MINISIGN_EXPIRED; MINISIGN_BAD_SIZE; MINISIGN_OLDER_UPDATE;
+ * - for MINISIGN_DUE_CHECK_TARGET, MINISIGN_SAME_NUMBER if the installed file is another file that may not be replaced;
+ * - for MINISIGN_DUE_CHECK_DATA, MINISIGN_SIGNATURE_REFUSED if the signature is not valid for the bytes that were read
+ *   back. MINISIGN_DUE_REMOVE_FILES is due next.
  *
- * API misuse, which is checked first and changes nothing, returns MINISIGN_BAD_ANSWER, MINISIGN_NOT_DUE, or
- * MINISIGN_NOT_ASKED if minisign_install_ask was not called before. Since 0.3.
+ * API misuse, which is checked first and changes nothing, returns MINISIGN_BAD_ANSWER or MINISIGN_NOT_DUE. Since 0.3.
  */
 MINISIGN_MUST_USE enum minisign_error minisign_install_answer(
-    minisign_installation *installation, enum minisign_answer first, enum minisign_answer second);
+    minisign_installation *installation, enum minisign_answer answer);
 
 /*
- * Returns 1 if the comment signature that the last minisign_install_ask returned is valid, according to the results
- * that you passed to minisign_install_answer, under the key that was chosen by its key ID. It is 1 even if
- * minisign_install_answer rejected the run because of the data or of what the comment says. Otherwise it is 0. So it
- * is 0 from minisign_install_ask until minisign_install_answer. The trusted comment is in the buffer message, at the
- * comment_offset of the questions. Show it only if this call returns 1. Since 0.3.
+ * Returns 1 if a key has signed the trusted comment, according to the results that you passed to
+ * minisign_install_answer, even if the run was rejected because of what the comment says or because of the data.
+ * Otherwise returns 0. Show the trusted comment only if this call returns 1. Since 0.3.
  */
-uint32_t minisign_install_is_vouched(const minisign_installation *installation);
+uint32_t minisign_install_is_signed(const minisign_installation *installation);
 
-/* Returns the version number in the trusted comment of the last minisign_install_ask. Returns 0 if the comment has
- * none, or minisign_install_is_vouched returns 0. Since 0.3. */
-uint64_t minisign_install_number(const minisign_installation *installation);
+/* Returns the version number in the trusted comment. Returns 0 if the comment has none, or minisign_install_is_signed
+ * returns 0. Since 0.3. */
+uint64_t minisign_install_version(const minisign_installation *installation);
+
+/* Writes the field "size:" of the trusted comment to *size and returns 1. Returns 0 and writes nothing if the comment has
+ * no such field, or minisign_install_is_signed returns 0. Since 0.3. */
+uint32_t minisign_install_size(const minisign_installation *installation, uint64_t *size);
 
 /* The maximum size of a record. */
 #define MINISIGN_RECORD_TEXT_BYTES 258
@@ -347,7 +349,7 @@ uint64_t minisign_install_number(const minisign_installation *installation);
 /*
  * Writes the content of the new record to text, a buffer of room bytes, if MINISIGN_DUE_WRITE_RECORD is due. Write
  * these bytes to the temporary file of the record. MINISIGN_RECORD_TEXT_BYTES is enough. Returns the length. Returns
- * 0 and writes nothing if another step is due or the buffer is too short.
+ * 0 and writes nothing if another operation is due or the buffer is too short.
  *
  * The content is three lines, without a line feed after the last: the field and the version number, such as
  * "version:2"; the public key that verified the update, as 64 hexadecimal digits; the Blake2b-512 digest of the data,
@@ -356,13 +358,13 @@ uint64_t minisign_install_number(const minisign_installation *installation);
 size_t minisign_install_record_text(
     const minisign_installation *installation, uint8_t *text MINISIGN_ROLE(room RECORD_TEXT_BYTES), size_t room);
 
-/* Returns the error for which the run was rejected, if MINISIGN_DUE_REFUSED is due. Returns MINISIGN_OK before the
- * end of the run, and if it has ended well. Since 0.3. */
+/* Returns the error for which the run was rejected, if MINISIGN_DUE_REMOVE_FILES or MINISIGN_DUE_REJECTED is due.
+ * Otherwise returns MINISIGN_OK. Since 0.3. */
 enum minisign_error minisign_install_error(const minisign_installation *installation);
 
 /*
  * Checks only what a trusted comment says, for programs that install in another way. First verify the comment, for
- * example with minisign_verdict. The call makes the checks that minisign_install_ask makes, except those of
+ * example with minisign_verdict. The call makes the checks that minisign_install_signature makes, except those of
  * must_expire and of "size:", and writes the version number of the comment to *number. This number must not be below
  * `kept`, the version number of the installed update. If nothing is installed, pass 0 as `kept`. If several fields
  * have the same label, the first one counts, but there may be only one "expires:".
@@ -388,17 +390,20 @@ MINISIGN_MUST_USE enum minisign_error minisign_judge_comment(
 MINISIGN_WITH(minisign_install_init, __nonnull__(1, 2, 3, 4));
 MINISIGN_WITH(minisign_install_due, __nonnull__(1));
 MINISIGN_WITH(minisign_install_done, __nonnull__(1));
-MINISIGN_WITH(minisign_install_more, __nonnull__(1));
+MINISIGN_WITH(minisign_install_copied, __nonnull__(1));
 MINISIGN_WITH(minisign_install_failed, __nonnull__(1));
 MINISIGN_WITH(minisign_install_record, MINISIGN_ACCESS(__read_only__, 2, 3), __nonnull__(1));
 MINISIGN_WITH(minisign_install_no_record, __nonnull__(1));
 MINISIGN_WITH(minisign_install_piece, MINISIGN_ACCESS(__read_only__, 2, 3), __nonnull__(1));
 MINISIGN_WITH(minisign_install_no_target, __nonnull__(1));
-MINISIGN_WITH(minisign_install_ask, MINISIGN_ACCESS(__read_only__, 2, 3), MINISIGN_ACCESS(__read_only__, 4, 5),
-                                    MINISIGN_ACCESS(__write_only__, 8, 9), __nonnull__(1, 7));
+MINISIGN_WITH(minisign_install_signature, MINISIGN_ACCESS(__read_only__, 2, 3),
+                                          MINISIGN_ACCESS(__read_only__, 4, 5),
+                                          MINISIGN_ACCESS(__write_only__, 7, 8), __nonnull__(1, 9));
+MINISIGN_WITH(minisign_install_question, __nonnull__(1, 2, 3, 4));
 MINISIGN_WITH(minisign_install_answer, __nonnull__(1));
-MINISIGN_WITH(minisign_install_is_vouched, __nonnull__(1));
-MINISIGN_WITH(minisign_install_number, __nonnull__(1));
+MINISIGN_WITH(minisign_install_is_signed, __nonnull__(1));
+MINISIGN_WITH(minisign_install_version, __nonnull__(1));
+MINISIGN_WITH(minisign_install_size, __nonnull__(1, 2));
 MINISIGN_WITH(minisign_install_record_text, MINISIGN_ACCESS(__write_only__, 2, 3), __nonnull__(1));
 MINISIGN_WITH(minisign_install_error, __nonnull__(1));
 MINISIGN_WITH(minisign_judge_comment, MINISIGN_ACCESS(__read_only__, 1, 2), MINISIGN_ACCESS(__read_only__, 3, 4),

@@ -1,6 +1,6 @@
 #!/usr/bin/env python3
 # SPDX-License-Identifier: MIT
-"""Generates the files of the packages in `bindings/` that repeat include/minisign.h.
+"""Generates the files of the packages in `bindings/` that repeat include/minisign.h and include/minisign_list.h.
 
     tools/bindings.py            writes the files
     tools/bindings.py --check    fails if a file is not what the header says; the last line is `N passed, M failed`
@@ -23,7 +23,7 @@ import textwrap
 
 import boundary
 import sources
-from c_header import FILE as HEADER, both, parsed
+from c_header import FILE as HEADER, LISTS, every, parsed
 from sources import Unfit
 
 RUST, RUST_SYS = "bindings/rust/src/raw/header.rs", "bindings/rust-sys/src/header.rs"
@@ -49,8 +49,13 @@ def name_of(constant):
 
 
 # Calls that are declared but get no function: the packages let the library allocate the memory of scrypt, clear values in their own
-# language, and never seal with limits below the minimum.
-DECLARED_ALONE = ("minisign_opening_memory", "minisign_open_sealed_key_in_place", "minisign_clear", "minisign_secret_key_text_with_any_limits")
+# language, and never seal with limits below the minimum. Only the package for Rust has the kinds of errors and the records of secret
+# keys, which it clears; bindings/rust/src/raw.rs calls these by hand.
+DECLARED_ALONE = ("minisign_opening_memory", "minisign_open_sealed_key_in_place", "minisign_clear", "minisign_secret_key_text_with_any_limits",
+                  "minisign_error_kind", "minisign_secret_key_record")
+# Calls for lists that each package makes by hand: two of them return the number of a line also after an error, and the third one reads
+# and changes a length. Packages do not write lists.
+LISTS_BY_HAND = ("minisign_list_find", "minisign_list_entries", "minisign_list_append")
 
 
 # ---- The calls as functions of a package ----
@@ -134,8 +139,8 @@ def in_words(call, header, table, kind_of, length_of, field_of=str):
 
 # ---- Python, and the errors of Go ----
 
-C_TYPES = {"uint8_t": "c_ubyte", "char": "c_ubyte", "uint32_t": "c_uint32", "uint64_t": "c_uint64", "size_t": "c_size_t",
-           "void": "None"}
+C_TYPES = {"uint8_t": "c_ubyte", "char": "c_ubyte", "uint32_t": "c_uint32", "uint64_t": "c_uint64", "int64_t": "c_int64",
+           "size_t": "c_size_t", "void": "None"}
 
 PYTHON_ROLES = {
     "password": ("{name}: Optional[bytes]", "", '0 if {name} is None else 1, {name}, len({name} or b"")', "", ""),
@@ -218,7 +223,7 @@ def docstring(text, indent):
 
 
 def python_errors(header):
-    text = by_hand(PYTHON_ERRORS, "# SPDX", "    number = 0\n\n\n")
+    text = by_hand(PYTHON_ERRORS, "# SPDX", "    line = 0\n\n\n")
     for comment, name, number in header.errors:
         text += f"class {name_of(name)}(MinisignError):\n{docstring(comment, '    ')}\n    number = {number}\n\n\n"
     text += "BY_NUMBER: \"dict[int, type[MinisignError]]\" = {\n"
@@ -243,17 +248,18 @@ def python_header(header):
         result = "error" if call.answer == "enum minisign_error" else ctype(call.answer, header)
         text += f"        library.{call.name}.restype = {result}\n"
         text += in_brackets(f"        library.{call.name}.argtypes = (", parameters, ")", is_list=True) + "\n"
-    return text + "".join(python_call(call, header) for call in header.calls if call.name not in DECLARED_ALONE)
+    return text + "".join(python_call(call, header) for call in header.calls if call.name not in (*DECLARED_ALONE, *LISTS_BY_HAND))
 
 
 def python_call(call, header):
     """Returns a method that makes a call and returns its results."""
     parameters, before, arguments, types, results = in_words(call, header, PYTHON_ROLES, ctype, "len({})".format)
-    lines, results = [f"self._library.{call.name}({', '.join(arguments)})"], [f"return {', '.join(results)}"] if results else []
+    lines = [f"self._library.{call.name}({', '.join(arguments)})"]
     if call.answer == "size_t":
         lines[0] = f"length = {lines[0]}"
     elif call.answer == "uint32_t" or call.answer == "enum minisign_due":
-        lines[0], types, results = f"number: int = {lines[0]}", ["int"], ["return number"]
+        lines[0], types, results = f"number: int = {lines[0]}", ["int", *types], ["number", *results]
+    results = [f"return {', '.join(results)}"] if results else []
     result = f"Tuple[{', '.join(types)}]" if len(types) > 1 else "".join(types) or "None"
     lines = "\n".join(before + lines + results).split("\n")
     inside = "".join(f"{python_line(f'        {line}')}\n" for line in lines)
@@ -289,7 +295,7 @@ GO_ROLES = {
     "bytes among parts": ("{name} []byte", "pointer({name}), C.size_t(len({name}))"),
 }
 # Calls that get no function in Go: raw.go has it, or it is not needed.
-GO_WITHOUT = (*DECLARED_ALONE, "minisign_version", "minisign_error_text")
+GO_WITHOUT = (*DECLARED_ALONE, *LISTS_BY_HAND, "minisign_version", "minisign_error_text")
 
 
 def go_flat(call, header):
@@ -312,7 +318,7 @@ def go_flat(call, header):
 
 def go_call(call, header):
     """Returns a Go function that makes a call, and returns its results and its error."""
-    parameters, before, arguments, types, results = in_words(call, header, GO_ROLES, lambda kind, _: kind, "len({})".format)
+    parameters, before, arguments, types, results = in_words(call, header, GO_ROLES, lambda kind, _: kind.replace("enum ", "enum_"), "len({})".format)
     is_flat = any(parameter.kind in header.in_parts for parameter in call.parameters)
     expression = f"C.{'flat_' * is_flat}{call.name}({', '.join(arguments)})"
     if call.answer == "enum minisign_error":
@@ -335,7 +341,7 @@ def go_call(call, header):
 def go_header(header):
     calls = [call for call in header.calls if call.name not in GO_WITHOUT]
     flat = "".join(go_flat(call, header) for call in calls if any(parameter.kind in header.in_parts for parameter in call.parameters))
-    text = by_hand(GO, "// SPDX", "#include <minisign.h>\n") + f"\n{flat}*/\nimport \"C\"\n"
+    text = by_hand(GO, "// SPDX", "#include <minisign_list.h>\n") + f"\n{flat}*/\nimport \"C\"\n"
     return text + by_hand(GO, "\n// The calls of minisign.h", "1\n}\n") + "".join(go_call(call, header) for call in calls)
 
 
@@ -367,6 +373,7 @@ WIDTHS = {"uint8_t": 1, "uint32_t": 4, "uint64_t": 8}
 # The marks of the generated part of calls.js, and the fields that it reads.
 JAVASCRIPT_MADE, JAVASCRIPT_END = "made by tools/bindings.py ----\n\n", "// ---- End of the generated part ----"
 READ_OF = {"public_key": ("key", "key_id"), "signature": ("key_id", "legacy"),
+           "list_entry": ("line", "name_offset", "name_len", "digest", "hash", "is_escaped"),
            "questions": ("public_key", "digest", "signature", "comment_signature", "message_len", "comment_offset", "comment_len", "legacy")}
 
 
@@ -393,7 +400,7 @@ def named(text, header):
     """Replaces names of the header by those of JavaScript and Go, and sizes by numbers."""
     for size in header.sizes:
         text = text.replace(f"{size.name} + ", f"{size.number} + ")
-    return re.sub(r"(?<![\w.\"])[a-z]+(?:_[a-z0-9]+)+\b", lambda found: re.sub("_(.)", lambda letter: letter[1].upper(), found[0]), text)
+    return re.sub(r"(?<![\w.\"])(?!enum_)[a-z]+(?:_[a-z0-9]+)+\b", lambda found: re.sub("_(.)", lambda letter: letter[1].upper(), found[0]), text)
 
 
 def javascript_call(call, header):
@@ -428,8 +435,9 @@ def javascript_header(header):
 def javascript_calls(header):
     """Returns calls.js, with its generated part: answers and structs."""
     begin, _, rest = sources.read(JAVASCRIPT_CALLS).partition(JAVASCRIPT_MADE)
-    places = {struct: dict(places_of(header.structs[f"minisign_{struct}"])) for struct in ("state", "public_key", *READ_OF)}
+    places = {struct: dict(places_of(header.structs[f"minisign_{struct}"])) for struct in ("state", "list", "public_key", *READ_OF)}
     generated = "".join(f"const {member.name} = {member.number:#x};\n" for member in header.enums["answer"])
+    generated += "".join(f"const {member.name} = {member.number};\n" for member in header.enums["hash"])
     generated += "\n// The sizes of the structs, and the offsets of the fields that are read.\n"
     for struct, fields in places.items():
         generated += f"const {struct.removeprefix('public_').upper()}_BYTES = {fields['size']};\n"
@@ -606,12 +614,12 @@ def rust_header(header):
     text += "}\n\n" + "".join(f"pub const {name}: {kind} = sys::MINISIGN_{name};\n" for name, kind, value in rust_constants(header)) + "\n"
     text += "".join(f"pub type {name_of(struct)} = sys::{struct};\n" for struct in header.structs)
     text += by_hand(RUST, "\n/// Returns an error unless", "Reason::NOT_UTF8)\n}\n")
-    return text + "".join(rust_call(call, header) for call in header.calls if call.name not in DECLARED_ALONE)
+    return text + "".join(rust_call(call, header) for call in header.calls if call.name not in (*DECLARED_ALONE, *LISTS_BY_HAND))
 
 
 def generated_files():
     """Yields the paths and texts of the generated files."""
-    header, installing_too = parsed(sources.read(HEADER)), both()
+    header, installing_too = parsed(sources.read(HEADER), sources.read(LISTS)), every()
     for path, make in ((RUST, rust_header), (RUST_SYS, rust_sys_header), (GO_ERRORS, go_errors), (GO, go_header), (JAVASCRIPT_ERRORS, javascript_errors),
                        (JAVASCRIPT_TYPES, javascript_types), (JAVASCRIPT, javascript_header),
                        (JAVASCRIPT_CALLS, javascript_calls), (PYTHON_ERRORS, python_errors)):

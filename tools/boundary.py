@@ -34,16 +34,22 @@ def plain_parameter(parameter):
 
 
 def lengths(parameters):
-    """Yields each parameter with its length parameter, which follows it, or None. A pointer to one struct has no length."""
+    """Yields each parameter with its length parameter, which follows it, or None. A pointer to one struct has no length. The
+    length of an array of structs has the name of the array and `_len`."""
     for parameter, after in zip(parameters, [*parameters[1:], None]):
-        counted = parameter.star and not parameter.kind.startswith("minisign_")
+        counted = parameter.star and (not is_struct(parameter) or (after and after.name == f"{parameter.name}_len"))
         yield parameter, after if counted and after and after.kind == "size_t" and not after.star else None
+
+
+def is_struct(parameter):
+    """Returns true if the parameter is a struct, or points to one or more."""
+    return parameter.kind.startswith("minisign_")
 
 
 def arguments(parameters):
     """Yields the arguments of the proved call. A pointer with a length may be NULL if the length is 0, so it is replaced."""
     for each, length in lengths(parameters):
-        form = "READ" if each.const else "WORDS" if each.kind == "uint32_t" else "WRITTEN"
+        form = "READ" if each.const else "WORDS" if each.kind == "uint32_t" else "ENTRIES" if is_struct(each) else "WRITTEN"
         yield f"{form}({each.name}, {length.name})" if length else each.name
 
 
@@ -113,6 +119,10 @@ def turned(parameter, length, structs):
         copy = f"{name}_kept"
         return ([f"uint64_t {copy} = 0;", f"store{WIDTHS[kind]}(address(&{copy}), *{name});"],
                 [f"*{name} = ({kind}) load{WIDTHS[kind]}(address(&{copy}));"], f"address(&{copy})")
+    if kind in structs and length:
+        # On a little-endian processor, the buffer is not read.
+        loop = "if (!IS_LITTLE_ENDIAN) {{\n        for (size_t i = 0; i < {1}; i++) {{\n            {2}_{3}(&{0}[i]);\n        }}\n    }}"
+        return [loop.format(name, length.name, "given", kind)], [loop.format(name, length.name, "got", kind)], f"address({name})"
     if kind in structs and parameter.const:
         return [f"{kind} {name}_kept;", f"const {kind} *{name}_lent = LENT({kind}, {name}, &{name}_kept);"], [], f"address({name}_lent)"
     if kind in structs:
@@ -122,7 +132,7 @@ def turned(parameter, length, structs):
 
 def machine_kind(kind, is_pointer):
     """Returns a type as dist/calls.c has it."""
-    return "uint64_t" if is_pointer or kind == "size_t" else plain(kind)
+    return "uint64_t" if is_pointer or kind in ("size_t", "int64_t") else plain(kind)
 
 
 def pointers_call(call, structs):

@@ -1,4 +1,4 @@
-"""Parses `include/minisign.h` and `include/minisign_install.h` with clang.
+"""Parses `include/minisign.h`, `include/minisign_install.h` and `include/minisign_list.h` with clang.
 
 The result has the constants, enums, structs and calls with their comments, and the roles that the headers give to
 parameters and fields with `MINISIGN_ROLE`. A form that this file does not know is an error, so that nothing is skipped.
@@ -29,6 +29,7 @@ import needs
 
 FILE = "include/minisign.h"
 INSTALLING = "include/minisign_install.h"
+LISTS = "include/minisign_list.h"
 
 # Names are without `MINISIGN_`. A Size is a macro with parameters: its number for lengths of 0, and the names of these lengths.
 Size = namedtuple("Size", "name number lengths")
@@ -46,7 +47,7 @@ PROBE = "minisign_probe_"
 
 
 class Header:
-    """The declarations of one or both headers.
+    """The declarations of one or more headers.
 
     `in_parts` has the structs with pointers, which only the declared calls take: the proved calls take the fields one by
     one. `secrets` has the structs with a secret field.
@@ -93,8 +94,13 @@ def parsed(*texts):
 
 
 def both():
-    """Returns the declarations of both headers."""
+    """Returns the declarations of minisign.h and minisign_install.h."""
     return parsed(read(FILE), read(INSTALLING))
+
+
+def every():
+    """Returns the declarations of all headers with proved calls."""
+    return parsed(read(FILE), read(INSTALLING), read(LISTS))
 
 
 def run_clang(directory, main, *flags):

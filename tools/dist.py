@@ -14,7 +14,7 @@ verdict rests on proofs that an earlier `rt check` kept (`incremental=trusted`).
 this script with `--after`. In CI, `--check` runs in parallel with `rt ci` and builds with the libraries that it proves
 (`tests/shared/proved.py`).
 
-Another kit with the same logic may give other bytes, and so may another wasm-opt for the page. Then `--check` says so,
+Another kit with the same logic may give other bytes, and so may another wasm-opt or zopfli for the page. Then `--check` says so,
 and compares all of the page except its module. (tests/c tests the archives of dist/.) It prints which files are
 identical, and one line per failure; the last line is `N passed, M failed`.
 
@@ -105,7 +105,7 @@ def built_calls(directory, is_check):
         print(f"dist: {name}, after proving what is not proved yet", flush=True)
         verdict = proved.build_archive(CALLS, archive, *flags, *incremental, compilers=compilers if name == C_CALLS_OF else None)
         yield Built(name, read(archive), {name: verdict, "sources of the calls": build.sources_sum("calls")})
-    names = [call.name for call in boundary.proved_calls(c_header.both())]
+    names = [call.name for call in boundary.proved_calls(c_header.every())]
     line = f"{C_CALLS}, by tools/wasm_to_c.py, which is tested and not proved; sum of the bitcode {hashlib.sha256(read(bitcode)).hexdigest()}"
     yield Built(C_CALLS, portable_calls.text(bitcode, names, directory).encode(), {TRANSLATED: line})
 
@@ -113,6 +113,9 @@ def built_calls(directory, is_check):
 def built_page(*_):
     """Yields the page. It contains the sum of its sources, which PROVED has too, with the sum of the module."""
     module, by = build.lowered(build.proved_module()), build.lowering()
+    if os.path.exists(os.path.join(DIST, PAGE_FILE)):
+        # If the module is the same, the page has it in the same compressed form, whichever zopfli is installed.
+        build.taken_from(os.path.join(DIST, PAGE_FILE))
     sums = build.sum_of(module), build.sources_sum("page")
     page = build.page(module, by, sums=sums).encode()
     yield Built(PAGE_FILE, page, {PAGE_FILE: proved.verdicts[PAGE], SOURCES_OF_PAGE: sums[1], LOWERED: by, MODULE: sums[0]})

@@ -5,7 +5,7 @@
     tools/header.py --check    fails if a file is not up to date; the last line is `N passed, M failed`
 
 From the crates come the numbers, names and comments of errors, steps and numberings in `include/minisign.h` and
-`include/minisign_install.h`, and the tables of errors in docs/FORMATS.md. From the headers come their attributes for gcc
+`include/minisign_install.h`, those of hash functions in `include/minisign_list.h`, and the tables of errors in docs/FORMATS.md. From the headers come their attributes for gcc
 and clang, the boundary in front of the proved calls (`boundary.py`), and the manual pages (`manual.py`).
 
 The name of a number in C is its name in the crate, in capitals after `MINISIGN_`, unless `NAMES` has another one. Its
@@ -21,16 +21,21 @@ from collections import namedtuple
 import boundary
 import manual
 import sources
-from c_header import FILE as HEADER, INSTALLING, parsed
+from c_header import FILE as HEADER, INSTALLING, LISTS, parsed
 from sources import ROOT, Unfit, read
+
+# The header of the call that installs. Nothing in it is generated.
+ONE_CALL = "include/minisign_installing.h"
 
 FORMATS = "docs/FORMATS.md"
 
 FAULTS = "crates/minisign_base/src/faults.rt"
+KINDS = "crates/minisign_base/src/errors.rt"
 FAULT_ROWS = "crates/minisign_base/specs/Faults.antt"
 NUMBERS = "crates/minisign_external/src/numbers.rt"
 INSTALL = "crates/minisign_install"
-INSTALL_NUMBERS = f"{INSTALL}/specs/Hosted.antt"
+INSTALL_NUMBERS = f"{INSTALL}/specs/Installations.antt"
+OF_LISTS = "crates/minisign_lists"
 
 # The named errors that no call of the headers returns. All others have a name in C. tests/c/error_lists.py checks this list.
 UNANSWERED = {"GoingBackFailed", "EndOfInput", "PasswordTooLong", "PasswordsDiffer", "EncryptedKeyRefused", "RefusedByGivenKey",
@@ -63,13 +68,17 @@ class Number(namedtuple("Number", "number variant comment")):
         return NAMES.get(self.variant, re.sub(r"(?<=[a-z0-9])(?=[A-Z])", "_", self.variant).upper())
 
 
-# The enums of minisign_install.h that are generated: the words in their marks, the prefix of their members, the name and the file of the
-# enum in the crate, and the file of the definition of its numbers.
-Choice = namedtuple("Choice", "place prefix enum file numbers")
-CHOICES = (
-    Choice("Calls of installing", "DUE", "Due", f"{INSTALL}/src/order.rt", f"{INSTALL}/specs/Order.antt"),
-    Choice("Numberings", "NUMBERING", "Numbering", f"{INSTALL}/src/comments.rt", INSTALL_NUMBERS),
-)
+# The enums of minisign_install.h and minisign_list.h that are generated: the words in their marks, the prefix of their members, and the
+# name and the file of the enum in the crate.
+Choice = namedtuple("Choice", "place prefix enum file")
+DUE = Choice("Operations", "DUE", "Operation", f"{INSTALL}/src/installation.rt")
+NUMBERING = Choice("Numberings", "NUMBERING", "Numbering", f"{INSTALL}/src/comments.rt")
+HASHES = Choice("Hashes", "HASH", "Algorithm", f"{OF_LISTS}/src/digests.rt")
+# The list of the operations, whose numbers are their positions.
+OPERATIONS = f"{INSTALL}/specs/Step.antt"
+# The numbers of the hash functions of lists, and the member that no crate has.
+HASH_NUMBERS = f"{OF_LISTS}/specs/Numbers.antt"
+NO_HASH = "    /* None: a line with 128 digits must name its hash function. */\n    MINISIGN_HASH_NONE = 0"
 
 
 def item_text(file, what, path):
@@ -141,6 +150,14 @@ def install_rows(comments):
     return rows
 
 
+def list_rows(comments):
+    """Returns the errors that only lists have, in the form of `fault_rows`."""
+    rows = re.findall(r'^list_row \(?(\w+)(?: \w+\))? = row (\d+) (\w+) \(codes "([^"]*)"\)$', read(f"{OF_LISTS}/specs/Faults.antt"), re.M)
+    if {name for name, *_ in rows} != {*comments} - {"Library"}:
+        raise Unfit("list_row must have one row for each error of lists")
+    return rows
+
+
 def all_numbers(rows, comments):
     """Returns the errors that calls of the headers return, in the order of their numbers."""
     if UNANSWERED - {name for name, *_ in rows}:
@@ -163,12 +180,34 @@ def enum_text(enum, numbers, prefix="", first=()):
     return f"enum minisign_{enum} {{\n" + ",\n".join([*first, *members]) + "\n};\n"
 
 
-def choice_text(choice):
-    """Returns a generated enum of minisign_install.h."""
-    name = choice.prefix.lower()
-    numbers = numbers_of(comments_of(choice.file, choice.enum), choice.numbers, f"{name}_number")
-    first = ["    /* Nothing: the installation was not initialized. */\n    MINISIGN_DUE_NOTHING = 0"] if choice.prefix == "DUE" else []
-    return enum_text(name, numbers, f"{choice.prefix}_", first)
+def kinds_text():
+    """Returns the enum of the kinds of errors. Two of them are not among those of the crate: none, and API misuse."""
+    misuse = re.search(r"^misuse_kind = (\d+)$", read("crates/minisign_external/specs/Numbers.antt"), re.M)
+    first = ["    /* The number is 0, or it has no meaning in this header. */\n    MINISIGN_KIND_NONE = 0",
+             f"    /* API misuse. */\n    MINISIGN_KIND_MISUSE = {misuse[1]}"]
+    return enum_text("kind", numbers_of(comments_of(KINDS, "ErrorKind"), "crates/minisign_external/specs/Numbers.antt", "kind_number"), "KIND_", first)
+
+
+def operations(comments):
+    """Returns the members of the enum of operations, with the numbers from the list of the definitions."""
+    listed = re.search(r"(?m)^operations =\n((?:    .*\n)+)", read(OPERATIONS))
+    names = re.findall(r"\w+", listed[1] if listed else "")
+    if sorted(names) != sorted(comments):
+        raise Unfit(f"{OPERATIONS}: operations must list each of {', '.join(sorted(comments))}")
+    return [Number(number, name, comments[name]) for number, name in enumerate(names)]
+
+
+def choices_texts():
+    """Yields the places and the texts of the generated enums of minisign_install.h."""
+    yield DUE.place, enum_text("due", operations(comments_of(DUE.file, DUE.enum)), f"{DUE.prefix}_")
+    numbers = numbers_of(comments_of(NUMBERING.file, NUMBERING.enum), INSTALL_NUMBERS, "numbering_number")
+    yield NUMBERING.place, enum_text("numbering", numbers, f"{NUMBERING.prefix}_")
+
+
+def hashes_text():
+    """Returns the generated enum of minisign_list.h."""
+    numbers = numbers_of(comments_of(HASHES.file, HASHES.enum), HASH_NUMBERS, "hash_number")
+    return enum_text("hash", numbers, f"{HASHES.prefix}_", [NO_HASH])
 
 
 # With these attributes gcc and clang warn about NULL, and gcc about a length that is greater than its buffer. clang has no attribute
@@ -256,22 +295,26 @@ def formats_text(numbers, rows, comments):
 def generated_files():
     """Yields the paths and texts of the generated files."""
     comments, install_comments = comments_of(FAULTS, "NamedFault"), comments_of(f"{INSTALL}/src/faults.rt", "InstallFault")
+    list_comments = comments_of(f"{OF_LISTS}/src/faults.rt", "ListFault")
     weak, weak_comment = weak_row()
-    rows, comments = [*fault_rows(), weak, *install_rows(install_comments)], comments | install_comments | {weak[0]: weak_comment}
+    rows = [*fault_rows(), weak, *install_rows(install_comments), *list_rows(list_comments)]
+    comments = comments | install_comments | list_comments | {weak[0]: weak_comment}
     numbers = all_numbers(rows, comments)
     # Each header is parsed by itself for its attributes, because these do not depend on structs of the other one.
-    header = header_text(HEADER, {"Numbers": enum_text("error", numbers, first=["    MINISIGN_OK = 0"]), "Answers": answers_text(numbers),
-                                  "Attributes": attributes_text(parsed(read(HEADER)))})
-    installing = header_text(INSTALLING, {**{choice.place: choice_text(choice) for choice in CHOICES},
-                                          "Attributes": attributes_text(parsed(read(INSTALLING)))})
+    header = header_text(HEADER, {"Numbers": enum_text("error", numbers, first=["    MINISIGN_OK = 0"]), "Kinds": kinds_text(),
+                                  "Answers": answers_text(numbers), "Attributes": attributes_text(parsed(read(HEADER)))})
+    installing = header_text(INSTALLING, {**dict(choices_texts()), "Attributes": attributes_text(parsed(read(INSTALLING)))})
+    of_lists = header_text(LISTS, {HASHES.place: hashes_text(), "Attributes": attributes_text(parsed(read(LISTS)))})
     yield HEADER, header
     yield INSTALLING, installing
-    calls = parsed(header, installing)
+    yield LISTS, of_lists
+    calls = parsed(header, installing, of_lists)
     yield boundary.FILE, boundary.boundary_text(calls)
     yield boundary.POINTERS, boundary.pointers_text(calls)
     yield "c/library/names", boundary.names_text(calls)
     version = dict(calls.texts)["VERSION_TEXT"].strip('"')
-    for file, page, examples in ((HEADER, header, manual.EXAMPLES), (INSTALLING, installing, {})):
+    for file, page, examples in ((HEADER, header, manual.EXAMPLES), (INSTALLING, installing, {}), (LISTS, of_lists, {}),
+                                 (ONE_CALL, read(ONE_CALL), manual.INSTALLING)):
         yield manual.page_of(file), manual.manual_text(manual.page_of(file), page, version, examples)
     yield FORMATS, formats_text(numbers, rows, comments)
 

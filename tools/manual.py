@@ -12,6 +12,8 @@ from sources import read
 
 # The example programs in the manual page of minisign.h, with their headings.
 EXAMPLES = {"verifying, in full, with libsodium": "c/examples/verify.c", "signing, in full, with libsodium": "c/examples/sign.c"}
+# The same for the manual page of minisign_installing.h.
+INSTALLING = {"installing, in full, with libsodium": "c/examples/install.c"}
 # A comment that begins at the left margin.
 PIECE = re.compile(r"^/\*.*?\*/", re.S | re.M)
 MAKERS_NOTE = re.compile(r"(?:[\w ]+, made by tools/header\.py|The end of the [a-z]+)\.|SPDX-License-Identifier: .*")
@@ -79,7 +81,7 @@ def without_guards(text):
     """Returns code without roles, and without preprocessor lines other than definitions of constants."""
     text = re.sub(r" MINISIGN_ROLE\([^)]*\)", "", text)
     text = re.sub(r"#if.*?#endif\n", "", text, flags=re.S)
-    return re.sub(r"^#(?:ifn?def|endif|include|define MINISIGN_(?:INSTALL_)?H$).*\n?", "", text, flags=re.M)
+    return re.sub(r"^#(?:ifn?def|endif|include|define MINISIGN_(?:INSTALL_|INSTALLING_)?H$).*\n?", "", text, flags=re.M)
 
 
 def manual_text(page, header, version, examples):

@@ -1,12 +1,13 @@
 #!/usr/bin/env python3
 """Writes the contracts of the exports of minisign_page, which are those of the same exports of minisign_c.
 
-    tools/page_contracts.py            rewrites crates/minisign_page/src/lib.rt
+    tools/page_contracts.py            rewrites crates/minisign_page/src/lib.rt and specs/ListCalls.antt
     tools/page_contracts.py --check    fails if that would change the file
 
 An export is copied from its docstring to the brace that opens its body; the bodies are written by hand. Two names differ: the prefix of
-the exports, and the meaning of an error number, because the page has no installation errors. The last line is
-`N passed, M failed`.
+the exports, and the meaning of an error number, because the page has no errors of installations. The exports in OWN are only in the
+page. The contracts use definitions of minisign_c, on which minisign_page does not depend, so these are copied to
+crates/minisign_page/specs/ListCalls.antt. The last line is `N passed, M failed`.
 
 Needs Python 3.9 or later.
 """
@@ -20,7 +21,39 @@ PAGE, LIBRARY = "crates/minisign_page/src/lib.rt", "crates/minisign_c/src/lib.rt
 # The name and the head of each export: docstring, attribute, signature and contract.
 EXPORT = r'(?m)^(?:///.*\n)*#\[unsafe\(no_mangle\)\]\npub extern "C" fn {prefix}_(\w+)\((?:.*\n)*?\{{$'
 CALL = re.compile(r"\bminisign_(\w+)(?=[(`])")
-RENAMED = (("IsHostMeaning", "IsMeaning"), (", of the installation error or of", " or of"))
+RENAMED = (("IsCallMeaning", "IsListMeaning"), ("of the error of an installation or a list,", "of the error of a list,"))
+# Exports that the library for C does not have: it compares a digest with one entry, and the page compares it with all entries.
+OWN = ("sha256_begin", "sha256_update", "sha256_digest", "sha512_begin", "sha512_update", "sha512_digest")
+
+
+# The definitions for lists: those of the library, and of them the part that is copied, from the first text to the second one.
+PAGE_SPECS, SPECS = "crates/minisign_page/specs/ListCalls.antt", "crates/minisign_c/specs/ListCalls.antt"
+BEGIN, END = "-- The error number of a failed call.\n", "-- == Writing ==\n"
+MEANING = """-- The text is the meaning of the number, of an error of lists or of any other number. Numbers of errors
+-- of installations have no meaning here.
+abbrev pub IsListMeaning : ℕ → List ℕ → Type 0
+IsListMeaning n text =
+    MatchOption (list_fault_numbered n) (IsMeaning n text) (λ e. text ≡ (list_row e).summary)
+
+"""
+
+
+def is_used(name, body):
+    """Returns true if a name of an import occurs in the definitions. The parts of an operator are between circles."""
+    parts = [part for part in name.split("◌") if part]
+    return all(re.search(rf"(?<![\w.]){re.escape(part)}(?!\w)", body) for part in parts)
+
+
+def definitions(library):
+    """Returns the text of the page's definitions."""
+    body, imports = BEGIN + library.partition(BEGIN)[2].partition(END)[0], []
+    body = MEANING + body.rstrip("\n") + "\n"
+    meant = "use Rattle.minisign_external.specs.Numbers.{IsMeaning}\n"
+    for found in re.finditer(r"(?m)^use (Rattle\.[\w.]+)\.\{(.*)\}$", meant + library.partition("-- ==")[0]):
+        names = [name for name in found[2].split(", ") if is_used(name, body)]
+        imports += [f"use {found[1]}.{{{', '.join(names)}}}\n"] if names else []
+    return "-- The results of the calls for lists as numbers, and the structs after them. Copied from minisign_c by\n" \
+           f"-- tools/page_contracts.py.\n{''.join(imports)}\n{body}"
 
 
 def heads(text, prefix):
@@ -32,6 +65,8 @@ def generated(page, library):
     """Returns the text of the page's crate with the contracts of the library."""
     ours, theirs = heads(page, "page"), heads(library, "minisign")
     for name, head in ours.items():
+        if name in OWN:
+            continue
         if name not in theirs:
             raise SystemExit(f"{PAGE}: minisign_c has no minisign_{name}")
         copy = CALL.sub(lambda found: f"page_{found[1]}" if found[1] in ours else found[0], theirs[name])
@@ -41,21 +76,27 @@ def generated(page, library):
     return page
 
 
+def read(path):
+    """Returns the text of a file, or an empty text if it does not exist."""
+    if not os.path.exists(os.path.join(TOP, path)):
+        return ""
+    with open(os.path.join(TOP, path), encoding="utf-8") as file:
+        return file.read()
+
+
 def main(words):
-    texts = []
-    for path in (PAGE, LIBRARY):
-        with open(os.path.join(TOP, path), encoding="utf-8") as file:
-            texts.append(file.read())
-    made = generated(*texts)
-    failed = words == ["--check"] and made != texts[0]
-    if failed:
-        print(f"FAILED: {PAGE} is not up to date: run tools/page_contracts.py")
-    elif made != texts[0]:
-        with open(os.path.join(TOP, PAGE), "w", encoding="utf-8") as file:
-            file.write(made)
+    page, library, page_specs, specs = (read(path) for path in (PAGE, LIBRARY, PAGE_SPECS, SPECS))
+    made, failed = generated(page, library), 0
+    for path, old, new in ((PAGE, page, made), (PAGE_SPECS, page_specs, definitions(specs))):
+        if old != new and words == ["--check"]:
+            failed += 1
+            print(f"FAILED: {path} is not up to date: run tools/page_contracts.py")
+        elif old != new:
+            with open(os.path.join(TOP, path), "w", encoding="utf-8") as file:
+                file.write(new)
     count = len(heads(made, "page"))
-    print(f"{0 if failed else count} passed, {int(failed)} failed")
-    return int(failed or not count)
+    print(f"{0 if failed else count} passed, {failed} failed")
+    return int(failed > 0 or not count)
 
 
 if __name__ == "__main__":

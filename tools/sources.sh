@@ -13,7 +13,7 @@ LC_ALL=C
 export LC_ALL
 cd "$(dirname "$0")/.."
 
-below='minisign_hash minisign_kdf minisign_base minisign minisign_external'
+below='minisign_hash minisign_kdf minisign_base minisign minisign_external minisign_sha2 minisign_lists'
 case ${1-} in
 calls) crates="$below minisign_install minisign_c" directories= ;;
 page) crates="$below minisign_page" directories="page LICENSE crates.txt include/minisign.h

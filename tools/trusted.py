@@ -41,13 +41,17 @@ DEVICES = Part((("minisign", "verify_texts", "headline"), ("minisign", "SecretKe
 FROM_C = Part((("minisign_c", "verify_in_a_row", "number"), ("minisign_c", "verify_in_a_row", "accepted"), ("minisign_c", "sign_in_a_row", "verifies")),
               # The table of errors is in docs/FORMATS.md.
               files=r"/crates/minisign_base/specs/Faults\.antt")
-# The document prints only the definitions of an update and of what a run may install.
-INSTALLING = Part((("minisign_install", "any_run_installs_only_updates", "safe"),),
-                  files=r"/crates/minisign_install/(?!specs/(?:Installing|Comments)\.)")
-RUNS = Part((("minisign_install", "any_sequence_of_runs_ends_well", "ends"),), files="/crates/")
-LISTS = Part((("minisign_lists", "verify_listed", ""), ("minisign_lists", "lists_are_decided", "")), "listed_verdict")
+# The laws, the relation that describes an application, and the installer as one function are printed in full.
+OF_APPLICATIONS = r"/crates/minisign_install/(?!specs/(?:Applications|Histories|StepRuns|Step|Decisions|Traces)\.)"
+INSTALLING = Part((("minisign_install", "any_application_is_safe", "safe"), ("minisign_install", "any_application_is_safe", "lasts"),
+                   ("minisign_install", "any_good_update_arrives", "installed")), files=OF_APPLICATIONS)
+RUNS = Part((("minisign_install", "any_history_keeps_the_version", "versions"),), files=OF_APPLICATIONS)
+# The function that decides whether a recorded run is that of such an application.
+RECORDED = Part((("minisign_install", "first_offence", ""),), files=OF_APPLICATIONS)
+LISTS = Part((("minisign_lists", "verify_listed", ""), ("minisign_lists", "lists_are_decided", ""),
+              ("minisign_c", "check_listed_in_a_row", "number"), ("minisign_c", "check_listed_in_a_row", "accepted")), "listed_verdict")
 KIT = Part(())
-PARTS = (VERDICT, OPENING, SIGNING, DEVICES, FROM_C, INSTALLING, RUNS, LISTS, KIT)
+PARTS = (VERDICT, OPENING, SIGNING, DEVICES, FROM_C, INSTALLING, RUNS, RECORDED, LISTS, KIT)
 
 # The hand-written text behind the parts begins with this.
 TAIL = "\n\n## Notation"
