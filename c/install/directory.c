@@ -63,7 +63,7 @@ bool name_directory(struct directory *directory, const char *target)
     }
     directory->update = (struct stage) { &directory->stages, strcpy(names + size, beside[2]->name), .fd = -1 };
     directory->number = (struct stage) { &directory->stages, strcpy(names + 2 * size, beside[2]->name), .fd = -1 };
-    directory->installed = (struct stage) { &directory->target, .fd = -1 };
+    directory->installed = (struct stage) { .shown = &directory->target, .fd = -1 };
     return true;
 }
 
@@ -71,7 +71,8 @@ void close_directory(struct directory *directory)
 {
     close_if_open(&directory->update.fd);
     close_if_open(&directory->number.fd);
-    unlock_target(directory);
+    close_target(directory);
+    close_if_open(&directory->locked);
     close_if_open(&directory->fd);
     free(directory->names);
 }
@@ -81,8 +82,8 @@ void close_directory(struct directory *directory)
 /* Remembers the first error: the file, and either the cause with a hint, or errno if `cause` is NULL. */
 static void remember(struct directory *directory, const struct part *part, const char *cause, const char *hint)
 {
-    if (directory->trouble.shown == NULL) {
-        directory->trouble = (struct trouble) { part->shown, cause, errno, hint };
+    if (!directory->trouble.is_there) {
+        directory->trouble = (struct trouble) { true, part->shown, cause, errno, hint };
     }
 }
 
@@ -103,6 +104,12 @@ static enum minisign_error fails(struct directory *directory, const struct part 
 static enum minisign_error wrote(struct directory *directory, const struct part *part, bool is_written)
 {
     return is_written ? MINISIGN_OK : fails(directory, part, MINISIGN_WRITING_FAILED);
+}
+
+static enum minisign_error remove_stage(struct directory *directory, const struct stage *stage)
+{
+    /* Another run that has the lock may have removed it. */
+    return wrote(directory, &directory->stages, AGAIN(unlinkat(directory->fd, stage->name, 0)) == 0 || errno == ENOENT);
 }
 
 /* ---- Existing files ---- */
@@ -321,7 +328,8 @@ static enum minisign_error lock_file(struct directory *directory, int fd, bool i
     } else {
         error = fails(directory, &directory->lock, MINISIGN_READING_FAILED);
     }
-    if (presence == UNUSABLE || (presence == PRESENT && is_made && !give_to_keeper(directory, &directory->lock, &directory->lock, fd))) {
+    if (presence == UNUSABLE
+        || (presence == PRESENT && is_made && !give_to_keeper(directory, &directory->lock, &directory->lock, fd))) {
         error = MINISIGN_READING_FAILED;
     }
     if (presence == PRESENT && error == MINISIGN_OK) {
@@ -388,7 +396,8 @@ static enum minisign_error renew_lock(struct directory *directory)
     if (error != MINISIGN_OK || fresh.fd < 0) {
         return error;
     }
-    if (give_to_keeper(directory, &directory->lock, &directory->lock, fresh.fd) && AGAIN(flock(fresh.fd, LOCK_EX | LOCK_NB)) == 0
+    if (give_to_keeper(directory, &directory->lock, &directory->lock, fresh.fd)
+        && AGAIN(flock(fresh.fd, LOCK_EX | LOCK_NB)) == 0
         && AGAIN(renameat(directory->fd, fresh.name, directory->fd, directory->lock.name)) == 0) {
         close(directory->locked);
         directory->locked = fresh.fd;
@@ -408,12 +417,6 @@ enum minisign_error lock_target(struct directory *directory)
     error = error == MINISIGN_OK ? expect_regular_files(directory) : error;
     error = error == MINISIGN_OK ? lock_found(directory) : error;
     return error == MINISIGN_OK ? renew_lock(directory) : error;
-}
-
-void unlock_target(struct directory *directory)
-{
-    close_if_open(&directory->installed.fd);
-    close_if_open(&directory->locked);
 }
 
 /* ---- Leftovers and the record ---- */
@@ -439,7 +442,6 @@ enum minisign_error remove_leftovers(struct directory *directory)
 enum minisign_error read_record(struct directory *directory, struct record *record)
 {
     uint8_t bytes[MINISIGN_RECORD_TEXT_BYTES + 1];
-    struct stat status;
     ssize_t n;
     int fd;
     enum minisign_error error = open_part(directory, &directory->record, O_RDONLY, &fd);
@@ -447,7 +449,7 @@ enum minisign_error read_record(struct directory *directory, struct record *reco
     if (fd < 0) {
         return error;
     }
-    n = look_at(directory, &directory->record, fd, &status) ? read_whole(fd, bytes, sizeof bytes) : -1;
+    n = read_whole(fd, bytes, sizeof bytes);
     close_if_open(&fd);
     if (n < 0 || n == sizeof bytes) {
         errno = n < 0 ? errno : EFBIG;
@@ -456,7 +458,6 @@ enum minisign_error read_record(struct directory *directory, struct record *reco
                                  "remove it and use --first to install anyway", MINISIGN_READING_FAILED);
     }
     *record = (struct record) { .is_there = true, .len = (size_t) n };
-    record->written = status.st_mtime < 0 ? 0 : (uint64_t) status.st_mtime;
     memcpy(record->text, bytes, record->len);
     return MINISIGN_OK;
 }
@@ -470,7 +471,6 @@ enum minisign_error renew_record(struct directory *directory, const struct recor
         return error;
     }
     error = write_stage(directory, &fresh, record->text, record->len);
-    error = error == MINISIGN_OK ? date_stage(directory, &fresh, record->written) : error;
     error = error == MINISIGN_OK ? sync_record(directory, &fresh) : error;
     error = error == MINISIGN_OK ? rename_stage(directory, &fresh, &directory->record) : error;
     close(fresh.fd);
@@ -485,8 +485,13 @@ enum minisign_error renew_record(struct directory *directory, const struct recor
 
 enum minisign_error open_target(struct directory *directory)
 {
-    directory->installed = (struct stage) { &directory->target, .fd = -1 };
+    directory->installed = (struct stage) { .shown = &directory->target, .fd = -1 };
     return open_part(directory, &directory->target, O_RDONLY, &directory->installed.fd);
+}
+
+void close_target(struct directory *directory)
+{
+    close_if_open(&directory->installed.fd);
 }
 
 /* ---- Temporary files ---- */
@@ -498,7 +503,8 @@ static enum minisign_error make_file(struct directory *directory, struct stage *
         return MINISIGN_RANDOM_SOURCE_FAILED;
     }
     stage->fd = open_named(directory->fd, stage->name, FOR_THE_OWNER);
-    return wrote(directory, &directory->stages, stage->fd >= 0);
+    stage->has_name = stage->fd >= 0;
+    return wrote(directory, &directory->stages, stage->has_name);
 }
 
 enum minisign_error create_stage(struct directory *directory, struct stage *stage)
@@ -522,13 +528,6 @@ enum minisign_error write_stage(struct directory *directory, const struct stage 
                                 size_t len)
 {
     return wrote(directory, &directory->stages, write_whole(stage->fd, bytes, len));
-}
-
-enum minisign_error date_stage(struct directory *directory, const struct stage *stage, uint64_t seconds)
-{
-    struct timespec times[] = { { .tv_nsec = UTIME_OMIT }, { .tv_sec = (time_t) seconds } };
-
-    return wrote(directory, &directory->stages, AGAIN(futimens(stage->fd, times)) == 0);
 }
 
 enum minisign_error read_stage(struct directory *directory, struct stage *stage, uint8_t *bytes, size_t size,
@@ -604,12 +603,13 @@ enum minisign_error sync_record(struct directory *directory, const struct stage 
 
 /* ---- Renaming and removing ---- */
 
-enum minisign_error rename_stage(struct directory *directory, const struct stage *stage, const struct part *to)
+enum minisign_error rename_stage(struct directory *directory, struct stage *stage, const struct part *to)
 {
     if (!is_locked(directory)) {
         return MINISIGN_WRITING_FAILED;
     }
-    return wrote(directory, to, AGAIN(renameat(directory->fd, stage->name, directory->fd, to->name)) == 0);
+    stage->has_name = AGAIN(renameat(directory->fd, stage->name, directory->fd, to->name)) != 0;
+    return wrote(directory, to, !stage->has_name);
 }
 
 enum minisign_error sync_names(struct directory *directory)
@@ -618,8 +618,15 @@ enum minisign_error sync_names(struct directory *directory)
     return wrote(directory, &directory->itself, sync_to_disk(directory->fd) || errno == EINVAL);
 }
 
-enum minisign_error remove_stage(struct directory *directory, const struct stage *stage)
+enum minisign_error remove_files(struct directory *directory)
 {
-    /* Another run that has the lock may have removed it. */
-    return wrote(directory, &directory->stages, AGAIN(unlinkat(directory->fd, stage->name, 0)) == 0 || errno == ENOENT);
+    struct stage *const stages[] = { &directory->number, &directory->update };
+    enum minisign_error error = MINISIGN_OK;
+
+    for (size_t i = 0; i < sizeof stages / sizeof stages[0]; i++) {
+        if (stages[i]->has_name && remove_stage(directory, stages[i]) != MINISIGN_OK) {
+            error = MINISIGN_WRITING_FAILED;
+        }
+    }
+    return error;
 }

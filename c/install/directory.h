@@ -1,8 +1,8 @@
 /* SPDX-License-Identifier: MIT */
 /*
- * Makes the system calls of an installation: one function for each call that the state machine of minisign_install.h
- * asks for. The directory of the target is opened once, and names are looked up in it. Links in the last component are
- * not followed. Calls that a signal interrupts are retried. The first error is remembered.
+ * Makes the system calls of an installation: one function for each operation that the state machine of
+ * minisign_install.h asks for. The directory of the target is opened once, and names are looked up in it. Links in the
+ * last component are not followed. Calls that a signal interrupts are retried. The first error is remembered.
  */
 #ifndef DIRECTORY_H
 #define DIRECTORY_H
@@ -16,26 +16,28 @@ struct part {
     const char *name;
 };
 
-/* A file that is written or read back: what messages call it, and its random temporary name, if it is new. */
+/* A file that is written or read back: what messages call it, its random temporary name, if it is new, and whether it
+ * still has this name. */
 struct stage {
     const struct part *shown;
     char *name;
+    bool has_name;
     int fd;
     /* How many bytes were read back, and how many of them the system was asked to start writing to the disk. */
     uint64_t read;
     uint64_t begun;
 };
 
-/* The record, if there is one, and its modification time, in seconds since 1970. */
+/* The record, if there is one. */
 struct record {
     bool is_there;
     uint8_t text[MINISIGN_RECORD_TEXT_BYTES];
     size_t len;
-    uint64_t written;
 };
 
-/* The file that could not be used; the cause in words, or NULL and errno; and a hint or NULL. */
+/* The file that could not be used, if there is one; the cause in words, or NULL and errno; and a hint or NULL. */
 struct trouble {
+    bool is_there;
     const char *shown;
     const char *cause;
     int number;
@@ -78,8 +80,8 @@ void close_directory(struct directory *directory);
 /* Opens the directory, if it is not open yet. */
 enum minisign_error open_directory(struct directory *directory);
 
-/* Fails if the target or the lock file is a link or a directory, or is no regular file for another reason. Either may be
- * missing. */
+/* Fails if the target or the lock file is a link or a directory, or is no regular file for another reason. Either may
+ * be missing. */
 enum minisign_error expect_regular_files(struct directory *directory);
 
 /* Fails if no file can be renamed to the target, because something is mounted there, or the target is no regular
@@ -91,20 +93,17 @@ enum minisign_error expect_replaceable_target(struct directory *directory);
  * away. */
 enum minisign_error lock_target(struct directory *directory);
 
-/* Unlocks the target, and closes the installed file if it is open. */
-void unlock_target(struct directory *directory);
+/* Closes the installed file, if it is open. */
+void close_target(struct directory *directory);
 
 /* Removes the temporary files that killed runs left, as far as possible. */
 enum minisign_error remove_leftovers(struct directory *directory);
 
 enum minisign_error read_record(struct directory *directory, struct record *record);
 
-/* If this is a run by root, and the record belongs to root but should belong to another user (as after an earlier run by
- * root), replaces it by a new file of that user with the same text and time. The old file is never given away. */
+/* If this is a run by root, and the record belongs to root but should belong to another user (as after an earlier run
+ * by root), replaces it by a new file of that user with the same text. The old file is never given away. */
 enum minisign_error renew_record(struct directory *directory, const struct record *record);
-
-/* Sets the modification time of a temporary file. */
-enum minisign_error date_stage(struct directory *directory, const struct stage *stage, uint64_t seconds);
 
 /* Opens the installed file for reading. Its descriptor is -1 if there is none. */
 enum minisign_error open_target(struct directory *directory);
@@ -126,17 +125,18 @@ enum minisign_error read_stage(struct directory *directory, struct stage *stage,
 /* Sets the permissions of the update to those of the installed file, or to the mode of the options. */
 enum minisign_error take_permissions(struct directory *directory);
 
-/* Syncs a temporary file or the installed file. A record is first made readable by everybody, and given to the owner who
- * may install the next update, if the system allows it. */
+/* Syncs a temporary file or the installed file. A record is first made readable by everybody, and given to the owner
+ * who may install the next update, if the system allows it. */
 enum minisign_error sync_stage(struct directory *directory, const struct stage *stage);
 enum minisign_error sync_record(struct directory *directory, const struct stage *stage);
 
 /* Renames a temporary file to the record or to the target. */
-enum minisign_error rename_stage(struct directory *directory, const struct stage *stage, const struct part *to);
+enum minisign_error rename_stage(struct directory *directory, struct stage *stage, const struct part *to);
 
 /* Syncs the directory. */
 enum minisign_error sync_names(struct directory *directory);
 
-enum minisign_error remove_stage(struct directory *directory, const struct stage *stage);
+/* Removes the temporary files that still have their names. */
+enum minisign_error remove_files(struct directory *directory);
 
 #endif

@@ -4,7 +4,7 @@
 
 #include "shared/text.h"
 
-void say_answer(const char *file, int number)
+void say_system_error(const char *file, int number)
 {
     fprintf(stderr, "error: %s: %s (os error %d)\n", escape_name(file).text, strerror(number), number);
 }

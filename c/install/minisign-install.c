@@ -3,15 +3,13 @@
  * The program minisign-install, which installs an update that has a valid signature. With --check it only says, from
  * the signature, whether there is a newer update.
  *
- * installing.h does the work. This file reads the key and the signature, verifies Ed25519 by libsodium, and prints the
- * result.
+ * minisign_install_file does the work. This file reads the key and the signature, and prints the messages.
  */
-#include "installing.h"
+#include "options.h"
 
 #include <sodium.h>
 
 #include "messages.h"
-#include "options.h"
 #include "shared/diagnosis.h"
 #include "shared/progress.h"
 #include "shared/reports.h"
@@ -32,26 +30,15 @@ static struct long_text signature_text;
 
 /* ---- Files that are read ---- */
 
-static int open_update(const char *file)
-{
-    int fd = AGAIN(open(file, O_RDONLY | O_CLOEXEC));
-
-    if (fd < 0) {
-        say_answer(file, errno);
-        exit(FAILED);
-    }
-    return fd;
-}
-
 static void read_long_text(struct long_text *text, const char *file)
 {
-    int fd = open_update(file);
-    ssize_t n = read_whole(fd, text->bytes, sizeof text->bytes);
+    int fd = AGAIN(open(file, O_RDONLY | O_CLOEXEC));
+    ssize_t n = fd < 0 ? -1 : read_whole(fd, text->bytes, sizeof text->bytes);
     const char *why;
 
     if (n < 0) {
-        say_answer(file, errno);
-        exit(FAILED);
+        say_system_error(file, errno);
+        exit(MINISIGN_STATUS_FAILED);
     }
     text->len = (size_t) n;
     close(fd);
@@ -61,7 +48,7 @@ static void read_long_text(struct long_text *text, const char *file)
     if (why != NULL) {
         print_error(file, why);
         print_hint(ORDER_HINT);
-        exit(REJECTED);
+        exit(MINISIGN_STATUS_REJECTED);
     }
 }
 
@@ -88,7 +75,7 @@ static void must_be_key(const char *shown, const struct long_text *text, enum mi
     if (error != MINISIGN_OK) {
         say_library_error(shown, error);
         explain_text(shown, text, PUBLIC_KEY_TEXT);
-        exit(REJECTED);
+        exit(MINISIGN_STATUS_REJECTED);
     }
 }
 
@@ -96,247 +83,194 @@ static void must_be_key(const char *shown, const struct long_text *text, enum mi
 static void read_texts(struct request *request)
 {
     static struct long_text text;
-    struct run_options *options = &request->options;
+    minisign_installing_options *options = &request->options;
 
-    for (int i = 0; i < options->key_count; i++) {
+    for (int i = 0; i < request->key_count; i++) {
         const char *base64 = request->keys[i];
 
         must_be_key(base64, &text, minisign_read_bare_public_key((const uint8_t *) base64, strlen(base64), &keys[i]));
     }
-    if (options->key_count == 0) {
+    if (request->key_count == 0) {
         read_long_text(&text, request->key);
         must_be_key(request->key, &text, minisign_read_public_key(text.bytes, text.len, &keys[0]));
-        options->key_count = 1;
     }
-    options->keys = keys;
-    read_long_text(&signature_text, request->signature);
+    options->key = &keys[0];
+    options->other_key = request->key_count > 1 ? &keys[1] : NULL;
+    read_long_text(&signature_text, options->signature_name);
     options->signature = signature_text.bytes;
     options->signature_len = signature_text.len;
 }
 
 /* ---- The run ---- */
 
-static enum minisign_answer answer_of(const uint8_t signature[64], const uint8_t *bytes, size_t len,
-                                      const uint8_t public_key[32])
-{
-    int result = crypto_sign_verify_detached(signature, bytes, len, public_key);
+/* The context of the functions below, which minisign_install_file calls during the run. */
+struct shown {
+    struct progress progress;
+    bool is_check;
+    bool has_hint;
+};
 
-    return result == 0 ? MINISIGN_ANSWER_YES : MINISIGN_ANSWER_NO;
+/* Prints the version number and the trusted comment of an update that is checked, for programs to read. */
+static void show_comment(void *context, uint64_t version, const uint8_t *comment, size_t len)
+{
+    const struct shown *shown = context;
+
+    if (shown->is_check) {
+        printf("%" PRIu64 "\n", version);
+        write_escaped(stdout, comment, len);
+        putchar('\n');
+    }
 }
 
-/* Returns what a call does with the data, for the progress, or NULL. */
-static const char *work_of(enum minisign_due call)
+/* Returns what the run is doing with the data, or NULL. */
+static const char *work_of(enum minisign_install_phase phase)
 {
-    switch (call) {
-    case MINISIGN_DUE_LOOK: return "compared";
-    case MINISIGN_DUE_RECEIVE: return "received";
-    case MINISIGN_DUE_COPY: return "copied";
-    case MINISIGN_DUE_READ_BACK: return "verified";
+    switch (phase) {
+    case MINISIGN_PHASE_RECEIVING: return "received";
+    case MINISIGN_PHASE_COMPARING: return "compared";
+    case MINISIGN_PHASE_COPYING: return "copied";
+    case MINISIGN_PHASE_VERIFYING: return "verified";
     default: return NULL;
     }
 }
 
-static void show_copying(struct progress *shown, const struct installing *run)
+static void show_phase(void *context, minisign_installing_progress *progress)
 {
-    const char *work = work_of(run->call);
+    struct progress *line = &((struct shown *) context)->progress;
+    const char *work = work_of(progress->phase);
 
-    if (shown->label != work) {
-        end_progress(shown);
-        *shown = begin_progress(work, run->size, true);
+    if (line->label != work) {
+        end_progress(line);
+        *line = begin_progress(work, progress->size, true);
     }
-    show_progress(shown, run->done - shown->done);
+    show_progress(line, progress->done - line->done);
+    progress->goes_on = 1;
 }
 
-static void make_run(struct request *request, struct installing *run)
+static void show_message(void *context, const minisign_installing_message *message)
 {
-    struct progress shown = { 0 };
+    struct shown *shown = context;
 
-    if (!request->options.is_check) {
-        request->options.data = open_update(request->options.data_name);
+    end_progress(&shown->progress);
+    shown->progress = (struct progress) { 0 };
+    if (message->kind == MINISIGN_MESSAGE_WARNING) {
+        fprintf(stderr, "warning: %s: %s\n", escape_name(message->file).text, message->text);
+    } else if (message->kind == MINISIGN_MESSAGE_HINT) {
+        shown->has_hint = true;
+        print_hint(message->text);
+    } else if (message->system_error != 0) {
+        say_system_error(message->file, message->system_error);
+    } else {
+        print_error(message->file, message->text);
     }
-    while (make_call(run)) {
-        show_copying(&shown, run);
-    }
-    end_progress(&shown);
 }
 
-/* ---- Results ---- */
+/* ---- Hints ---- */
 
-/* How an error is reported: the exit status, the file that the error is about, and the hint. */
-struct ending {
+static const struct {
     enum minisign_error error;
-    enum status status;
-    enum { THE_SIGNATURE, THE_DATA, THE_TARGET, THE_RECORD } blamed;
     const char *hint;
+} hints[] = {
+    { MINISIGN_TARGET_IN_USE, "use --wait SECONDS to wait for it" },
+    { MINISIGN_DIRECTORY_NOT_SYNCED, "run the command again" },
+    { MINISIGN_NO_RECORD, "use --first for the first installation" },
+    { MINISIGN_DAMAGED_RECORD, "use --first to install anyway" },
+    { MINISIGN_KEPT_BY_VERSION, "use --numbering version" },
+    { MINISIGN_KEPT_BY_TIMESTAMP, "use --numbering timestamp" },
+    { MINISIGN_SAME_NUMBER, "use --again to install anyway" },
+    { MINISIGN_OLDER_UPDATE, "download the latest update" },
+    { MINISIGN_SIGNATURE_REFUSED, DOWNLOAD_HINT },
+    { MINISIGN_COMMENT_SIGNATURE_REFUSED, DOWNLOAD_HINT },
+    { MINISIGN_DIFFERENT_KEY_IDS, "use the public key of the signer" },
+    { MINISIGN_OTHER_SIZE, DOWNLOAD_HINT },
+    { MINISIGN_EXPIRED, "download the latest update" },
+    { MINISIGN_NO_NUMBER, "use --numbering version if the comment has a field version:" },
 };
 
-static const struct ending endings[] = {
-    { MINISIGN_OUT_OF_MEMORY, FAILED, THE_TARGET, NULL },
-    { MINISIGN_READING_FAILED, FAILED, THE_TARGET, NULL },
-    { MINISIGN_WRITING_FAILED, FAILED, THE_TARGET, NULL },
-    { MINISIGN_RANDOM_SOURCE_FAILED, FAILED, THE_TARGET, NULL },
-    { MINISIGN_TARGET_IN_USE, IN_USE, THE_TARGET, "use --wait SECONDS to wait for it" },
-    { MINISIGN_DIRECTORY_NOT_SYNCED, NOT_SYNCED, THE_TARGET, "run the command again" },
-    { MINISIGN_NO_RECORD, UNRECORDED, THE_RECORD, "use --first for the first installation" },
-    { MINISIGN_DAMAGED_RECORD, UNRECORDED, THE_RECORD, "use --first to install anyway" },
-    { MINISIGN_KEPT_BY_VERSION, UNRECORDED, THE_RECORD, "use --numbering version" },
-    { MINISIGN_KEPT_BY_TIMESTAMP, UNRECORDED, THE_RECORD, "use --numbering timestamp" },
-    { MINISIGN_SAME_NUMBER, SAME, THE_TARGET, "use --again to install anyway" },
-    { MINISIGN_OLDER_UPDATE, OLDER, THE_DATA, "download the latest update" },
-    { MINISIGN_SIGNATURE_REFUSED, REJECTED, THE_DATA, DOWNLOAD_HINT },
-    { MINISIGN_COMMENT_SIGNATURE_REFUSED, REJECTED, THE_SIGNATURE, DOWNLOAD_HINT },
-    { MINISIGN_DIFFERENT_KEY_IDS, REJECTED, THE_SIGNATURE, "use the public key of the signer" },
-    { MINISIGN_OTHER_SIZE, REJECTED, THE_DATA, DOWNLOAD_HINT },
-    { MINISIGN_EXPIRED, EXPIRED, THE_SIGNATURE, "download the latest update" },
-    { MINISIGN_NO_NUMBER, REJECTED, THE_SIGNATURE, "use --numbering version if the comment has a field version:" },
-    { MINISIGN_OTHER_FILE, REJECTED, THE_SIGNATURE, NULL },
-    /* All other errors are about the signature file. */
-    { .status = REJECTED, .blamed = THE_SIGNATURE },
-};
-
-static const struct ending *ending_for(enum minisign_error error)
+static const char *hint_of(enum minisign_error error)
 {
-    const struct ending *ending = endings;
-
-    while (ending->error != error && ending->error != MINISIGN_OK) {
-        ending++;
+    for (size_t i = 0; i < sizeof hints / sizeof hints[0]; i++) {
+        if (hints[i].error == error) {
+            return hints[i].hint;
+        }
     }
-    return ending;
+    return NULL;
 }
 
-static void say_trouble(const struct trouble *trouble)
+/* Returns the file name that the trusted comment must contain. */
+static const char *signed_name(const minisign_installing_options *options)
 {
-    if (trouble->cause != NULL) {
-        print_error(trouble->shown, trouble->cause);
-    } else {
-        say_answer(trouble->shown, trouble->number);
-    }
+    const char *slash = strrchr(options->target, '/');
+
+    return options->name != NULL ? options->name : slash == NULL ? options->target : slash + 1;
 }
 
-/* Prints a hint for an error of the library. */
-static void hint_at(const struct request *request, const struct installing *run, const struct ending *ending)
+/* Prints what the user can do about the error for which the update was rejected. */
+static void hint_at(const struct request *request, enum minisign_error error)
 {
-    if (run->error == MINISIGN_NO_NUMBER && request->options.numbering == MINISIGN_NUMBERING_VERSION) {
+    const minisign_installing_options *options = &request->options;
+
+    if (error == MINISIGN_NO_NUMBER && options->choices.numbering == MINISIGN_NUMBERING_VERSION) {
         print_hint("omit --numbering version if the comment has a field timestamp:");
-    } else if (run->error == MINISIGN_OTHER_FILE) {
+    } else if (error == MINISIGN_OTHER_FILE) {
         fprintf(stderr, "hint: use --name NAME if the update was signed under a name other than %s\n",
-                escape_name(wanted_name(run)).text);
-    } else if (ending->error == MINISIGN_OK) {
-        explain_text(request->signature, &signature_text, SIGNATURE_TEXT);
+                escape_name(signed_name(options)).text);
+    } else if (hint_of(error) != NULL) {
+        print_hint(hint_of(error));
     } else {
-        print_hint(ending->hint);
+        explain_text(options->signature_name, &signature_text, SIGNATURE_TEXT);
     }
 }
 
-/* Explains why the update is not installed, or not yet on disk. Returns the exit status. */
-static enum status report(const struct request *request, const struct installing *run)
+/* Prints a hint for the result of the run, unless the run has printed one. Returns the exit status. */
+static int end(const struct request *request, const struct shown *shown, enum minisign_install_status status,
+               enum minisign_error error)
 {
-    const struct ending *ending = ending_for(run->error);
-    const struct directory *directory = &run->directory;
-    const char *const blamed[] = { request->signature, request->options.data_name, request->options.target,
-                                   directory->record.shown };
-    enum status status = ending->status;
-    bool has_trouble = directory->trouble.shown != NULL
-                       && (status == FAILED || status == NOT_SYNCED || status == EXPIRED);
+    bool is_silent = status == MINISIGN_STATUS_OLDER && shown->is_check;
 
-    if (status == OLDER && request->options.is_check) {
-        return status;
-    }
-    if (status != FAILED || !has_trouble) {
-        say_library_error(blamed[ending->blamed], run->error);
-    }
-    if (has_trouble) {
-        say_trouble(&directory->trouble);
-    }
-    if (run->is_too_long) {
+    if (status == MINISIGN_STATUS_TOO_LARGE) {
         print_hint("use --max-size BYTES to accept larger data");
-    } else if (has_trouble && (status == FAILED || directory->trouble.hint != NULL)) {
-        print_hint(directory->trouble.hint);
-    } else {
-        hint_at(request, run, ending);
+        return MINISIGN_STATUS_REJECTED;
     }
-    return status == FAILED && run->is_too_long ? REJECTED : status;
-}
-
-/* Prints the version number and the trusted comment of an update, for programs to read, if a key has signed them. */
-static bool show_update(const struct installing *run)
-{
-    size_t len;
-    const uint8_t *comment = vouched_comment(run, &len);
-
-    if (comment != NULL) {
-        printf("%" PRIu64 "\n", minisign_install_number(&run->machine));
-        write_escaped(stdout, comment, len);
-        putchar('\n');
+    if (status == MINISIGN_STATUS_MISUSE) {
+        print_hint("give the path of the file to install, not of its directory");
+    } else if (error != MINISIGN_OK && status != MINISIGN_STATUS_FAILED && !is_silent && !shown->has_hint) {
+        hint_at(request, error);
     }
-    return fflush(stdout) == 0 && ferror(stdout) == 0;
-}
-
-/* Warns that an installed file keeps its permissions, if --mode asks for others. */
-static void compare_mode(const struct run_options *options)
-{
-    struct stat status;
-
-    if (options->has_mode && lstat(options->target, &status) == 0 && (status.st_mode & 0777) != options->mode) {
-        fprintf(stderr, "warning: %s: already installed, so its permissions are unchanged\n",
-                escape_name(options->target).text);
-        print_hint("use chmod to change them");
-    }
-}
-
-/* Prints the result of the run. Returns the exit status. */
-static enum status tell_end(const struct request *request, const struct installing *run)
-{
-    if (request->options.is_check && !show_update(run)) {
-        return FAILED;
-    }
-    switch (run->call) {
-    case MINISIGN_DUE_ALREADY: compare_mode(&request->options); return THERE_ALREADY;
-    case MINISIGN_DUE_REFUSED: return report(request, run);
-    default: return INSTALLED;
-    }
+    return status;
 }
 
 /* ---- The program ---- */
 
-static struct installing *begin_run(const struct run_options *options)
-{
-    struct installing *run = begin_installing(options);
-
-    if (run == NULL && errno == EINVAL) {
-        print_error(options->target, "this path does not end with a file name");
-        print_hint("give the path of the file to install, not of its directory");
-        exit(USAGE_ERROR);
-    }
-    if (run == NULL) {
-        print_error(NULL, "out of memory");
-        exit(FAILED);
-    }
-    return run;
-}
-
 int main(int argc, char *argv[])
 {
     struct request request;
-    struct installing *run;
-    enum status status;
+    struct shown shown = { 0 };
+    enum minisign_error error;
+    enum minisign_install_status status;
 
     if (!fill_standard_streams()) {
-        return FAILED;
+        return MINISIGN_STATUS_FAILED;
     }
     /* A write that nobody reads, or that exceeds the file size limit, must fail instead of ending the program. */
     signal(SIGPIPE, SIG_IGN);
     signal(SIGXFSZ, SIG_IGN);
     request = read_request(argc, argv);
-    request.options.answer = answer_of;
-    run = begin_run(&request.options);
     if (sodium_init() < 0) {
         print_error(NULL, "libsodium could not be initialized");
-        return FAILED;
+        return MINISIGN_STATUS_FAILED;
     }
     read_texts(&request);
-    make_run(&request, run);
-    status = tell_end(&request, run);
-    end_installing(run);
-    return status;
+    shown.is_check = request.options.choices.is_check != 0;
+    request.options.verify = crypto_sign_verify_detached;
+    request.options.signed_comment = show_comment;
+    request.options.progress = show_phase;
+    request.options.message = show_message;
+    request.options.context = &shown;
+    status = minisign_install_file(&request.options, &error);
+    end_progress(&shown.progress);
+    if (fflush(stdout) != 0 || ferror(stdout) != 0) {
+        status = MINISIGN_STATUS_FAILED;
+    }
+    return end(&request, &shown, status, error);
 }

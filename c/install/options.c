@@ -10,7 +10,9 @@
 enum { PATHS = 4 };
 
 /* The options. Those from MODE on take a value, and those from MODE to WAIT cannot be combined with --check. */
-enum option { IS_CHECK, IS_FIRST, MUST_EXPIRE, IS_AGAIN, MODE, MAX_SIZE, WAIT, NUMBERING, NAME, KEY, OPTIONS };
+enum option {
+    IS_CHECK, IS_FIRST, MUST_EXPIRE, IS_AGAIN, NEW_KEY, ROLL_BACK, MODE, MAX_SIZE, WAIT, NUMBERING, NAME, KEY, OPTIONS
+};
 
 /* --most is the former name of --max-size. It is not documented, but still accepted. */
 static const struct {
@@ -18,8 +20,8 @@ static const struct {
     enum option option;
 } words[] = {
     { "--check", IS_CHECK }, { "--first", IS_FIRST }, { "--must-expire", MUST_EXPIRE }, { "--again", IS_AGAIN },
-    { "--mode", MODE }, { "--most", MAX_SIZE }, { "--max-size", MAX_SIZE }, { "--wait", WAIT },
-    { "--numbering", NUMBERING }, { "--name", NAME }, { "--key", KEY },
+    { "--new-key", NEW_KEY }, { "--roll-back", ROLL_BACK }, { "--mode", MODE }, { "--most", MAX_SIZE },
+    { "--max-size", MAX_SIZE }, { "--wait", WAIT }, { "--numbering", NUMBERING }, { "--name", NAME }, { "--key", KEY },
 };
 
 /* The arguments: for each option its name as given and its value, or NULL; and the paths. */
@@ -36,14 +38,15 @@ struct command_line {
 /* Prints the help or the version, and ends the program. */
 static _Noreturn void show(const char *text, const char *more_text)
 {
-    exit(fputs(text, stdout) >= 0 && fputs(more_text, stdout) >= 0 && fflush(stdout) == 0 ? INSTALLED : FAILED);
+    exit(fputs(text, stdout) >= 0 && fputs(more_text, stdout) >= 0 && fflush(stdout) == 0 ? MINISIGN_STATUS_INSTALLED
+                                                                                           : MINISIGN_STATUS_FAILED);
 }
 
 static _Noreturn void end_misuse(void)
 {
     fputs(USAGE "\n", stderr);
     print_hint("use --help to list the options");
-    exit(USAGE_ERROR);
+    exit(MINISIGN_STATUS_MISUSE);
 }
 
 /* Reports what is wrong with an argument, or with the whole command line if `word` is NULL, and ends the program. */
@@ -68,8 +71,8 @@ static void add_option(struct command_line *line, enum option option, const char
     line->values[option] = value;
 }
 
-/* Ends the program if there are too many or too few paths, or if an option cannot be combined with --check. With
- * --check there is no DATA, and with --key no PK. */
+/* Ends the program if there are too many or too few paths, or if options cannot be combined. With --check there is no
+ * DATA, and with --key no PK. */
 static void check_line(const struct command_line *line)
 {
     static const char *const paths[2][2] = { { "PK DATA SIG TARGET", "DATA SIG TARGET" },
@@ -85,6 +88,11 @@ static void check_line(const struct command_line *line)
     for (int option = MODE; line->words[IS_CHECK] != NULL && option <= WAIT; option++) {
         if (line->words[option] != NULL) {
             misuse(line->words[option], "this option cannot be combined with --check");
+        }
+    }
+    for (int option = NEW_KEY; line->words[IS_FIRST] != NULL && option <= ROLL_BACK; option++) {
+        if (line->words[option] != NULL) {
+            misuse(line->words[option], "this option cannot be combined with --first");
         }
     }
     if (line->path_count < expected_count) {
@@ -200,7 +208,7 @@ static uint32_t seconds_of(const char *text)
 struct request read_request(int argc, char *argv[])
 {
     struct request request = { 0 };
-    struct run_options *options = &request.options;
+    minisign_installing_options *options = &request.options;
     struct command_line line;
 
     for (int i = 1; i < argc; i++) {
@@ -215,25 +223,23 @@ struct request read_request(int argc, char *argv[])
         show("minisign-install " MINISIGN_VERSION_TEXT "\n", "");
     }
     line = read_command_line(argc, argv);
-    options->is_check = line.words[IS_CHECK] != NULL;
-    options->is_first = line.words[IS_FIRST] != NULL;
-    options->again = line.words[IS_AGAIN] != NULL;
-    options->must_expire = line.words[MUST_EXPIRE] != NULL;
-    options->numbering = numbering_of(line.values[NUMBERING]);
-    options->name = line.values[NAME];
+    *options = (minisign_installing_options) {
+        .target = line.paths[line.path_count - 1], .signature_name = line.paths[line.path_count - 2],
+        .choices = { .numbering = numbering_of(line.values[NUMBERING]), .is_first = line.words[IS_FIRST] != NULL,
+                     .again = line.words[IS_AGAIN] != NULL, .is_check = line.words[IS_CHECK] != NULL,
+                     .must_expire = line.words[MUST_EXPIRE] != NULL, .new_key = line.words[NEW_KEY] != NULL,
+                     .roll_back = line.words[ROLL_BACK] != NULL },
+        .has_max_size = line.words[MAX_SIZE] != NULL, .has_mode = line.words[MODE] != NULL, .name = line.values[NAME]
+    };
     if (options->name != NULL && *options->name == 0) {
         reject_value("--name", "a file name", options->name);
     }
-    options->has_mode = line.words[MODE] != NULL;
-    options->mode = options->has_mode ? mode_of(line.values[MODE]) : 0;
-    options->max_size =
-        line.words[MAX_SIZE] != NULL ? bytes_of(line.words[MAX_SIZE], line.values[MAX_SIZE]) : INT64_MAX;
+    options->data = options->choices.is_check != 0 ? NULL : line.paths[line.path_count - 3];
+    options->max_size = options->has_max_size != 0 ? bytes_of(line.words[MAX_SIZE], line.values[MAX_SIZE]) : 0;
+    options->mode = options->has_mode != 0 ? mode_of(line.values[MODE]) : 0;
     options->wait = line.words[WAIT] != NULL ? seconds_of(line.values[WAIT]) : 0;
     memcpy(request.keys, line.keys, sizeof request.keys);
-    options->key_count = line.key_count;
+    request.key_count = line.key_count;
     request.key = line.key_count > 0 ? NULL : line.paths[0];
-    options->data_name = options->is_check ? NULL : line.paths[line.path_count - 3];
-    request.signature = line.paths[line.path_count - 2];
-    options->target = line.paths[line.path_count - 1];
     return request;
 }

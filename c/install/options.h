@@ -3,17 +3,23 @@
 #ifndef INSTALL_OPTIONS_H
 #define INSTALL_OPTIONS_H
 
-#include "installing.h"
+#include "shared/system.h"
+#include "minisign_installing.h"
+
+/* The most public keys: two, during a change of keys. */
+#define MAX_KEYS 2
+
+/* The largest size of a signature file. */
+#define TEXT_BYTES (1 << 20)
 
 /* The parsed command line. */
 struct request {
-    /* The options of the run. The data, keys and signature are filled in later. */
-    struct run_options options;
+    /* The options of the run. The keys and the signature are filled in later. */
+    minisign_installing_options options;
     /* The path of the public key file, or NULL if `keys` has one or two public keys in base64. */
     const char *key;
     const char *keys[MAX_KEYS];
-    /* The path of the signature file. */
-    const char *signature;
+    int key_count;
 };
 
 /* Parses the command line. Ends the program with the help or the version, if asked for, and with an error if the

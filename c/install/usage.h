@@ -21,6 +21,11 @@
     "                     was made under another key.\n" \
     "  --again            Install an update of the recorded version even if another\n" \
     "                     update of that version is installed.\n" \
+    "  --new-key          Ignore a version record that was made under a key other\n" \
+    "                     than the given ones. A missing or damaged record is still\n" \
+    "                     an error.\n" \
+    "  --roll-back        Install an update even if it is older than the recorded\n" \
+    "                     version.\n" \
     "  --check            Check for an update, but do not install it. Print its\n" \
     "                     version number and its trusted comment. The exit status\n" \
     "                     says what an installation would do. Omit DATA, `--mode`,\n" \

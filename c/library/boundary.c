@@ -19,6 +19,7 @@
 
 #include "clearing.h"
 #include "minisign_install.h"
+#include "minisign_list.h"
 
 #if defined(MINISIGN_PORTABLE)
 
@@ -71,10 +72,12 @@ __attribute__((constructor)) static void detect_processor(void)
 /* Stand in for a NULL pointer with length 0. They are never accessed. */
 static const uint8_t nothing;
 static const uint32_t no_words;
+static const minisign_list_entry no_entries;
 
 #define READ(pointer, length) ((pointer) == NULL && (length) == 0 ? &nothing : (const uint8_t *) (pointer))
 #define WRITTEN(pointer, length) ((pointer) == NULL && (length) == 0 ? (uint8_t *) &nothing : (uint8_t *) (pointer))
 #define WORDS(pointer, length) ((pointer) == NULL && (length) == 0 ? (uint32_t *) &no_words : (pointer))
+#define ENTRIES(pointer, length) ((pointer) == NULL && (length) == 0 ? (minisign_list_entry *) &no_entries : (pointer))
 
 uint32_t minisign_version(void)
 {
@@ -86,6 +89,13 @@ PROVED(size_t, minisign_error_text, (uint32_t, uint8_t *, size_t));
 size_t minisign_error_text(uint32_t error, char *text, size_t room)
 {
     return CALL(minisign_error_text)(error, WRITTEN(text, room), room);
+}
+
+PROVED(uint32_t, minisign_error_kind, (uint32_t));
+
+enum minisign_kind minisign_error_kind(uint32_t error)
+{
+    return (enum minisign_kind) CALL(minisign_error_kind)(error);
 }
 
 PROVED(void, minisign_init, (minisign_state *));
@@ -131,6 +141,21 @@ enum minisign_error minisign_read_bare_public_key(const uint8_t *base64, size_t 
     return (enum minisign_error) CALL(minisign_read_bare_public_key)(READ(base64, base64_len), base64_len, key);
 }
 
+PROVED(uint32_t, minisign_read_public_key_record, (const uint8_t *, size_t, minisign_public_key *));
+
+enum minisign_error minisign_read_public_key_record(const uint8_t *record, size_t record_len,
+                                                    minisign_public_key *key)
+{
+    return (enum minisign_error) CALL(minisign_read_public_key_record)(READ(record, record_len), record_len, key);
+}
+
+PROVED(uint32_t, minisign_public_key_record, (const minisign_public_key *, uint8_t *));
+
+enum minisign_error minisign_public_key_record(const minisign_public_key *key, uint8_t record[42])
+{
+    return (enum minisign_error) CALL(minisign_public_key_record)(key, record);
+}
+
 PROVED(uint32_t, minisign_read_signature, (const uint8_t *, size_t, minisign_signature *));
 
 enum minisign_error minisign_read_signature(const uint8_t *sig_text, size_t sig_text_len,
@@ -138,6 +163,22 @@ enum minisign_error minisign_read_signature(const uint8_t *sig_text, size_t sig_
 {
     return (enum minisign_error) CALL(minisign_read_signature)(READ(sig_text, sig_text_len), sig_text_len,
                                                                signature);
+}
+
+PROVED(uint32_t, minisign_read_signature_record, (const uint8_t *, size_t, minisign_signature *));
+
+enum minisign_error minisign_read_signature_record(const uint8_t *record, size_t record_len,
+                                                   minisign_signature *signature)
+{
+    return (enum minisign_error) CALL(minisign_read_signature_record)(READ(record, record_len), record_len,
+                                                                      signature);
+}
+
+PROVED(uint32_t, minisign_signature_record, (const minisign_signature *, uint8_t *));
+
+enum minisign_error minisign_signature_record(const minisign_signature *signature, uint8_t record[74])
+{
+    return (enum minisign_error) CALL(minisign_signature_record)(signature, record);
 }
 
 PROVED(uint32_t, minisign_ask, (minisign_state *, const minisign_public_key *, const minisign_signature *,
@@ -168,6 +209,23 @@ enum minisign_error minisign_verdict(minisign_state *state, enum minisign_answer
     return (enum minisign_error) CALL(minisign_verdict)(state, first, second);
 }
 
+PROVED(uint32_t, minisign_ask_bare, (minisign_state *, const minisign_public_key *, const minisign_signature *,
+                                     uint32_t, minisign_questions *));
+
+enum minisign_error minisign_ask_bare(minisign_state *state, const minisign_public_key *key,
+                                      const minisign_signature *signature, uint32_t allow_legacy,
+                                      minisign_questions *questions)
+{
+    return (enum minisign_error) CALL(minisign_ask_bare)(state, key, signature, allow_legacy, questions);
+}
+
+PROVED(uint32_t, minisign_bare_verdict, (minisign_state *, uint32_t));
+
+enum minisign_error minisign_bare_verdict(minisign_state *state, enum minisign_answer first)
+{
+    return (enum minisign_error) CALL(minisign_bare_verdict)(state, first);
+}
+
 PROVED(uint32_t, minisign_read_secret_key, (const uint8_t *, size_t, minisign_unopened_key *));
 
 enum minisign_error minisign_read_secret_key(const uint8_t *sk_text, size_t sk_text_len,
@@ -177,6 +235,45 @@ enum minisign_error minisign_read_secret_key(const uint8_t *sk_text, size_t sk_t
 
     result = (enum minisign_error) CALL(minisign_read_secret_key)(READ(sk_text, sk_text_len), sk_text_len,
                                                                   unopened);
+    minisign_clear_used();
+    return result;
+}
+
+PROVED(uint32_t, minisign_read_secret_key_record, (const uint8_t *, size_t, minisign_unopened_key *));
+
+enum minisign_error minisign_read_secret_key_record(const uint8_t *secret_record, size_t secret_record_len,
+                                                    minisign_unopened_key *unopened)
+{
+    enum minisign_error result;
+
+    result = (enum minisign_error) CALL(minisign_read_secret_key_record)(READ(secret_record, secret_record_len),
+                                                                         secret_record_len, unopened);
+    minisign_clear_used();
+    return result;
+}
+
+PROVED(uint32_t, minisign_encode_unopened_key, (const minisign_unopened_key *, const uint8_t *, size_t, uint8_t *,
+                                                size_t, size_t *));
+
+enum minisign_error minisign_encode_unopened_key(const minisign_unopened_key *unopened, const uint8_t *comment,
+                                                 size_t comment_len, uint8_t *text, size_t room, size_t *text_len)
+{
+    enum minisign_error result;
+
+    result = (enum minisign_error) CALL(minisign_encode_unopened_key)(unopened, READ(comment, comment_len),
+                                                                      comment_len, WRITTEN(text, room), room,
+                                                                      text_len);
+    minisign_clear_used();
+    return result;
+}
+
+PROVED(uint32_t, minisign_test_sealed_key, (const minisign_unopened_key *, uint64_t));
+
+enum minisign_error minisign_test_sealed_key(const minisign_unopened_key *unopened, uint64_t most_rows)
+{
+    enum minisign_error result;
+
+    result = (enum minisign_error) CALL(minisign_test_sealed_key)(unopened, most_rows);
     minisign_clear_used();
     return result;
 }
@@ -252,6 +349,17 @@ enum minisign_error minisign_public_key_of(const minisign_secret_key *key, minis
     enum minisign_error result;
 
     result = (enum minisign_error) CALL(minisign_public_key_of)(key, public_key);
+    minisign_clear_used();
+    return result;
+}
+
+PROVED(uint32_t, minisign_secret_key_record, (const minisign_secret_key *, uint8_t *));
+
+enum minisign_error minisign_secret_key_record(const minisign_secret_key *key, uint8_t secret_record[158])
+{
+    enum minisign_error result;
+
+    result = (enum minisign_error) CALL(minisign_secret_key_record)(key, secret_record);
     minisign_clear_used();
     return result;
 }
@@ -336,6 +444,16 @@ enum minisign_error minisign_public_key_text(const minisign_secret_key *key, con
     return result;
 }
 
+PROVED(uint32_t, minisign_encode_public_key, (const minisign_public_key *, const uint8_t *, size_t, uint8_t *,
+                                              size_t, size_t *));
+
+enum minisign_error minisign_encode_public_key(const minisign_public_key *key, const uint8_t *comment,
+                                               size_t comment_len, uint8_t *text, size_t room, size_t *text_len)
+{
+    return (enum minisign_error) CALL(minisign_encode_public_key)(key, READ(comment, comment_len), comment_len,
+                                                                  WRITTEN(text, room), room, text_len);
+}
+
 PROVED(uint32_t, minisign_install_init, (minisign_installation *, const minisign_public_key *,
                                          const minisign_public_key *, const minisign_install_options *));
 
@@ -360,11 +478,11 @@ enum minisign_error minisign_install_done(minisign_installation *installation)
     return (enum minisign_error) CALL(minisign_install_done)(installation);
 }
 
-PROVED(uint32_t, minisign_install_more, (minisign_installation *, size_t));
+PROVED(uint32_t, minisign_install_copied, (minisign_installation *, size_t));
 
-enum minisign_error minisign_install_more(minisign_installation *installation, size_t piece_len)
+enum minisign_error minisign_install_copied(minisign_installation *installation, size_t piece_len)
 {
-    return (enum minisign_error) CALL(minisign_install_more)(installation, piece_len);
+    return (enum minisign_error) CALL(minisign_install_copied)(installation, piece_len);
 }
 
 PROVED(uint32_t, minisign_install_failed, (minisign_installation *, uint32_t));
@@ -374,13 +492,12 @@ enum minisign_error minisign_install_failed(minisign_installation *installation,
     return (enum minisign_error) CALL(minisign_install_failed)(installation, why);
 }
 
-PROVED(uint32_t, minisign_install_record, (minisign_installation *, const uint8_t *, size_t, uint64_t));
+PROVED(uint32_t, minisign_install_record, (minisign_installation *, const uint8_t *, size_t));
 
 enum minisign_error minisign_install_record(minisign_installation *installation, const uint8_t *record,
-                                            size_t record_len, uint64_t written)
+                                            size_t record_len)
 {
-    return (enum minisign_error) CALL(minisign_install_record)(installation, READ(record, record_len), record_len,
-                                                               written);
+    return (enum minisign_error) CALL(minisign_install_record)(installation, READ(record, record_len), record_len);
 }
 
 PROVED(uint32_t, minisign_install_no_record, (minisign_installation *));
@@ -405,38 +522,52 @@ enum minisign_error minisign_install_no_target(minisign_installation *installati
     return (enum minisign_error) CALL(minisign_install_no_target)(installation);
 }
 
-PROVED(uint32_t, minisign_install_ask, (minisign_installation *, const uint8_t *, size_t, const uint8_t *, size_t,
-                                        uint64_t, minisign_questions *, uint8_t *, size_t));
+PROVED(uint32_t, minisign_install_signature, (minisign_installation *, const uint8_t *, size_t, const uint8_t *,
+                                              size_t, int64_t, uint8_t *, size_t, size_t *));
 
-enum minisign_error minisign_install_ask(minisign_installation *installation, const uint8_t *sig_text,
-                                         size_t sig_text_len, const uint8_t *file, size_t file_len, uint64_t now,
-                                         minisign_questions *questions, uint8_t *message, size_t room)
+enum minisign_error minisign_install_signature(minisign_installation *installation, const uint8_t *sig_text,
+                                               size_t sig_text_len, const uint8_t *file, size_t file_len,
+                                               int64_t now, uint8_t *message, size_t room, size_t *message_len)
 {
-    return (enum minisign_error) CALL(minisign_install_ask)(installation, READ(sig_text, sig_text_len),
-                                                            sig_text_len, READ(file, file_len), file_len, now,
-                                                            questions, WRITTEN(message, room), room);
+    return (enum minisign_error) CALL(minisign_install_signature)(installation, READ(sig_text, sig_text_len),
+                                                                  sig_text_len, READ(file, file_len), file_len,
+                                                                  now, WRITTEN(message, room), room, message_len);
 }
 
-PROVED(uint32_t, minisign_install_answer, (minisign_installation *, uint32_t, uint32_t));
+PROVED(uint32_t, minisign_install_question, (const minisign_installation *, uint8_t *, uint8_t *, uint8_t *));
 
-enum minisign_error minisign_install_answer(minisign_installation *installation, enum minisign_answer first,
-                                            enum minisign_answer second)
+enum minisign_error minisign_install_question(const minisign_installation *installation, uint8_t public_key[32],
+                                              uint8_t signature[64], uint8_t digest[64])
 {
-    return (enum minisign_error) CALL(minisign_install_answer)(installation, first, second);
+    return (enum minisign_error) CALL(minisign_install_question)(installation, public_key, signature, digest);
 }
 
-PROVED(uint32_t, minisign_install_is_vouched, (const minisign_installation *));
+PROVED(uint32_t, minisign_install_answer, (minisign_installation *, uint32_t));
 
-uint32_t minisign_install_is_vouched(const minisign_installation *installation)
+enum minisign_error minisign_install_answer(minisign_installation *installation, enum minisign_answer answer)
 {
-    return CALL(minisign_install_is_vouched)(installation);
+    return (enum minisign_error) CALL(minisign_install_answer)(installation, answer);
 }
 
-PROVED(uint64_t, minisign_install_number, (const minisign_installation *));
+PROVED(uint32_t, minisign_install_is_signed, (const minisign_installation *));
 
-uint64_t minisign_install_number(const minisign_installation *installation)
+uint32_t minisign_install_is_signed(const minisign_installation *installation)
 {
-    return CALL(minisign_install_number)(installation);
+    return CALL(minisign_install_is_signed)(installation);
+}
+
+PROVED(uint64_t, minisign_install_version, (const minisign_installation *));
+
+uint64_t minisign_install_version(const minisign_installation *installation)
+{
+    return CALL(minisign_install_version)(installation);
+}
+
+PROVED(uint32_t, minisign_install_size, (const minisign_installation *, uint64_t *));
+
+uint32_t minisign_install_size(const minisign_installation *installation, uint64_t *size)
+{
+    return CALL(minisign_install_size)(installation, size);
 }
 
 PROVED(size_t, minisign_install_record_text, (const minisign_installation *, uint8_t *, size_t));
@@ -463,4 +594,110 @@ enum minisign_error minisign_judge_comment(const uint8_t *comment, size_t commen
     return (enum minisign_error) CALL(minisign_judge_comment)(READ(comment, comment_len), comment_len,
                                                               READ(file, file_len), file_len, numbering, now, kept,
                                                               number);
+}
+
+PROVED(uint32_t, minisign_list_ask, (minisign_list *, const minisign_public_key *, const minisign_signature *,
+                                     const uint8_t *, size_t, const uint8_t *, size_t, const uint8_t *, size_t,
+                                     minisign_questions *, uint8_t *, size_t));
+
+enum minisign_error minisign_list_ask(minisign_list *list, const minisign_public_key *key,
+                                      const minisign_signature *signature, const uint8_t *sig_text,
+                                      size_t sig_text_len, const uint8_t *list_name, size_t list_name_len,
+                                      const uint8_t *text, size_t text_len, minisign_questions *questions,
+                                      uint8_t *message, size_t room)
+{
+    return (enum minisign_error) CALL(minisign_list_ask)(list, key, signature, READ(sig_text, sig_text_len),
+                                                         sig_text_len, READ(list_name, list_name_len),
+                                                         list_name_len, READ(text, text_len), text_len, questions,
+                                                         WRITTEN(message, room), room);
+}
+
+PROVED(uint32_t, minisign_list_ask_any, (minisign_list *, const minisign_public_key *, const minisign_signature *,
+                                         const uint8_t *, size_t, const uint8_t *, size_t, minisign_questions *,
+                                         uint8_t *, size_t));
+
+enum minisign_error minisign_list_ask_any(minisign_list *list, const minisign_public_key *key,
+                                          const minisign_signature *signature, const uint8_t *sig_text,
+                                          size_t sig_text_len, const uint8_t *text, size_t text_len,
+                                          minisign_questions *questions, uint8_t *message, size_t room)
+{
+    return (enum minisign_error) CALL(minisign_list_ask_any)(list, key, signature, READ(sig_text, sig_text_len),
+                                                             sig_text_len, READ(text, text_len), text_len,
+                                                             questions, WRITTEN(message, room), room);
+}
+
+PROVED(uint32_t, minisign_list_verdict, (minisign_list *, uint32_t, uint32_t));
+
+enum minisign_error minisign_list_verdict(minisign_list *list, enum minisign_answer first,
+                                          enum minisign_answer second)
+{
+    return (enum minisign_error) CALL(minisign_list_verdict)(list, first, second);
+}
+
+PROVED(uint32_t, minisign_list_find, (const minisign_list *, const uint8_t *, size_t, uint32_t, const uint8_t *,
+                                      size_t, minisign_list_entry *, uint64_t *));
+
+enum minisign_error minisign_list_find(const minisign_list *list, const uint8_t *text, size_t text_len,
+                                       enum minisign_hash long_digest, const uint8_t *name, size_t name_len,
+                                       minisign_list_entry *entry, uint64_t *line)
+{
+    return (enum minisign_error) CALL(minisign_list_find)(list, READ(text, text_len), text_len, long_digest,
+                                                          READ(name, name_len), name_len, entry, line);
+}
+
+PROVED(uint32_t, minisign_list_entries, (const minisign_list *, const uint8_t *, size_t, uint32_t,
+                                         minisign_list_entry *, size_t, size_t *, uint64_t *));
+
+enum minisign_error minisign_list_entries(const minisign_list *list, const uint8_t *text, size_t text_len,
+                                          enum minisign_hash long_digest, minisign_list_entry *entries,
+                                          size_t entries_len, size_t *count, uint64_t *line)
+{
+    return (enum minisign_error) CALL(minisign_list_entries)(list, READ(text, text_len), text_len, long_digest,
+                                                             ENTRIES(entries, entries_len), entries_len, count,
+                                                             line);
+}
+
+PROVED(uint32_t, minisign_list_begin, (const minisign_list_entry *, minisign_list_file *));
+
+enum minisign_error minisign_list_begin(const minisign_list_entry *entry, minisign_list_file *file)
+{
+    return (enum minisign_error) CALL(minisign_list_begin)(entry, file);
+}
+
+PROVED(uint32_t, minisign_list_update, (minisign_list_file *, const uint8_t *, size_t));
+
+enum minisign_error minisign_list_update(minisign_list_file *file, const uint8_t *data, size_t len)
+{
+    return (enum minisign_error) CALL(minisign_list_update)(file, READ(data, len), len);
+}
+
+PROVED(uint32_t, minisign_list_finish, (minisign_list_file *));
+
+enum minisign_error minisign_list_finish(minisign_list_file *file)
+{
+    return (enum minisign_error) CALL(minisign_list_finish)(file);
+}
+
+PROVED(uint32_t, minisign_list_compare_trusting_your_hash, (const minisign_list_entry *, uint32_t, const uint8_t *,
+                                                            size_t));
+
+enum minisign_error minisign_list_compare_trusting_your_hash(const minisign_list_entry *entry,
+                                                             enum minisign_hash hash, const uint8_t *digest,
+                                                             size_t digest_len)
+{
+    return (enum minisign_error) CALL(minisign_list_compare_trusting_your_hash)(entry, hash,
+                                                                                READ(digest, digest_len),
+                                                                                digest_len);
+}
+
+PROVED(uint32_t, minisign_list_append, (uint32_t, const uint8_t *, size_t, const uint8_t *, size_t, uint8_t *,
+                                        size_t, size_t *));
+
+enum minisign_error minisign_list_append(enum minisign_hash hash, const uint8_t *digest, size_t digest_len,
+                                         const uint8_t *name, size_t name_len, uint8_t *text, size_t room,
+                                         size_t *text_len)
+{
+    return (enum minisign_error) CALL(minisign_list_append)(hash, READ(digest, digest_len), digest_len,
+                                                            READ(name, name_len), name_len, WRITTEN(text, room),
+                                                            room, text_len);
 }

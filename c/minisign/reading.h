@@ -4,7 +4,7 @@
 #define READING_H
 
 #include "files.h"
-#include "piece_tags.h"
+#include "shared/piece_tags.h"
 
 /* Data in memory of malloc. */
 struct contents {

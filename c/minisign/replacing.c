@@ -70,6 +70,30 @@ static bool is_at(const struct replacement *stage, const struct place *place)
            && is_same_file(&staged, &named);
 }
 
+/* Reads the file at a place, and returns its length, or -1. */
+static ssize_t read_place(const struct place *place, uint8_t bytes[TEXT_BUFFER_BYTES])
+{
+    int fd = AGAIN(openat(place->directory, place->name, O_RDONLY | O_NOFOLLOW | O_NONBLOCK | O_CLOEXEC));
+    ssize_t len = fd < 0 ? -1 : read_whole(fd, bytes, TEXT_BUFFER_BYTES);
+
+    if (fd >= 0) {
+        close(fd);
+    }
+    return len;
+}
+
+/* Returns true if there are files at both places, and they have the same content. */
+static bool have_same_content(const struct place *first, const struct place *second)
+{
+    uint8_t first_bytes[TEXT_BUFFER_BYTES], second_bytes[TEXT_BUFFER_BYTES];
+    ssize_t len = read_place(first, first_bytes);
+    bool are_same = len > 0 && read_place(second, second_bytes) == len
+                    && memcmp(first_bytes, second_bytes, (size_t) len) == 0;
+
+    sodium_memzero(second_bytes, sizeof second_bytes);
+    return are_same;
+}
+
 /* Returns true if this stage is in place. Async-signal-safe. */
 static bool is_placed(const struct replacement *stage)
 {
@@ -438,8 +462,10 @@ const char *put_both_in_place(struct replacement *first, struct replacement *sec
     } else {
         sync_name(first);
         /* A file system may take two names for one, such as k.key and k.KEY. Then the second file would replace the
-         * first. */
-        if (first->fd >= 0 && second->fd >= 0 && is_at(first, &second->place)) {
+         * first. With FUSE, such names may have different inode numbers, so the contents are compared too: the first file
+         * is a new public key. */
+        if (first->fd >= 0 && second->fd >= 0
+            && (is_at(first, &second->place) || have_same_content(&first->place, &second->place))) {
             undo_stage(first);
             fail_error(second->place.file, "on this file system, this name and that of the other key file are the same",
                        "use -s FILE and -p FILE to name two different files");

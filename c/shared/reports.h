@@ -1,6 +1,6 @@
 /* SPDX-License-Identifier: MIT */
 /*
- * Prints errors and hints of both programs on standard error: `error: FILE: what happened`, then `hint: what to do`.
+ * Prints errors and hints of the programs on standard error: `error: FILE: what happened`, then `hint: what to do`.
  * Each line is one write, so that lines of concurrent processes do not mix.
  */
 #ifndef REPORTS_H

@@ -1,6 +1,6 @@
 /* SPDX-License-Identifier: MIT */
 /*
- * Includes the headers of the C library and the system that several files of both programs use. Must be included first
+ * Includes the headers of the C library and the system that several files of the programs use. Must be included first
  * in each file. A header that only one file needs is included in that file.
  */
 #ifndef SYSTEM_H

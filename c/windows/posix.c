@@ -402,3 +402,82 @@ int windows_isatty(int fd)
 
     return GetConsoleMode((HANDLE) _get_osfhandle(fd), &modes) != 0;
 }
+
+/* ---- Directories ---- */
+
+struct windows_directory {
+    HANDLE search;
+    WIN32_FIND_DATAW found;
+    bool is_read;
+    struct windows_entry entry;
+};
+
+/* SetCurrentDirectoryW does not take paths in the form of `wide_path`. */
+int windows_chdir(const char *path)
+{
+    wchar_t *wide = to_wide(path);
+    bool is_changed = wide != NULL && SetCurrentDirectoryW(wide);
+
+    if (wide != NULL && !is_changed) {
+        errno = errno_of(GetLastError());
+    }
+    free(wide);
+    return is_changed ? 0 : -1;
+}
+
+DIR *windows_opendir(const char *path)
+{
+    wchar_t *wide = wide_path(path), *pattern = wide == NULL ? NULL : malloc((wcslen(wide) + 3) * sizeof *pattern);
+    DIR *directory = pattern == NULL ? NULL : malloc(sizeof *directory);
+
+    if (directory != NULL) {
+        wcscpy(pattern, wide);
+        wcscat(pattern, L"\\*");
+        directory->is_read = false;
+        directory->search = FindFirstFileW(pattern, &directory->found);
+        if (directory->search == INVALID_HANDLE_VALUE) {
+            errno = errno_of(GetLastError());
+            free(directory);
+            directory = NULL;
+        }
+    } else if (wide != NULL) {
+        errno = ENOMEM;
+    }
+    free(pattern);
+    free(wide);
+    return directory;
+}
+
+struct dirent *windows_readdir(DIR *directory)
+{
+    char *name;
+
+    if (directory->is_read && !FindNextFileW(directory->search, &directory->found)) {
+        errno = GetLastError() == ERROR_NO_MORE_FILES ? errno : errno_of(GetLastError());
+        return NULL;
+    }
+    directory->is_read = true;
+    name = to_utf8(directory->found.cFileName);
+    if (name == NULL) {
+        return NULL;
+    }
+    strcpy(directory->entry.d_name, name);
+    free(name);
+    return &directory->entry;
+}
+
+int windows_closedir(DIR *directory)
+{
+    FindClose(directory->search);
+    free(directory);
+    return 0;
+}
+
+long windows_sysconf(int name)
+{
+    SYSTEM_INFO information;
+
+    (void) name;
+    GetSystemInfo(&information);
+    return (long) information.dwNumberOfProcessors;
+}

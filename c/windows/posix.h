@@ -9,6 +9,7 @@
 #ifndef WINDOWS_POSIX_H
 #define WINDOWS_POSIX_H
 
+#include <dirent.h>
 #include <fcntl.h>
 #include <getopt.h>
 #include <io.h>
@@ -43,6 +44,19 @@ int64_t windows_lseek(int fd, int64_t offset, int from);
 ssize_t windows_read(int fd, void *buffer, size_t size);
 ssize_t windows_write(int fd, const void *bytes, size_t len);
 
+/* A directory that is being read. Names are UTF-8, and a name that is not Unicode is an error. */
+struct windows_directory;
+struct windows_entry {
+    char d_name[3 * 260];
+};
+struct windows_directory *windows_opendir(const char *path);
+struct windows_entry *windows_readdir(struct windows_directory *directory);
+int windows_closedir(struct windows_directory *directory);
+int windows_chdir(const char *path);
+
+/* Returns the number of processors. */
+long windows_sysconf(int name);
+
 /* Returns true only for a console. The function of the C library also does so for NUL. */
 int windows_isatty(int fd);
 
@@ -57,6 +71,16 @@ int windows_fprintf(FILE *to, const char *format, ...) __attribute__((format(gnu
 /* Values of errno for files that only Windows rejects. */
 enum { NAME_HAS_COLON = 20000, NAME_IS_RESERVED, NAME_END_IS_DROPPED, FILE_IS_IN_USE, LINK_HAS_NO_TARGET };
 
+#define AT_FDCWD (-100)
+#define _SC_NPROCESSORS_ONLN 84
+
+#define DIR struct windows_directory
+#define dirent windows_entry
+#define opendir windows_opendir
+#define readdir windows_readdir
+#define closedir windows_closedir
+#define chdir windows_chdir
+#define sysconf windows_sysconf
 #undef stat
 #undef fstat
 #undef lseek

@@ -7,7 +7,7 @@
 #ifndef PIECE_TAGS_H
 #define PIECE_TAGS_H
 
-#include "shared/system.h"
+#include "system.h"
 
 /* The largest size of a piece. */
 #define TAGGED_BYTES 131072

@@ -1,0 +1,343 @@
+/* SPDX-License-Identifier: MIT */
+/* Reads and verifies the list, and finds its entries. */
+#include "listing.h"
+
+#include <sodium.h>
+
+#include "outcomes.h"
+#include "shared/diagnosis.h"
+#include "shared/handles.h"
+#include "shared/reports.h"
+#include "shared/streams.h"
+#include "shared/text.h"
+
+/* The largest size of a key file or signature file. */
+#define MAX_TEXT_BYTES (1 << 20)
+
+/* The size of the first buffer for a file whose size is unknown. */
+#define FIRST_BYTES 65536
+
+#define KEY_HINT "use -p PUBKEY to name the public key file, or -P KEY to give the key itself"
+#define SIGNATURE_HINT "use -x SIG to name the signature of the list"
+
+/* A file in memory. */
+struct file_text {
+    uint8_t *bytes;
+    size_t len;
+    struct stat status;
+};
+
+/* ---- Files ---- */
+
+/* Prints the error of errno and the hint if the file does not exist, and ends the program. */
+static _Noreturn void end_unread(const char *file, const char *hint)
+{
+    end_with(UNUSABLE_FILE, file, strerror(errno), errno == ENOENT ? hint : NULL);
+}
+
+/* Reads a whole file. */
+static struct file_text read_file(const char *file, const char *hint)
+{
+    struct file_text text = { 0 };
+    int fd = AGAIN(open(file, O_RDONLY | O_CLOEXEC));
+    size_t size = FIRST_BYTES;
+    ssize_t n;
+
+    if (fd < 0 || fstat(fd, &text.status) != 0) {
+        end_unread(file, hint);
+    }
+    if (S_ISREG(text.status.st_mode) && (uint64_t) text.status.st_size < SIZE_MAX / 4) {
+        size = (size_t) text.status.st_size + 1;
+    }
+    do {
+        size = text.len > 0 ? 2 * size : size;
+        text.bytes = realloc(text.bytes, size);
+        if (text.bytes == NULL) {
+            end_with(UNUSABLE_FILE, file, "out of memory", NULL);
+        }
+        n = read_whole(fd, text.bytes + text.len, size - text.len);
+        if (n < 0) {
+            end_unread(file, NULL);
+        }
+        text.len += (size_t) n;
+    } while (text.len == size);
+    close(fd);
+    return text;
+}
+
+/* Reads a key file or signature file. */
+static struct file_text read_short_file(const char *file, const char *hint)
+{
+    struct file_text text = read_file(file, hint);
+
+    if (text.len > MAX_TEXT_BYTES) {
+        end_with(LIST_REJECTED, file, "this file is larger than 1 MiB", hint);
+    }
+    return text;
+}
+
+/* Returns the last part of a path. */
+static const char *name_in_path(const char *path)
+{
+    const char *slash = strrchr(path, '/');
+
+    return slash == NULL ? path : slash + 1;
+}
+
+/* ---- The key and the signature ---- */
+
+static minisign_public_key read_key(const struct check_options *options)
+{
+    bool is_bare = options->bare_key != NULL;
+    struct file_text file = { .bytes = NULL };
+    const uint8_t *text = (const uint8_t *) options->bare_key;
+    minisign_public_key key = { 0 };
+    enum minisign_error error;
+
+    if (is_bare) {
+        file.len = strlen(options->bare_key);
+        error = minisign_read_bare_public_key(text, file.len, &key);
+    } else {
+        file = read_short_file(options->key_file, KEY_HINT);
+        text = file.bytes;
+        error = minisign_read_public_key(text, file.len, &key);
+    }
+    if (error != MINISIGN_OK) {
+        explain_rejection(is_bare ? "-P" : options->key_file, text, file.len, is_bare ? BARE_KEY_TEXT : PUBLIC_KEY_TEXT,
+                          error, KEY_HINT);
+        exit(LIST_REJECTED);
+    }
+    free(file.bytes);
+    return key;
+}
+
+/* Returns the path of the signature, which is LIST.minisig by default. */
+static const char *signature_path(const struct check_options *options)
+{
+    size_t size = strlen(options->list) + sizeof ".minisig";
+    char *path;
+
+    if (options->signature != NULL) {
+        return options->signature;
+    }
+    path = allocate(size, 1);
+    snprintf(path, size, "%s.minisig", options->list);
+    return path;
+}
+
+/* ---- The verdict ---- */
+
+/* The input of the two Ed25519 checks, and their results. */
+struct verification {
+    const struct check_options *options;
+    const minisign_public_key *key;
+    const char *signature_file;
+    struct file_text signature_text;
+    minisign_signature signature;
+    minisign_questions questions;
+    uint8_t *message;
+};
+
+static enum minisign_answer verify_ed25519(const uint8_t signature[64], const uint8_t *bytes, size_t len,
+                                           const uint8_t public_key[32])
+{
+    int result = crypto_sign_verify_detached(signature, bytes, len, public_key);
+
+    return result == 0 ? MINISIGN_ANSWER_YES : MINISIGN_ANSWER_NO;
+}
+
+/* Returns the verdict on the list. `must_be_named` says whether the trusted comment must name the list. */
+static enum minisign_error judge_list(struct listing *listing, struct verification *run, bool must_be_named)
+{
+    const char *name = name_in_path(listing->file);
+    const struct file_text *text = &run->signature_text;
+    minisign_questions *questions = &run->questions;
+    size_t room = 64 + (size_t) run->signature.comment_len;
+    enum minisign_error error =
+        must_be_named ? minisign_list_ask(&listing->verified, run->key, &run->signature, text->bytes, text->len,
+                                          (const uint8_t *) name, strlen(name), listing->text, listing->len, questions,
+                                          run->message, room)
+                      : minisign_list_ask_any(&listing->verified, run->key, &run->signature, text->bytes, text->len,
+                                              listing->text, listing->len, questions, run->message, room);
+
+    if (error != MINISIGN_OK) {
+        return error;
+    }
+    return minisign_list_verdict(&listing->verified,
+                                 verify_ed25519(questions->signature, questions->digest, sizeof questions->digest,
+                                                questions->public_key),
+                                 verify_ed25519(questions->comment_signature, run->message, questions->message_len,
+                                                questions->public_key));
+}
+
+/* Explains why the list is not verified, and ends the program. */
+static _Noreturn void reject_list(const struct listing *listing, const struct verification *run,
+                                  enum minisign_error error)
+{
+    char text[MINISIGN_ERROR_TEXT_BYTES];
+    const char *hint = NULL, *file = run->signature_file;
+
+    switch (error) {
+    case MINISIGN_DIFFERENT_KEY_IDS: hint = "use the public key of the signer"; break;
+    case MINISIGN_LEGACY_NOT_ACCEPTED: hint = "have the list signed again, without -l"; break;
+    case MINISIGN_OTHER_LIST: hint = "use --any-list if you know that the list was signed under another name"; break;
+    case MINISIGN_SIGNATURE_REFUSED:
+        file = listing->file;
+        hint = "download the list and its signature again";
+        break;
+    default: break;
+    }
+    minisign_error_text(error, text, sizeof text);
+    end_with(LIST_REJECTED, file, text, hint);
+}
+
+static void print_trusted_comment(const struct verification *run)
+{
+    fputs("Trusted comment: ", stderr);
+    write_escaped(stderr, run->message + run->questions.comment_offset, (size_t) run->questions.comment_len);
+    putc('\n', stderr);
+}
+
+static void verify_list(struct listing *listing, const struct check_options *options, const minisign_public_key *key)
+{
+    struct verification run = { .options = options, .key = key, .signature_file = signature_path(options) };
+    enum minisign_error error;
+
+    run.signature_text = read_short_file(run.signature_file, SIGNATURE_HINT);
+    listing->signature_status = run.signature_text.status;
+    error = minisign_read_signature(run.signature_text.bytes, run.signature_text.len, &run.signature);
+    if (error != MINISIGN_OK) {
+        explain_rejection(run.signature_file, run.signature_text.bytes, run.signature_text.len, SIGNATURE_TEXT, error,
+                          SIGNATURE_HINT);
+        exit(LIST_REJECTED);
+    }
+    run.message = allocate(64 + (size_t) run.signature.comment_len, 1);
+    error = judge_list(listing, &run, true);
+    if (error == MINISIGN_OTHER_LIST && options->any_list) {
+        error = judge_list(listing, &run, false);
+        if (error == MINISIGN_OK) {
+            fprintf(stderr, "warning: %s: the trusted comment does not name this list\n",
+                    escape_name(listing->file).text);
+        }
+    }
+    if (error != MINISIGN_OK) {
+        reject_list(listing, &run, error);
+    }
+    print_trusted_comment(&run);
+    free(run.message);
+    free(run.signature_text.bytes);
+}
+
+/* ---- The entries ---- */
+
+/* Explains why the verified text is not a list, and ends the program. */
+static _Noreturn void reject_entries(const char *file, enum minisign_error error, uint64_t line)
+{
+    char text[MINISIGN_ERROR_TEXT_BYTES];
+
+    if (error == MINISIGN_MALFORMED_LINE) {
+        fprintf(stderr, "error: %s: line %" PRIu64 " is malformed\n", escape_name(file).text, line);
+        print_hint("see minisign-check(1) for the lines that a list may have");
+        exit(LIST_REJECTED);
+    }
+    minisign_error_text(error, text, sizeof text);
+    end_with(LIST_REJECTED, file, error == MINISIGN_NOT_UTF8 ? "this list is not UTF-8" : text, NULL);
+}
+
+static int compare_names(const void *first, const void *second)
+{
+    const struct listed *const *one = first, *const *other = second;
+
+    return strcmp((*one)->name, (*other)->name);
+}
+
+/* Returns true if a file can match the entry. Names with escapes, or with a backslash, match no file. */
+static bool can_match(const struct listed *listed)
+{
+    return !listed->entry.is_escaped && strchr(listed->name, '\\') == NULL;
+}
+
+/* Copies the names, each with a terminating zero, and sorts the entries by name. */
+static void index_names(struct listing *listing)
+{
+    /* Each line has more bytes besides the name than the zero that is added. */
+    char *names = allocate(listing->len + 1, 1);
+
+    listing->by_name = allocate(listing->count, sizeof *listing->by_name);
+    for (size_t i = 0; i < listing->count; i++) {
+        struct listed *listed = &listing->entries[i];
+        size_t len = (size_t) listed->entry.name_len;
+
+        memcpy(names, listing->text + listed->entry.name_offset, len);
+        listed->name = names;
+        names += len + 1;
+        if (can_match(listed)) {
+            listing->by_name[listing->name_count++] = listed;
+        }
+    }
+    qsort(listing->by_name, listing->name_count, sizeof *listing->by_name, compare_names);
+}
+
+static void read_entries(struct listing *listing)
+{
+    size_t room = MINISIGN_LIST_ENTRIES(listing->len);
+    minisign_list_entry *entries = allocate(room, sizeof *entries);
+    uint64_t line;
+    enum minisign_error error = minisign_list_entries(&listing->verified, listing->text, listing->len,
+                                                      listing->long_digest, entries, room, &listing->count, &line);
+
+    if (error != MINISIGN_OK) {
+        reject_entries(listing->file, error, line);
+    }
+    if (listing->count == 0) {
+        end_with(LIST_REJECTED, listing->file, "this list has no entries", NULL);
+    }
+    listing->entries = allocate(listing->count, sizeof *listing->entries);
+    for (size_t i = 0; i < listing->count; i++) {
+        listing->entries[i].entry = entries[i];
+    }
+    free(entries);
+    index_names(listing);
+}
+
+struct listing load_listing(const struct check_options *options)
+{
+    struct listing listing = {
+        .file = options->list, .long_digest = options->blake2b ? MINISIGN_HASH_BLAKE2B : MINISIGN_HASH_SHA512
+    };
+    minisign_public_key key = read_key(options);
+    struct file_text text = read_file(options->list, NULL);
+
+    listing.text = text.bytes;
+    listing.len = text.len;
+    listing.status = text.status;
+    verify_list(&listing, options, &key);
+    read_entries(&listing);
+    return listing;
+}
+
+size_t entries_of_name(const struct listing *listing, const char *name)
+{
+    size_t low = 0, high = listing->name_count, count = 0;
+
+    while (low < high) {
+        size_t middle = low + (high - low) / 2;
+
+        if (strcmp(listing->by_name[middle]->name, name) < 0) {
+            low = middle + 1;
+        } else {
+            high = middle;
+        }
+    }
+    while (count < 2 && low + count < listing->name_count && strcmp(listing->by_name[low + count]->name, name) == 0) {
+        count++;
+    }
+    return count;
+}
+
+enum minisign_error find_entry(const struct listing *listing, const char *name, minisign_list_entry *entry,
+                               uint64_t *line)
+{
+    return minisign_list_find(&listing->verified, listing->text, listing->len, listing->long_digest,
+                              (const uint8_t *) name, strlen(name), entry, line);
+}

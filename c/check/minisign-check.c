@@ -1,0 +1,90 @@
+/* SPDX-License-Identifier: MIT */
+/*
+ * The program minisign-check, which checks files against a signed list.
+ *
+ * The library of minisign_list.h parses and verifies the list, finds entries, hashes files and compares the digests.
+ * The other files of this directory read the command line (options), read and verify the list (listing), open and
+ * compare the files in several threads (checking, parallel), find files that are not listed (unlisted), copy a verified
+ * file (copying), and choose the exit status (outcomes).
+ */
+#include "checking.h"
+
+#include <sodium.h>
+
+#include "copying.h"
+#include "options.h"
+#include "outcomes.h"
+#include "shared/platform.h"
+#include "shared/reports.h"
+#include "shared/streams.h"
+#include "unlisted.h"
+
+/* Returns true if a file has this error. */
+static bool has_error(const struct files *files, enum minisign_error error)
+{
+    for (size_t i = 0; i < files->count; i++) {
+        if (files->checked[i].error == error) {
+            return true;
+        }
+    }
+    return false;
+}
+
+/* Returns what the user can do about the outcome, or NULL. */
+static const char *hint_about(enum outcome outcome, const struct check_options *options, const struct files *files)
+{
+    switch (outcome) {
+    case OTHER_CONTENT: return "download the file again, or the list if it is older than the file";
+    case NOT_ONE_ENTRY:
+        return has_error(files, MINISIGN_LISTED_TWICE)
+                   ? "have the signer list each file once"
+                   : "give each FILE as the list names it; --in DIR names its directory";
+    case MISSING_FILE:
+        return options->listed_only ? "use --in DIR if the files are in another directory"
+                                    : "use --listed to check only the files that exist";
+    case UNLISTED_FILE: return "remove the files that are not listed, or omit --nothing-else";
+    default: return NULL;
+    }
+}
+
+int main(int argc, char *argv[])
+{
+    struct check_options options;
+    struct listing listing;
+    struct files files;
+
+    if (!fill_standard_streams()) {
+        return UNUSABLE_FILE;
+    }
+    if (!read_arguments(&argc, &argv)) {
+        end_with(WRONG_USAGE, NULL, "an argument is not Unicode", "rename the file, or use another name for it");
+    }
+    options = parse_arguments(argc, argv);
+    if (sodium_init() < 0) {
+        end_with(UNUSABLE_FILE, NULL, "libsodium could not be initialized", NULL);
+    }
+    listing = load_listing(&options);
+    if (options.directory != NULL && chdir(options.directory) != 0) {
+        end_with_errno(options.directory);
+    }
+    files = files_to_check(&listing, &options);
+    if (options.copies) {
+        check_for_copy(&files);
+    } else {
+        check_files(&files);
+    }
+    if (options.nothing_else) {
+        find_unlisted(&listing);
+    }
+    if (options.copies && final_outcome() == ALL_MATCH) {
+        copy_checked(&files);
+    }
+    if (fflush(stdout) != 0 || ferror(stdout)) {
+        print_error("standard output", strerror(errno));
+        add_outcome(UNUSABLE_FILE);
+    }
+    if (final_outcome() != ALL_MATCH) {
+        print_hint(hint_about(final_outcome(), &options, &files));
+    }
+    return final_outcome();
+}
