@@ -40,8 +40,8 @@ copy() {
     put "${2-${1##*/}}"
 }
 
-for file in dist/calls-*.a include/minisign.h include/minisign_install.h c/library/clearing.h c/library/allocation.h \
-    c/library/portable/machine.h; do
+for file in dist/calls-*.a include/minisign.h include/minisign_install.h include/minisign_list.h c/library/clearing.h \
+    c/library/allocation.h c/library/portable/machine.h; do
     copy "$file"
 done
 copy c/library/allocation.c allocation.c "$linux_64"

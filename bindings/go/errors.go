@@ -80,6 +80,16 @@ const (
 	ErrPublicKeyNotRead         = Error(C.MINISIGN_PUBLIC_KEY_NOT_READ)
 	ErrEmptyPassword            = Error(C.MINISIGN_EMPTY_PASSWORD)
 	ErrWeakSealing              = Error(C.MINISIGN_WEAK_SEALING)
+	ErrListNotVerified          = Error(C.MINISIGN_LIST_NOT_VERIFIED)
+	ErrOtherListText            = Error(C.MINISIGN_OTHER_LIST_TEXT)
+	ErrBadHash                  = Error(C.MINISIGN_BAD_HASH)
+	ErrEntryNotRead             = Error(C.MINISIGN_ENTRY_NOT_READ)
+	ErrOtherList                = Error(C.MINISIGN_OTHER_LIST)
+	ErrBadName                  = Error(C.MINISIGN_BAD_NAME)
+	ErrMalformedLine            = Error(C.MINISIGN_MALFORMED_LINE)
+	ErrNotListed                = Error(C.MINISIGN_NOT_LISTED)
+	ErrListedTwice              = Error(C.MINISIGN_LISTED_TWICE)
+	ErrDigestMismatch           = Error(C.MINISIGN_DIGEST_MISMATCH)
 )
 
 // Names are those of minisign.h, without MINISIGN_.
@@ -154,4 +164,14 @@ var names = map[Error]string{
 	ErrPublicKeyNotRead:         "PUBLIC_KEY_NOT_READ",
 	ErrEmptyPassword:            "EMPTY_PASSWORD",
 	ErrWeakSealing:              "WEAK_SEALING",
+	ErrListNotVerified:          "LIST_NOT_VERIFIED",
+	ErrOtherListText:            "OTHER_LIST_TEXT",
+	ErrBadHash:                  "BAD_HASH",
+	ErrEntryNotRead:             "ENTRY_NOT_READ",
+	ErrOtherList:                "OTHER_LIST",
+	ErrBadName:                  "BAD_NAME",
+	ErrMalformedLine:            "MALFORMED_LINE",
+	ErrNotListed:                "NOT_LISTED",
+	ErrListedTwice:              "LISTED_TWICE",
+	ErrDigestMismatch:           "DIGEST_MISMATCH",
 }

@@ -7,7 +7,7 @@ package minisign
 /*
 #include <string.h>
 #include "archive.h"
-#include <minisign.h>
+#include <minisign_list.h>
 
 static enum minisign_error flat_minisign_signed_text(const minisign_public_key *key, const uint8_t *signature,
         const uint8_t *comment_signature, const uint8_t *trusted_comment, size_t trusted_comment_len,
@@ -89,10 +89,34 @@ func callReadBarePublicKey(base64 []byte) (*C.minisign_public_key, error) {
 	return key, errorOf(err)
 }
 
+func callReadPublicKeyRecord(record []byte) (*C.minisign_public_key, error) {
+	key := new(C.minisign_public_key)
+	err := C.minisign_read_public_key_record(pointer(record), C.size_t(len(record)), key)
+	return key, errorOf(err)
+}
+
+func callPublicKeyRecord(key *C.minisign_public_key) ([42]byte, error) {
+	var record [42]byte
+	err := C.minisign_public_key_record(key, (*C.uint8_t)(&record[0]))
+	return record, errorOf(err)
+}
+
 func callReadSignature(sigText []byte) (*C.minisign_signature, error) {
 	signature := new(C.minisign_signature)
 	err := C.minisign_read_signature(pointer(sigText), C.size_t(len(sigText)), signature)
 	return signature, errorOf(err)
+}
+
+func callReadSignatureRecord(record []byte) (*C.minisign_signature, error) {
+	signature := new(C.minisign_signature)
+	err := C.minisign_read_signature_record(pointer(record), C.size_t(len(record)), signature)
+	return signature, errorOf(err)
+}
+
+func callSignatureRecord(signature *C.minisign_signature) ([74]byte, error) {
+	var record [74]byte
+	err := C.minisign_signature_record(signature, (*C.uint8_t)(&record[0]))
+	return record, errorOf(err)
 }
 
 func callAsk(state *C.minisign_state, key *C.minisign_public_key, signature *C.minisign_signature, sigText []byte, allowLegacy C.uint32_t) (*C.minisign_questions, []byte, error) {
@@ -110,10 +134,36 @@ func callVerdict(state *C.minisign_state, first bool, second bool) error {
 	return errorOf(C.minisign_verdict(state, answer(first), answer(second)))
 }
 
+func callAskBare(state *C.minisign_state, key *C.minisign_public_key, signature *C.minisign_signature, allowLegacy C.uint32_t) (*C.minisign_questions, error) {
+	questions := new(C.minisign_questions)
+	err := C.minisign_ask_bare(state, key, signature, allowLegacy, questions)
+	return questions, errorOf(err)
+}
+
+func callBareVerdict(state *C.minisign_state, first bool) error {
+	return errorOf(C.minisign_bare_verdict(state, answer(first)))
+}
+
 func callReadSecretKey(skText []byte) (*C.minisign_unopened_key, error) {
 	unopened := new(C.minisign_unopened_key)
 	err := C.minisign_read_secret_key(pointer(skText), C.size_t(len(skText)), unopened)
 	return unopened, errorOf(err)
+}
+
+func callReadSecretKeyRecord(secretRecord []byte) (*C.minisign_unopened_key, error) {
+	unopened := new(C.minisign_unopened_key)
+	err := C.minisign_read_secret_key_record(pointer(secretRecord), C.size_t(len(secretRecord)), unopened)
+	return unopened, errorOf(err)
+}
+
+func callEncodeUnopenedKey(unopened *C.minisign_unopened_key, comment []byte) ([]byte, error) {
+	text, length := make([]byte, 233+len(comment)), C.size_t(0)
+	err := C.minisign_encode_unopened_key(unopened, pointer(comment), C.size_t(len(comment)), pointer(text), C.size_t(len(text)), &length)
+	return text[:length], errorOf(err)
+}
+
+func callTestSealedKey(unopened *C.minisign_unopened_key, mostRows C.uint64_t) error {
+	return errorOf(C.minisign_test_sealed_key(unopened, mostRows))
 }
 
 func callOpenUnsealedKey(unopened *C.minisign_unopened_key) (*C.minisign_secret_key, error) {
@@ -162,4 +212,48 @@ func callPublicKeyText(key *C.minisign_secret_key, comment []byte) ([]byte, erro
 	text, length := make([]byte, 77+len(comment)), C.size_t(0)
 	err := C.minisign_public_key_text(key, pointer(comment), C.size_t(len(comment)), pointer(text), C.size_t(len(text)), &length)
 	return text[:length], errorOf(err)
+}
+
+func callEncodePublicKey(key *C.minisign_public_key, comment []byte) ([]byte, error) {
+	text, length := make([]byte, 77+len(comment)), C.size_t(0)
+	err := C.minisign_encode_public_key(key, pointer(comment), C.size_t(len(comment)), pointer(text), C.size_t(len(text)), &length)
+	return text[:length], errorOf(err)
+}
+
+func callListAsk(key *C.minisign_public_key, signature *C.minisign_signature, sigText []byte, listName []byte, text []byte) (*C.minisign_list, *C.minisign_questions, []byte, error) {
+	list := new(C.minisign_list)
+	questions := new(C.minisign_questions)
+	message := make([]byte, 64+signature.comment_len)
+	err := C.minisign_list_ask(list, key, signature, pointer(sigText), C.size_t(len(sigText)), pointer(listName), C.size_t(len(listName)), pointer(text), C.size_t(len(text)), questions, pointer(message), C.size_t(len(message)))
+	return list, questions, message, errorOf(err)
+}
+
+func callListAskAny(key *C.minisign_public_key, signature *C.minisign_signature, sigText []byte, text []byte) (*C.minisign_list, *C.minisign_questions, []byte, error) {
+	list := new(C.minisign_list)
+	questions := new(C.minisign_questions)
+	message := make([]byte, 64+signature.comment_len)
+	err := C.minisign_list_ask_any(list, key, signature, pointer(sigText), C.size_t(len(sigText)), pointer(text), C.size_t(len(text)), questions, pointer(message), C.size_t(len(message)))
+	return list, questions, message, errorOf(err)
+}
+
+func callListVerdict(list *C.minisign_list, first bool, second bool) error {
+	return errorOf(C.minisign_list_verdict(list, answer(first), answer(second)))
+}
+
+func callListBegin(entry *C.minisign_list_entry) (*C.minisign_list_file, error) {
+	file := new(C.minisign_list_file)
+	err := C.minisign_list_begin(entry, file)
+	return file, errorOf(err)
+}
+
+func callListUpdate(file *C.minisign_list_file, data []byte) error {
+	return errorOf(C.minisign_list_update(file, pointer(data), C.size_t(len(data))))
+}
+
+func callListFinish(file *C.minisign_list_file) error {
+	return errorOf(C.minisign_list_finish(file))
+}
+
+func callListCompareTrustingYourHash(entry *C.minisign_list_entry, hash C.enum_minisign_hash, digest []byte) error {
+	return errorOf(C.minisign_list_compare_trusting_your_hash(entry, hash, pointer(digest), C.size_t(len(digest))))
 }

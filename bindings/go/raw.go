@@ -13,7 +13,7 @@ package minisign
 #cgo linux,!portable,amd64,amd64.v3 LDFLAGS: -l:calls-x86-64-v3.a
 #cgo linux,!portable,arm64 LDFLAGS: -l:calls-aarch64.a
 #include "archive.h"
-#include <minisign.h>
+#include <minisign_list.h>
 */
 import "C"
 import (
@@ -205,4 +205,111 @@ func (key *openedKey) signatureText(dataSignature, commentSignature *[64]byte, t
 		return nil, err
 	}
 	return callSignedText(public, dataSignature, commentSignature, trusted, untrusted)
+}
+
+// A rawList is the library's struct of a verified list, with the list itself.
+type rawList struct {
+	raw        *C.minisign_list
+	text       []byte
+	longDigest C.enum_minisign_hash
+}
+
+// A listQuestions is a list whose two signatures Ed25519 has to check.
+type listQuestions struct {
+	list *rawList
+	questions
+}
+
+// askList begins to verify a list. The trusted comment must name the list, unless anyName is true.
+func askList(publicKey *PublicKey, signature *parsedSignature, text, name []byte, anyName bool, longDigest LongDigest) (*listQuestions, error) {
+	key, err := publicKey.raw()
+	if err != nil {
+		return nil, err
+	}
+	kind, ok := map[LongDigest]C.enum_minisign_hash{
+		LongSHA512: C.MINISIGN_HASH_SHA512, LongBLAKE2b: C.MINISIGN_HASH_BLAKE2B, LongRejected: C.MINISIGN_HASH_NONE,
+	}[longDigest]
+	if !ok {
+		return nil, ErrBadHash
+	}
+	list := &rawList{text: append([]byte(nil), text...), longDigest: kind}
+	asked := &listQuestions{list: list}
+	if anyName {
+		list.raw, asked.raw, asked.commentMessage, err = callListAskAny(key, signature.raw, []byte(signature.text), list.text)
+	} else {
+		list.raw, asked.raw, asked.commentMessage, err = callListAsk(key, signature.raw, []byte(signature.text), name, list.text)
+	}
+	return asked, err
+}
+
+func (questions *questions) digest() []byte {
+	return (*[64]byte)(unsafe.Pointer(&questions.raw.digest))[:]
+}
+
+// comment returns the trusted comment, from the message that the comment signature signs.
+func (questions *questions) comment() string {
+	return string(questions.commentMessage[questions.raw.comment_offset:][:questions.raw.comment_len])
+}
+
+// lineError returns nil if a call succeeded, and otherwise its error, with the number of the line at fault if there is one.
+func lineError(err C.enum_minisign_error, line C.uint64_t) error {
+	if line != 0 {
+		return &LineError{Error(err), uint64(line)}
+	}
+	return errorOf(err)
+}
+
+func (list *rawList) find(name []byte) (*C.minisign_list_entry, error) {
+	entry, line := new(C.minisign_list_entry), C.uint64_t(0)
+	err := C.minisign_list_find(list.raw, pointer(list.text), C.size_t(len(list.text)), list.longDigest, pointer(name), C.size_t(len(name)), entry, &line)
+	return entry, lineError(err, line)
+}
+
+func (list *rawList) entries() ([]ListEntry, error) {
+	// One more than there can be, because the library takes no pointer to an empty slice.
+	raw := make([]C.minisign_list_entry, (len(list.text)+1)/68+1)
+	count, line := C.size_t(0), C.uint64_t(0)
+	err := C.minisign_list_entries(list.raw, pointer(list.text), C.size_t(len(list.text)), list.longDigest, &raw[0], C.size_t(len(raw)), &count, &line)
+	entries := make([]ListEntry, count)
+	for index := range entries {
+		entries[index] = list.entry(&raw[index])
+	}
+	return entries, lineError(err, line)
+}
+
+// hashes are the hash functions by their numbers in the library.
+var hashes = map[C.uint32_t]Hash{C.MINISIGN_HASH_SHA256: SHA256, C.MINISIGN_HASH_SHA512: SHA512, C.MINISIGN_HASH_BLAKE2B: BLAKE2b}
+
+// entry returns the Go form of an entry, whose name is in the list.
+func (list *rawList) entry(raw *C.minisign_list_entry) ListEntry {
+	hash := hashes[raw.hash]
+	return ListEntry{
+		Name:      string(list.text[raw.name_offset:][:raw.name_len]),
+		Hash:      hash,
+		Digest:    append([]byte(nil), (*[64]byte)(unsafe.Pointer(&raw.digest))[:hash.size()]...),
+		Line:      uint64(raw.line),
+		IsEscaped: raw.is_escaped == 1,
+	}
+}
+
+// A rawFile is the library's state of checking data against an entry. It is an io.Writer.
+type rawFile C.minisign_list_file
+
+func beginFile(entry *C.minisign_list_entry) (*rawFile, error) {
+	file, err := callListBegin(entry)
+	return (*rawFile)(file), err
+}
+
+func (file *rawFile) Write(piece []byte) (int, error) {
+	if err := callListUpdate((*C.minisign_list_file)(file), piece); err != nil {
+		return 0, err
+	}
+	return len(piece), nil
+}
+
+func (file *rawFile) finish() error { return callListFinish((*C.minisign_list_file)(file)) }
+
+// compareTrustingHash compares the digest of an entry with one that the library did not compute.
+func compareTrustingHash(entry *C.minisign_list_entry, digest []byte) error {
+	return callListCompareTrustingYourHash(entry, C.enum_minisign_hash(entry.hash), digest)
 }

@@ -2,7 +2,7 @@
 // Checks the arguments of the public functions before anything is done with
 // them.
 
-import { TEXT_BYTES } from "./calls.js";
+import { LONG_DIGESTS, TEXT_BYTES } from "./calls.js";
 
 // Returns a TypeError with this message. Its code is INVALID_ARGUMENT.
 export function argumentError(message) {
@@ -66,6 +66,7 @@ const isMode = (value) => Number.isInteger(value) && (value & ~0o777) === 0;
 const OPTIONS = {
   __proto__: null,
   allowLegacy: BOOLEAN,
+  longDigest: ["sha512, blake2b or none", (value) => LONG_DIGESTS.has(value)],
   lowMemory: BOOLEAN,
   mode: ["an integer from 0 to 0o777", isMode],
   mostRows: ["a positive integer", isRowCount],

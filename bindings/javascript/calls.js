@@ -14,18 +14,34 @@ export const TEXT_BYTES = 65536;
 // The maximum size of a piece of data. It is smaller if the memory of the
 // module is.
 const MAX_PIECE_BYTES = 4 * 1048576;
+// The maximum size of a signed list.
+export const MAX_LIST_BYTES = 1048576;
 
 // ---- From include/minisign.h, made by tools/bindings.py ----
 
 const ANSWER_YES = 0x796573;
 const ANSWER_NO = 0x6e6f;
+const HASH_NONE = 0;
+const HASH_SHA256 = 1;
+const HASH_SHA512 = 2;
+const HASH_BLAKE2B = 3;
 
 // The sizes of the structs, and the offsets of the fields that are read.
 const STATE_BYTES = 512;
+const LIST_BYTES = 88;
 const KEY_BYTES = 48;
 const PUBLIC_KEY = { key: 8, key_id: 40 };
 const SIGNATURE_BYTES = 200;
 const SIGNATURE = { key_id: 8, legacy: 194 };
+const LIST_ENTRY_BYTES = 104;
+const LIST_ENTRY = {
+  line: 8,
+  name_offset: 16,
+  name_len: 24,
+  digest: 32,
+  hash: 96,
+  is_escaped: 100,
+};
 const QUESTIONS_BYTES = 256;
 const QUESTIONS = {
   public_key: 0,
@@ -39,6 +55,22 @@ const QUESTIONS = {
 };
 
 // ---- End of the generated part ----
+
+// The hash functions of lists, by their numbers, with the sizes of digests.
+export const HASHES = new Map([
+  [HASH_SHA256, { name: "sha256", bytes: 32 }],
+  [HASH_SHA512, { name: "sha512", bytes: 64 }],
+  [HASH_BLAKE2B, { name: "blake2b", bytes: 64 }],
+]);
+// What 128 digits mean on a line that does not name its hash function.
+export const LONG_DIGESTS = new Map([
+  ["sha512", HASH_SHA512],
+  ["blake2b", HASH_BLAKE2B],
+  ["none", HASH_NONE],
+]);
+// The sizes of the hash states of minisign_sha2, which the header does not
+// declare.
+const SHA_BYTES = { sha256: 104, sha512: 208 };
 
 // Formats the eight bytes of a key ID as the program minisign prints it: one
 // little-endian number in upper-case hexadecimal digits, without leading zeros.
@@ -60,6 +92,9 @@ export class Library {
     this.signature = bufferOf(208);
     this.key = bufferOf(48);
     this.words = bufferOf(128);
+    this.list = bufferOf(LIST_BYTES);
+    this.entry = bufferOf(LIST_ENTRY_BYTES);
+    this.name = bufferOf(TEXT_BYTES);
     this.text = bufferOf(TEXT_BYTES);
     this.message = bufferOf(TEXT_BYTES);
     this.piece = end;
@@ -95,9 +130,7 @@ export class Library {
   // Passes a state to a function of the module, and updates it. Returns the
   // error number, or 0.
   onState(state, call) {
-    const number = call(this.put(this.state, STATE_BYTES, state)[0]) >>> 0;
-    state.set(this.bytesAt(this.state, STATE_BYTES));
-    return number;
+    return this.onStruct(this.state, state, call);
   }
 
   // Returns the text of an error number.
@@ -155,15 +188,30 @@ export class Library {
         this.put(this.signature, SIGNATURE_BYTES, signature.value)[0],
         ...this.put(this.text, TEXT_BYTES, signature.text),
         allowsLegacy ? 1 : 0,
-        BigInt(this.questions),
-        BigInt(this.message),
-        BigInt(TEXT_BYTES),
+        ...this.questionArguments(),
       ),
     );
+    return this.questionsAfter(number);
+  }
+
+  // Returns the arguments of a call that asks: where the questions and the
+  // message of the comment signature are written.
+  questionArguments() {
+    return [this.questions, this.message, TEXT_BYTES].map(BigInt);
+  }
+
+  // Returns the number in some bytes of the module's memory.
+  numberAt(address, length) {
+    const bytes = this.bytesAt(address, length);
+    return bytes.reduceRight((value, byte) => 256 * value + byte, 0);
+  }
+
+  // Returns what `ask` returns, from the memory of the module.
+  questionsAfter(number) {
     const part = (name, length) =>
       this.bytesAt(this.questions + QUESTIONS[name], length);
     const numberAt = (name, length) =>
-      part(name, length).reduceRight((value, byte) => 256 * value + byte, 0);
+      this.numberAt(this.questions + QUESTIONS[name], length);
     const comment = this.message + numberAt("comment_offset", 8);
     return {
       number,
@@ -173,6 +221,7 @@ export class Library {
       message: this.bytesAt(this.message, numberAt("message_len", 8)),
       comment: this.bytesAt(comment, numberAt("comment_len", 8)),
       isLegacy: numberAt("legacy", 4) === 1,
+      digest: part("digest", 64),
     };
   }
 
@@ -193,12 +242,7 @@ export class Library {
   // Feeds the next bytes of the data, of any length. Returns 0, or the number
   // of an error of misuse.
   feed(state, bytes) {
-    let number = 0;
-    for (let at = 0; at < bytes.length && number === 0; at += this.pieceBytes) {
-      this.place(bytes.subarray(at, at + this.pieceBytes));
-      number = this.feedPlaced(state);
-    }
-    return number;
+    return this.feedBy(bytes, () => this.feedPlaced(state));
   }
 
   // Sets the digest of the questions to that of all data that was fed. After
@@ -222,5 +266,181 @@ export class Library {
     return this.onState(state, (address) =>
       this.calls.page_verdict(address, ...answers),
     );
+  }
+  // ---- Signed lists ----
+
+  // Takes a key and a signature that were read, the name of a list or null, and
+  // the list. Returns the questions as `ask` does, with the struct of the list.
+  askList(key, signature, name, text) {
+    this.memory.fill(0, this.questions, this.questions + QUESTIONS_BYTES);
+    const call = this.calls[`page_list_ask${name === null ? "_any" : ""}`];
+    const number = call(
+      BigInt(this.list),
+      this.put(this.key, KEY_BYTES, key)[0],
+      this.put(this.signature, SIGNATURE_BYTES, signature.value)[0],
+      ...this.put(this.text, TEXT_BYTES, signature.text),
+      ...(name === null ? [] : this.put(this.name, TEXT_BYTES, name)),
+      ...this.putList(text),
+      ...this.questionArguments(),
+    );
+    const list = this.bytesAt(this.list, LIST_BYTES);
+    return { ...this.questionsAfter(number >>> 0), list };
+  }
+
+  // Copies a list into the module, to the buffer for pieces of data.
+  putList(text) {
+    const size = Math.min(MAX_LIST_BYTES, this.pieceBytes);
+    return this.put(this.piece, size, text);
+  }
+
+  // Passes a struct to a function of the module, and updates the struct.
+  // Returns the error number, or 0.
+  onStruct(address, struct, call) {
+    const number = call(this.put(address, struct.length, struct)[0]) >>> 0;
+    struct.set(this.bytesAt(address, struct.length));
+    return number;
+  }
+
+  // Takes whether Ed25519 accepts the two signatures. Returns 0 exactly if the
+  // list is verified, or otherwise the error number of the first check that
+  // fails.
+  listVerdict(list, isListValid, isCommentValid) {
+    const answerOf = (isValid) => (isValid ? ANSWER_YES : ANSWER_NO);
+    const answers = [isListValid, isCommentValid].map(answerOf);
+    return this.onStruct(this.list, list, (address) =>
+      this.calls.page_list_verdict(address, ...answers),
+    );
+  }
+
+  // Finds the only entry of a name in a verified list. Returns the number 0 and
+  // the struct of the entry, or the error number and the line at fault or 0.
+  findEntry(list, text, longDigest, name) {
+    const line = this.words;
+    const number = this.calls.page_list_find(
+      this.put(this.list, LIST_BYTES, list)[0],
+      ...this.putList(text),
+      longDigest,
+      ...this.put(this.name, TEXT_BYTES, name),
+      BigInt(this.entry),
+      BigInt(line),
+    );
+    const entry = this.bytesAt(this.entry, LIST_ENTRY_BYTES);
+    return { number: number >>> 0, line: this.numberAt(line, 8), entry };
+  }
+
+  // Returns the number 0 and the structs of all entries, in the order of their
+  // lines, or the error number and the line at fault or 0.
+  listEntries(list, text, longDigest) {
+    const [line, count] = [this.words, this.words + 8];
+    const passed = this.putList(text);
+    // The structs are behind the list, whose address is a multiple of 16.
+    const entries = this.piece + Math.ceil((text.length + 1) / 16) * 16;
+    const end = this.piece + this.pieceBytes;
+    const number = this.calls.page_list_entries(
+      this.put(this.list, LIST_BYTES, list)[0],
+      ...passed,
+      longDigest,
+      BigInt(entries),
+      BigInt(Math.floor((end - entries) / LIST_ENTRY_BYTES)),
+      BigInt(count),
+      BigInt(line),
+    );
+    const length = number === 0 ? this.numberAt(count, 8) : 0;
+    const structAt = (_, index) =>
+      this.bytesAt(entries + index * LIST_ENTRY_BYTES, LIST_ENTRY_BYTES);
+    return {
+      number: number >>> 0,
+      line: this.numberAt(line, 8),
+      entries: Array.from({ length }, structAt),
+    };
+  }
+
+  // Returns the fields of the struct of an entry. The library has checked that
+  // the list is UTF-8.
+  fieldsOfEntry(struct, text) {
+    this.put(this.entry, LIST_ENTRY_BYTES, struct);
+    const numberAt = (name, length) =>
+      this.numberAt(this.entry + LIST_ENTRY[name], length);
+    const { name: hash, bytes } = HASHES.get(numberAt("hash", 4));
+    const begin = numberAt("name_offset", 8);
+    const name = text.subarray(begin, begin + numberAt("name_len", 8));
+    const digest = this.entry + LIST_ENTRY.digest;
+    return {
+      name: new TextDecoder("utf-8", { ignoreBOM: true }).decode(name),
+      hash,
+      digest: this.bytesAt(digest, bytes),
+      line: numberAt("line", 8),
+      isEscaped: numberAt("is_escaped", 4) === 1,
+    };
+  }
+
+  // Places bytes of any length in pieces, and calls `feed` after each one,
+  // until it returns an error number. Returns the last number.
+  feedBy(bytes, feed) {
+    let number = 0;
+    for (let at = 0; at < bytes.length && number === 0; at += this.pieceBytes) {
+      this.place(bytes.subarray(at, at + this.pieceBytes));
+      number = feed();
+    }
+    return number;
+  }
+
+  // Compares the digest of an entry with another one of its hash function.
+  // Returns 0 exactly if they are equal. Says nothing about any data.
+  compareDigest(entry, digest) {
+    const passed = this.put(this.entry, LIST_ENTRY_BYTES, entry)[0];
+    const hash = this.numberAt(this.entry + LIST_ENTRY.hash, 4);
+    const digestPassed = this.put(this.words, 64, digest);
+    const { page_list_compare_trusting_your_hash: compare } = this.calls;
+    return compare(passed, hash, ...digestPassed) >>> 0;
+  }
+
+  // ---- Digests ----
+
+  // Returns a new state of a hash function that HASHES names.
+  beginHash(hash) {
+    if (hash === "blake2b") {
+      return this.begin();
+    }
+    const state = new Uint8Array(SHA_BYTES[hash]);
+    const begin = this.calls[`page_${hash}_begin`];
+    this.onStruct(this.state, state, (address) => begin(address));
+    return state;
+  }
+
+  // Feeds the piece of data that was placed last.
+  feedHash(hash, state) {
+    if (hash === "blake2b") {
+      return this.feedPlaced(state);
+    }
+    const update = this.calls[`page_${hash}_update`];
+    this.onStruct(this.state, state, (address) =>
+      update(address, ...this.placed),
+    );
+    return 0;
+  }
+
+  // Feeds the piece of data that was placed last to states of hash functions,
+  // by their names. Returns 0, or the number of an error of misuse.
+  feedHashes(states) {
+    for (const [hash, state] of Object.entries(states)) {
+      const number = this.feedHash(hash, state);
+      if (number !== 0) {
+        return number;
+      }
+    }
+    return 0;
+  }
+
+  // Returns the digest of all data that was fed to a copy of the state.
+  hashDigest(hash, state) {
+    if (hash === "blake2b") {
+      const questions = {};
+      this.digest(state.slice(), questions);
+      return questions.digest;
+    }
+    const address = this.put(this.state, STATE_BYTES, state)[0];
+    this.calls[`page_${hash}_digest`](address, BigInt(this.words));
+    return this.bytesAt(this.words, hash === "sha256" ? 32 : 64);
   }
 }

@@ -3,10 +3,11 @@
 // include/minisign.h. Made by tools/bindings.py.
 
 export class MinisignError extends Error {
-  constructor(number, message) {
+  constructor(number, message, line = 0) {
     super(message);
     this.name = "MinisignError";
     this.number = number;
+    this.line = line;
     this.code = Object.keys(ERRORS).find((code) => ERRORS[code] === number);
   }
 }
@@ -82,4 +83,14 @@ export const ERRORS = Object.freeze({
   PUBLIC_KEY_NOT_READ: 82,
   EMPTY_PASSWORD: 83,
   WEAK_SEALING: 84,
+  LIST_NOT_VERIFIED: 85,
+  OTHER_LIST_TEXT: 86,
+  BAD_HASH: 87,
+  ENTRY_NOT_READ: 88,
+  OTHER_LIST: 89,
+  BAD_NAME: 90,
+  MALFORMED_LINE: 91,
+  NOT_LISTED: 92,
+  LISTED_TWICE: 93,
+  DIGEST_MISMATCH: 94,
 });

@@ -237,6 +237,110 @@ export function readSignature(signature: Text): Promise<Signature>;
 /** Parses a public key, in each form that `verify` takes. */
 export function readPublicKey(key: Text): Promise<PublicKey>;
 
+/** The hash functions of lists. */
+export type HashName = "sha256" | "sha512" | "blake2b";
+
+/** An entry of a verified list. */
+export interface ListEntry {
+  /** The name of the file, without a leading "./". */
+  readonly name: string;
+  /** The hash function. */
+  readonly hash: HashName;
+  /** The digest that the file must have. */
+  readonly digest: Uint8Array;
+  /** The number of the line, from 1 on. */
+  readonly line: number;
+  /**
+   * True if the name is written with escapes. The library does not resolve
+   * them, and no name that you look up matches such an entry.
+   */
+  readonly isEscaped: boolean;
+}
+
+export interface ListOptions {
+  /**
+   * The meaning of 128 digits on a line that does not name its hash function:
+   * "sha512", which is the default; "blake2b", as b2sum writes them; or "none",
+   * so that such a line is malformed.
+   */
+  longDigest?: "sha512" | "blake2b" | "none";
+}
+
+export interface ListedOptions {
+  /** The option of `verify`. */
+  progress?: (bytes: number, total?: number) => void;
+  /** The option of `verify`. */
+  signal?: Signal;
+}
+
+/** A verified list, such as SHA256SUMS. One signature is for all its files. */
+export interface SignedList {
+  /** The key ID of the public key. */
+  readonly keyId: string;
+  /**
+   * The trusted comment, which is signed with the list. Compare its version or
+   * timestamp with what you expect: an old list stays valid.
+   */
+  readonly trustedComment: string;
+  /** The fields of the trusted comment. */
+  readonly fields: CommentFields;
+  /**
+   * Returns all entries, in the order of their lines. A name that is listed
+   * twice has two entries; `find` rejects it. Throws a MinisignError: NOT_UTF8
+   * or MALFORMED_LINE.
+   */
+  entries(): ListEntry[];
+  /**
+   * Returns the only entry of a name. Throws a MinisignError: NOT_UTF8, for the
+   * list or the name; BAD_NAME, if no list can contain the name;
+   * MALFORMED_LINE; NOT_LISTED; or LISTED_TWICE.
+   */
+  find(name: Text): ListEntry;
+  /**
+   * Verifies data. Resolves to the entry of the name if the data is what the
+   * list has for this name. Rejects with the errors of `find`, before any data
+   * is read; with DIGEST_MISMATCH if the data has another digest; and otherwise
+   * as `verify` does. After an error use none of the data.
+   */
+  verifyListed(
+    data: Data,
+    name: Text,
+    options?: ListedOptions,
+  ): Promise<ListEntry>;
+  /**
+   * Verifies bytes or a Blob as `verifyListed` does, but hashes them with
+   * WebCrypto, which can use the SHA instructions of the processor, and needs
+   * all of the data in memory. Nothing is proved about this hash, so the result
+   * is only as good as WebCrypto. BLAKE2b, which WebCrypto does not have, is
+   * hashed by the library.
+   */
+  verifyListedTrustingWebCrypto(
+    data: Bytes | { arrayBuffer(): Promise<ArrayBuffer> },
+    name: Text,
+  ): Promise<ListEntry>;
+}
+
+/**
+ * Verifies the signature of a list, such as SHA256SUMS. `text` is the whole
+ * list, of at most 1 MiB. `name` is the name of the list: the trusted comment
+ * must have a field `file:` with this value, so that a signed text that was
+ * never meant as a list is not taken for one. If it is null, every trusted
+ * comment is accepted. `signature` and `key` are those of `verify`.
+ *
+ * Rejects as `verify` does for arguments, the key and the signature. A legacy
+ * signature is always rejected (LEGACY_NOT_ACCEPTED). Rejects also with
+ * SIGNATURE_REFUSED; COMMENT_SIGNATURE_REFUSED; or OTHER_LIST, if the trusted
+ * comment does not name the list. The lines of the list are checked when you
+ * use it.
+ */
+export function verifyList(
+  text: Text,
+  signature: Text | Signature,
+  key: Text | PublicKey,
+  name: Text | null,
+  options?: ListOptions,
+): Promise<SignedList>;
+
 /**
  * A decrypted secret key. The object does not show the secret bytes. They are
  * in memory until `clearSecretKey`, or until the object is garbage-collected.
@@ -380,4 +484,9 @@ export class MinisignError extends Error {
   readonly code: ErrorCode;
   /** The number of the error in include/minisign.h. */
   readonly number: number;
+  /**
+   * For MALFORMED_LINE and LISTED_TWICE, the number of the line at fault in the
+   * list. For all other errors it is 0.
+   */
+  readonly line: number;
 }

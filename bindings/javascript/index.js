@@ -4,6 +4,7 @@
 import { optionsOf, textOf } from "./arguments.js";
 import { parseTrustedComment } from "./comments.js";
 import { feedAll, takingPieces } from "./feeding.js";
+import { listName, listText, longDigestOf, signedList } from "./lists.js";
 import { checked, loaded } from "./loaded.js";
 import { Verification } from "./verification.js";
 
@@ -88,4 +89,17 @@ export async function verify(data, signature, key, options = {}) {
   const begin = (rest) => createVerifier(signature, key, rest);
   const known = ["allowLegacy", "progress", "signal"];
   return feedAll(data, options, known, begin);
+}
+
+// ---- Signed lists ----
+
+export async function verifyList(text, signature, key, name, options = {}) {
+  const [bytes, nameBytes] = [listText(text), listName(name)];
+  const long = longDigestOf(options);
+  const readSignatureWith = signatureReader(signature);
+  const readKeyWith = keyReader(key);
+  const library = await loaded();
+  const parsed = readKeyWith(library);
+  const read = readSignatureWith(library);
+  return signedList(library, parsed, read, nameBytes, bytes, long);
 }

@@ -37,11 +37,13 @@ export function loaded() {
 }
 
 // Returns the result of a call of the library, or throws a MinisignError if its
-// error number is not 0.
+// error number is not 0. `line` is the line of a list that is at fault, or 0.
 export function checked(library, result) {
-  if (result.number !== 0) {
-    const message = library.errorText(result.number);
-    throw new MinisignError(result.number, message);
+  const { number, line = 0 } = result;
+  if (number !== 0) {
+    const text = library.errorText(number);
+    const message = line ? `line ${line}: ${text}` : text;
+    throw new MinisignError(number, message, line);
   }
   return result;
 }

@@ -4,9 +4,13 @@
 
 import type {
   Data,
+  ListedOptions,
+  ListEntry,
+  ListOptions,
   Options,
   PublicKey,
   Signature,
+  SignedList,
   Text,
   Verified,
 } from "./index.js";
@@ -56,3 +60,34 @@ export function saveVerified(
   key: Text | PublicKey,
   options?: SavingOptions,
 ): Promise<Verified>;
+
+/**
+ * Reads and verifies a list, such as SHA256SUMS, with its signature in the file
+ * of this path with `.minisig` after it. The name of the list is the last part
+ * of the path. Rejects as `verifyList` does, and with an error of Node if a
+ * file cannot be read.
+ */
+export function verifyListFile(
+  path: Path,
+  key: Text | PublicKey,
+  options?: ListOptions,
+): Promise<SignedList>;
+
+export interface ListedFileOptions extends ListedOptions {
+  /**
+   * The name of the file in the list. The default is the last part of the path.
+   * Pass the name if it is listed with directories, or the file was renamed.
+   */
+  name?: Text;
+}
+
+/**
+ * Verifies a file with a list that was verified. Rejects as
+ * `SignedList.verifyListed` does, and with an error of Node if the file cannot
+ * be read.
+ */
+export function verifyListedFile(
+  path: Path,
+  list: SignedList,
+  options?: ListedFileOptions,
+): Promise<ListEntry>;

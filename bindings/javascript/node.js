@@ -8,6 +8,7 @@ import { dirname } from "node:path";
 import { clearCopy, textOf } from "./arguments.js";
 import { pathOf, syncDirectory } from "./paths.js";
 
+export { verifyListedFile, verifyListFile } from "./listed.js";
 export { saveVerified } from "./saving.js";
 
 // These flags make `open` fail if the name exists, also as a dangling symbolic

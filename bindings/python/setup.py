@@ -25,6 +25,7 @@ PORTABLE = ["c/library/portable/pointers.c", "c/library/portable/allocation.c"]
 SHARED = "handles permissions stages streams"
 INSTALLER = [
     "c/install/installing.c",
+    "c/install/endings.c",
     "c/install/directory.c",
     *(f"c/shared/{name}.c" for name in SHARED.split()),
 ]
@@ -96,7 +97,7 @@ class BuildWithLibrary(build_py):
             flags.append("-DMINISIGN_PORTABLE")
         if "__linux__" in macros:
             sources += INSTALLER
-            names += find_in("c/install/installing.h", r"^[\w ]+?\*?(\w+)\(")
+            names += ["minisign_install_file"]
         if "_WIN32" not in macros:
             flags += ["-fPIC", "-pthread", "-fstack-protector-strong"]
         if "__ELF__" in macros:

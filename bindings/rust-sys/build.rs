@@ -7,6 +7,8 @@
 //! `dist/`. Elsewhere, or with `MINISIGN_PORTABLE=1`, it is compiled from the same functions
 //! translated to C.
 
+mod archives;
+
 use std::process::{exit, Command, Stdio};
 use std::{env, fs, path::Path};
 
@@ -67,12 +69,6 @@ fn user_variable(name: &str) -> Option<String> {
 fn fail(why: String) -> ! {
     eprintln!("minisign-proved-sys: {why}");
     exit(1)
-}
-
-fn run(command: &mut Command) {
-    if !command.status().map_or(false, |status| status.success()) {
-        fail(format!("this command failed: {command:?}"));
-    }
 }
 
 /// Returns the output of a command, or an empty string if it fails.
@@ -166,7 +162,6 @@ fn check_sources(from: &str) {
 /// Builds the libraries to link, as `c/Makefile` does. If there are archives for the target, links
 /// them together with the C that older processors need. Otherwise compiles everything from C.
 fn build(from: &str) {
-    let out = cargo_variable("OUT_DIR");
     let names = fs::read_to_string(format!("{from}/c/library/names")).unwrap_or_else(|why| {
         fail(format!(
             "{from} does not contain the sources of the library: {why}"
@@ -190,10 +185,6 @@ fn build(from: &str) {
         "aarch64" => &["calls-aarch64"],
         _ => &[],
     };
-    let are_ready = archives
-        .iter()
-        .all(|archive| with_prefix(from, archive, &names, &tool));
-    let archives = if are_ready { archives } else { &[] };
     compiling.flag_if_supported("-std=c11");
     // On Windows these would need DLLs of the compiler.
     if target("OS") != "windows" {
@@ -230,12 +221,14 @@ fn build(from: &str) {
     for (name, sources) in [("minisign", sources), ("minisign_portable", portable)] {
         if !sources.is_empty() {
             let mut library = compiling.clone();
-            library.files(sources.iter().map(path)).compile(name);
+            library.files(sources.iter().map(path));
+            if name == "minisign" {
+                for archive in archives {
+                    add_objects(&mut library, from, archive, &names);
+                }
+            }
+            library.compile(name);
         }
-    }
-    println!("cargo:rustc-link-search=native={out}");
-    for archive in archives {
-        println!("cargo:rustc-link-lib=static={archive}");
     }
 }
 
@@ -246,34 +239,25 @@ const MEMORY: [(&str, &str); 3] = [
     ("rattle_dealloc", "minisign_dealloc"),
 ];
 
-/// Writes an archive whose symbols have its prefix, such as `v3_`, into cargo's directory. The
-/// archives of a packed crate have it already. Those of the repository do not, so objcopy adds it.
-/// Returns false if that is necessary and there is no objcopy.
-fn with_prefix(from: &str, archive: &str, names: &str, compiler: &cc::Tool) -> bool {
-    let (path, copy) = (
-        format!("{from}/dist/{archive}.a"),
-        format!("{}/lib{archive}.a", cargo_variable("OUT_DIR")),
-    );
+/// Adds the objects of an archive to the library. Each function gets the prefix of the archive,
+/// such as `v3_`, because two archives have functions of the same names. Those of a packed crate
+/// have the prefix already.
+fn add_objects(library: &mut cc::Build, from: &str, archive: &str, names: &str) {
+    let path = format!("{from}/dist/{archive}.a");
     let prefix = archive.rsplit('-').next().unwrap_or_default();
     let data = fs::read(&path).unwrap_or_else(|why| fail(format!("{path}: {why}")));
-    let symbol = format!("\0{prefix}_minisign_update\0");
-    let has_symbol = |at: &[u8]| at == symbol.as_bytes();
-    if data.windows(symbol.len()).any(has_symbol) {
-        fs::write(&copy, data).unwrap_or_else(|why| fail(format!("{copy}: {why}")));
-        return true;
+    let new_name = |name: &str| match MEMORY.iter().find(|(old, _)| *old == name) {
+        Some((_, new)) => Some(new.to_string()),
+        None if names.lines().any(|line| line == name) => Some(format!("{prefix}_{name}")),
+        None => None,
+    };
+    let objects = archives::objects(&data, new_name)
+        .unwrap_or_else(|| fail(format!("{path} is not an archive of ELF objects")));
+    for (index, object) in objects.iter().enumerate() {
+        let copy = format!("{}/{archive}-{index}.o", cargo_variable("OUT_DIR"));
+        fs::write(&copy, object).unwrap_or_else(|why| fail(format!("{copy}: {why}")));
+        library.object(copy);
     }
-    let mut asking = compiler.to_command();
-    let objcopy = output_of(asking.arg("-print-prog-name=objcopy"));
-    if output_of(Command::new(&objcopy).arg("--version")).is_empty() {
-        return false;
-    }
-    let mut renaming = Command::new(objcopy);
-    renaming.args(MEMORY.map(|(name, other)| format!("--redefine-sym={name}={other}")));
-    for name in names.lines().filter(|line| !line.starts_with('#')) {
-        renaming.arg(format!("--redefine-sym={name}={prefix}_{name}"));
-    }
-    run(renaming.args([path, copy]));
-    true
 }
 
 /// Links libsodium: from `SODIUM_LIB_DIR`, or as pkg-config says.

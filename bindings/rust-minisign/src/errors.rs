@@ -33,6 +33,19 @@ pub enum ErrorKind {
 }
 
 /// An error of this crate. `Display` prints a sentence.
+///
+/// # Examples
+///
+/// ```
+/// use minisign::{ErrorKind, PError, PublicKey};
+///
+/// let error = PublicKey::from_base64("no key").unwrap_err();
+/// assert_eq!(*error.kind(), ErrorKind::Io);
+/// assert_eq!(error.to_string(), "base64 conversion failed - was an actual public key given?");
+/// let mine = PError::new(ErrorKind::Misc, "an error of my program");
+/// assert_eq!(mine.to_string(), "an error of my program");
+/// # Ok::<(), minisign::PError>(())
+/// ```
 #[derive(Debug)]
 pub struct PError {
     kind: ErrorKind,
@@ -50,6 +63,14 @@ impl PError {
     }
 
     /// Prints the error to standard error, and exits the program with status 1.
+    ///
+    /// # Examples
+    ///
+    /// ```no_run
+    /// use minisign::PublicKey;
+    ///
+    /// let key = PublicKey::from_file("rsign.pub").unwrap_or_else(|error| error.exit());
+    /// ```
     pub fn exit(&self) -> ! {
         eprintln!("{self}");
         process::exit(1)

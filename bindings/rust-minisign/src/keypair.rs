@@ -22,6 +22,17 @@ impl KeyPair {
     /// # Errors
     ///
     /// `RNG` if there are no random bytes.
+    ///
+    /// # Examples
+    ///
+    /// ```
+    /// use minisign::KeyPair;
+    ///
+    /// let KeyPair { pk, sk } = KeyPair::generate_unencrypted_keypair()?;
+    /// assert!(!sk.is_encrypted());
+    /// assert_eq!(sk.keynum(), pk.keynum());
+    /// # Ok::<(), minisign::PError>(())
+    /// ```
     pub fn generate_unencrypted_keypair() -> Result<Self> {
         let key = proved::SecretKey::generate(&Sodium)?;
         let (pk, sk) = (key.public_key()?.into(), SecretKey::decrypted(&key)?);
@@ -36,6 +47,18 @@ impl KeyPair {
     /// `RNG` if there are no random bytes; `Io` if the terminal cannot be used; `Misc` if the
     /// password that was typed has more than 1,024 bytes; `Generate` if the second one that was
     /// typed is different.
+    ///
+    /// # Examples
+    ///
+    /// ```
+    /// use minisign::KeyPair;
+    ///
+    /// let KeyPair { pk, sk } = KeyPair::generate_encrypted_keypair(Some("pass word".into()))?;
+    /// assert!(sk.is_encrypted());
+    /// let opened = sk.to_box(None)?.into_secret_key(Some("pass word".into()))?;
+    /// assert_eq!(opened.keynum(), pk.keynum());
+    /// # Ok::<(), minisign::PError>(())
+    /// ```
     pub fn generate_encrypted_keypair(password: Option<String>) -> Result<Self> {
         let is_typed = password.is_none();
         let key = proved::SecretKey::generate(&Sodium)?;
@@ -57,6 +80,19 @@ impl KeyPair {
     ///
     /// Those of `generate_encrypted_keypair`; `Io` if writing fails; `Sign` for a comment that
     /// could not be read back.
+    ///
+    /// # Examples
+    ///
+    /// ```
+    /// use minisign::KeyPair;
+    ///
+    /// let (mut public, mut secret) = (vec![], vec![]);
+    /// let (comment, password) = (Some("mine"), Some("pass word".into()));
+    /// KeyPair::generate_and_write_encrypted_keypair(&mut public, &mut secret, comment, password)?;
+    /// assert!(public.starts_with(b"untrusted comment: minisign public key: "));
+    /// assert!(secret.starts_with(b"untrusted comment: mine\n"));
+    /// # Ok::<(), minisign::PError>(())
+    /// ```
     pub fn generate_and_write_encrypted_keypair<W, X>(
         mut pk_writer: W,
         mut sk_writer: X,
@@ -80,6 +116,17 @@ impl KeyPair {
     /// # Errors
     ///
     /// `RNG` if there are no random bytes; `Io` if writing fails.
+    ///
+    /// # Examples
+    ///
+    /// ```
+    /// use minisign::KeyPair;
+    ///
+    /// let (mut public, mut secret) = (vec![], vec![]);
+    /// let pair = KeyPair::generate_and_write_unencrypted_keypair(&mut public, &mut secret)?;
+    /// assert_eq!((public, secret), (pair.pk.to_bytes(), pair.sk.to_bytes()));
+    /// # Ok::<(), minisign::PError>(())
+    /// ```
     pub fn generate_and_write_unencrypted_keypair<W, X>(
         mut pk_writer: W,
         mut sk_writer: X,

@@ -7,6 +7,18 @@ use std::{fmt, fs, path::Path};
 
 /// The content of a public key file, such as `minisign.pub`: both lines. It is not checked before
 /// it is converted to a `PublicKey`.
+///
+/// # Examples
+///
+/// ```
+/// use minisign::{PublicKey, PublicKeyBox};
+///
+/// let base64 = "RWQf6LRCGA9i53mlYecO4IzT51TGPpvWucNSCh1CBM0QTaLn73Y7GFO3";
+/// let text = format!("untrusted comment: my key\n{base64}\n");
+/// let key = PublicKeyBox::from_string(&text)?.into_public_key()?;
+/// assert_eq!(key, PublicKey::from_base64(base64)?);
+/// # Ok::<(), minisign::PError>(())
+/// ```
 #[derive(Clone, Debug)]
 pub struct PublicKeyBox(String);
 
@@ -69,6 +81,18 @@ impl From<PublicKeyBox> for PublicKey {
 
 /// A public key, which verifies signatures. Keys are equal if their keys are equal, whatever their
 /// key IDs are.
+///
+/// # Examples
+///
+/// ```
+/// use minisign::PublicKey;
+///
+/// let key = PublicKey::from_base64("RWQf6LRCGA9i53mlYecO4IzT51TGPpvWucNSCh1CBM0QTaLn73Y7GFO3")?;
+/// let text = key.to_box()?.into_string();
+/// assert!(text.starts_with("untrusted comment: minisign public key: E7620F1842B4E81F\n"));
+/// assert_eq!(PublicKey::from_bytes(&key.to_bytes())?, key);
+/// # Ok::<(), minisign::PError>(())
+/// ```
 #[derive(Clone, Debug)]
 pub struct PublicKey {
     pub(crate) key: proved::PublicKey,
@@ -96,6 +120,16 @@ impl PublicKey {
     /// # Errors
     ///
     /// None.
+    ///
+    /// # Examples
+    ///
+    /// ```
+    /// use minisign::{KeyPair, PublicKey};
+    ///
+    /// let KeyPair { pk, sk } = KeyPair::generate_unencrypted_keypair()?;
+    /// assert_eq!(PublicKey::from_secret_key(&sk)?, pk);
+    /// # Ok::<(), minisign::PError>(())
+    /// ```
     pub fn from_secret_key(sk: &SecretKey) -> Result<PublicKey> {
         Self::from_bytes(&sk.public_record())
     }
@@ -145,6 +179,15 @@ impl PublicKey {
     /// # Errors
     ///
     /// `Io` if the file cannot be read or is not UTF-8, and the errors of `from_box`.
+    ///
+    /// # Examples
+    ///
+    /// ```no_run
+    /// use minisign::PublicKey;
+    ///
+    /// let key = PublicKey::from_file("rsign.pub")?;
+    /// # Ok::<(), minisign::PError>(())
+    /// ```
     pub fn from_file<P>(pk_path: P) -> Result<PublicKey>
     where
         P: AsRef<Path>,

@@ -14,6 +14,18 @@ const DEFAULT_COMMENT: &str = "rsign encrypted secret key";
 
 /// The content of a secret key file, such as `minisign.key`: both lines. It is not checked before
 /// it is converted to a `SecretKey`, and it is cleared when it is dropped.
+///
+/// # Examples
+///
+/// ```
+/// use minisign::{KeyPair, SecretKeyBox};
+///
+/// let KeyPair { sk, .. } = KeyPair::generate_encrypted_keypair(Some("pass word".into()))?;
+/// let text = sk.to_box(Some("my key"))?.into_string();
+/// let opened = SecretKeyBox::from_string(&text)?.into_secret_key(Some("pass word".into()))?;
+/// assert!(!opened.is_encrypted());
+/// # Ok::<(), minisign::PError>(())
+/// ```
 #[derive(Clone)]
 pub struct SecretKeyBox(Zeroizing<String>);
 
@@ -85,6 +97,18 @@ impl fmt::Debug for SecretKeyBox {
 
 /// A secret key, which makes signatures: the record of a key file, decrypted or not. It is cleared
 /// when it is dropped. Keys are equal if their secrets are equal.
+///
+/// # Examples
+///
+/// ```
+/// use minisign::{KeyPair, SecretKey};
+///
+/// let KeyPair { sk, .. } = KeyPair::generate_unencrypted_keypair()?;
+/// let text = sk.to_box(None)?;
+/// assert_eq!(text.into_unencrypted_secret_key()?, sk);
+/// assert_eq!(SecretKey::from_bytes(&sk.to_bytes())?, sk);
+/// # Ok::<(), minisign::PError>(())
+/// ```
 #[derive(Clone)]
 pub struct SecretKey {
     record: Zeroizing<[u8; UnopenedKey::RECORD_BYTES]>,
@@ -216,6 +240,16 @@ impl SecretKey {
     /// # Errors
     ///
     /// `Io` if the file cannot be read or is not UTF-8, and the errors of `from_box`.
+    ///
+    /// # Examples
+    ///
+    /// ```no_run
+    /// use minisign::SecretKey;
+    ///
+    /// // Asks for the password on the terminal.
+    /// let key = SecretKey::from_file("rsign.key", None)?;
+    /// # Ok::<(), minisign::PError>(())
+    /// ```
     pub fn from_file<P: AsRef<Path>>(sk_path: P, password: Option<String>) -> Result<SecretKey> {
         Self::from_box(fs::read_to_string(sk_path)?.into(), password)
     }

@@ -9,6 +9,22 @@ const UNTRUSTED: &str = "untrusted comment: ";
 
 /// A parsed signature: that of a signature file, with comments, or a bare one. Parsing verifies
 /// nothing.
+///
+/// # Examples
+///
+/// ```
+/// use minisign::{sign, KeyPair, SignatureBox};
+///
+/// let KeyPair { sk, .. } = KeyPair::generate_unencrypted_keypair()?;
+/// let text = sign(None, &sk, &b"data"[..], Some("version:3"), Some("mine"))?.into_string();
+/// let signature = SignatureBox::from_string(&text)?;
+/// assert_eq!(signature.keynum(), sk.keynum());
+/// assert_eq!(signature.untrusted_comment()?, "mine");
+/// assert_eq!(signature.trusted_comment()?, "version:3");
+/// assert!(signature.is_prehashed());
+/// assert_eq!(signature.to_string(), text);
+/// # Ok::<(), minisign::PError>(())
+/// ```
 #[derive(Clone)]
 pub struct SignatureBox(Form);
 
@@ -142,6 +158,15 @@ impl SignatureBox {
     /// # Errors
     ///
     /// `Io` if the file cannot be read or is not UTF-8, and the errors of `from_string`.
+    ///
+    /// # Examples
+    ///
+    /// ```no_run
+    /// use minisign::SignatureBox;
+    ///
+    /// let signature = SignatureBox::from_file("data.minisig")?;
+    /// # Ok::<(), minisign::PError>(())
+    /// ```
     pub fn from_file<P>(sig_path: P) -> Result<SignatureBox>
     where
         P: AsRef<Path>,
@@ -171,6 +196,21 @@ impl From<String> for SignatureBox {
 }
 
 /// A signature without comments, which is stored as bytes.
+///
+/// # Examples
+///
+/// ```
+/// use minisign::{sign, verify, KeyPair, SignatureBones, SignatureBox};
+/// use std::io::Cursor;
+///
+/// let KeyPair { pk, sk } = KeyPair::generate_unencrypted_keypair()?;
+/// let signature = sign(None, &sk, &b"data"[..], None, None)?;
+/// let bytes = SignatureBones::from(signature).to_bytes();
+/// assert_eq!(bytes.len(), SignatureBones::BYTES);
+/// let bare = SignatureBox::from(SignatureBones::from_bytes(&bytes)?);
+/// verify(&pk, &bare, Cursor::new("data"), true, false, false)?;
+/// # Ok::<(), minisign::PError>(())
+/// ```
 #[derive(Clone)]
 pub struct SignatureBones(BareSignature);
 

@@ -73,11 +73,24 @@ pub const MINISIGN_WEAK_ED25519: u32 = 81;
 pub const MINISIGN_PUBLIC_KEY_NOT_READ: u32 = 82;
 pub const MINISIGN_EMPTY_PASSWORD: u32 = 83;
 pub const MINISIGN_WEAK_SEALING: u32 = 84;
+pub const MINISIGN_LIST_NOT_VERIFIED: u32 = 85;
+pub const MINISIGN_OTHER_LIST_TEXT: u32 = 86;
+pub const MINISIGN_BAD_HASH: u32 = 87;
+pub const MINISIGN_ENTRY_NOT_READ: u32 = 88;
+pub const MINISIGN_OTHER_LIST: u32 = 89;
+pub const MINISIGN_BAD_NAME: u32 = 90;
+pub const MINISIGN_MALFORMED_LINE: u32 = 91;
+pub const MINISIGN_NOT_LISTED: u32 = 92;
+pub const MINISIGN_LISTED_TWICE: u32 = 93;
+pub const MINISIGN_DIGEST_MISMATCH: u32 = 94;
 
 pub const MINISIGN_VERSION_MAJOR: usize = 0;
 pub const MINISIGN_VERSION_MINOR: usize = 3;
 pub const MINISIGN_VERSION_PATCH: usize = 0;
 pub const MINISIGN_ERROR_TEXT_BYTES: usize = 128;
+pub const MINISIGN_PUBLIC_KEY_RECORD_BYTES: usize = 42;
+pub const MINISIGN_SIGNATURE_RECORD_BYTES: usize = 74;
+pub const MINISIGN_SECRET_KEY_RECORD_BYTES: usize = 158;
 pub const MINISIGN_KEEP_EVERY_ROW: usize = 1;
 pub const MINISIGN_KEEP_FEW_ROWS: usize = 16;
 pub const MINISIGN_USUAL_ROWS: usize = 1048576;
@@ -93,13 +106,32 @@ pub const MINISIGN_ANY_PASSWORD: usize = 2;
 pub const MINISIGN_TEXT_BYTES: usize = 240;
 pub const MINISIGN_SECRET_KEY_BYTES: usize = 233;
 pub const MINISIGN_PUBLIC_KEY_BYTES: usize = 77;
+pub const MINISIGN_LIST_ENTRIES: usize = 0;
+pub const MINISIGN_LIST_ENTRY_BYTES: usize = 143;
 pub const MINISIGN_VERSION_TEXT: &str = "0.3.0";
 pub const MINISIGN_SIGNATURE_COMMENT: &str = "signature from minisign secret key";
 pub const MINISIGN_TRUSTED_COMMENT_FORMAT: &str = "timestamp:%llu\tfile:%s\thashed";
 pub const MINISIGN_SECRET_KEY_COMMENT: &str = "minisign encrypted secret key";
 pub const MINISIGN_PUBLIC_KEY_COMMENT: &str = "minisign public key ";
+pub const MINISIGN_KIND_NONE: u32 = 0;
+pub const MINISIGN_KIND_MISUSE: u32 = 1;
+pub const MINISIGN_KIND_GENERATE: u32 = 2;
+pub const MINISIGN_KIND_SIGN: u32 = 3;
+pub const MINISIGN_KIND_VERIFY: u32 = 4;
+pub const MINISIGN_KIND_IO: u32 = 5;
+pub const MINISIGN_KIND_MISC: u32 = 6;
+pub const MINISIGN_KIND_HASH: u32 = 7;
+pub const MINISIGN_KIND_KDF: u32 = 8;
+pub const MINISIGN_KIND_RNG: u32 = 9;
+pub const MINISIGN_KIND_ENCODING: u32 = 10;
+pub const MINISIGN_KIND_ENCRYPTED_KEY: u32 = 11;
+pub const MINISIGN_KIND_OUT_OF_MEMORY: u32 = 12;
 pub const MINISIGN_ANSWER_YES: u32 = 7955827;
 pub const MINISIGN_ANSWER_NO: u32 = 28271;
+pub const MINISIGN_HASH_NONE: u32 = 0;
+pub const MINISIGN_HASH_SHA256: u32 = 1;
+pub const MINISIGN_HASH_SHA512: u32 = 2;
+pub const MINISIGN_HASH_BLAKE2B: u32 = 3;
 
 #[derive(Clone, Debug)]
 #[repr(C)]
@@ -282,9 +314,61 @@ impl minisign_sealing {
     };
 }
 
+#[repr(C)]
+pub struct minisign_list {
+    pub mark: u64,
+    pub text_digest: [u8; 64],
+    pub key_id: [u8; 8],
+    pub whole: u32,
+    pub is_named: u32,
+}
+
+impl minisign_list {
+    pub const ZEROS: Self = Self {
+        mark: 0,
+        text_digest: [0; 64],
+        key_id: [0; 8],
+        whole: 0,
+        is_named: 0,
+    };
+}
+
+#[repr(C)]
+pub struct minisign_list_entry {
+    pub mark: u64,
+    pub line: u64,
+    pub name_offset: u64,
+    pub name_len: u64,
+    pub digest: [u8; 64],
+    pub hash: u32,
+    pub is_escaped: u32,
+}
+
+impl minisign_list_entry {
+    pub const ZEROS: Self = Self {
+        mark: 0,
+        line: 0,
+        name_offset: 0,
+        name_len: 0,
+        digest: [0; 64],
+        hash: 0,
+        is_escaped: 0,
+    };
+}
+
+#[repr(C)]
+pub struct minisign_list_file {
+    pub opaque: [u64; 96],
+}
+
+impl minisign_list_file {
+    pub const ZEROS: Self = Self { opaque: [0; 96] };
+}
+
 extern "C" {
     pub fn minisign_version() -> u32;
     pub fn minisign_error_text(error: u32, text: *mut u8, room: usize) -> usize;
+    pub fn minisign_error_kind(error: u32) -> u32;
     pub fn minisign_init(state: *mut minisign_state);
     pub fn minisign_update(state: *mut minisign_state, data: *const u8, len: usize) -> u32;
     pub fn minisign_digest(state: *mut minisign_state, digest: &mut [u8; 64]) -> u32;
@@ -299,10 +383,28 @@ extern "C" {
         base64_len: usize,
         key: *mut minisign_public_key,
     ) -> u32;
+    pub fn minisign_read_public_key_record(
+        record: *const u8,
+        record_len: usize,
+        key: *mut minisign_public_key,
+    ) -> u32;
+    pub fn minisign_public_key_record(
+        key: *const minisign_public_key,
+        record: &mut [u8; 42],
+    ) -> u32;
     pub fn minisign_read_signature(
         sig_text: *const u8,
         sig_text_len: usize,
         signature: *mut minisign_signature,
+    ) -> u32;
+    pub fn minisign_read_signature_record(
+        record: *const u8,
+        record_len: usize,
+        signature: *mut minisign_signature,
+    ) -> u32;
+    pub fn minisign_signature_record(
+        signature: *const minisign_signature,
+        record: &mut [u8; 74],
     ) -> u32;
     pub fn minisign_ask(
         state: *mut minisign_state,
@@ -317,11 +419,33 @@ extern "C" {
     ) -> u32;
     pub fn minisign_comment_verdict(state: *const minisign_state, second: u32) -> u32;
     pub fn minisign_verdict(state: *mut minisign_state, first: u32, second: u32) -> u32;
+    pub fn minisign_ask_bare(
+        state: *mut minisign_state,
+        key: *const minisign_public_key,
+        signature: *const minisign_signature,
+        allow_legacy: u32,
+        questions: *mut minisign_questions,
+    ) -> u32;
+    pub fn minisign_bare_verdict(state: *mut minisign_state, first: u32) -> u32;
     pub fn minisign_read_secret_key(
         sk_text: *const u8,
         sk_text_len: usize,
         unopened: *mut minisign_unopened_key,
     ) -> u32;
+    pub fn minisign_read_secret_key_record(
+        secret_record: *const u8,
+        secret_record_len: usize,
+        unopened: *mut minisign_unopened_key,
+    ) -> u32;
+    pub fn minisign_encode_unopened_key(
+        unopened: *const minisign_unopened_key,
+        comment: *const u8,
+        comment_len: usize,
+        text: *mut u8,
+        room: usize,
+        text_len: *mut usize,
+    ) -> u32;
+    pub fn minisign_test_sealed_key(unopened: *const minisign_unopened_key, most_rows: u64) -> u32;
     pub fn minisign_open_unsealed_key(
         unopened: *const minisign_unopened_key,
         key: *mut minisign_secret_key,
@@ -360,6 +484,10 @@ extern "C" {
     pub fn minisign_public_key_of(
         key: *const minisign_secret_key,
         public_key: *mut minisign_public_key,
+    ) -> u32;
+    pub fn minisign_secret_key_record(
+        key: *const minisign_secret_key,
+        secret_record: &mut [u8; 158],
     ) -> u32;
     pub fn minisign_comment_message(
         first: &[u8; 64],
@@ -405,6 +533,83 @@ extern "C" {
         key: *const minisign_secret_key,
         comment: *const u8,
         comment_len: usize,
+        text: *mut u8,
+        room: usize,
+        text_len: *mut usize,
+    ) -> u32;
+    pub fn minisign_encode_public_key(
+        key: *const minisign_public_key,
+        comment: *const u8,
+        comment_len: usize,
+        text: *mut u8,
+        room: usize,
+        text_len: *mut usize,
+    ) -> u32;
+    pub fn minisign_list_ask(
+        list: *mut minisign_list,
+        key: *const minisign_public_key,
+        signature: *const minisign_signature,
+        sig_text: *const u8,
+        sig_text_len: usize,
+        list_name: *const u8,
+        list_name_len: usize,
+        text: *const u8,
+        text_len: usize,
+        questions: *mut minisign_questions,
+        message: *mut u8,
+        room: usize,
+    ) -> u32;
+    pub fn minisign_list_ask_any(
+        list: *mut minisign_list,
+        key: *const minisign_public_key,
+        signature: *const minisign_signature,
+        sig_text: *const u8,
+        sig_text_len: usize,
+        text: *const u8,
+        text_len: usize,
+        questions: *mut minisign_questions,
+        message: *mut u8,
+        room: usize,
+    ) -> u32;
+    pub fn minisign_list_verdict(list: *mut minisign_list, first: u32, second: u32) -> u32;
+    pub fn minisign_list_find(
+        list: *const minisign_list,
+        text: *const u8,
+        text_len: usize,
+        long_digest: u32,
+        name: *const u8,
+        name_len: usize,
+        entry: *mut minisign_list_entry,
+        line: *mut u64,
+    ) -> u32;
+    pub fn minisign_list_entries(
+        list: *const minisign_list,
+        text: *const u8,
+        text_len: usize,
+        long_digest: u32,
+        entries: *mut minisign_list_entry,
+        entries_len: usize,
+        count: *mut usize,
+        line: *mut u64,
+    ) -> u32;
+    pub fn minisign_list_begin(
+        entry: *const minisign_list_entry,
+        file: *mut minisign_list_file,
+    ) -> u32;
+    pub fn minisign_list_update(file: *mut minisign_list_file, data: *const u8, len: usize) -> u32;
+    pub fn minisign_list_finish(file: *mut minisign_list_file) -> u32;
+    pub fn minisign_list_compare_trusting_your_hash(
+        entry: *const minisign_list_entry,
+        hash: u32,
+        digest: *const u8,
+        digest_len: usize,
+    ) -> u32;
+    pub fn minisign_list_append(
+        hash: u32,
+        digest: *const u8,
+        digest_len: usize,
+        name: *const u8,
+        name_len: usize,
         text: *mut u8,
         room: usize,
         text_len: *mut usize,

@@ -7,11 +7,24 @@ use std::{fs, path::Path};
 /// Creates a file, such as a secret key file, that only its owner can read and write: its mode is
 /// 0600, whatever the umask is. Syncs the file and its directory.
 ///
-/// If the file exists, the error is `io::ErrorKind::AlreadyExists`, and the file is unchanged.
-/// After any other error there is no file.
-///
 /// On Windows, which has no file modes, the file inherits the permissions of its directory. Choose
 /// a directory that only its owner can read, such as one in the user's profile.
+///
+/// # Errors
+///
+/// `io::ErrorKind::AlreadyExists` if the file exists, which is then unchanged. After any other
+/// error there is no file.
+///
+/// # Examples
+///
+/// ```no_run
+/// use minisign_proved::{write_new, SecretKey, Sodium, Work};
+///
+/// let key = SecretKey::generate(&Sodium)?;
+/// let text = key.encode(&Sodium, Some("correct horse battery staple"), &Work::USUAL)?;
+/// write_new("new.key", &text)?;
+/// # Ok::<(), minisign_proved::Error>(())
+/// ```
 pub fn write_new<P: AsRef<Path>>(path: P, text: &str) -> io::Result<()> {
     let path = path.as_ref();
     let mut file = options().open(path)?;

@@ -5,11 +5,13 @@
 
 mod base64;
 mod files;
+mod lists;
 mod raw;
 mod records;
 mod signing;
 
 pub use files::write_new;
+pub use lists::{ListEntry, ListError, ListHash, LongDigest, SignedList};
 pub use records::{BareSignature, Kind, UnopenedKey};
 pub use signing::{SecretKey, Signer, Work};
 use std::borrow::Cow;
@@ -23,6 +25,15 @@ pub struct Reason(u32);
 
 impl Reason {
     /// Returns the reason with a number of `minisign.h`.
+    ///
+    /// # Examples
+    ///
+    /// ```
+    /// use minisign_proved::Reason;
+    ///
+    /// assert_eq!(Reason::from_code(42), Reason::WRONG_PASSWORD);
+    /// assert_eq!(Reason::WRONG_PASSWORD.code(), 42);
+    /// ```
     #[must_use]
     pub const fn from_code(code: u32) -> Reason {
         Reason(code)
@@ -83,6 +94,15 @@ pub enum Error {
 impl Error {
     /// Returns the error code of `minisign.h`. Returns `None` for `WeakLimits`, for `Scheme`, and
     /// for an `IoError` of the system.
+    ///
+    /// # Examples
+    ///
+    /// ```
+    /// use minisign_proved::{PublicKey, Reason};
+    ///
+    /// let error = PublicKey::from_base64("no key").unwrap_err();
+    /// assert_eq!(error.reason(), Some(&Reason::BARE_PUBLIC_KEY_LENGTH));
+    /// ```
     #[must_use]
     pub fn reason(&self) -> Option<&Reason> {
         match self {
@@ -156,6 +176,15 @@ pub struct SchemeError(Cow<'static, str>);
 
 impl SchemeError {
     /// Makes an error that `Display` prints as this text.
+    ///
+    /// # Examples
+    ///
+    /// ```
+    /// use minisign_proved::SchemeError;
+    ///
+    /// let error = SchemeError::new("the hardware key was removed");
+    /// assert_eq!(error.to_string(), "the hardware key was removed");
+    /// ```
     pub fn new(text: impl Into<Cow<'static, str>>) -> Self {
         SchemeError(text.into())
     }
@@ -172,6 +201,26 @@ impl std::error::Error for SchemeError {}
 /// An implementation of Ed25519 that verifies signatures. The crate trusts its results. It rejects
 /// public keys and signatures of small order or with a non-canonical encoding itself
 /// (`Reason::WEAK_ED25519`), so `verify` need not reject them.
+///
+/// # Examples
+///
+/// ```
+/// use minisign_proved::{SchemeError, SecretKey, Sodium, Verify};
+///
+/// /// Rejects every signature.
+/// struct Strict;
+///
+/// impl Verify for Strict {
+///     fn verify(&self, _: &[u8; 64], _: &[u8], _: &[u8; 32]) -> Result<(), SchemeError> {
+///         Err(SchemeError::new("no signature is accepted"))
+///     }
+/// }
+///
+/// let key = SecretKey::generate(&Sodium)?;
+/// let signature = key.sign(&Sodium, b"data", "timestamp:1", "an example")?;
+/// assert!(key.public_key()?.verify_with(&Strict, b"data", &signature, false).is_err());
+/// # Ok::<(), minisign_proved::Error>(())
+/// ```
 pub trait Verify: Sync {
     /// Verifies the signature of a message.
     ///
@@ -188,6 +237,36 @@ pub trait Verify: Sync {
 
 /// An implementation of Ed25519 that also signs and makes keys. Each new signature is verified, so
 /// it verifies too.
+///
+/// # Examples
+///
+/// ```
+/// use minisign_proved::{SchemeError, SecretKey, Sign, Sodium, Verify};
+///
+/// /// The Ed25519 of libsodium, with a line for each new signature.
+/// struct Logged;
+///
+/// impl Verify for Logged {
+///     fn verify(&self, sig: &[u8; 64], data: &[u8], key: &[u8; 32]) -> Result<(), SchemeError> {
+///         Sodium.verify(sig, data, key)
+///     }
+/// }
+///
+/// impl Sign for Logged {
+///     fn sign(&self, message: &[u8], secret_key: &[u8; 64]) -> Result<[u8; 64], SchemeError> {
+///         eprintln!("signing {} bytes", message.len());
+///         Sodium.sign(message, secret_key)
+///     }
+///
+///     fn expand(&self, seed: &[u8; 32], secret_key: &mut [u8; 64]) -> Result<(), SchemeError> {
+///         Sodium.expand(seed, secret_key)
+///     }
+/// }
+///
+/// let key = SecretKey::generate(&Sodium)?;
+/// key.sign(&Logged, b"data", "timestamp:1", "an example")?;
+/// # Ok::<(), minisign_proved::Error>(())
+/// ```
 pub trait Sign: Verify {
     /// Signs a message with a secret key: the 32 bytes of the seed, then the 32 bytes of the public
     /// key.
@@ -206,6 +285,28 @@ pub trait Sign: Verify {
 }
 
 /// A source of random bytes that nobody can guess, for keys and salts.
+///
+/// # Examples
+///
+/// ```
+/// use minisign_proved::{Random, SchemeError, SecretKey, Sodium, Work};
+/// use std::{fs::File, io::Read};
+///
+/// /// The random bytes of the system, on Unix.
+/// struct System;
+///
+/// impl Random for System {
+///     fn fill(&self, bytes: &mut [u8]) -> Result<(), SchemeError> {
+///         let read = File::open("/dev/urandom").and_then(|mut file| file.read_exact(bytes));
+///         read.map_err(|error| SchemeError::new(error.to_string()))
+///     }
+/// }
+///
+/// let key = SecretKey::generate(&Sodium)?;
+/// let work = Work::new(524_288, 1 << 24);
+/// key.encode(&System, Some("pass word"), &work)?;
+/// # Ok::<(), minisign_proved::Error>(())
+/// ```
 pub trait Random {
     /// Fills a buffer with random bytes.
     ///
@@ -231,6 +332,23 @@ impl fmt::Debug for dyn Sign + '_ {
 #[cfg(feature = "sodium")]
 #[derive(Clone, Copy, Debug, Default)]
 pub struct Sodium;
+
+/// Overwrites bytes with zeros, such as a password that is no longer needed. The compiler does not
+/// remove this, as it may remove other code that writes to memory which is not read again.
+///
+/// # Examples
+///
+/// ```
+/// use minisign_proved::clear;
+///
+/// let mut password = String::from("pass word").into_bytes();
+/// // Use the password.
+/// clear(&mut password);
+/// assert_eq!(password, [0; 9]);
+/// ```
+pub fn clear(bytes: &mut [u8]) {
+    raw::clear(bytes);
+}
 
 /// Reads a file, which must be UTF-8.
 fn text_of_file(path: &Path) -> io::Result<String> {
@@ -330,6 +448,17 @@ impl PublicKey {
     /// # Errors
     ///
     /// `InvalidEncoding` with `BARE_PUBLIC_KEY_LENGTH` or `BARE_PUBLIC_KEY_NOT_BASE64`.
+    ///
+    /// # Examples
+    ///
+    /// ```
+    /// use minisign_proved::PublicKey;
+    ///
+    /// let base64 = "RWQf6LRCGA9i53mlYecO4IzT51TGPpvWucNSCh1CBM0QTaLn73Y7GFO3";
+    /// let key = PublicKey::from_base64(base64)?;
+    /// assert_eq!(key.key_id_text(), "E7620F1842B4E81F");
+    /// # Ok::<(), minisign_proved::Error>(())
+    /// ```
     pub fn from_base64(public_key: &str) -> Result<Self, Error> {
         let key = raw::read_bare_public_key(public_key.as_bytes())?;
         Ok(Self::new(None, key))
@@ -340,6 +469,15 @@ impl PublicKey {
     /// # Errors
     ///
     /// `IoError` if the file cannot be read or is not UTF-8, and the errors of `decode`.
+    ///
+    /// # Examples
+    ///
+    /// ```no_run
+    /// use minisign_proved::PublicKey;
+    ///
+    /// let key = PublicKey::from_file("minisign.pub")?;
+    /// # Ok::<(), minisign_proved::Error>(())
+    /// ```
     pub fn from_file<P: AsRef<Path>>(path: P) -> Result<Self, Error> {
         Self::decode(&text_of_file(path.as_ref())?)
     }
@@ -398,6 +536,17 @@ impl PublicKey {
     /// # Errors
     ///
     /// Those of `verify`.
+    ///
+    /// # Examples
+    ///
+    /// ```
+    /// use minisign_proved::{SecretKey, Sodium};
+    ///
+    /// let key = SecretKey::generate(&Sodium)?;
+    /// let signature = key.sign(&Sodium, b"data", "timestamp:1", "an example")?;
+    /// key.public_key()?.verify_with(&Sodium, b"data", &signature, false)?;
+    /// # Ok::<(), minisign_proved::Error>(())
+    /// ```
     pub fn verify_with(
         &self,
         ed25519: &dyn Verify,
@@ -416,6 +565,17 @@ impl PublicKey {
     /// # Errors
     ///
     /// Those of `verify`.
+    ///
+    /// # Examples
+    ///
+    /// ```
+    /// use minisign_proved::{SecretKey, Sodium};
+    ///
+    /// let key = SecretKey::generate(&Sodium)?;
+    /// let signature = key.sign(&Sodium, b"data", "timestamp:1", "an example")?.to_bare();
+    /// key.public_key()?.verify_bare_with(&Sodium, b"data", &signature, false)?;
+    /// # Ok::<(), minisign_proved::Error>(())
+    /// ```
     pub fn verify_bare_with(
         &self,
         ed25519: &dyn Verify,
@@ -434,6 +594,21 @@ impl PublicKey {
     /// # Errors
     ///
     /// Those of `verify_stream`.
+    ///
+    /// # Examples
+    ///
+    /// ```
+    /// use minisign_proved::{SecretKey, Sodium};
+    ///
+    /// let key = SecretKey::generate(&Sodium)?;
+    /// let signature = key.sign(&Sodium, b"data", "timestamp:1", "an example")?.to_bare();
+    /// let public_key = key.public_key()?;
+    /// let mut verifier = public_key.verify_bare_stream_with(&Sodium, &signature)?;
+    /// verifier.update(b"da");
+    /// verifier.update(b"ta");
+    /// verifier.finalize()?;
+    /// # Ok::<(), minisign_proved::Error>(())
+    /// ```
     pub fn verify_bare_stream_with<'a>(
         &self,
         ed25519: &'a dyn Verify,
@@ -471,6 +646,19 @@ impl PublicKey {
     /// # Errors
     ///
     /// Those of `verify_stream`.
+    ///
+    /// # Examples
+    ///
+    /// ```no_run
+    /// use minisign_proved::{PublicKey, Signature, Sodium};
+    ///
+    /// # let key = PublicKey::from_file("key.pub")?;
+    /// let signature = Signature::from_file("data.minisig")?;
+    /// let mut verifier = key.verify_stream_with(&Sodium, &signature)?;
+    /// verifier.update_from(std::fs::File::open("data")?, |_| ())?;
+    /// verifier.finalize()?;
+    /// # Ok::<(), minisign_proved::Error>(())
+    /// ```
     pub fn verify_stream_with<'a>(
         &self,
         ed25519: &'a dyn Verify,
@@ -489,6 +677,23 @@ fn without_legacy(reason: Reason) -> Error {
 }
 
 /// A parsed signature file. Parsing verifies nothing.
+///
+/// # Examples
+///
+/// ```
+/// use minisign_proved::{SecretKey, Signature, Sodium};
+///
+/// let key = SecretKey::generate(&Sodium)?;
+/// let text = key.sign(&Sodium, b"data", "timestamp:1", "an example")?.to_string();
+/// let signature = Signature::decode(&text)?;
+/// assert_eq!(signature.untrusted_comment(), "untrusted comment: an example");
+/// assert_eq!(signature.key_id(), key.key_id());
+/// assert!(!signature.is_legacy());
+/// // Trust this comment only after the signature was verified.
+/// key.public_key()?.verify(b"data", &signature, false)?;
+/// assert_eq!(signature.trusted_comment(), "timestamp:1");
+/// # Ok::<(), minisign_proved::Error>(())
+/// ```
 #[derive(Clone, Debug, Eq, PartialEq, Hash)]
 pub struct Signature {
     text: String,
@@ -511,6 +716,15 @@ impl Signature {
     /// # Errors
     ///
     /// `IoError` if the file cannot be read or is not UTF-8, and the errors of `decode`.
+    ///
+    /// # Examples
+    ///
+    /// ```no_run
+    /// use minisign_proved::Signature;
+    ///
+    /// let signature = Signature::from_file("data.minisig")?;
+    /// # Ok::<(), minisign_proved::Error>(())
+    /// ```
     pub fn from_file<P: AsRef<Path>>(path: P) -> Result<Self, Error> {
         Self::decode(&text_of_file(path.as_ref())?)
     }
@@ -559,12 +773,30 @@ impl fmt::Display for Signature {
 
 /// Verifies data that arrives in pieces: call `update` for each piece, or write the data to it, and
 /// call `finalize` at the end.
+///
+/// # Examples
+///
+/// ```
+/// use minisign_proved::{SecretKey, Sodium};
+/// use std::io::Write;
+///
+/// # let key = SecretKey::generate(&Sodium)?;
+/// # let signature = key.sign(&Sodium, b"some data", "timestamp:1", "an example")?;
+/// # let public_key = key.public_key()?;
+/// let mut verifier = public_key.verify_stream(&signature)?;
+/// // This comment is signed. Nothing is known about the data yet.
+/// assert_eq!(verifier.trusted_comment()?, "timestamp:1");
+/// verifier.update(b"some ");
+/// verifier.write_all(b"data")?;
+/// verifier.finalize()?;
+/// # Ok::<(), minisign_proved::Error>(())
+/// ```
 #[derive(Clone, Debug)]
 #[must_use = "nothing is verified before `finalize` returns Ok"]
 pub struct StreamVerifier<'a> {
     ed25519: &'a dyn Verify,
-    signature: &'a Signature,
-    is_bare: bool,
+    // None for a signature without comments.
+    signature: Option<&'a Signature>,
     state: raw::State,
     questions: raw::Questions,
     comment_message: Vec<u8>,
@@ -585,8 +817,7 @@ impl<'a> StreamVerifier<'a> {
             raw::ask(&mut state, key, &signature.parsed, text, legacy)?;
         Ok(StreamVerifier {
             ed25519,
-            signature,
-            is_bare: false,
+            signature: Some(signature),
             state,
             questions,
             comment_message,
@@ -600,9 +831,16 @@ impl<'a> StreamVerifier<'a> {
         signature: &'a BareSignature,
         allow_legacy: bool,
     ) -> Result<Self, Reason> {
-        let mut verifier = Self::begin(key, ed25519, &signature.signature, allow_legacy)?;
-        verifier.is_bare = true;
-        Ok(verifier)
+        let mut state = raw::init();
+        let legacy = allow_legacy.into();
+        let questions = raw::ask_bare(&mut state, key, &signature.parsed, legacy)?;
+        Ok(StreamVerifier {
+            ed25519,
+            signature: None,
+            state,
+            questions,
+            comment_message: vec![],
+        })
     }
 
     /// Adds the next piece of the data, of any length.
@@ -617,6 +855,20 @@ impl<'a> StreamVerifier<'a> {
     /// # Errors
     ///
     /// The first error of the reader, except `Interrupted`.
+    ///
+    /// # Examples
+    ///
+    /// ```
+    /// use minisign_proved::{SecretKey, Sodium};
+    ///
+    /// # let key = SecretKey::generate(&Sodium)?;
+    /// # let signature = key.sign(&Sodium, b"some data", "timestamp:1", "an example")?;
+    /// # let public_key = key.public_key()?;
+    /// let mut verifier = public_key.verify_stream(&signature)?;
+    /// verifier.update_from(&b"some data"[..], |bytes| println!("{bytes} bytes were read"))?;
+    /// verifier.finalize()?;
+    /// # Ok::<(), minisign_proved::Error>(())
+    /// ```
     pub fn update_from(
         &mut self,
         from: impl io::Read,
@@ -636,8 +888,9 @@ impl<'a> StreamVerifier<'a> {
     /// `InvalidSignature` with `COMMENT_SIGNATURE_REFUSED` if the comment signature is not valid,
     /// and for a signature without comments; `Rejected` after `finalize`.
     pub fn trusted_comment(&self) -> Result<&'a str, Error> {
+        let signature = self.signature.ok_or(Reason::COMMENT_SIGNATURE_REFUSED)?;
         raw::comment_verdict(&self.state, self.accepts_comment())?;
-        Ok(self.signature.trusted_comment())
+        Ok(signature.trusted_comment())
     }
 
     /// Returns `Ok` if the signature is valid for all of the data. Call it once.
@@ -657,7 +910,7 @@ impl<'a> StreamVerifier<'a> {
     fn accepts_comment(&self) -> bool {
         let questions = &self.questions;
         let (signature, key) = (&questions.comment_signature, &questions.public_key);
-        !self.is_bare && self.accepts(signature, &self.comment_message, key)
+        self.accepts(signature, &self.comment_message, key)
     }
 
     /// Returns the verdict. For a legacy signature, `data` is all of the data.
@@ -666,12 +919,12 @@ impl<'a> StreamVerifier<'a> {
         let message = if questions.legacy == 1 { data } else { &digest };
         let (signature, key) = (&questions.signature, &questions.public_key);
         let is_data_valid = self.accepts(signature, message, key);
-        let is_comment_valid = self.accepts_comment();
-        match raw::verdict(&mut self.state, is_data_valid, is_comment_valid) {
-            // The verdict is this error only if the signature of the data is valid.
-            Err(Reason::COMMENT_SIGNATURE_REFUSED) if self.is_bare => Ok(()),
-            verdict => Ok(verdict?),
+        if self.signature.is_none() {
+            return Ok(raw::bare_verdict(&mut self.state, is_data_valid)?);
         }
+        let is_comment_valid = self.accepts_comment();
+        let verdict = raw::verdict(&mut self.state, is_data_valid, is_comment_valid);
+        Ok(verdict?)
     }
 }
 

@@ -3,12 +3,29 @@
 #![allow(unsafe_code)]
 
 mod header;
+mod lists;
 #[cfg(feature = "sodium")]
 mod sodium;
 
 pub use header::*;
 use header::{check, text_of};
+pub use lists::{list_entries, list_find};
 use minisign_proved_sys as sys;
+use zeroize::Zeroizing;
+
+pub fn clear(bytes: &mut [u8]) {
+    unsafe { sys::minisign_clear(bytes.as_mut_ptr(), bytes.len()) }
+}
+
+pub fn error_kind(error: u32) -> u32 {
+    unsafe { sys::minisign_error_kind(error) }
+}
+
+pub fn secret_key_record(key: &SecretKey) -> Result<Zeroizing<[u8; 158]>, crate::Reason> {
+    let mut record = Zeroizing::new([0; 158]);
+    check(unsafe { sys::minisign_secret_key_record(key, &mut record) })?;
+    Ok(record)
+}
 
 /// Encodes a secret key file as `secret_key_text` does, but also accepts an empty password.
 pub fn secret_key_text_with_any_password(

@@ -32,7 +32,7 @@ pub enum Kind {
     Kdf,
     /// Generating random bytes.
     Rng,
-    /// Bytes that are not UTF-8, or a text that is not base64.
+    /// A secret key file that is not base64. For public keys and signatures the kind is `Io`.
     Encoding,
     /// An encrypted key instead of a decrypted one.
     EncryptedKey,
@@ -42,18 +42,30 @@ pub enum Kind {
 
 impl Reason {
     /// Returns the kind of the error.
+    ///
+    /// # Examples
+    ///
+    /// ```
+    /// use minisign_proved::{Kind, Reason};
+    ///
+    /// assert_eq!(Reason::WRONG_PASSWORD.kind(), Kind::Verify);
+    /// assert_eq!(Reason::MISSING_SIGNATURE.kind(), Kind::Io);
+    /// ```
     #[must_use]
     pub fn kind(self) -> Kind {
-        match self.code() {
-            0 => Kind::None,
-            7 => Kind::OutOfMemory,
-            8 | 35 => Kind::Encoding,
-            16..=24 | 26 | 33 | 34 | 36 | 38 | 39 | 44 | 45 | 64 | 65 => Kind::Io,
-            25 | 27..=32 | 37 | 42 | 81 => Kind::Verify,
-            40 | 41 | 43 => Kind::Kdf,
-            67 => Kind::Rng,
-            1..=6 | 9..=15 | 61..=63 | 82..=84 => Kind::Misuse,
-            46..=60 => Kind::Misc,
+        match raw::error_kind(self.code()) {
+            raw::KIND_MISUSE => Kind::Misuse,
+            raw::KIND_GENERATE => Kind::Generate,
+            raw::KIND_SIGN => Kind::Sign,
+            raw::KIND_VERIFY => Kind::Verify,
+            raw::KIND_IO => Kind::Io,
+            raw::KIND_MISC => Kind::Misc,
+            raw::KIND_HASH => Kind::Hash,
+            raw::KIND_KDF => Kind::Kdf,
+            raw::KIND_RNG => Kind::Rng,
+            raw::KIND_ENCODING => Kind::Encoding,
+            raw::KIND_ENCRYPTED_KEY => Kind::EncryptedKey,
+            raw::KIND_OUT_OF_MEMORY => Kind::OutOfMemory,
             _ => Kind::None,
         }
     }
@@ -69,25 +81,44 @@ impl PublicKey {
     /// # Errors
     ///
     /// `InvalidEncoding` with `RECORD_TOO_SHORT` if there are fewer bytes.
+    ///
+    /// # Examples
+    ///
+    /// ```
+    /// use minisign_proved::PublicKey;
+    ///
+    /// let base64 = "RWQf6LRCGA9i53mlYecO4IzT51TGPpvWucNSCh1CBM0QTaLn73Y7GFO3";
+    /// let key = PublicKey::from_base64(base64)?;
+    /// let record = key.to_record();
+    /// assert_eq!(&record[..2], b"Ed");
+    /// assert_eq!(PublicKey::from_record(&record)?, key);
+    /// # Ok::<(), minisign_proved::Error>(())
+    /// ```
     pub fn from_record(record: &[u8]) -> Result<Self, Error> {
-        let record = record.get(..Self::RECORD_BYTES);
-        Self::from_base64(&base64::encode(record.ok_or(Reason::RECORD_TOO_SHORT)?))
+        Ok(Self::new(None, raw::read_public_key_record(record)?))
     }
 
     /// Returns the record, with the algorithm `Ed`, which Minisign writes in every public key.
     #[must_use]
     pub fn to_record(&self) -> [u8; Self::RECORD_BYTES] {
-        let mut record = [0; Self::RECORD_BYTES];
-        record[..2].copy_from_slice(b"Ed");
-        record[2..10].copy_from_slice(&self.key.key_id);
-        record[10..].copy_from_slice(&self.key.key);
-        record
+        raw::public_key_record(&self.key).expect("the key was read")
     }
 
     /// Returns the 56 base64 characters of the record, which `from_base64` reads.
+    ///
+    /// # Examples
+    ///
+    /// ```
+    /// use minisign_proved::PublicKey;
+    ///
+    /// let base64 = "RWQf6LRCGA9i53mlYecO4IzT51TGPpvWucNSCh1CBM0QTaLn73Y7GFO3";
+    /// assert_eq!(PublicKey::from_base64(base64)?.to_base64(), base64);
+    /// # Ok::<(), minisign_proved::Error>(())
+    /// ```
     #[must_use]
     pub fn to_base64(&self) -> String {
-        base64::encode(&self.to_record()).to_string()
+        let text = self.encode("").expect("an empty comment can be read back");
+        text.lines().nth(1).unwrap_or_default().into()
     }
 
     /// Returns the content of a public key file, with this comment after `untrusted comment: `.
@@ -96,26 +127,43 @@ impl PublicKey {
     ///
     /// `Rejected` with `BAD_COMMENT` or `UNREADABLE_COMMENT` for a comment that Minisign could not
     /// read back.
+    ///
+    /// # Examples
+    ///
+    /// ```
+    /// use minisign_proved::PublicKey;
+    ///
+    /// let base64 = "RWQf6LRCGA9i53mlYecO4IzT51TGPpvWucNSCh1CBM0QTaLn73Y7GFO3";
+    /// let key = PublicKey::from_base64(base64)?;
+    /// let text = key.encode("the key of my project")?;
+    /// assert!(text.starts_with("untrusted comment: the key of my project\n"));
+    /// # Ok::<(), minisign_proved::Error>(())
+    /// ```
     pub fn encode(&self, comment: &str) -> Result<String, Error> {
-        check_comment(comment)?;
-        Ok(format!(
-            "untrusted comment: {comment}\n{}\n",
-            self.to_base64()
-        ))
+        Ok(raw::encode_public_key(&self.key, comment.as_bytes())?)
     }
 }
 
-/// Checks a comment by writing a key file with it.
-fn check_comment(comment: &str) -> Result<(), Error> {
-    let key = raw::take_secret_key(&raw::NewKey::ZEROS);
-    raw::public_key_text(&key, comment.as_bytes())?;
-    Ok(())
-}
-
 /// A signature without comments. Parsing verifies nothing.
+///
+/// # Examples
+///
+/// ```
+/// use minisign_proved::{BareSignature, SecretKey, Sodium};
+///
+/// let key = SecretKey::generate(&Sodium)?;
+/// let signature = key.sign(&Sodium, b"data", "timestamp:1", "an example")?;
+/// let record: [u8; BareSignature::RECORD_BYTES] = signature.to_record();
+/// let bare = BareSignature::from_record(&record)?;
+/// assert_eq!(bare, signature.to_bare());
+/// assert_eq!(bare.key_id(), key.key_id());
+/// assert!(!bare.is_legacy());
+/// key.public_key()?.verify_bare_with(&Sodium, b"data", &bare, false)?;
+/// # Ok::<(), minisign_proved::Error>(())
+/// ```
 #[derive(Clone, Debug, Eq, PartialEq, Hash)]
 pub struct BareSignature {
-    pub(crate) signature: Signature,
+    pub(crate) parsed: raw::Signature,
 }
 
 impl BareSignature {
@@ -129,30 +177,26 @@ impl BareSignature {
     ///
     /// `InvalidEncoding` with `RECORD_TOO_SHORT` if there are fewer bytes; `UnsupportedAlgorithm`.
     pub fn from_record(record: &[u8]) -> Result<Self, Error> {
-        let record = record.get(..Self::RECORD_BYTES);
-        let base64 = base64::encode(record.ok_or(Reason::RECORD_TOO_SHORT)?);
-        // With an empty comment signature, which is never valid.
-        let text = format!("untrusted comment: \n{}\ntrusted comment: \n\n", *base64);
-        let signature = Signature::decode(&text)?;
-        Ok(BareSignature { signature })
+        let parsed = raw::read_signature_record(record)?;
+        Ok(BareSignature { parsed })
     }
 
     /// Returns the record.
     #[must_use]
     pub fn to_record(&self) -> [u8; Self::RECORD_BYTES] {
-        self.signature.to_record()
+        raw::signature_record(&self.parsed).expect("the signature was read")
     }
 
     /// Returns the 8 bytes of the key ID of the signer's key. Nothing is verified.
     #[must_use]
     pub fn key_id(&self) -> &[u8; 8] {
-        self.signature.key_id()
+        &self.parsed.key_id
     }
 
     /// Returns true for a legacy signature, which signs the data itself instead of its digest.
     #[must_use]
     pub fn is_legacy(&self) -> bool {
-        self.signature.is_legacy()
+        self.parsed.legacy == 1
     }
 }
 
@@ -161,24 +205,29 @@ impl Signature {
     /// has neither the comments nor the comment signature.
     #[must_use]
     pub fn to_record(&self) -> [u8; BareSignature::RECORD_BYTES] {
-        let (parsed, mut record) = (&self.parsed, [0; BareSignature::RECORD_BYTES]);
-        record[..2].copy_from_slice(&parsed.algorithm);
-        record[2..10].copy_from_slice(&parsed.key_id);
-        record[10..].copy_from_slice(&parsed.signature);
-        record
+        raw::signature_record(&self.parsed).expect("the signature was read")
     }
 
     /// Returns the content of a signature file with the same comments and signatures: four lines,
     /// without what Minisign ignores, such as white space and further lines.
+    ///
+    /// # Examples
+    ///
+    /// ```
+    /// use minisign_proved::{SecretKey, Signature, Sodium};
+    ///
+    /// let key = SecretKey::generate(&Sodium)?;
+    /// let signature = key.sign(&Sodium, b"data", "timestamp:1", "an example")?;
+    /// let padded = signature.to_string().replace('\n', " \n");
+    /// assert_eq!(Signature::decode(&padded)?.encode().lines().count(), 4);
+    /// # Ok::<(), minisign_proved::Error>(())
+    /// ```
     #[must_use]
     pub fn encode(&self) -> String {
         let record = base64::encode(&self.to_record());
         let comment_signature = self.text.lines().nth(3).unwrap_or_default().trim();
         let (untrusted, trusted) = (self.untrusted_comment(), self.trusted_comment());
-        format!(
-            "{untrusted}\n{}\ntrusted comment: {trusted}\n{comment_signature}\n",
-            *record
-        )
+        format!("{untrusted}\n{record}\ntrusted comment: {trusted}\n{comment_signature}\n")
     }
 
     /// Returns the signature of the data without the comments.
@@ -191,6 +240,26 @@ impl Signature {
 
 /// A secret key that is not decrypted yet, or that needs no password. Its bytes are cleared when it
 /// is dropped.
+///
+/// # Examples
+///
+/// ```
+/// use minisign_proved::{SecretKey, Sodium, UnopenedKey, Work};
+///
+/// # let work = Work::new(524_288, 1 << 24);
+/// # let text = SecretKey::generate(&Sodium)?.encode(&Sodium, Some("pass word"), &work)?;
+/// let unopened = UnopenedKey::decode(&text)?;
+/// let key = if unopened.is_encrypted() {
+///     // Rejects a key that cannot be decrypted before somebody types a password.
+///     unopened.check(&Work::USUAL)?;
+///     let password = "pass word"; // Ask for it here.
+///     unopened.open(Some(password), &Work::USUAL)?
+/// } else {
+///     unopened.open(None, &Work::USUAL)?
+/// };
+/// println!("the key ID is {}", key.key_id_text());
+/// # Ok::<(), minisign_proved::Error>(())
+/// ```
 pub struct UnopenedKey {
     key: Box<raw::UnopenedKey>,
 }
@@ -215,6 +284,16 @@ impl UnopenedKey {
     /// # Errors
     ///
     /// `IoError` if the file cannot be read or is not UTF-8, and the errors of `decode`.
+    ///
+    /// # Examples
+    ///
+    /// ```no_run
+    /// use minisign_proved::UnopenedKey;
+    ///
+    /// let unopened = UnopenedKey::from_file("minisign.key")?;
+    /// println!("encrypted: {}", unopened.is_encrypted());
+    /// # Ok::<(), minisign_proved::Error>(())
+    /// ```
     pub fn from_file<P: AsRef<Path>>(path: P) -> Result<Self, Error> {
         Self::decode(&Zeroizing::new(text_of_file(path.as_ref())?))
     }
@@ -227,13 +306,21 @@ impl UnopenedKey {
     /// # Errors
     ///
     /// `InvalidEncoding` with `RECORD_TOO_SHORT` if there are fewer bytes.
+    ///
+    /// # Examples
+    ///
+    /// ```
+    /// use minisign_proved::{SecretKey, Sodium, UnopenedKey};
+    ///
+    /// let key = SecretKey::generate(&Sodium)?;
+    /// let unopened = UnopenedKey::from_record(&*key.to_record()?)?;
+    /// assert_eq!(unopened.to_record(), key.to_record()?);
+    /// assert!(!unopened.is_encrypted());
+    /// # Ok::<(), minisign_proved::Error>(())
+    /// ```
     pub fn from_record(record: &[u8]) -> Result<Self, Error> {
-        let record = record.get(..Self::RECORD_BYTES);
-        let base64 = base64::encode(record.ok_or(Reason::RECORD_TOO_SHORT)?);
-        let mut lines = Zeroizing::new(String::with_capacity(base64.len() + 1));
-        lines.push('\n');
-        lines.push_str(&base64);
-        Self::decode(&lines)
+        let key = raw::read_secret_key_record(record)?;
+        Ok(UnopenedKey { key })
     }
 
     /// Returns the record, as it was read.
@@ -249,15 +336,21 @@ impl UnopenedKey {
     ///
     /// `Rejected` with `BAD_COMMENT` or `UNREADABLE_COMMENT` for a comment that Minisign could not
     /// read back.
+    ///
+    /// # Examples
+    ///
+    /// ```
+    /// use minisign_proved::{SecretKey, Sodium, UnopenedKey};
+    ///
+    /// let key = SecretKey::generate(&Sodium)?;
+    /// let unopened = UnopenedKey::from_record(&*key.to_record()?)?;
+    /// let text = unopened.encode("not encrypted")?;
+    /// assert!(text.starts_with("untrusted comment: not encrypted\n"));
+    /// # Ok::<(), minisign_proved::Error>(())
+    /// ```
     pub fn encode(&self, comment: &str) -> Result<Zeroizing<String>, Error> {
-        check_comment(comment)?;
-        let (begin, base64) = ("untrusted comment: ", base64::encode(&self.key.bytes));
-        let len = begin.len() + comment.len() + base64.len() + 2;
-        let mut text = Zeroizing::new(String::with_capacity(len));
-        for part in [begin, comment, "\n", &base64, "\n"] {
-            text.push_str(part);
-        }
-        Ok(text)
+        let text = raw::encode_unopened_key(&self.key, comment.as_bytes())?;
+        Ok(Zeroizing::new(text))
     }
 
     /// Returns true if the key is encrypted, so that `open` needs a password.
@@ -274,17 +367,7 @@ impl UnopenedKey {
     /// `Rejected` with `KEY_NOT_SEALED`, `UNSUPPORTED_KEY_DERIVATION`, `PARAMETERS_TOO_HIGH`,
     /// `INVALID_PARAMETERS` or `WORK_TOO_HIGH`, in this order.
     pub fn check(&self, work: &Work) -> Result<(), Error> {
-        // With no rows allowed, the library derives nothing and returns WORK_TOO_HIGH last.
-        match raw::open_sealed_key(&self.key, b"", work.keep_every, 0) {
-            Err(Reason::WORK_TOO_HIGH) if self.rows() <= work.most_rows => Ok(()),
-            Err(reason) => Err(reason.into()),
-            Ok(_) => Ok(()),
-        }
-    }
-
-    /// Returns the number of rows that scrypt computes to decrypt the key.
-    fn rows(&self) -> u64 {
-        u64::from(self.key.work) << self.key.log2_rows
+        Ok(raw::test_sealed_key(&self.key, work.most_rows)?)
     }
 
     /// Decrypts the key. Pass `None` as the password of a key that is not encrypted.
@@ -312,8 +395,7 @@ impl SecretKey {
     ///
     /// None for a key that was decrypted or generated.
     pub fn to_record(&self) -> Result<Zeroizing<[u8; UnopenedKey::RECORD_BYTES]>, Error> {
-        let text = raw::secret_key_text(&self.key, None, &raw::Sealing::ZEROS, 1, b"")?;
-        Ok(UnopenedKey::decode(&Zeroizing::new(text))?.to_record())
+        Ok(raw::secret_key_record(&self.key)?)
     }
 
     /// Returns the 8 bytes of the key ID, which is one little-endian number.

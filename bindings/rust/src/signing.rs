@@ -18,6 +18,7 @@ use zeroize::{ZeroizeOnDrop, Zeroizing};
 /// # let _ = work;
 /// ```
 #[derive(Clone, Copy, Debug, Eq, PartialEq)]
+#[non_exhaustive]
 #[must_use]
 pub struct Work {
     pub(crate) keep_every: u64,
@@ -77,6 +78,22 @@ impl Default for Work {
 }
 
 /// A decrypted or new secret key. Its bytes are cleared when it is dropped.
+///
+/// # Examples
+///
+/// ```
+/// use minisign_proved::{SecretKey, Sodium, Work};
+///
+/// let key = SecretKey::generate(&Sodium)?;
+/// // The least limits that are accepted. `Work::USUAL` has those of `minisign -G`.
+/// let work = Work::new(524_288, 1 << 24);
+/// let text = key.encode(&Sodium, Some("pass word"), &work)?;
+/// let same = SecretKey::decode(&text, Some("pass word"), &Work::USUAL)?;
+/// assert_eq!(same.public_key()?, key.public_key()?);
+/// assert!(!same.is_weak());
+/// assert!(SecretKey::decode(&text, Some("password"), &Work::USUAL).is_err());
+/// # Ok::<(), minisign_proved::Error>(())
+/// ```
 pub struct SecretKey {
     // On the heap, because moving the key would leave a copy. It clears itself.
     pub(crate) key: Box<raw::SecretKey>,
@@ -151,6 +168,15 @@ impl SecretKey {
     /// # Errors
     ///
     /// `IoError` if the file cannot be read or is not UTF-8, and the errors of `decode`.
+    ///
+    /// # Examples
+    ///
+    /// ```no_run
+    /// use minisign_proved::{SecretKey, Work};
+    ///
+    /// let key = SecretKey::from_file("minisign.key", Some("pass word"), &Work::USUAL)?;
+    /// # Ok::<(), minisign_proved::Error>(())
+    /// ```
     pub fn from_file<P: AsRef<Path>>(
         path: P,
         password: Option<&str>,
@@ -169,6 +195,17 @@ impl SecretKey {
     ///
     /// With a password, `WeakLimits` if the limits in `work` are below the minimum, and `Rejected`
     /// with `RANDOM_SOURCE_FAILED`, `EMPTY_PASSWORD` or `OUT_OF_MEMORY`.
+    ///
+    /// # Examples
+    ///
+    /// ```no_run
+    /// use minisign_proved::{write_new, SecretKey, Sodium, Work};
+    ///
+    /// # let key = SecretKey::generate(&Sodium)?;
+    /// let text = key.encode(&Sodium, Some("pass word"), &Work::USUAL)?;
+    /// write_new("new.key", &text)?;
+    /// # Ok::<(), minisign_proved::Error>(())
+    /// ```
     pub fn encode<R: Random + ?Sized>(
         &self,
         random: &R,
@@ -185,6 +222,17 @@ impl SecretKey {
     ///
     /// Those of `encode`, and `Rejected` with `BAD_COMMENT` or `UNREADABLE_COMMENT` for a comment
     /// that Minisign could not read back.
+    ///
+    /// # Examples
+    ///
+    /// ```
+    /// use minisign_proved::{SecretKey, Sodium, Work};
+    ///
+    /// let key = SecretKey::generate(&Sodium)?;
+    /// let text = key.encode_with_comment(&Sodium, None, &Work::USUAL, "for tests")?;
+    /// assert!(text.starts_with("untrusted comment: for tests\n"));
+    /// # Ok::<(), minisign_proved::Error>(())
+    /// ```
     pub fn encode_with_comment<R: Random + ?Sized>(
         &self,
         random: &R,
@@ -219,6 +267,16 @@ impl SecretKey {
     /// # Errors
     ///
     /// None for a key that was decrypted or generated.
+    ///
+    /// # Examples
+    ///
+    /// ```
+    /// use minisign_proved::{PublicKey, SecretKey, Sodium};
+    ///
+    /// let key = SecretKey::generate(&Sodium)?;
+    /// assert_eq!(PublicKey::decode(&key.public_key_text()?)?, key.public_key()?);
+    /// # Ok::<(), minisign_proved::Error>(())
+    /// ```
     pub fn public_key_text(&self) -> Result<String, Error> {
         let comment = format!("{}{}", raw::PUBLIC_KEY_COMMENT, self.key_id_text());
         Ok(raw::public_key_text(&self.key, comment.as_bytes())?)
@@ -239,6 +297,17 @@ impl SecretKey {
     /// # Errors
     ///
     /// Those of `Signer::finalize`.
+    ///
+    /// # Examples
+    ///
+    /// ```
+    /// use minisign_proved::{SecretKey, Sodium};
+    ///
+    /// let key = SecretKey::generate(&Sodium)?;
+    /// let signature = key.sign(&Sodium, b"data", "version:3", "made by my program")?;
+    /// println!("{signature}");
+    /// # Ok::<(), minisign_proved::Error>(())
+    /// ```
     pub fn sign(
         &self,
         ed25519: &dyn Sign,
@@ -256,6 +325,17 @@ impl SecretKey {
     /// # Errors
     ///
     /// `IoError` if the file cannot be read, and the errors of `Signer::finalize`.
+    ///
+    /// # Examples
+    ///
+    /// ```no_run
+    /// use minisign_proved::{SecretKey, Sodium};
+    ///
+    /// # let key = SecretKey::generate(&Sodium)?;
+    /// let signature = key.sign_file(&Sodium, "app", "version:3\tfile:app", "made by my program")?;
+    /// std::fs::write("app.minisig", signature.to_string())?;
+    /// # Ok::<(), minisign_proved::Error>(())
+    /// ```
     pub fn sign_file<P: AsRef<Path>>(
         &self,
         ed25519: &dyn Sign,
@@ -287,6 +367,20 @@ impl fmt::Debug for SecretKey {
 
 /// Signs data that arrives in pieces: call `update` for each piece, or write the data to it, and
 /// call `finalize` at the end.
+///
+/// # Examples
+///
+/// ```
+/// use minisign_proved::{SecretKey, Sodium};
+///
+/// let key = SecretKey::generate(&Sodium)?;
+/// let mut signer = key.sign_stream(&Sodium);
+/// signer.update(b"some ");
+/// signer.update_from(&b"data"[..])?;
+/// let signature = signer.finalize("version:3", "made by my program")?;
+/// key.public_key()?.verify(b"some data", &signature, false)?;
+/// # Ok::<(), minisign_proved::Error>(())
+/// ```
 #[derive(Clone, Debug)]
 #[must_use = "nothing is signed before `finalize`"]
 pub struct Signer<'a> {

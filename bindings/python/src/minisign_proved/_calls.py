@@ -3,14 +3,13 @@
 Ed25519: libsodium or the package `cryptography`. If a call returns an error code, the
 exception for this code is raised."""
 
-import base64
 import ctypes.util
 import os
 from typing import Dict, List, Type, Union
 
 from . import _header as h
 from ._arguments import choice
-from .errors import BY_NUMBER, MinisignError, WeakEd25519
+from .errors import BY_NUMBER, MinisignError
 
 # The 64 bytes of an Ed25519 secret key: the seed and the public key.
 Secret = ctypes.Array[ctypes.c_ubyte]
@@ -62,7 +61,7 @@ class Sodium:
 class Cryptography:
     """Ed25519 of the package `cryptography`. It accepts some signatures of small order
     or with non-canonical encodings, which libsodium rejects. `minisign_ask` rejects
-    them before Ed25519 is called. `minisign_install_ask` does not: see `is_strict`."""
+    them before Ed25519 is called, and so does `minisign_install_file`."""
 
     def __init__(self) -> None:
         from cryptography.hazmat.primitives.asymmetric import ed25519
@@ -120,23 +119,3 @@ def ed25519() -> Ed25519:
         except OSError:
             use_ed25519("cryptography")
     return _current[0]
-
-
-# ---- Weak keys and signatures ----
-
-STRICT_TEXT = b"untrusted comment: -\n%s\ntrusted comment: -\n%s\n"
-
-
-def is_strict(signature: bytes, key: bytes) -> bool:
-    """Returns False if a public key or a signature is weak, so that `minisign_ask`
-    rejects it with WeakEd25519. `minisign_install_ask` does not check this. So this
-    function makes a signature file from the bytes of the signature, and passes it to
-    `minisign_ask`."""
-    line = base64.b64encode(b"ED" + bytes(8) + signature)
-    text = STRICT_TEXT % (line, base64.b64encode(signature))
-    public_key = calls.read_bare_public_key(base64.b64encode(b"Ed" + bytes(8) + key))
-    try:
-        calls.ask(calls.init(), public_key, calls.read_signature(text), text, 0)
-    except WeakEd25519:
-        return False
-    return True

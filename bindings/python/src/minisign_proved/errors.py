@@ -7,43 +7,47 @@ Made by tools/bindings.py from include/minisign.h.
 
 class MinisignError(Exception):
     """Base class of all errors of the library. `number` is the error code in
-    include/minisign.h, and `str(error)` is the message of the library."""
+    include/minisign.h, and `str(error)` is the message of the library. For
+    MalformedLine and ListedTwice, `line` is the number of the line at fault in the
+    list. For all other errors it is 0."""
 
     number = 0
+    line = 0
 
 
 class NotBegun(MinisignError):
-    """The state was not initialized, or a verdict has finished it."""
+    """The state is not initialized, or its verdict was already returned."""
 
     number = 1
 
 
 class AlreadyAsked(MinisignError):
-    """minisign_ask, minisign_install_ask or minisign_digest was called already."""
+    """minisign_ask, minisign_ask_bare or minisign_digest was already called."""
 
     number = 2
 
 
 class NotAsked(MinisignError):
-    """minisign_ask, minisign_install_ask or minisign_digest was not called yet."""
+    """minisign_ask, minisign_ask_bare or minisign_digest was not called yet."""
 
     number = 3
 
 
 class BadAnswer(MinisignError):
-    """A result of a check is neither MINISIGN_ANSWER_YES nor MINISIGN_ANSWER_NO."""
+    """The result of an Ed25519 check is neither MINISIGN_ANSWER_YES nor
+    MINISIGN_ANSWER_NO."""
 
     number = 4
 
 
 class NoRoom(MinisignError):
-    """A buffer is too short."""
+    """A buffer that was passed is too small."""
 
     number = 5
 
 
 class BadLegacyFlag(MinisignError):
-    """allow_legacy is neither 0 nor 1."""
+    """The parameter allow_legacy is neither 0 nor 1."""
 
     number = 6
 
@@ -61,39 +65,40 @@ class NotUtf8(MinisignError):
 
 
 class BadComment(MinisignError):
-    """This library would not read a comment back unchanged, for example because it
-    contains a line feed."""
+    """A comment would change when it is read back, because it contains a line feed, or
+    begins or ends with white space."""
 
     number = 9
 
 
 class BadPasswordFlag(MinisignError):
-    """with_password is not 0, 1 or 2."""
+    """The parameter with_password is not 0, 1 or 2."""
 
     number = 10
 
 
 class UnreadableComment(MinisignError):
-    """This library would read a comment back, but Minisign would not, because it is too
-    long or contains a zero byte or a carriage return."""
+    """Minisign would not read a comment back, because it is too long, or contains a
+    zero byte or a carriage return."""
 
     number = 11
 
 
 class NotDue(MinisignError):
-    """The installation does not expect this call, or this error, at this point."""
+    """The installation expects a different call now, or this call cannot fail with this
+    error."""
 
     number = 12
 
 
 class BadOption(MinisignError):
-    """An option of an installation is neither 0 nor 1."""
+    """An option of an installation other than numbering is neither 0 nor 1."""
 
     number = 13
 
 
 class BadNumbering(MinisignError):
-    """numbering is neither MINISIGN_NUMBERING_TIMESTAMP nor
+    """The option numbering is neither MINISIGN_NUMBERING_TIMESTAMP nor
     MINISIGN_NUMBERING_VERSION."""
 
     number = 14
@@ -388,20 +393,21 @@ class OtherSize(MinisignError):
 
 
 class OtherSignatureText(MinisignError):
-    """The signature was read from another signature file than the one that was
-    passed."""
+    """The signature was read from a different signature file than the one that was
+    passed with it."""
 
     number = 61
 
 
 class SignatureNotRead(MinisignError):
-    """The signature was not read."""
+    """No signature was read into the struct, or it is a bare signature and the call
+    needs comments."""
 
     number = 62
 
 
 class KeyNotRead(MinisignError):
-    """The secret key that is to be opened was not read."""
+    """No secret key was read into the struct."""
 
     number = 63
 
@@ -433,21 +439,82 @@ class WeakEd25519(MinisignError):
 
 
 class PublicKeyNotRead(MinisignError):
-    """The public key was not read."""
+    """No public key was read into the struct."""
 
     number = 82
 
 
 class EmptyPassword(MinisignError):
-    """The password is empty, and with_password does not allow that."""
+    """The password is empty, and with_password does not allow an empty one."""
 
     number = 83
 
 
 class WeakSealing(MinisignError):
-    """The salt is all zeros, or a limit is below the minimum of Minisign."""
+    """The salt is all zeros, or a scrypt limit is below the minimum of Minisign."""
 
     number = 84
+
+
+class ListNotVerified(MinisignError):
+    """The list was not verified."""
+
+    number = 85
+
+
+class OtherListText(MinisignError):
+    """The text is not the list that was verified."""
+
+    number = 86
+
+
+class BadHash(MinisignError):
+    """The hash function, or the length of its digest, is not one that this call
+    accepts."""
+
+    number = 87
+
+
+class EntryNotRead(MinisignError):
+    """The entry was not read from a list."""
+
+    number = 88
+
+
+class OtherList(MinisignError):
+    """The trusted comment does not name the list."""
+
+    number = 89
+
+
+class BadName(MinisignError):
+    """No list can contain the name."""
+
+    number = 90
+
+
+class MalformedLine(MinisignError):
+    """A line of the list is malformed."""
+
+    number = 91
+
+
+class NotListed(MinisignError):
+    """No line of the list has the name."""
+
+    number = 92
+
+
+class ListedTwice(MinisignError):
+    """Two lines of the list have the name."""
+
+    number = 93
+
+
+class DigestMismatch(MinisignError):
+    """The data does not have the listed digest."""
+
+    number = 94
 
 
 BY_NUMBER: "dict[int, type[MinisignError]]" = {
@@ -521,6 +588,16 @@ BY_NUMBER: "dict[int, type[MinisignError]]" = {
     82: PublicKeyNotRead,
     83: EmptyPassword,
     84: WeakSealing,
+    85: ListNotVerified,
+    86: OtherListText,
+    87: BadHash,
+    88: EntryNotRead,
+    89: OtherList,
+    90: BadName,
+    91: MalformedLine,
+    92: NotListed,
+    93: ListedTwice,
+    94: DigestMismatch,
 }
 
 __all__ = [
@@ -595,4 +672,14 @@ __all__ = [
     "PublicKeyNotRead",
     "EmptyPassword",
     "WeakSealing",
+    "ListNotVerified",
+    "OtherListText",
+    "BadHash",
+    "EntryNotRead",
+    "OtherList",
+    "BadName",
+    "MalformedLine",
+    "NotListed",
+    "ListedTwice",
+    "DigestMismatch",
 ]

@@ -1,36 +1,28 @@
 # SPDX-License-Identifier: MIT
-"""Installs updates and checks for them. The library contains the installer in C
-(c/install/installing.c), which makes the system calls. This module fills in its
-parameters, reads open files, calls Ed25519, and raises the errors."""
+"""Installs updates and checks for them, by the call of include/minisign_installing.h.
+This module fills in its options, reads open files, calls Ed25519, and raises the
+errors."""
 
 import ctypes
+import errno
 import os
-import select
 import signal
-import tempfile
+import stat
 import threading
-from contextlib import contextmanager
 from dataclasses import dataclass
 from enum import IntEnum
-from typing import IO, Iterator, Optional, Sequence, Union, cast
+from typing import IO, Any, Callable, Optional, Sequence, Union, cast
 
 from . import _header as h
-from ._arguments import Path, choice, path_text
+from ._arguments import Path, choice, octets, path_text
 from ._arguments import check_function, check_kind, check_number
-from ._calls import ed25519, error_of, is_strict, library
-from ._keys import Progress, PublicKey, Signature, TooLong, is_file, pieces_of
+from ._calls import ed25519, error_of, library
+from ._keys import Progress, PublicKey, Signature, TooLong, is_file
 from .errors import OlderUpdate
 
 # One public key, or two during a change of keys.
 Keys = Union[PublicKey, Sequence[PublicKey]]
 NUMBERINGS = {"timestamp": h.NUMBERING_TIMESTAMP, "version": h.NUMBERING_VERSION}
-MAX_SIZE = 2**63 - 1
-
-# The type of the function that checks an Ed25519 signature for the installer. If the
-# Python function raises, for example KeyboardInterrupt, ctypes returns 0, which is
-# neither ANSWER_YES nor ANSWER_NO and ends the run.
-AT = ctypes.c_void_p
-Answer = ctypes.CFUNCTYPE(ctypes.c_uint, AT, AT, ctypes.c_size_t, AT)
 
 
 class Offer(IntEnum):
@@ -69,106 +61,221 @@ class Checked:
         return hash(self.status)
 
 
-class RunOptions(ctypes.Structure):
-    """Mirrors `struct run_options` of c/install/installing.h."""
+AT = ctypes.c_void_p
+SizeAt = ctypes.POINTER(ctypes.c_size_t)
+NumberAt = ctypes.POINTER(ctypes.c_uint)
+
+
+class Phase(ctypes.Structure):
+    """`minisign_installing_progress` of include/minisign_installing.h."""
+
+    _fields_ = [
+        ("phase", ctypes.c_uint),
+        ("goes_on", ctypes.c_uint32),
+        ("done", ctypes.c_uint64),
+        ("size", ctypes.c_uint64),
+    ]
+
+
+class Message(ctypes.Structure):
+    """`minisign_installing_message` of include/minisign_installing.h."""
+
+    _fields_ = [
+        ("kind", ctypes.c_uint),
+        ("file", ctypes.c_char_p),
+        ("text", ctypes.c_char_p),
+        ("system_error", ctypes.c_int),
+    ]
+
+
+# The types of the functions that the library calls. What a function returns is lost if
+# it raises before it can catch the exception, for example KeyboardInterrupt. So results
+# are written to pointers, and the run fails if there is none.
+Read = ctypes.CFUNCTYPE(None, AT, AT, ctypes.c_size_t, SizeAt)
+Answer = ctypes.CFUNCTYPE(None, AT, AT, AT, ctypes.c_size_t, AT, NumberAt)
+Comment = ctypes.CFUNCTYPE(None, AT, ctypes.c_uint64, AT, ctypes.c_size_t)
+Show = ctypes.CFUNCTYPE(None, AT, ctypes.POINTER(Phase))
+Say = ctypes.CFUNCTYPE(None, AT, ctypes.POINTER(Message))
+
+
+class InstallingOptions(ctypes.Structure):
+    """`minisign_installing_options` of include/minisign_installing.h."""
 
     _fields_ = [
         ("target", ctypes.c_char_p),
-        ("is_check", ctypes.c_bool),
-        ("name", ctypes.c_char_p),
-        ("data_name", ctypes.c_char_p),
-        ("data", ctypes.c_int),
-        ("max_size", ctypes.c_uint64),
-        ("is_first", ctypes.c_bool),
-        ("again", ctypes.c_bool),
-        ("must_expire", ctypes.c_bool),
-        ("wait", ctypes.c_uint32),
-        ("numbering", ctypes.c_uint),
-        ("has_mode", ctypes.c_bool),
-        ("mode", ctypes.c_uint),
-        ("keys", ctypes.POINTER(h.PublicKey)),
-        ("key_count", ctypes.c_int),
         ("signature", ctypes.c_char_p),
         ("signature_len", ctypes.c_size_t),
+        ("signature_name", ctypes.c_char_p),
+        ("key", ctypes.POINTER(h.PublicKey)),
+        ("other_key", ctypes.POINTER(h.PublicKey)),
+        ("choices", h.InstallOptions),
+        ("data", ctypes.c_char_p),
+        ("data_fd", ctypes.c_int),
+        ("read", Read),
+        ("data_name", ctypes.c_char_p),
+        ("max_size", ctypes.c_uint64),
+        ("has_max_size", ctypes.c_uint32),
+        ("mode", ctypes.c_uint32),
+        ("has_mode", ctypes.c_uint32),
+        ("wait", ctypes.c_uint32),
+        ("name", ctypes.c_char_p),
+        ("verify", AT),
         ("answer", Answer),
+        ("now", AT),
+        ("signed_comment", Comment),
+        ("progress", Show),
+        ("message", Say),
+        ("context", AT),
     ]
 
 
-class Installing(ctypes.Structure):
-    """Mirrors the first fields of `struct installing` of c/install/installing.h: the
-    state of a run. `shown`, `cause` and `number` are the file that could not be used,
-    the reason, and errno."""
-
-    _fields_ = [
-        ("machine", h.Installation),
-        ("call", ctypes.c_uint),
-        ("error", ctypes.c_uint),
-        ("is_too_long", ctypes.c_bool),
-        ("done", ctypes.c_uint64),
-        ("size", ctypes.c_uint64),
-        ("shown", ctypes.c_char_p),
-        ("cause", ctypes.c_char_p),
-        ("number", ctypes.c_int),
-    ]
-
+# Results, phases and a kind of message of include/minisign_installing.h.
+STATUS_INSTALLED = 0
+STATUS_ALREADY_INSTALLED = 10
+STATUS_TOO_LARGE = 11
+STATUS_STOPPED = 12
+PHASE_RECEIVING = 2
+PHASE_COPYING = 4
+PHASE_RENAMING = 6
+MESSAGE_CAUSE = 2
 
 # The library contains the installer on Linux only.
-HAS_INSTALLER = hasattr(library, "begin_installing")
-if HAS_INSTALLER:
-    library.begin_installing.restype = ctypes.POINTER(Installing)
-    library.make_call.restype = ctypes.c_bool
-    library.vouched_comment.restype = ctypes.c_void_p
+HAS_INSTALLER = hasattr(library, "minisign_install_file")
 
 # The signals that ask a process to end. If Python has a handler for one, it runs once
-# the current call of the library has returned. Without a handler, the signal ends the
-# process at once.
+# the library has returned, or calls a function of this module. Without a handler, the
+# signal ends the process at once.
 END_SIGNALS = ("SIGHUP", "SIGINT", "SIGQUIT", "SIGTERM")
 
 
-def _make_call(run_pointer: "ctypes._Pointer[Installing]") -> bool:
-    """Makes the call that is due, and returns whether another call is due. If the
-    record is to be renamed, the library makes all calls up to the renaming of the
-    target at once.
+class _Signals:
+    """Delays the signals that have no handler, from `defer` to `release`.
 
-    No signal must end the process between these two. The library blocks signals only in
-    the calling thread, so a signal that is sent to the process goes to another thread.
-    Therefore signals without a handler get one here, which notes the signal, and they
-    are raised again at the end. Python allows this only in the main thread.
+    No signal must end the process between the renaming of the record and that of the
+    target. The library blocks signals only in the calling thread, so a signal that is
+    sent to the process goes to another thread. Therefore signals without a handler get
+    one here, which notes the signal, and they are raised again at the end. Python
+    allows this only in the main thread.
     """
-    noted: list[int] = []
-    due = library.minisign_install_due(run_pointer.contents.machine)
-    is_main = threading.current_thread() is threading.main_thread()
-    is_deferring = due == h.DUE_RENAME_RECORD and is_main
-    numbers = [getattr(signal, name) for name in END_SIGNALS if is_deferring]
-    numbers = [each for each in numbers if signal.getsignal(each) == signal.SIG_DFL]
-    try:
-        for number in numbers:
-            signal.signal(number, lambda number, _: noted.append(number))
-        return bool(library.make_call(run_pointer))
-    finally:
+
+    def __init__(self) -> None:
+        self.numbers: list[int] = []
+        self.noted: list[int] = []
+
+    def defer(self) -> None:
+        if threading.current_thread() is threading.main_thread():
+            numbers = [getattr(signal, name) for name in END_SIGNALS]
+            for number in numbers:
+                if signal.getsignal(number) == signal.SIG_DFL:
+                    self.numbers.append(number)
+                    signal.signal(number, lambda number, _: self.noted.append(number))
+
+    def release(self) -> None:
         # Another thread may have received a signal: give it the time to note it.
-        threading.Event().wait(0.01 * len(numbers))
+        threading.Event().wait(0.01 * len(self.numbers))
         # Python loses a signal that arrives while its handler is replaced.
-        mask = signal.pthread_sigmask(signal.SIG_BLOCK, numbers)
-        for number in numbers:
+        mask = signal.pthread_sigmask(signal.SIG_BLOCK, self.numbers)
+        for number in self.numbers:
             signal.signal(number, signal.SIG_DFL)
         signal.pthread_sigmask(signal.SIG_SETMASK, mask)
-        for number in dict.fromkeys(noted):
+        for number in dict.fromkeys(self.noted):
             signal.raise_signal(number)
 
 
-def _receive(
-    data: IO[bytes], directory: str, most: int, progress: Optional[Progress]
-) -> IO[bytes]:
-    """Copies an open file, whose data may arrive slowly, into a temporary file without
-    a name, so that the target is not locked while the data arrives."""
-    file = tempfile.TemporaryFile(dir=directory)
-    for piece in pieces_of(data, progress):
-        file.write(piece)
-        if file.tell() > most:
-            raise TooLong("the data is larger than the limit")
-    file.seek(0)
-    return file
+class _Run:
+    """A run: the functions that the library calls, and what they got. The first
+    exception that one of them raises ends the run."""
+
+    def __init__(
+        self, data: Optional[IO[bytes]] = None, progress: Optional[Progress] = None
+    ) -> None:
+        self.data, self.progress = data, progress
+        self.accepts = ed25519().accepts
+        self.signals = _Signals()
+        self.exception: Optional[BaseException] = None
+        self.cause: Optional[OSError] = None
+        self.number, self.comment = 0, ""
+
+    def _catching(self, function: Callable[..., None]) -> Callable[..., None]:
+        """Returns a function that remembers the first exception of `function`."""
+
+        def call(_: Optional[int], *arguments: Any) -> None:
+            try:
+                function(*arguments)
+            except BaseException as error:
+                self.exception = self.exception or error
+
+        return call
+
+    def _read(self, at: int, size: int, length: "ctypes._Pointer[Any]") -> None:
+        """Reads a piece of an open file, which can be any object with a method read."""
+        piece = octets("what data reads", cast("IO[bytes]", self.data).read(size))
+        if len(piece) > size:
+            raise ValueError(f"data.read({size}) has returned {len(piece)} bytes")
+        ctypes.memmove(at, piece, len(piece))
+        length[0] = len(piece)
+
+    def _answer(
+        self,
+        signature_at: int,
+        data_at: int,
+        length: int,
+        key_at: int,
+        answer: "ctypes._Pointer[Any]",
+    ) -> None:
+        signature = ctypes.string_at(signature_at, 64)
+        message = ctypes.string_at(data_at, length)
+        is_valid = self.accepts(signature, message, ctypes.string_at(key_at, 32))
+        answer[0] = h.ANSWER_YES if is_valid else h.ANSWER_NO
+
+    def _keep_comment(self, version: int, comment_at: int, length: int) -> None:
+        self.number = version
+        self.comment = ctypes.string_at(comment_at, length).decode()
+
+    def _show_phase(self, passed: "ctypes._Pointer[Phase]") -> None:
+        phase = passed.contents
+        if phase.phase == PHASE_RENAMING:
+            self.signals.defer()
+        elif phase.phase in (PHASE_RECEIVING, PHASE_COPYING) and self.progress:
+            self.progress(phase.done, phase.size)
+        phase.goes_on = 1
+
+    def _keep_message(self, message: "ctypes._Pointer[Message]") -> None:
+        found = message.contents
+        if found.kind == MESSAGE_CAUSE:
+            reason, path = os.fsdecode(found.text), os.fsdecode(found.file or b"")
+            self.cause = OSError(found.system_error or errno.EINVAL, reason, path)
+
+    def make(self, options: InstallingOptions) -> int:
+        """Makes the run, and returns its result. Raises what a function has raised,
+        and the error for which the update was rejected, if there is one. The
+        `__cause__` of an error is an OSError with the file that could not be used, if
+        there is one."""
+        if not HAS_INSTALLER:
+            raise NotImplementedError("installing is supported only on Linux")
+        if self.data is not None:
+            options.read = Read(self._catching(self._read))
+        options.answer = Answer(self._catching(self._answer))
+        options.signed_comment = Comment(self._catching(self._keep_comment))
+        options.progress = Show(self._catching(self._show_phase))
+        options.message = Say(self._catching(self._keep_message))
+        why = ctypes.c_uint()
+        try:
+            status = library.minisign_install_file(
+                ctypes.byref(options), ctypes.byref(why)
+            )
+        finally:
+            self.signals.release()
+        if self.exception is not None:
+            raise self.exception
+        if status == STATUS_STOPPED:
+            # An exception that came before a function could catch it.
+            raise KeyboardInterrupt
+        if status == STATUS_TOO_LARGE:
+            raise TooLong("the data is larger than the limit") from self.cause
+        if why.value != 0:
+            raise error_of(why.value) from self.cause
+        return int(status)
 
 
 def _options_struct(
@@ -176,12 +283,15 @@ def _options_struct(
     signature: Signature,
     target: Path,
     first: bool,
+    again: bool,
     must_expire: bool,
+    new_key: bool,
+    roll_back: bool,
     numbering: str,
     name: Optional[Path],
-) -> RunOptions:
-    """Checks the parameters that `install` and `check` share, and returns the struct
-    that has them."""
+) -> InstallingOptions:
+    """Checks the parameters that `install` and `check` share, and returns the options
+    that have them."""
     keys: list[PublicKey] = list(key) if isinstance(key, Sequence) else [key]
     for public_key in keys:
         check_kind("key", public_key, PublicKey)
@@ -189,7 +299,12 @@ def _options_struct(
         raise ValueError(f"key must be one or two public keys, not {len(keys)}")
     check_kind("signature", signature, Signature)
     check_kind("first", first, bool)
+    check_kind("again", again, bool)
     check_kind("must_expire", must_expire, bool)
+    check_kind("new_key", new_key, bool)
+    check_kind("roll_back", roll_back, bool)
+    if first and (new_key or roll_back):
+        raise ValueError("first must not be combined with new_key or roll_back")
     field = choice("numbering", numbering, NUMBERINGS)
     target_path = path_text("target", target)
     last_part = os.path.basename(target_path)
@@ -198,55 +313,22 @@ def _options_struct(
     file_name = last_part if name is None else path_text("name", name)
     if not file_name:
         raise ValueError("name must not be empty")
-    accepts = ed25519().accepts
-
-    def answer(signature_at: int, data_at: int, length: int, key_at: int) -> int:
-        signature = ctypes.string_at(signature_at, 64)
-        message = ctypes.string_at(data_at, length)
-        public_key = ctypes.string_at(key_at, 32)
-        is_valid = is_strict(signature, public_key) and accepts(
-            signature, message, public_key
-        )
-        return h.ANSWER_YES if is_valid else h.ANSWER_NO
-
-    return RunOptions(
+    return InstallingOptions(
         target=os.fsencode(target_path),
-        name=os.fsencode(file_name),
-        is_first=first,
-        must_expire=must_expire,
-        numbering=field,
-        keys=(h.PublicKey * len(keys))(*(public_key._parsed for public_key in keys)),
-        key_count=len(keys),
         signature=signature.text,
         signature_len=len(signature.text),
-        answer=Answer(answer),
+        key=ctypes.pointer(keys[0]._parsed),
+        other_key=ctypes.pointer(keys[-1]._parsed),
+        choices=h.InstallOptions(
+            numbering=field,
+            is_first=first,
+            again=again,
+            must_expire=must_expire,
+            new_key=new_key,
+            roll_back=roll_back,
+        ),
+        name=os.fsencode(file_name),
     )
-
-
-@contextmanager
-def _run_of(options: RunOptions) -> Iterator["ctypes._Pointer[Installing]"]:
-    """Begins a run, and ends it with the block: removes its temporary files, closes
-    what it opened, and unlocks the target."""
-    if not HAS_INSTALLER:
-        raise NotImplementedError("installing is supported only on Linux")
-    run_pointer = library.begin_installing(ctypes.byref(options))
-    if not run_pointer:
-        raise MemoryError()
-    try:
-        yield run_pointer
-    finally:
-        library.end_installing(run_pointer)
-
-
-def _raise_error(run: Installing) -> None:
-    """Raises the error that ended a run, if there is one. Its `__cause__` is an OSError
-    with the file that could not be used, if there is one."""
-    if run.error != 0:
-        reason = (run.cause or b"").decode() or os.strerror(run.number)
-        too_long = TooLong("the data is larger than the limit")
-        error = too_long if run.is_too_long else error_of(run.error)
-        path = os.fsdecode(run.shown or b"")
-        raise error from (OSError(run.number, reason, path) if run.shown else None)
 
 
 def install(
@@ -258,6 +340,8 @@ def install(
     first: bool = False,
     again: bool = False,
     must_expire: bool = False,
+    new_key: bool = False,
+    roll_back: bool = False,
     numbering: str = "timestamp",
     name: Optional[Path] = None,
     mode: Optional[int] = None,
@@ -273,14 +357,20 @@ def install(
 
     - `key`: a public key, or two during a change of keys. The signature must have the
       key ID of one of them. If both have this key ID, either may have signed.
-    - `data`: a path or a binary file. Data that is not a path of a regular file, but a
-      pipe or an open file, is first read into a temporary file without a name, in the
-      directory of the target.
+    - `data`: a path or a binary file. If it is not the path of a regular file, but a
+      pipe or an open file, `install` first makes a check. Only if the update is to be
+      installed, it reads the data, no further than the trusted comment and `most`
+      allow, into a temporary file without a name in the directory of the target.
     - `first`: install even if no version number is recorded, or if the record is
       damaged, has the number of the other field, or was made with another key. Use it
       for the first installation only.
     - `again`: replace other data that was installed with the same version number.
     - `must_expire`: reject an update whose trusted comment has no expiry date.
+    - `new_key`: ignore a record that was made with another key. Use it only if the key
+      comes from a file that is itself installed by this function, because the recorded
+      version can then decrease.
+    - `roll_back`: install an update even if it is older than the recorded version. The
+      record keeps its version, so that the newer update is not installed again.
     - `numbering`: the field of the trusted comment that has the version number,
       "timestamp" or "version".
     - `name`: the file name that the trusted comment must contain. The default is the
@@ -294,7 +384,8 @@ def install(
     - `progress`: is called as by `verify`, while the data is read.
 
     Raises TypeError or ValueError, which name the argument, for an argument that is not
-    valid, and ValueError if `target` does not end with a file name. Raises OSError if
+    valid, and ValueError if `target` does not end with a file name, or if `first` is
+    combined with `new_key` or `roll_back`. Raises OSError if
     the directory or the data cannot be opened, or data that is not a regular file
     cannot be read. Raises the errors of verifying; OtherFile, NoNumber, NoExpiry,
     BadExpiry, Expired, BadSize, OtherSize, OlderUpdate; TargetInUse; NoRecord,
@@ -303,9 +394,7 @@ def install(
     after an exception that `progress` raises, the target is unchanged.
 
     After DirectoryNotSynced the update is installed but not yet on disk: after a crash
-    the old file may be back. If a system call failed, `__cause__` says which one. If
-    the system clock shows a time before the record was written, an update that expires
-    is Expired, and `__cause__` says when the record was written.
+    the old file may be back. If a system call failed, `__cause__` says which one.
 
     After KeyboardInterrupt the update may be installed or not. The interruption comes
     either before the record is renamed or after the target is. If `install` runs in the
@@ -317,7 +406,6 @@ def install(
     same update finishes the installation. A signal can be lost: if another thread
     receives it, and does not note it within the next 30 ms, the process goes on.
     """
-    check_kind("again", again, bool)
     check_number("mode", 0 if mode is None else mode, 0, 0o777, oct)
     check_number("most", 0 if most is None else most, 0, 2**64 - 1)
     check_number("wait", wait, 0, 24 * 60 * 60)
@@ -326,31 +414,32 @@ def install(
         cast("IO[bytes]", data) if is_file(data) else path_text("data", data)
     )
     options = _options_struct(
-        key, signature, target, first, must_expire, numbering, name
+        key,
+        signature,
+        target,
+        first,
+        again,
+        must_expire,
+        new_key,
+        roll_back,
+        numbering,
+        name,
     )
-    options.again, options.wait = again, wait
+    options.wait = wait
     options.has_mode, options.mode = mode is not None, mode or 0
-    options.max_size = MAX_SIZE if most is None else min(most, MAX_SIZE)
+    options.has_max_size, options.max_size = most is not None, most or 0
     directory = os.path.dirname(os.fsdecode(options.target)) or "."
     os.close(os.open(directory, os.O_RDONLY | os.O_DIRECTORY))
-    # An open file can be any object with a method read, so Python reads it.
-    with open(source, "rb", buffering=0) if isinstance(source, str) else _receive(
-        source, directory, options.max_size, progress
-    ) as file:
-        options.data_name = os.fsencode(
-            source if isinstance(source, str) else directory
-        )
-        options.data = file.fileno()
-        with _run_of(options) as run_pointer:
-            run = run_pointer.contents
-            while _make_call(run_pointer):
-                if progress is not None and run.call in (h.DUE_RECEIVE, h.DUE_COPY):
-                    progress(run.done, run.size)
-                if library.minisign_install_due(run.machine) == h.DUE_RECEIVE:
-                    # Wait here: while C code waits, Python handles no signal.
-                    select.select([file], [], [])
-            _raise_error(run)
-            return bool(run.call == h.DUE_INSTALLED)
+    options.data_name = os.fsencode(source if isinstance(source, str) else directory)
+    if not isinstance(source, str):
+        return _Run(source, progress).make(options) == STATUS_INSTALLED
+    with open(source, "rb", buffering=0) as file:
+        # Python reads what is not a regular file, because while C code waits for data,
+        # Python handles no signal.
+        is_regular = stat.S_ISREG(os.fstat(file.fileno()).st_mode)
+        options.data_fd = file.fileno()
+        run = _Run(None if is_regular else file, progress)
+        return run.make(options) == STATUS_INSTALLED
 
 
 def check(
@@ -361,6 +450,8 @@ def check(
     first: bool = False,
     again: bool = False,
     must_expire: bool = False,
+    new_key: bool = False,
+    roll_back: bool = False,
     numbering: str = "timestamp",
     name: Optional[Path] = None,
 ) -> Checked:
@@ -379,22 +470,24 @@ def check(
     KeptByVersion; SameNumber; ReadingFailed, WritingFailed and OutOfMemory, whose
     `__cause__` says which call failed, or why no file could be put at the target.
     """
-    check_kind("again", again, bool)
     options = _options_struct(
-        key, signature, target, first, must_expire, numbering, name
+        key,
+        signature,
+        target,
+        first,
+        again,
+        must_expire,
+        new_key,
+        roll_back,
+        numbering,
+        name,
     )
-    options.is_check, options.again = True, again
-    with _run_of(options) as run_pointer:
-        run = run_pointer.contents
-        while library.make_call(run_pointer):
-            pass
-        offer = Offer.THERE if run.call == h.DUE_ALREADY else Offer.NEWER
-        try:
-            _raise_error(run)
-        except OlderUpdate:
-            offer = Offer.OLDER
-        length = ctypes.c_size_t()
-        comment = library.vouched_comment(run_pointer, ctypes.byref(length))
-        number = library.minisign_install_number(run.machine)
-        text = ctypes.string_at(comment, length.value).decode()
-        return Checked(offer, number, text)
+    options.choices.is_check = True
+    run = _Run()
+    try:
+        status = run.make(options)
+        is_there = status == STATUS_ALREADY_INSTALLED
+        offer = Offer.THERE if is_there else Offer.NEWER
+    except OlderUpdate:
+        offer = Offer.OLDER
+    return Checked(offer, run.number, run.comment)

@@ -11,35 +11,35 @@ use minisign_proved_sys as sys;
 impl Reason {
     /// No error.
     pub const OK: Reason = Reason(0);
-    /// The state was not initialized, or a verdict has finished it.
+    /// The state is not initialized, or its verdict was already returned.
     pub const NOT_BEGUN: Reason = Reason(1);
-    /// minisign_ask, minisign_install_ask or minisign_digest was called already.
+    /// minisign_ask, minisign_ask_bare or minisign_digest was already called.
     pub const ALREADY_ASKED: Reason = Reason(2);
-    /// minisign_ask, minisign_install_ask or minisign_digest was not called yet.
+    /// minisign_ask, minisign_ask_bare or minisign_digest was not called yet.
     pub const NOT_ASKED: Reason = Reason(3);
-    /// A result of a check is neither MINISIGN_ANSWER_YES nor MINISIGN_ANSWER_NO.
+    /// The result of an Ed25519 check is neither MINISIGN_ANSWER_YES nor MINISIGN_ANSWER_NO.
     pub const BAD_ANSWER: Reason = Reason(4);
-    /// A buffer is too short.
+    /// A buffer that was passed is too small.
     pub const NO_ROOM: Reason = Reason(5);
-    /// allow_legacy is neither 0 nor 1.
+    /// The parameter allow_legacy is neither 0 nor 1.
     pub const BAD_LEGACY_FLAG: Reason = Reason(6);
     /// An allocation failed, or its size is too large for any allocation.
     pub const OUT_OF_MEMORY: Reason = Reason(7);
     /// The input is not UTF-8: a file, a typed line, a password, a comment or a name.
     pub const NOT_UTF8: Reason = Reason(8);
-    /// This library would not read a comment back unchanged, for example because it contains a line
-    /// feed.
+    /// A comment would change when it is read back, because it contains a line feed, or begins or
+    /// ends with white space.
     pub const BAD_COMMENT: Reason = Reason(9);
-    /// with_password is not 0, 1 or 2.
+    /// The parameter with_password is not 0, 1 or 2.
     pub const BAD_PASSWORD_FLAG: Reason = Reason(10);
-    /// This library would read a comment back, but Minisign would not, because it is too long or
-    /// contains a zero byte or a carriage return.
+    /// Minisign would not read a comment back, because it is too long, or contains a zero byte or a
+    /// carriage return.
     pub const UNREADABLE_COMMENT: Reason = Reason(11);
-    /// The installation does not expect this call, or this error, at this point.
+    /// The installation expects a different call now, or this call cannot fail with this error.
     pub const NOT_DUE: Reason = Reason(12);
-    /// An option of an installation is neither 0 nor 1.
+    /// An option of an installation other than numbering is neither 0 nor 1.
     pub const BAD_OPTION: Reason = Reason(13);
-    /// numbering is neither MINISIGN_NUMBERING_TIMESTAMP nor MINISIGN_NUMBERING_VERSION.
+    /// The option numbering is neither MINISIGN_NUMBERING_TIMESTAMP nor MINISIGN_NUMBERING_VERSION.
     pub const BAD_NUMBERING: Reason = Reason(14);
     /// The secret key was neither opened nor set by minisign_take_secret_key.
     pub const KEY_NOT_OPENED: Reason = Reason(15);
@@ -140,11 +140,12 @@ impl Reason {
     pub const BAD_SIZE: Reason = Reason(59);
     /// The data is longer or shorter than the trusted comment says.
     pub const OTHER_SIZE: Reason = Reason(60);
-    /// The signature was read from another signature file than the one that was passed.
+    /// The signature was read from a different signature file than the one that was passed with it.
     pub const OTHER_SIGNATURE_TEXT: Reason = Reason(61);
-    /// The signature was not read.
+    /// No signature was read into the struct, or it is a bare signature and the call needs
+    /// comments.
     pub const SIGNATURE_NOT_READ: Reason = Reason(62);
-    /// The secret key that is to be opened was not read.
+    /// No secret key was read into the struct.
     pub const KEY_NOT_READ: Reason = Reason(63);
     /// Reading from a source, a file or a prompt failed.
     pub const READING_FAILED: Reason = Reason(64);
@@ -155,12 +156,32 @@ impl Reason {
     /// The public key or a signature is one that strict Ed25519 rejects: a point has a small order
     /// or is not canonical, or the second half of a signature is not below the group order.
     pub const WEAK_ED25519: Reason = Reason(81);
-    /// The public key was not read.
+    /// No public key was read into the struct.
     pub const PUBLIC_KEY_NOT_READ: Reason = Reason(82);
-    /// The password is empty, and with_password does not allow that.
+    /// The password is empty, and with_password does not allow an empty one.
     pub const EMPTY_PASSWORD: Reason = Reason(83);
-    /// The salt is all zeros, or a limit is below the minimum of Minisign.
+    /// The salt is all zeros, or a scrypt limit is below the minimum of Minisign.
     pub const WEAK_SEALING: Reason = Reason(84);
+    /// The list was not verified.
+    pub const LIST_NOT_VERIFIED: Reason = Reason(85);
+    /// The text is not the list that was verified.
+    pub const OTHER_LIST_TEXT: Reason = Reason(86);
+    /// The hash function, or the length of its digest, is not one that this call accepts.
+    pub const BAD_HASH: Reason = Reason(87);
+    /// The entry was not read from a list.
+    pub const ENTRY_NOT_READ: Reason = Reason(88);
+    /// The trusted comment does not name the list.
+    pub const OTHER_LIST: Reason = Reason(89);
+    /// No list can contain the name.
+    pub const BAD_NAME: Reason = Reason(90);
+    /// A line of the list is malformed.
+    pub const MALFORMED_LINE: Reason = Reason(91);
+    /// No line of the list has the name.
+    pub const NOT_LISTED: Reason = Reason(92);
+    /// Two lines of the list have the name.
+    pub const LISTED_TWICE: Reason = Reason(93);
+    /// The data does not have the listed digest.
+    pub const DIGEST_MISMATCH: Reason = Reason(94);
 
     /// Returns the name in `minisign.h` without `MINISIGN_`, or "" for an unknown number.
     #[must_use]
@@ -237,6 +258,16 @@ impl Reason {
             82 => "PUBLIC_KEY_NOT_READ",
             83 => "EMPTY_PASSWORD",
             84 => "WEAK_SEALING",
+            85 => "LIST_NOT_VERIFIED",
+            86 => "OTHER_LIST_TEXT",
+            87 => "BAD_HASH",
+            88 => "ENTRY_NOT_READ",
+            89 => "OTHER_LIST",
+            90 => "BAD_NAME",
+            91 => "MALFORMED_LINE",
+            92 => "NOT_LISTED",
+            93 => "LISTED_TWICE",
+            94 => "DIGEST_MISMATCH",
             _ => "",
         }
     }
@@ -246,6 +277,9 @@ pub const VERSION_MAJOR: usize = sys::MINISIGN_VERSION_MAJOR;
 pub const VERSION_MINOR: usize = sys::MINISIGN_VERSION_MINOR;
 pub const VERSION_PATCH: usize = sys::MINISIGN_VERSION_PATCH;
 pub const ERROR_TEXT_BYTES: usize = sys::MINISIGN_ERROR_TEXT_BYTES;
+pub const PUBLIC_KEY_RECORD_BYTES: usize = sys::MINISIGN_PUBLIC_KEY_RECORD_BYTES;
+pub const SIGNATURE_RECORD_BYTES: usize = sys::MINISIGN_SIGNATURE_RECORD_BYTES;
+pub const SECRET_KEY_RECORD_BYTES: usize = sys::MINISIGN_SECRET_KEY_RECORD_BYTES;
 pub const KEEP_EVERY_ROW: usize = sys::MINISIGN_KEEP_EVERY_ROW;
 pub const KEEP_FEW_ROWS: usize = sys::MINISIGN_KEEP_FEW_ROWS;
 pub const USUAL_ROWS: usize = sys::MINISIGN_USUAL_ROWS;
@@ -261,13 +295,32 @@ pub const ANY_PASSWORD: usize = sys::MINISIGN_ANY_PASSWORD;
 pub const TEXT_BYTES: usize = sys::MINISIGN_TEXT_BYTES;
 pub const SECRET_KEY_BYTES: usize = sys::MINISIGN_SECRET_KEY_BYTES;
 pub const PUBLIC_KEY_BYTES: usize = sys::MINISIGN_PUBLIC_KEY_BYTES;
+pub const LIST_ENTRIES: usize = sys::MINISIGN_LIST_ENTRIES;
+pub const LIST_ENTRY_BYTES: usize = sys::MINISIGN_LIST_ENTRY_BYTES;
 pub const VERSION_TEXT: &str = sys::MINISIGN_VERSION_TEXT;
 pub const SIGNATURE_COMMENT: &str = sys::MINISIGN_SIGNATURE_COMMENT;
 pub const TRUSTED_COMMENT_FORMAT: &str = sys::MINISIGN_TRUSTED_COMMENT_FORMAT;
 pub const SECRET_KEY_COMMENT: &str = sys::MINISIGN_SECRET_KEY_COMMENT;
 pub const PUBLIC_KEY_COMMENT: &str = sys::MINISIGN_PUBLIC_KEY_COMMENT;
+pub const KIND_NONE: u32 = sys::MINISIGN_KIND_NONE;
+pub const KIND_MISUSE: u32 = sys::MINISIGN_KIND_MISUSE;
+pub const KIND_GENERATE: u32 = sys::MINISIGN_KIND_GENERATE;
+pub const KIND_SIGN: u32 = sys::MINISIGN_KIND_SIGN;
+pub const KIND_VERIFY: u32 = sys::MINISIGN_KIND_VERIFY;
+pub const KIND_IO: u32 = sys::MINISIGN_KIND_IO;
+pub const KIND_MISC: u32 = sys::MINISIGN_KIND_MISC;
+pub const KIND_HASH: u32 = sys::MINISIGN_KIND_HASH;
+pub const KIND_KDF: u32 = sys::MINISIGN_KIND_KDF;
+pub const KIND_RNG: u32 = sys::MINISIGN_KIND_RNG;
+pub const KIND_ENCODING: u32 = sys::MINISIGN_KIND_ENCODING;
+pub const KIND_ENCRYPTED_KEY: u32 = sys::MINISIGN_KIND_ENCRYPTED_KEY;
+pub const KIND_OUT_OF_MEMORY: u32 = sys::MINISIGN_KIND_OUT_OF_MEMORY;
 pub const ANSWER_YES: u32 = sys::MINISIGN_ANSWER_YES;
 pub const ANSWER_NO: u32 = sys::MINISIGN_ANSWER_NO;
+pub const HASH_NONE: u32 = sys::MINISIGN_HASH_NONE;
+pub const HASH_SHA256: u32 = sys::MINISIGN_HASH_SHA256;
+pub const HASH_SHA512: u32 = sys::MINISIGN_HASH_SHA512;
+pub const HASH_BLAKE2B: u32 = sys::MINISIGN_HASH_BLAKE2B;
 
 pub type State = sys::minisign_state;
 pub type PublicKey = sys::minisign_public_key;
@@ -278,6 +331,9 @@ pub type SecretKey = sys::minisign_secret_key;
 pub type NewKey = sys::minisign_new_key;
 pub type SignedParts = sys::minisign_signed_parts;
 pub type Sealing = sys::minisign_sealing;
+pub type List = sys::minisign_list;
+pub type ListEntry = sys::minisign_list_entry;
+pub type ListFile = sys::minisign_list_file;
 
 /// Returns an error unless the number that a call returned is 0.
 pub(super) fn check(number: u32) -> Result<(), Reason> {
@@ -329,12 +385,40 @@ pub fn read_bare_public_key(base64: &[u8]) -> Result<PublicKey, Reason> {
     Ok(key)
 }
 
+pub fn read_public_key_record(record: &[u8]) -> Result<PublicKey, Reason> {
+    let mut key = PublicKey::ZEROS;
+    check(unsafe {
+        sys::minisign_read_public_key_record(record.as_ptr(), record.len(), &mut key)
+    })?;
+    Ok(key)
+}
+
+pub fn public_key_record(key: &PublicKey) -> Result<[u8; 42], Reason> {
+    let mut record = [0; 42];
+    check(unsafe { sys::minisign_public_key_record(key, &mut record) })?;
+    Ok(record)
+}
+
 pub fn read_signature(sig_text: &[u8]) -> Result<Signature, Reason> {
     let mut signature = Signature::ZEROS;
     check(unsafe {
         sys::minisign_read_signature(sig_text.as_ptr(), sig_text.len(), &mut signature)
     })?;
     Ok(signature)
+}
+
+pub fn read_signature_record(record: &[u8]) -> Result<Signature, Reason> {
+    let mut signature = Signature::ZEROS;
+    check(unsafe {
+        sys::minisign_read_signature_record(record.as_ptr(), record.len(), &mut signature)
+    })?;
+    Ok(signature)
+}
+
+pub fn signature_record(signature: &Signature) -> Result<[u8; 74], Reason> {
+    let mut record = [0; 74];
+    check(unsafe { sys::minisign_signature_record(signature, &mut record) })?;
+    Ok(record)
 }
 
 pub fn ask(
@@ -378,12 +462,59 @@ pub fn verdict(state: &mut State, first: bool, second: bool) -> Result<(), Reaso
     })
 }
 
+pub fn ask_bare(
+    state: &mut State,
+    key: &PublicKey,
+    signature: &Signature,
+    allow_legacy: u32,
+) -> Result<Questions, Reason> {
+    let mut questions = Questions::ZEROS;
+    check(unsafe { sys::minisign_ask_bare(state, key, signature, allow_legacy, &mut questions) })?;
+    Ok(questions)
+}
+
+pub fn bare_verdict(state: &mut State, first: bool) -> Result<(), Reason> {
+    check(unsafe { sys::minisign_bare_verdict(state, if first { ANSWER_YES } else { ANSWER_NO }) })
+}
+
 pub fn read_secret_key(sk_text: &[u8]) -> Result<Box<UnopenedKey>, Reason> {
     let mut unopened = Box::new(UnopenedKey::ZEROS);
     check(unsafe {
         sys::minisign_read_secret_key(sk_text.as_ptr(), sk_text.len(), &mut *unopened)
     })?;
     Ok(unopened)
+}
+
+pub fn read_secret_key_record(secret_record: &[u8]) -> Result<Box<UnopenedKey>, Reason> {
+    let mut unopened = Box::new(UnopenedKey::ZEROS);
+    check(unsafe {
+        sys::minisign_read_secret_key_record(
+            secret_record.as_ptr(),
+            secret_record.len(),
+            &mut *unopened,
+        )
+    })?;
+    Ok(unopened)
+}
+
+pub fn encode_unopened_key(unopened: &UnopenedKey, comment: &[u8]) -> Result<String, Reason> {
+    let mut text = vec![0; SECRET_KEY_BYTES + comment.len()];
+    let mut len = 0;
+    check(unsafe {
+        sys::minisign_encode_unopened_key(
+            unopened,
+            comment.as_ptr(),
+            comment.len(),
+            text.as_mut_ptr(),
+            text.len(),
+            &mut len,
+        )
+    })?;
+    text_of(text, len)
+}
+
+pub fn test_sealed_key(unopened: &UnopenedKey, most_rows: u64) -> Result<(), Reason> {
+    check(unsafe { sys::minisign_test_sealed_key(unopened, most_rows) })
 }
 
 pub fn open_unsealed_key(unopened: &UnopenedKey) -> Result<Box<SecretKey>, Reason> {
@@ -508,4 +639,109 @@ pub fn public_key_text(key: &SecretKey, comment: &[u8]) -> Result<String, Reason
         )
     })?;
     text_of(text, len)
+}
+
+pub fn encode_public_key(key: &PublicKey, comment: &[u8]) -> Result<String, Reason> {
+    let mut text = vec![0; PUBLIC_KEY_BYTES + comment.len()];
+    let mut len = 0;
+    check(unsafe {
+        sys::minisign_encode_public_key(
+            key,
+            comment.as_ptr(),
+            comment.len(),
+            text.as_mut_ptr(),
+            text.len(),
+            &mut len,
+        )
+    })?;
+    text_of(text, len)
+}
+
+pub fn list_ask(
+    key: &PublicKey,
+    signature: &Signature,
+    sig_text: &[u8],
+    list_name: &[u8],
+    text: &[u8],
+) -> Result<(List, Questions, Vec<u8>), Reason> {
+    let mut list = List::ZEROS;
+    let mut questions = Questions::ZEROS;
+    let mut message = vec![0; 64 + signature.comment_len as usize];
+    check(unsafe {
+        sys::minisign_list_ask(
+            &mut list,
+            key,
+            signature,
+            sig_text.as_ptr(),
+            sig_text.len(),
+            list_name.as_ptr(),
+            list_name.len(),
+            text.as_ptr(),
+            text.len(),
+            &mut questions,
+            message.as_mut_ptr(),
+            message.len(),
+        )
+    })?;
+    Ok((list, questions, message))
+}
+
+pub fn list_ask_any(
+    key: &PublicKey,
+    signature: &Signature,
+    sig_text: &[u8],
+    text: &[u8],
+) -> Result<(List, Questions, Vec<u8>), Reason> {
+    let mut list = List::ZEROS;
+    let mut questions = Questions::ZEROS;
+    let mut message = vec![0; 64 + signature.comment_len as usize];
+    check(unsafe {
+        sys::minisign_list_ask_any(
+            &mut list,
+            key,
+            signature,
+            sig_text.as_ptr(),
+            sig_text.len(),
+            text.as_ptr(),
+            text.len(),
+            &mut questions,
+            message.as_mut_ptr(),
+            message.len(),
+        )
+    })?;
+    Ok((list, questions, message))
+}
+
+pub fn list_verdict(list: &mut List, first: bool, second: bool) -> Result<(), Reason> {
+    check(unsafe {
+        sys::minisign_list_verdict(
+            list,
+            if first { ANSWER_YES } else { ANSWER_NO },
+            if second { ANSWER_YES } else { ANSWER_NO },
+        )
+    })
+}
+
+pub fn list_begin(entry: &ListEntry) -> Result<ListFile, Reason> {
+    let mut file = ListFile::ZEROS;
+    check(unsafe { sys::minisign_list_begin(entry, &mut file) })?;
+    Ok(file)
+}
+
+pub fn list_update(file: &mut ListFile, data: &[u8]) -> Result<(), Reason> {
+    check(unsafe { sys::minisign_list_update(file, data.as_ptr(), data.len()) })
+}
+
+pub fn list_finish(file: &mut ListFile) -> Result<(), Reason> {
+    check(unsafe { sys::minisign_list_finish(file) })
+}
+
+pub fn list_compare_trusting_your_hash(
+    entry: &ListEntry,
+    hash: u32,
+    digest: &[u8],
+) -> Result<(), Reason> {
+    check(unsafe {
+        sys::minisign_list_compare_trusting_your_hash(entry, hash, digest.as_ptr(), digest.len())
+    })
 }

@@ -1,0 +1,271 @@
+// SPDX-License-Identifier: MIT
+
+//go:build cgo
+
+package minisign
+
+import (
+	"bytes"
+	"crypto/sha256"
+	"crypto/sha512"
+	"errors"
+	"fmt"
+	"hash"
+	"io"
+	"io/fs"
+	"os"
+	"path"
+	"path/filepath"
+)
+
+// A Hash is a hash function of a list.
+type Hash string
+
+// The hash functions of lists.
+const (
+	SHA256  Hash = "sha256"
+	SHA512  Hash = "sha512"
+	BLAKE2b Hash = "blake2b"
+)
+
+// size returns the number of bytes of a digest.
+func (hash Hash) size() int {
+	if hash == SHA256 {
+		return 32
+	}
+	return 64
+}
+
+// A LongDigest says what 128 digits mean on a line that does not name its hash function.
+type LongDigest int
+
+const (
+	// LongSHA512 is the default. sha512sum writes such lines.
+	LongSHA512 LongDigest = iota
+	// LongBLAKE2b is for the lines of b2sum.
+	LongBLAKE2b
+	// LongRejected makes such lines malformed.
+	LongRejected
+)
+
+// ListOptions says which lists are accepted.
+type ListOptions struct {
+	// Name is the name of the list, such as SHA256SUMS. The trusted comment must have a field "file:" with this value, so
+	// that a signed text that was never meant as a list is not taken for one. VerifyListFromFile and VerifyListFS use the
+	// name of the file instead.
+	Name string
+	// AnyName accepts every trusted comment.
+	AnyName bool
+	// LongDigest says what 128 digits mean on a line that does not name its hash function.
+	LongDigest LongDigest
+}
+
+// A LineError says which line of a list is at fault. It wraps ErrMalformedLine or ErrListedTwice.
+type LineError struct {
+	Err Error
+	// Line is the number of the line, from 1 on.
+	Line uint64
+}
+
+func (err *LineError) Error() string { return fmt.Sprintf("%v: line %d", err.Err, err.Line) }
+
+// Unwrap returns the error without the number of the line.
+func (err *LineError) Unwrap() error { return err.Err }
+
+// A ListEntry is an entry of a verified list.
+type ListEntry struct {
+	// Name is the name of the file, without a leading "./".
+	Name string
+	// Hash is the hash function, and Digest the digest that the file must have.
+	Hash   Hash
+	Digest []byte
+	// Line is the number of the line, from 1 on.
+	Line uint64
+	// IsEscaped is true if the name is written with escapes. The library does not resolve them, and no name that you look up
+	// matches such an entry.
+	IsEscaped bool
+}
+
+// A SignedList is a verified list, such as SHA256SUMS. One signature is enough for all of its files. Goroutines may share it.
+type SignedList struct {
+	list    *rawList
+	comment string
+}
+
+// VerifyList verifies the signature of a list, whose whole text is in text.
+//
+// The errors are those of NewVerifier, where ErrLegacyNotAccepted is returned for every legacy signature;
+// ErrSignatureRefused; ErrCommentSignatureRefused; and ErrOtherList, if the trusted comment does not name the list. The
+// lines of the list are checked when you use it.
+func (publicKey *PublicKey) VerifyList(text []byte, signature Signature, options ListOptions) (*SignedList, error) {
+	if publicKey == nil {
+		return nil, errors.New("minisign: publicKey is nil")
+	}
+	if publicKey.SignatureAlgorithm != [2]byte{'E', 'd'} {
+		return nil, ErrUnsupportedAlgorithm
+	}
+	parsed, err := parseSignature(signature.Encode())
+	if err != nil {
+		return nil, err
+	}
+	asked, err := askList(publicKey, parsed, text, []byte(options.Name), options.AnyName, options.LongDigest)
+	if err != nil {
+		return nil, err
+	}
+	// If a comment has a line feed or white space at its end, parsing gives other fields than the caller passed.
+	if parsed.signature() != signature {
+		return nil, ErrBadComment
+	}
+	first := accepts(publicKey.PublicKey, asked.digest(), asked.dataSignature())
+	second := accepts(publicKey.PublicKey, asked.commentMessage, asked.commentSignature())
+	if err = callListVerdict(asked.list.raw, first, second); err != nil {
+		return nil, err
+	}
+	return &SignedList{asked.list, asked.comment()}, nil
+}
+
+// VerifyListFromFile reads a list and its signature, file.minisig, and verifies it as VerifyList does. The name of the list
+// is the last part of file.
+func (publicKey *PublicKey) VerifyListFromFile(file string, options ListOptions) (*SignedList, error) {
+	text, err := os.ReadFile(file)
+	if err != nil {
+		return nil, err
+	}
+	signature, err := NewSignatureFromFile(file + ".minisig")
+	if err != nil {
+		return nil, err
+	}
+	options.Name = filepath.Base(file)
+	return publicKey.VerifyList(text, signature, options)
+}
+
+// VerifyListFS does the same as VerifyListFromFile with the files of a file system.
+func (publicKey *PublicKey) VerifyListFS(fsys fs.FS, file string, options ListOptions) (*SignedList, error) {
+	if fsys == nil {
+		return nil, errors.New("minisign: fsys is nil")
+	}
+	text, err := fs.ReadFile(fsys, file)
+	if err != nil {
+		return nil, err
+	}
+	signatureText, err := fs.ReadFile(fsys, file+".minisig")
+	if err != nil {
+		return nil, err
+	}
+	signature, err := DecodeSignature(string(signatureText))
+	if err != nil {
+		return nil, err
+	}
+	options.Name = path.Base(file)
+	return publicKey.VerifyList(text, signature, options)
+}
+
+// TrustedComment returns the trusted comment, without "trusted comment: ". The key has signed it together with the list.
+// Compare its version or timestamp with what you expect: an old list stays valid.
+func (list *SignedList) TrustedComment() string { return list.comment }
+
+// Entries returns all entries, in the order of their lines. A name that is listed twice has two entries; Find rejects it.
+// The errors are ErrNotUtf8, and a LineError with ErrMalformedLine.
+func (list *SignedList) Entries() ([]ListEntry, error) {
+	entries, err := list.list.entries()
+	if err != nil {
+		return nil, err
+	}
+	return entries, nil
+}
+
+// Find returns the only entry of a name.
+//
+// The errors are ErrNotUtf8, for the list or the name; ErrBadName, if no list can contain the name; a LineError with
+// ErrMalformedLine; ErrNotListed; and a LineError with ErrListedTwice. Compare them with errors.Is.
+func (list *SignedList) Find(name string) (ListEntry, error) {
+	raw, err := list.list.find([]byte(name))
+	if err != nil {
+		return ListEntry{}, err
+	}
+	return list.list.entry(raw), nil
+}
+
+// VerifyListed returns the entry of a name if the data is what the list has for this name. The errors are those of Find, and
+// ErrDigestMismatch if the data has another digest.
+func (list *SignedList) VerifyListed(bin []byte, name string) (ListEntry, error) {
+	return list.VerifyListedReader(bytes.NewReader(bin), name)
+}
+
+// VerifyListedReader verifies the data of a reader, up to its end, as VerifyListed verifies data. After an error use none
+// of the data.
+func (list *SignedList) VerifyListedReader(reader io.Reader, name string) (ListEntry, error) {
+	if reader == nil {
+		return ListEntry{}, errors.New("minisign: reader is nil")
+	}
+	raw, err := list.list.find([]byte(name))
+	if err != nil {
+		return ListEntry{}, err
+	}
+	file, err := beginFile(raw)
+	if err == nil {
+		_, err = io.Copy(file, reader)
+	}
+	if err == nil {
+		err = file.finish()
+	}
+	if err != nil {
+		return ListEntry{}, err
+	}
+	return list.list.entry(raw), nil
+}
+
+// VerifyListedFromFile verifies a file as VerifyListed verifies data. The name that is looked up is the last part of file.
+// If it is listed with directories, or was renamed, open it and call VerifyListedReader with its name in the list.
+func (list *SignedList) VerifyListedFromFile(file string) (ListEntry, error) {
+	reader, err := os.Open(file)
+	if err != nil {
+		return ListEntry{}, err
+	}
+	defer reader.Close()
+	return list.VerifyListedReader(reader, filepath.Base(file))
+}
+
+// VerifyListedFS opens the file with this name in a file system, and verifies it as VerifyListed verifies data. The name is
+// looked up first, so nothing is opened that is not listed.
+func (list *SignedList) VerifyListedFS(fsys fs.FS, name string) (ListEntry, error) {
+	if fsys == nil {
+		return ListEntry{}, errors.New("minisign: fsys is nil")
+	}
+	entry, err := list.Find(name)
+	if err != nil {
+		return ListEntry{}, err
+	}
+	reader, err := fsys.Open(entry.Name)
+	if err != nil {
+		return ListEntry{}, err
+	}
+	defer reader.Close()
+	return list.VerifyListedReader(reader, name)
+}
+
+// VerifyListedTrustingCrypto verifies the data of a reader as VerifyListedReader does, but hashes it with crypto/sha256 or
+// crypto/sha512, which can use the SHA instructions of the processor. Nothing is proved about these, so the result is only
+// as good as they are. BLAKE2b, which the standard library does not have, is hashed by the proved functions.
+func (list *SignedList) VerifyListedTrustingCrypto(reader io.Reader, name string) (ListEntry, error) {
+	if reader == nil {
+		return ListEntry{}, errors.New("minisign: reader is nil")
+	}
+	raw, err := list.list.find([]byte(name))
+	if err != nil {
+		return ListEntry{}, err
+	}
+	entry := list.list.entry(raw)
+	newHasher, ok := map[Hash]func() hash.Hash{SHA256: sha256.New, SHA512: sha512.New}[entry.Hash]
+	if !ok {
+		return list.VerifyListedReader(reader, name)
+	}
+	hasher := newHasher()
+	if _, err = io.Copy(hasher, reader); err == nil {
+		err = compareTrustingHash(raw, hasher.Sum(nil))
+	}
+	if err != nil {
+		return ListEntry{}, err
+	}
+	return entry, nil
+}

@@ -1,0 +1,48 @@
+// SPDX-License-Identifier: MIT
+// Verifies files in Node with signed lists, as node.d.ts says.
+
+import { createReadStream } from "node:fs";
+import { open } from "node:fs/promises";
+import { basename } from "node:path";
+
+import { argumentError, mustBe, optionsOf } from "./arguments.js";
+import { MAX_LIST_BYTES, TEXT_BYTES } from "./calls.js";
+import { verifyList } from "./index.js";
+import { pathOf } from "./paths.js";
+
+// Reads a file of at most `size` bytes.
+async function textOfFile(path, size) {
+  const file = await open(path);
+  try {
+    const buffer = Buffer.alloc(size + 1);
+    let length = 0;
+    let bytesRead;
+    do {
+      const rest = buffer.subarray(length);
+      ({ bytesRead } = await file.read(rest, 0, rest.length));
+      length += bytesRead;
+    } while (bytesRead > 0);
+    if (length > size) {
+      throw argumentError(`${path} has more than ${size} bytes`);
+    }
+    return buffer.subarray(0, length);
+  } finally {
+    await file.close();
+  }
+}
+
+export async function verifyListFile(path, key, options = {}) {
+  const name = pathOf(path);
+  const text = await textOfFile(name, MAX_LIST_BYTES);
+  const signature = await textOfFile(`${name}.minisig`, TEXT_BYTES - 1);
+  return verifyList(text, signature, key, basename(name), options);
+}
+
+export async function verifyListedFile(path, list, options = {}) {
+  const file = pathOf(path);
+  const isList = typeof list?.verifyListed === "function";
+  mustBe(isList, "list", "the result of verifyList", list);
+  const known = ["name", "progress", "signal"];
+  const { name = basename(file), ...rest } = optionsOf(options, ...known);
+  return list.verifyListed(createReadStream(file), name, { ...rest });
+}
