@@ -32,8 +32,9 @@ async function begin(script) {
       (isSecureContext ? "Use a newer browser, or the program minisign." : `${FROM_DISK}, or open it by https.`));
     return;
   }
-  const module = bytesOfBase64(MODULE);
+  let module;
   try {
+    module = await moduleBytes();
     library = await Library.load(module);
   } catch (why) {
     const isPolicy = why instanceof WebAssembly.CompileError && WebAssembly.validate(module);
@@ -43,6 +44,7 @@ async function begin(script) {
   }
   engineBegun = beginEngine(script);
   takePresets();
+  await takeBuiltInList();
   listRelease();
   hideAnswered();
   listen();
@@ -54,7 +56,7 @@ async function begin(script) {
 // Hides the fields and texts for what the page already has: a built-in key, and signatures. If it only needs the download, there
 // are no numbered steps, and the key is shown below.
 function hideAnswered() {
-  const has = {key: BUILT_IN_KEY !== "", signature: presetSignatures.length > 0};
+  const has = {key: BUILT_IN_KEY !== "", signature: presetSignatures.length > 0 || BUILT_IN_LIST.length > 0};
   has.steps = has.key || key !== null && has.signature;
   for (const part of document.querySelectorAll("[data-unless]")) {
     part.hidden = has[part.dataset.unless];

@@ -2,8 +2,8 @@
 # SPDX-License-Identifier: MIT
 """Builds the page that verifies a download: one HTML file that loads nothing.
 
-    page/build.py [OUT] [--key KEY [--signature FILE.minisig .. [--name NAME] [--version VERSION] [--link FILE=ADDRESS ..]]]
-                  [--title TITLE] [--from PAGE | --prove]
+    page/build.py [OUT] [--key KEY [--signature FILE.minisig .. | --list LIST] [--name NAME] [--version VERSION]
+                  [--link FILE=ADDRESS ..]] [--title TITLE] [--from PAGE | --prove]
     page/build.py [OUT] --package [--from PAGE]
 
 OUT is the page; the default is `page/minisign.html`. It contains the script, the style, the module, and a content
@@ -11,6 +11,7 @@ security policy that allows only these. The module is that of an existing page, 
 
     --key KEY          build in this public key, its file or its 56 characters; the page then accepts no other key
     --signature FILE   build in these signatures of a release too; the page then only asks for the download
+    --list LIST        build in this signed list of a release, such as SHA256SUMS, with its signature LIST.minisig
     --name NAME        the name of the program that is released
     --version VERSION  the version of the release
     --link FILE=ADDRESS
@@ -30,7 +31,7 @@ The button "Save the page" of a page without a built-in key makes the same page 
 The command `rt` can only prove for the processor on which it runs, so `--prove` calls the prover itself. It uses
 libraries that are already proved, and proves the others first (`tests/shared/proved.py`).
 
-Needs Python 3.9 or later; with `--prove` also the kit, and Debian's binaryen.
+Needs Python 3.9 or later; with `--prove` also the kit, and Debian's binaryen and zopfli.
 """
 
 import argparse
@@ -45,6 +46,7 @@ import shutil
 import subprocess
 import sys
 import tempfile
+import zlib
 
 HERE = os.path.dirname(os.path.realpath(__file__))
 TOP = os.path.dirname(HERE)
@@ -59,13 +61,14 @@ MEMORY = 6 * 1048576
 PACKAGE = "bindings/javascript"
 # The scripts, in their order: modules of the JavaScript package, and then those of the page.
 SCRIPTS = (*(f"{PACKAGE}/{name}" for name in ("calls.js", "ed25519.js", "verification.js")),
-           *(f"page/{name}" for name in ("engine.js", "texts.js", "words.js", "page.js", "rows.js", "release.js", "begin.js")))
+           *(f"page/{name}" for name in ("engine.js", "texts.js", "words.js", "lists.js", "page.js", "rows.js", "release.js", "begin.js")))
 TITLE = "Verify a download"
 KEY_LETTERS = 56
 KEY_BYTES = 42
 # The base64 lines of a signature file, by their indices: how the decoded bytes begin, and their number.
 RECORDS = {1: ((b"ED", b"Ed"), 74), 3: (b"", 64)}
 SIGNATURE_ENDING = ".minisig"
+MAX_LIST_BYTES = 1048576
 # How the other two lines begin.
 COMMENTS = {0: "untrusted comment:", 2: "trusted comment:"}
 
@@ -91,13 +94,13 @@ def read(path):
 
 
 def script_of(path):
-    """Returns a script as it is in the page, where all scripts are one: without imports, `export` and comments."""
-    return re.sub(r"(?m)^export ", "", re.sub(r"(?m)^(import .*;| *//.*)\n", "", read(path)))
+    """Returns a script as it is in the page, where all scripts are one: without imports, `export`, comments and indentation."""
+    return re.sub(r"(?m)^ +|^export ", "", re.sub(r"(?m)^(import .*;| *//.*)\n", "", read(path)))
 
 
 def style():
-    """Returns the style as it is in the page, without comments."""
-    return re.sub(r"(?m)^ */\*.*\*/\n", "", read("page/page.css"))
+    """Returns the style as it is in the page, without comments and indentation."""
+    return re.sub(r"(?m)^ +", "", re.sub(r"(?m)^ */\*.*\*/\n", "", read("page/page.css")))
 
 
 def sources_sum(part="page"):
@@ -174,10 +177,47 @@ def taken_from(path):
             text = file.read()
     except (OSError, UnicodeDecodeError) as why:
         raise NotPossible(f"{path} cannot be read: {why}") from None
-    module, by = re.search(r'^const MODULE = "(.*)";$', text, re.M), re.search(r"^const LOWERED_BY = (\".*\");$", text, re.M)
-    if module is None or by is None:
+    letters, by = re.search(r'^const MODULE = "(.*)";$', text, re.M), re.search(r"^const LOWERED_BY = (\".*\");$", text, re.M)
+    if letters is None or by is None:
         raise NotPossible(f"{path} was not built by page/build.py")
-    return base64.b64decode(module[1]), json.loads(by[1])
+    try:
+        return unpacked(letters[1]), json.loads(by[1])
+    except (binascii.Error, zlib.error, ValueError):
+        raise NotPossible(f"{path} was not built by page/build.py, or is damaged") from None
+
+
+# The letters of the modules that came from a page, because another version of zopfli may compress a module to other bytes.
+packed_letters = {}
+
+
+def deflated(module):
+    """Returns a module compressed by zopfli, which makes it 7 % smaller than zlib does."""
+    with tempfile.TemporaryDirectory(prefix="minisign-page-") as directory:
+        path = f"{directory}/module.wasm"
+        with open(path, "wb") as file:
+            file.write(module)
+        command = [needs.program("zopfli", "zopfli"), "--deflate", "--i50", "-c", path]
+        ran = subprocess.run(command, stdin=subprocess.DEVNULL, stdout=subprocess.PIPE, stderr=subprocess.PIPE)
+        if ran.returncode != 0:
+            raise NotPossible(f"zopfli failed: {ran.stderr[-300:]!r}")
+        return ran.stdout
+
+
+def packed(module):
+    """Returns a module as the page has it: compressed, in base64."""
+    if module not in packed_letters:
+        packed_letters[module] = base64.b64encode(deflated(module)).decode()
+    return packed_letters[module]
+
+
+def unpacked(letters):
+    """Returns the module that a page has. Up to version 0.2, pages have it without compression."""
+    data = base64.b64decode(letters, validate=True)
+    if data.startswith(b"\0asm"):
+        return data
+    module = zlib.decompress(data, -zlib.MAX_WBITS)
+    packed_letters[module] = letters
+    return module
 
 
 # ---- The page ----
@@ -270,16 +310,52 @@ def name_in_release(name, text):
     return re.split(r"[\\/]", names[0])[-1] if len(names) == 1 else name[:-len(SIGNATURE_ENDING)]
 
 
-def checked_release(name, version, links, signatures):
-    """Returns the name, the version and the links of a release, whose signatures are pairs of name and text."""
-    if not signatures and (name or version or links):
-        raise NotPossible("--name, --version and --link describe a release, so they need --signature")
-    names, found = [name_in_release(*signature) for signature in signatures], {}
+# The lines of a list, with the name of the file. The page reads the list with the proved library; these patterns only find names for links.
+ENTRIES = (re.compile(r"\\?(?:[0-9A-Fa-f]{64}|[0-9A-Fa-f]{128}) [ *](?:\./)?(.+)"), re.compile(r"\\?(?:SHA256|SHA512|BLAKE2b) \((?:\./)?(.+)\) = [0-9A-Fa-f]+"))
+
+
+def names_in_list(text):
+    """Returns the names of the files of a list. Raises NotPossible for a line that is not an entry."""
+    names = []
+    for number, line in enumerate(text.split("\n"), 1):
+        line = line.removesuffix("\r")
+        found = [entry[1] for entry in (pattern.fullmatch(line) for pattern in ENTRIES) if entry]
+        if line and not line.startswith("#") and not found:
+            raise NotPossible(f"line {number} of the list is not an entry")
+        names += found
+    return names
+
+
+def checked_list(path, key):
+    """Returns the name, the text and the signature of a signed list, or an empty list if there is none. Only the page verifies it."""
+    if not path:
+        return []
+    try:
+        with open(path, encoding="utf-8", newline="") as file:
+            text = file.read(MAX_LIST_BYTES + 1)
+    except (OSError, UnicodeDecodeError) as why:
+        raise NotPossible(f"{path} cannot be read: {why}") from None
+    if len(text.encode()) > MAX_LIST_BYTES:
+        raise NotPossible(f"{path} has more than 1 MiB")
+    signature = checked_signature(path + SIGNATURE_ENDING, key)
+    name = os.path.basename(path)
+    if f"file:{name}" not in re.split("[\t ]", signature.split("\n")[2].strip()):
+        raise NotPossible(f"the trusted comment of {path}{SIGNATURE_ENDING} does not name the list {name}")
+    if not names_in_list(text):
+        raise NotPossible(f"{path} has no entries")
+    return [name, text, signature]
+
+
+def checked_release(name, version, links, signatures, listed=()):
+    """Returns the name, the version and the links of a release, whose signatures are pairs of name and text, or whose files are listed."""
+    if not signatures and not listed and (name or version or links):
+        raise NotPossible("--name, --version and --link describe a release, so they need --signature or --list")
+    names, found = [*(name_in_release(*signature) for signature in signatures), *listed], {}
     for word in links:
         file = next((each for each in names if word.startswith(f"{each}=")), None)
         link = word[len(file) + 1:] if file is not None else ""
         if file is None:
-            raise NotPossible(f"--link {word}: there is no --signature for this file, but only for {', '.join(names)}")
+            raise NotPossible(f"--link {word}: the release does not have this file, but only {', '.join(names)}")
         if not is_safe_link(link):
             raise NotPossible(f"--link {word}: the address has to begin with https://, or be relative")
         if file in found:
@@ -322,12 +398,13 @@ def made_from(module, by, sums):
             "not proved.")
 
 
-def page(module, by, key="", title=TITLE, signatures=(), release=None, sums=None):
+def page(module, by, key="", title=TITLE, signatures=(), release=None, sums=None, signed_list=()):
     """Returns the page with a 32-bit module, which the tool `by` made, and with a built-in key, signatures, as pairs of name and text,
-    and release, as checked_release returns it. `sums` are those of the module and the sources that are proved; the default is those in
+    signed list, as checked_list returns it, and release, as checked_release returns it. `sums` are those of the module and the sources that are proved; the default is those in
     dist/PROVED."""
-    constants = [constant("MODULE", base64.b64encode(module).decode()), constant("LOWERED_BY", by),
+    constants = [constant("MODULE", packed(module)), constant("LOWERED_BY", by),
                  constant("BUILT_IN_KEY", key and checked_key(key)), constant("BUILT_IN_SIGNATURES", signatures),
+                 constant("BUILT_IN_LIST", signed_list),
                  constant("BUILT_IN_RELEASE", release or checked_release("", "", [], []))]
     script = "\n".join(['"use strict";', *constants, *map(script_of, SCRIPTS)])
     parts = {"policy": policy(script, style()), "style": style(), "script": script, "title": html.escape(title, quote=False),
@@ -357,6 +434,7 @@ def options(words):
     parser.add_argument("--key", default="", metavar="KEY", help="build in this public key, its file or its 56 characters")
     parser.add_argument("--signature", default=[], nargs="+", action="extend", metavar="FILE.minisig",
                         help="build in these signatures too, so that the page asks only for the download")
+    parser.add_argument("--list", default="", metavar="LIST", help="build in this signed list of a release, with its signature LIST.minisig")
     parser.add_argument("--name", default="", help="the name of the program that is released")
     parser.add_argument("--version", default="", help="the version of the release")
     parser.add_argument("--link", default=[], nargs="+", action="extend", metavar="FILE=ADDRESS",
@@ -381,12 +459,17 @@ def main(words):
         key = given.key and given_key(given.key)
         if given.signature and not key:
             raise NotPossible("--signature needs --key, the key that made the signatures")
-        signatures = checked_signatures(given.signature, key)
-        release, title = checked_release(given.name, given.version, given.link, signatures), checked_text(given.title, "title")
+        if given.list and not key:
+            raise NotPossible("--list needs --key, the key that signed the list")
+        if given.signature and given.list:
+            raise NotPossible("pass either --signature or --list")
+        signatures, signed_list = checked_signatures(given.signature, key), checked_list(given.list, key)
+        listed = names_in_list(signed_list[1]) if signed_list else []
+        release, title = checked_release(given.name, given.version, given.link, signatures, listed), checked_text(given.title, "title")
         if title == "":
             raise NotPossible("the title is empty")
         module, by = (lowered(proved_module()), lowering()) if given.prove else taken_from(given.built)
-        write(os.path.abspath(given.out or os.path.join(HERE, "minisign.html")), page(module, by, key, title, signatures, release))
+        write(os.path.abspath(given.out or os.path.join(HERE, "minisign.html")), page(module, by, key, title, signatures, release, signed_list=signed_list))
     except (NotPossible, needs.Missing, proved.NotBuilt, OSError) as why:
         print(f"page/build.py: {why}", file=sys.stderr)
         return 1

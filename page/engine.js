@@ -2,7 +2,7 @@
 // Hashes a file in three worker threads, which take turns.
 //
 // While one thread hashes a slice of the file, the others read the next slices into the memory of their module, because
-// reading takes a browser up to twice as long as hashing. The state is passed from one thread to the next. The threads run
+// reading takes a browser up to twice as long as hashing. The states are passed from one thread to the next. The threads run
 // the script of the page. If the browser or the server does not allow worker threads, the page hashes in its own thread.
 
 // The maximum time in milliseconds for starting a thread, and for reading a key or signature file.
@@ -51,10 +51,10 @@ function placeSlice(threadLibrary, file, begin, end) {
   }
 }
 
-// Handles the messages of the page. For a file and an offset, the thread reads the slice at this offset. For a state, it feeds
-// the slice to the state and posts the state back, or null if the slice could not be read; then it reads its next slice.
+// Handles the messages of the page. For a file and an offset, the thread reads the slice at this offset. For states, it feeds
+// the slice to the states and posts them back, or null if the slice could not be read; then it reads its next slice.
 async function serve() {
-  const threadLibrary = await Library.load(bytesOfBase64(MODULE));
+  const threadLibrary = await Library.load(await moduleBytes());
   const slice = Math.min(threadLibrary.pieceBytes, SLICE_BYTES);
   for (let times = 0; times < WARMING_TIMES; times += 1) {
     threadLibrary.feed(threadLibrary.begin(), new Uint8Array(WARMING_BYTES));
@@ -70,8 +70,8 @@ async function serve() {
       place(data.begin);
       return;
     }
-    const isFed = isPlaced && threadLibrary.feedPlaced(data.state) === 0;
-    postMessage(isFed ? data.state : null);
+    const isFed = isPlaced && threadLibrary.feedHashes(data.states) === 0;
+    postMessage(isFed ? data.states : null);
     place(begin + THREADS * slice);
   };
   postMessage(slice);
@@ -81,6 +81,12 @@ async function serve() {
 
 function bytesOfBase64(letters) {
   return Uint8Array.from(atob(letters), letter => letter.charCodeAt(0));
+}
+
+// Returns the module, which is compressed in the page.
+async function moduleBytes() {
+  const bytes = new Blob([bytesOfBase64(MODULE)]).stream().pipeThrough(new DecompressionStream("deflate-raw"));
+  return new Uint8Array(await new Response(bytes).arrayBuffer());
 }
 
 // Returns the bytes of a part of a file, or null if it cannot be read.
@@ -95,10 +101,10 @@ async function bytesOfFile(file, begin, end) {
 
 // Hashes in the page's own thread.
 class NearEngine {
-  // Feeds a file to a verification, and calls reportProgress with the number of bytes before each slice. Returns true if all of the file
+  // Feeds a file to a Reading, and calls reportProgress with the number of bytes before each slice. Returns true if all of the file
   // was fed, and false if it could not be read or reportProgress returned false.
-  async feedFile(file, verification, reportProgress) {
-    const slice = verification.library.pieceBytes;
+  async feedFile(file, reading, reportProgress) {
+    const slice = reading.library.pieceBytes;
     let next = bytesOfFile(file, 0, slice);
     for (let begin = 0; begin < file.size; begin += slice) {
       const bytes = await next;
@@ -106,7 +112,7 @@ class NearEngine {
         return false;
       }
       next = begin + slice < file.size ? bytesOfFile(file, begin + slice, begin + 2 * slice) : null;
-      verification.feed(bytes);
+      reading.feed(bytes);
     }
     return true;
   }
@@ -118,14 +124,14 @@ class FarEngine {
     this.threads = threads;
   }
 
-  async feedFile(file, verification, reportProgress) {
+  async feedFile(file, reading, reportProgress) {
     this.threads.forEach((thread, index) => thread.postMessage({file, begin: index * this.slice}));
     for (let begin = 0, turn = 0; begin < file.size; begin += this.slice, turn = (turn + 1) % THREADS) {
-      const state = await answerOf(this.threads[turn], {state: verification.state});
-      if (state === null || !reportProgress(begin)) {
+      const states = await answerOf(this.threads[turn], {states: reading.states});
+      if (states === null || !reportProgress(begin)) {
         return false;
       }
-      verification.state = state;
+      reading.states = states;
     }
     return true;
   }

@@ -351,7 +351,8 @@ function clearMessages() {
 function takeDownload(file, name, part) {
   if (!downloads.has(name)) {
     const row = element("li", "");
-    downloads.set(name, {name, bareName: bareName(name), data: null, signature: null, pastedAt: 0, tried: null, row, run: null, act: null});
+    downloads.set(name, {name, bareName: bareName(name), data: null, signature: null, pastedAt: 0, tried: null, row, run: null, act: null, list: null,
+      listedNames: []});
     byId("verdicts").append(downloads.get(name).row);
   }
   const download = downloads.get(name);
@@ -368,7 +369,9 @@ function renew(download) {
   changed.add(download);
   download.act = lastAct;
   download.tried = null;
+  download.listedNames = [];
   showWaiting(download);
+  setList(download, null);
 }
 
 function remove(download) {
@@ -376,6 +379,7 @@ function remove(download) {
   changed.delete(download);
   download.row.remove();
   downloads.delete(download.name);
+  setList(download, null);
 }
 
 function clearList() {
@@ -413,7 +417,7 @@ function reviewAll() {
 
 // Returns the names of PARTS that a download lacks.
 function missingParts(download) {
-  const isMissing = [download.data === null, signaturesOf(download).length === 0, key === null];
+  const isMissing = [download.data === null, signaturesOf(download).length + listsFor(download).length === 0, key === null];
   return PARTS.filter((_, at) => isMissing[at]);
 }
 
@@ -452,7 +456,9 @@ async function verify(download) {
     engineBegun = beginEngine();
   }
   if (!run.isStopped) {
+    download.listedNames = verdict.verdict === "good" ? verdict.listedNames ?? [] : [];
     draw(download, () => showVerdict(download, verdict, run.key.source));
+    setList(download, verdict.verdict === "good" && verdict.asList?.number === 0 ? verdict.asList : null);
   }
 }
 
@@ -463,7 +469,17 @@ function rejected(number, keyIds) {
 
 // Returns the verdict for the first valid signature of a download, or for all of them if none is valid, or null if the run was stopped.
 async function verdictOn(download, run) {
-  const signatures = signaturesOf(download), isRelease = signatures[0].isBuiltIn, failed = [], reading = new Reading(download.data);
+  const signatures = signaturesOf(download), lists = listsFor(download), failed = [];
+  const isRelease = BUILT_IN_LIST.length > 0 || signatures[0]?.isBuiltIn === true;
+  const hashes = new Set(lists.flatMap(({entries}) => entries.map(({hash}) => hash)));
+  const reading = new Reading(download.data, ["blake2b", ...hashes]);
+  if (builtInList !== null || signatures.length === 0) {
+    // The list of the release comes first, so that an older file with its older signature does not pass for a file of this release.
+    const verdict = await verdictByLists(lists, download, run, reading);
+    if (verdict?.verdict !== "bad" || signatures.length === 0) {
+      return verdict;
+    }
+  }
   for (const signature of signatures) {
     download.tried = signature.file;
     const verdict = await verdictBy(signature.file, download, run, reading);
@@ -471,7 +487,8 @@ async function verdictOn(download, run) {
       return null;
     }
     if (verdict.verdict === "good") {
-      return signedVerdict(verdict, download, signature.isBuiltIn, isRelease);
+      const asList = await listIn(download.data.name, reading.smallData, signature.file, verdict.comment);
+      return {...signedVerdict(verdict, download, signature.isBuiltIn, isRelease), asList};
     }
     failed.push({...verdict, ...signature});
     // The file cannot be read, or the signature is for this file but its comment was changed. Then other signatures do not help.
@@ -515,39 +532,59 @@ function failedVerdict(failed, isRelease) {
   return failed.length === 1 ? failed[0] : {verdict: "bad", why: NONE_FITS};
 }
 
-// The data of a download. It is read once for all prehashed signatures that are tried, because reading a file takes much longer than
-// checking a signature, and at most once more for all legacy ones, which also need the data itself.
+// The data of a download. It is read once for all prehashed signatures and lists that are tried, because reading a file takes much longer
+// than checking a signature, and at most once more for all legacy signatures, which also need the data itself. `states` has the states of
+// all hash functions in use, by their names. `smallData` has the pieces of a file that is small enough for a list.
 class Reading {
-  constructor(file) {
-    Object.assign(this, {file, library, state: null, legacyData: null, isRead: false});
+  constructor(file, hashes) {
+    Object.assign(this, {file, library, hashes, states: null, legacyData: null, smallData: null, isRead: false});
   }
 
   // Reads the file, unless it was read before. Returns false if it cannot be read, or if reportProgress returned false.
   async read(isLegacy, engine, reportProgress) {
     if (!this.isRead || isLegacy && this.legacyData === null) {
-      this.state = library.begin();
+      this.states = Object.fromEntries(this.hashes.map(hash => [hash, library.beginHash(hash)]));
       this.legacyData = isLegacy ? [] : null;
+      this.smallData = this.file.size <= MAX_LIST_BYTES ? [] : null;
       this.isRead = await engine.feedFile(this.file, this, reportProgress);
     }
     return this.isRead;
   }
 
   feed(bytes) {
-    library.feed(this.state, bytes);
+    library.place(bytes);
+    library.feedHashes(this.states);
     this.legacyData?.push(bytes);
+    this.smallData?.push(bytes);
   }
+
+  digest(hash) {
+    return library.hashDigest(hash, this.states[hash]);
+  }
+}
+
+// Shows the number of bytes that were read. Returns false if the run was stopped.
+function reportProgress(download, run, done) {
+  if (!run.isStopped) {
+    draw(download, () => showProgress(download, done), SHOWN_MILLISECONDS);
+  }
+  return !run.isStopped;
+}
+
+// Reads the data of a download. Returns true if it was read, null if the run was stopped, and otherwise the verdict.
+async function readDownload(download, run, reading, isLegacy) {
+  const engine = isLegacy || download.data.size <= MAX_NEAR_BYTES ? new NearEngine() : await engineBegun;
+  // A stopped run must not use the threads of the next one.
+  const isRead = !run.isStopped && await reading.read(isLegacy, engine, done => reportProgress(download, run, done));
+  if (run.isStopped) {
+    return null;
+  }
+  return isRead || {verdict: "bad", why: "The file could not be read, or it changed while it was read. Choose it again."};
 }
 
 async function verdictBy(signature, download, run, reading) {
   const {data} = download;
-  // Shows the number of bytes that were read. Returns false if the run was stopped.
-  const reportProgress = done => {
-    if (!run.isStopped) {
-      draw(download, () => showProgress(download, done), SHOWN_MILLISECONDS);
-    }
-    return !run.isStopped;
-  };
-  reportProgress(0);
+  reportProgress(download, run, 0);
   const text = await textOfFile(signature);
   if (text === null) {
     return {verdict: "bad", why: "The signature file cannot be read, or is too large to be a signature. Get the signature again."};
@@ -561,16 +598,11 @@ async function verdictBy(signature, download, run, reading) {
   if (verification.number !== 0) {
     return rejected(verification.number, keyIds);
   }
-  const engine = read.isLegacy || data.size <= MAX_NEAR_BYTES ? new NearEngine() : await engineBegun;
-  // A stopped run must not use the threads of the next one.
-  const isRead = !run.isStopped && await reading.read(read.isLegacy, engine, reportProgress);
-  if (run.isStopped) {
-    return null;
+  const isRead = await readDownload(download, run, reading, read.isLegacy);
+  if (isRead !== true) {
+    return isRead;
   }
-  if (!isRead) {
-    return {verdict: "bad", why: "The file could not be read, or it changed while it was read. Choose it again."};
-  }
-  verification.takeFed(reading.state, reading.legacyData ?? []);
+  verification.takeFed(reading.states.blake2b, reading.legacyData ?? []);
   const {number, first} = await verification.end();
   if (number === 0) {
     return {verdict: "good", number, keyIds, comment: verification.comment()};

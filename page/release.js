@@ -21,20 +21,20 @@ function nameInRelease(signatureName, text) {
 
 // ---- The files of the release ----
 
-// The rows for the files of the release: each with the name of the file, its built-in signature, and its element.
+// The rows for the files of the release: each with the name of the file, its built-in signature unless it is in the built-in list, and its
+// element.
 const releaseRows = [];
 
 // Lists the files of the release. A link that is not safe is left out.
 function listRelease() {
   const {name, version, links} = BUILT_IN_RELEASE, linkOf = new Map(links);
-  for (const {file, isBuiltIn, releaseName} of presetSignatures) {
-    if (isBuiltIn) {
-      const link = linkOf.get(releaseName) ?? "", box = nameOf(releaseName), state = element("span", "state");
-      const anchor = Object.assign(element("a", "", box), {href: link, rel: "noreferrer"});
-      const row = element("li", "", isSafeLink(link) ? anchor : box, " ", state);
-      releaseRows.push({bareName: bareName(releaseName), file, row, state});
-      byId("release-files").append(row);
-    }
+  const signed = presetSignatures.filter(({isBuiltIn}) => isBuiltIn), listed = builtInList?.entries ?? [];
+  for (const {file, releaseName} of [...signed, ...listed.map(entry => ({releaseName: entry.name}))]) {
+    const link = linkOf.get(releaseName) ?? "", box = nameOf(releaseName), state = element("span", "state");
+    const anchor = Object.assign(element("a", "", box), {href: link, rel: "noreferrer"});
+    const row = element("li", "", isSafeLink(link) ? anchor : box, " ", state);
+    releaseRows.push({releaseName, file, row, state});
+    byId("release-files").append(row);
   }
   const words = [name, version].filter(each => each !== "").map(each => verbatim("bdi", "", ...nodesOf(each)));
   byId("release-head").append("Files of ", ...words.length > 0 ? words.flatMap(each => [each, " "]).slice(0, -1) : ["this release"]);
@@ -42,16 +42,16 @@ function listRelease() {
   showRelease([]);
 }
 
-// Shows for each file of the release what is known of it. It is verified only by its own signature and under its signed name. Otherwise
-// its state is the worst one of the downloads that have its name, or for which its signature is valid.
+// Shows for each file of the release what is known of it. It is verified only by its own signature, or by the list, and under its signed
+// name. Otherwise its state is the worst one of the downloads that have its name, or for which its signature is valid.
 function showRelease(all) {
   if (releaseRows.length === 0) {
     return;
   }
   const verdictOf = ({row}) => row.dataset.verdict, isSigned = ({row}) => row.dataset.number === "0";
-  for (const {bareName: releaseName, file, row, state} of releaseRows) {
-    const signed = all.filter(download => download.tried === file && isSigned(download));
-    const others = all.filter(download => download.bareName === releaseName && verdictOf(download) !== "good");
+  for (const {releaseName, file, row, state} of releaseRows) {
+    const signed = all.filter(download => isSigned(download) && (file ? download.tried === file : download.listedNames.includes(releaseName)));
+    const others = all.filter(download => download.bareName === bareName(releaseName) && verdictOf(download) !== "good");
     const found = new Set([...signed, ...others].map(verdictOf));
     const verdict = signed.some(download => verdictOf(download) === "good") ? "good" : [...VERDICTS.keys()].find(each => found.has(each)) ?? "waiting";
     if (row.dataset.verdict !== verdict) {
@@ -109,6 +109,25 @@ function inOrder([name], [other]) {
   return name < other ? -1 : name > other ? 1 : 0;
 }
 
+// Returns the name of a signed list, its text and its signature, if a list is among the files, and otherwise an empty list.
+async function ownList(files) {
+  const list = files.find(({name}) => !name.endsWith(SIGNATURE_ENDING));
+  if (!list) {
+    return {texts: [], names: []};
+  }
+  const signature = files.find(({name}) => name === list.name + SIGNATURE_ENDING);
+  if (!signature || files.length !== 2) {
+    throw new NotPossible(`${withCodes(list.name)} is not a signature file. If it is a signed list, add only the list and its signature.`);
+  }
+  const bytes = list.size <= MAX_LIST_BYTES ? await bytesOfFile(list, 0, list.size) : null, signatureBytes = await textOfFile(signature);
+  const read = bytes && signatureBytes && await readList(list.name, bytes, signatureBytes);
+  if (read?.number !== 0) {
+    throw new NotPossible(`${withCodes(list.name)} cannot be used as a list. ${read ? whyNoList(read) : ""}`);
+  }
+  const texts = [bytes, signatureBytes].map(text => new TextDecoder("utf-8", {ignoreBOM: true}).decode(text));
+  return {texts: [list.name, ...texts], names: read.entries.map(({name}) => name)};
+}
+
 // Returns the names and texts of signature files that the key has made, in the order of their names.
 async function ownSignatures(files) {
   const signatures = [];
@@ -156,12 +175,13 @@ async function ownPage() {
     throw new NotPossible("The title is empty.");
   }
   const [name, version] = [checkText(valueOf("own-name"), "The name"), checkText(valueOf("own-version"), "The version")];
-  const {letters} = key, signatures = await ownSignatures(byId("own-signatures").files);
-  const links = ownLinks(byId("own-links").value, signatures.map(each => nameInRelease(...each)));
-  if (signatures.length === 0 && (name || version)) {
+  const {letters} = key, files = [...byId("own-signatures").files], list = await ownList(files);
+  const signatures = list.texts.length > 0 ? [] : await ownSignatures(files);
+  const links = ownLinks(byId("own-links").value, [...signatures.map(each => nameInRelease(...each)), ...list.names]);
+  if (files.length === 0 && (name || version)) {
     throw new NotPossible("Add the signatures of the release, or leave its name and version empty.");
   }
-  return pageWith({BUILT_IN_KEY: letters, BUILT_IN_SIGNATURES: signatures, BUILT_IN_RELEASE: {name, version, links}}, title);
+  return pageWith({BUILT_IN_KEY: letters, BUILT_IN_SIGNATURES: signatures, BUILT_IN_LIST: list.texts, BUILT_IN_RELEASE: {name, version, links}}, title);
 }
 
 async function saveOwnPage() {

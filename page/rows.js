@@ -164,12 +164,14 @@ function showVerdict(download, verdict, source) {
   const name = isSigned && !SOURCES.get(source.kind).isGiven ? "unchecked" : verdict.verdict;
   const warning = name === "unlisted" ? UNLISTED : "";
   fill(download, name, ...(warning ? [element("p", "caution", warning)] : []), partsLine(download),
-    ...(isSigned ? signedLines(verdict, source) : badLines(verdict)), ...(name === "unsupported" ? commandLines(download) : []));
+    ...(isSigned ? signedLines(verdict, source) : badLines(verdict)), ...(name === "unsupported" ? commandLines(download) : []),
+    ...listLines(verdict));
   if (number !== undefined) {
     download.row.dataset.number = number;
   }
   const [, words] = VERDICTS.get(name);
-  const names = otherNames.map(other => `The signature is for a file named ${withCodes(other)}.`);
+  const names = otherNames.map(other => `${verdict.listName === undefined ? "The signature is for a file named" : "The list has this file as"} ${
+    withCodes(other)}.`);
   say(download, [`${words}.`, isSigned ? `The key is ${keyIds.publicKeyId}.` : why, warning, ...names].filter(each => each).join(" "));
   const {act, row} = download, isFirstBad = name === "bad" && !act.hasBad;
   if (!act.isAnswered || isFirstBad) {
@@ -192,12 +194,13 @@ function commandLines({name, tried}) {
 }
 
 // Returns the lines for a file with a valid signature.
-function signedLines({keyIds, comment, signedNames, otherNames}, source) {
-  const first = element("p", "", "This file is exactly what was signed with the key ", lettersBox(keyIds.publicKeyId), ", ",
-    ...sourceOf(source), ".");
+function signedLines(verdict, source) {
+  const {keyIds, comment, signedNames = [], otherNames, listName} = verdict, what = listName === undefined ? "file" : "list";
+  const first = listName !== undefined ? listedLines(verdict, source)
+    : element("p", "", "This file is exactly what was signed with the key ", lettersBox(keyIds.publicKeyId), ", ", ...sourceOf(source), ".");
   const names = signedNames.map(name => nameLine(name, otherNames.includes(name)));
   if (comment === "") {
-    return [first, ...names, element("p", "", "The trusted comment, which was signed with the file, is empty.")];
+    return [first, ...names, element("p", "", `The trusted comment, which was signed with the ${what}, is empty.`)];
   }
   const box = verbatim("div", "comment", ...nodesOf(comment));
   box.tabIndex = 0;
@@ -205,7 +208,7 @@ function signedLines({keyIds, comment, signedNames, otherNames}, source) {
   box.ariaLabel = "Trusted comment";
   const {time} = fieldsOfComment(comment);
   return [
-    first, ...names, element("p", "", "The trusted comment, which was signed with the file:"), box,
+    first, ...names, element("p", "", `The trusted comment, which was signed with the ${what}:`), box,
     ...(time ? [element("p", "", `According to the signer's clock, it was signed on ${time}.`)] : []),
   ];
 }

@@ -8,6 +8,7 @@ const NO_KEY = "Get the public key again: it is incomplete or damaged, or it is 
 // Error numbers of include/minisign.h that the page treats specially. The page uses the first one for a public key, too, because
 // the library does not check the algorithm of a key.
 const UNKNOWN_ALGORITHM = 28, OTHER_KEY = 29, LEGACY_NOT_ACCEPTED = 30, COMMENT_NOT_SIGNED = 32;
+const NOT_LISTED = 92, DIGEST_MISMATCH = 94;
 
 const WHY_NO_KEY = new Map([
   [UNKNOWN_ALGORITHM, `This is not a Minisign public key: those begin with RW. ${NO_KEY}`],
@@ -38,6 +39,12 @@ const WHY_NOT = new Map([
   [31, "This file is not the one that was signed, or the signature was not made with this key. Do not use the file."],
   [COMMENT_NOT_SIGNED, "The trusted comment was changed after the file was signed. Do not use the file."],
   [81, "The public key or the signature is weak or malformed, so it proves nothing about any file. Do not use the file."],
+  [89, "The trusted comment of its signature does not name it as a list."],
+  [90, "No list can have a file of this name. Do not use the file."],
+  [91, "It is not a line of a list. One such line makes the whole list unusable."],
+  [NOT_LISTED, "The signed list has neither this file's name nor its content. Do not use the file."],
+  [93, "The signed list has this file's name twice. Do not use the file."],
+  [DIGEST_MISMATCH, "This file is not the one that the signed list has under this name. Do not use the file."],
 ]);
 
 // For a comment that differs from the signed one only in white space at its beginning or end, which the library ignores.
@@ -73,9 +80,10 @@ const NO_KEY_IN_ADDRESS = "No public key: the link to this page has no key of 56
 const OTHER_KEY_IN_ADDRESS = "The link to this page contains another key or other text, which this page ignores. It accepts only its built-in key.";
 const NO_SIGNATURE_IN_ADDRESS = "The link to this page has no complete signature after sig=. It may have been cut off.";
 const NONE_FITS = "None of this page's signatures is for this file. Do not use the file.";
-const NOT_OF_RELEASE = "The file is not part of this release either: none of the signatures that are built into this page is for it.";
-const UNLISTED = "The signature of this file is not built into this page. It came with the file or with the link. " +
+const NOT_OF_RELEASE = "The file is not part of this release either: nothing that is built into this page is for it.";
+const UNLISTED = "The file is not one of those that are built into this page. Its signature came with the file or with the link. " +
   "The file may be from an older release, or something else that the owner of the key has signed.";
+const BAD_BUILT_IN_LIST = "The list that is built into this page is not valid, so the page cannot verify the files of the release.";
 const NO_KEY_IN_FIELD = "is not a key. Correct that text, or clear the field.";
 const WHOSE = "This page cannot know who owns the key. Compare all of its 56 characters with the key that the project publishes.";
 const WITH_FILES = "The key came with the files, so whoever made the files may have made the key.";
