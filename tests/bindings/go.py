@@ -214,6 +214,12 @@ def check_errors(program):
         program.checks.check(line == wanted if name else line.startswith(wanted), f"the error {number}: {line}")
 
 
+def check_lists(program, room, minisign):
+    """Checks the results of a program that verifies files with signed lists."""
+    program.check_lists(minisign, boolean=lambda is_true: str(is_true).lower())
+    program.check_pairs(24, "files", room)
+
+
 def check_signing(program, room, minisign, decrypts=True):
     """Checks that the program and `c/minisign` can read each other's keys and signatures, that a key does not print its secret and is
     cleared, and that nil arguments are rejected."""
@@ -363,6 +369,8 @@ def check_mutants(checks, go, package, room, minisign):
         build = lambda name: go.build(f"{name}.go", os.path.join(directory, name), changed, "-ldflags=-s -w")
         if word == "sign":
             check_signing(Program(checks, build("signing")), os.path.join(directory, "signed"), minisign)
+        elif word == "lists":
+            check_lists(Program(checks, build("lists")), os.path.join(directory, "listed"), minisign)
         else:
             compare_results(Program(checks, build("answers")), directory, minisign, shared_cases.corpus())
             check_changed(checks, build("changed"))
@@ -396,6 +404,9 @@ def run_all(checks, room):
     signing.check_growth(KEYS, PAGES_OF_KEYS)
     signing.check_threads()
     racing.check_threads()
+    lists, racing = programs("lists.go", "lists")
+    check_lists(lists, os.path.join(room, "listed"), minisign)
+    racing.check_pairs(24, "files", os.path.join(room, "listed-racing"))
     check_changed(checks, go.build("changed.go", os.path.join(room, "changed"), package, **Go.OPTIMIZED))
     check_go_minisign(checks, go, room, program)
     check_readme(checks, go, room, package, minisign)

@@ -52,7 +52,7 @@ from texts import record_of, text_of
 
 PACKAGE = os.path.join(TOP, "bindings", "javascript")
 PROGRAMS = [os.path.join(HERE, "javascript", f"{name}.mjs") for name in (
-    "answers", "signing", "streams", "writable", "saving", "bare", "options", "long", "files", "heap", "bundled", "bundled_signing")]
+    "answers", "signing", "streams", "writable", "saving", "bare", "options", "long", "files", "heap", "bundled", "bundled_signing", "lists")]
 MODULE, SIGNING_MODULE = "module.js", "signing_module.js"
 # The files that tools/bindings.py generates, and the part of calls.js that it generates.
 GENERATED = ("errors.js", "header.js")
@@ -106,11 +106,12 @@ def check_sources(checks, user):
     checks.check(errors == expected, f"errors.js has other errors than the header: {set(errors.items()) ^ set(expected.items())}")
     typed = set(re.findall(r'"([A-Z0-9_]+)"', re.search(r"type ErrorCode =(.*?);", text_of_package("errors.d.ts"), re.S)[1]))
     checks.check(typed == set(expected), f"errors.d.ts has other errors than the header: {typed ^ set(expected)}")
-    sizes = {name: int(size) for name, size in re.findall(r"const (STATE|KEY|SIGNATURE|QUESTIONS)_BYTES = (\d+);", text_of_package("calls.js"))}
     places = shared_cases.layout(user)
-    structs = {"STATE": "state", "KEY": "public_key", "SIGNATURE": "signature", "QUESTIONS": "questions"}
+    structs = {"STATE": "state", "KEY": "public_key", "SIGNATURE": "signature", "QUESTIONS": "questions", "LIST": "list", "LIST_ENTRY": "list_entry"}
+    found = re.findall(rf"const ({'|'.join(structs)})_BYTES = (\d+);", text_of_package("calls.js"))
+    sizes = {name: int(size) for name, size in found}
     checks.check(sizes == {name: places[f"minisign_{struct}"] for name, struct in structs.items()}, f"calls.js has other sizes than the header: {sizes}")
-    for struct, count in (("SIGNATURE", 2), ("QUESTIONS", 8)):
+    for struct, count in (("SIGNATURE", 2), ("QUESTIONS", 8), ("LIST_ENTRY", 6)):
         fields = re.search(rf"const {struct} = \{{(.*?)\}};", text_of_package("calls.js"), re.S)[1]
         offsets = {name: int(offset) for name, offset in re.findall(r"(\w+): (\d+)", fields)}
         expected = {name: places[f"minisign_{struct.lower()}.{name}"] for name in offsets}
@@ -212,9 +213,19 @@ def ask_saving(program, *_):
         by_node(program.checks, program.directory, "saving.mjs").check_pairs(24, directory, *PUBLISHED_PATHS)
 
 
+def ask_lists(program, minisign, _):
+    """Checks the verifying of files with signed lists."""
+    lists = by_node(program.checks, program.directory, "lists.mjs")
+    lists.check_lists(minisign, boolean=lambda is_true: str(is_true).lower())
+    lists.check_pairs(30, "arguments", cases=[shared_cases.list_rows(minisign)[0][0]])
+    with tempfile.TemporaryDirectory(prefix="listed-", dir=program.directory) as directory:
+        lists.check_pairs(17, "files", directory)
+
+
 # The checks of verification, by the names that mutants give after `Must fail:`.
 CASES = {"cases": ask_cases, "pieces": ask_pieces, "read": ask_fields, "arguments": ask_arguments, "streams": ask_streams,
-         "options": ask_options, "long": ask_long, "writable": ask_writable, "saving": ask_saving}
+         "options": ask_options, "long": ask_long, "writable": ask_writable, "saving": ask_saving,
+         "lists": ask_lists}
 
 
 def check_signing(checks, user, room, minisign, decrypts=True):
@@ -317,6 +328,9 @@ def check_readme(checks, user, room, minisign):
     blocks = shared_cases.readme_blocks("javascript")
     for name, text in (("app", read(PUBLISHED_PATHS[1])), ("app.minisig", read(PUBLISHED_PATHS[2])), ("release.zip", b"a release\n")):
         write(directory, name, text)
+    run([minisign, "-G", "-W", "-s", "list.key", "-p", "list.pub"], directory)
+    write(directory, "SHA256SUMS", "".join(f"{shared_cases.hex_of('sha256', read(directory, name))}  {name}\n" for name in ("app", "release.zip")).encode())
+    run([minisign, "-S", "-s", "list.key", "-m", "SHA256SUMS", "-t", "version:2\tfile:SHA256SUMS"], directory)
     for number, block in enumerate(blocks):
         write(directory, f"readme-{number}.mjs", block.encode())
         write(directory, f"readme-{number}.ts", block.encode())
@@ -328,7 +342,8 @@ def check_readme(checks, user, room, minisign):
     checks.check(status != 0, "release.zip has a valid signature before the README's example made it")
     verified = "verified, trusted comment: timestamp:1556193335\tfile:test\n"
     streamed = r"[0-9A-F]{1,16} timestamp:\d+\tfile:release.zip\thashed\n"
-    rows = [(None, "verified: test, signed 1556193335 seconds after 1970\n", None), ("app", verified, "SIGNATURE_REFUSED"), (None, "", None),
+    rows = [(None, "verified: test, signed 1556193335 seconds after 1970\n", None), ("app", verified, "SIGNATURE_REFUSED"),
+            ("release.zip", "version:2\tfile:SHA256SUMS\n", "DIGEST_MISMATCH"), (None, "", None),
             ("release.zip", streamed, "SIGNATURE_REFUSED"), ("app", "test test\n", "SIGNATURE_REFUSED"),
             ("release.zip", "", "SIGNATURE_REFUSED")]
     checks.same(len(blocks), len(rows), "the number of the README's examples")
@@ -386,7 +401,7 @@ def check_browsers(checks, user, room, minisign):
     """Checks the results in a page and in a worker of Chromium and of Firefox."""
     corpus, vectors = shared_cases.corpus(), [case for case, _ in shared_cases.vector_texts()]
     cases = corpus + shared_cases.damaged_cases()
-    asked = {"cases": cases, "pieces": corpus, "vectors": vectors}
+    asked = {"cases": cases, "pieces": corpus, "vectors": vectors, "lists": [case for case, _ in shared_cases.list_rows(minisign)]}
     digits = {what: [[part.hex() for part in case[1:]] for case in rows] for what, rows in asked.items()}
     run([minisign, "-G", "-W", "-s", "strong", "-p", "public"], room)
     sealed = shared_cases.sealed(read(room, "strong"), shared_cases.LIMITS[4][0]).decode()
@@ -419,6 +434,8 @@ def check_answers(checks, what, answers, room, minisign, cases):
     program.check_verdicts(minisign, cases, (["legacy"], True), (["strict"], False))
     program.check_verdicts(minisign, shared_cases.corpus(), (["pieces"], False))
     program.check_vectors(["vectors"])
+    rows = shared_cases.list_rows(minisign)
+    program.check_lines(["lists"], [case for case, _ in rows], [re.escape(line) for _, line in rows])
     checks.check(answers["cancelled"], f"{what}: the stream was not cancelled")
     checks.check(answers["aborted"], f"{what}: a timer could not abort the verification of a long array")
     checks.same(answers["comment"], "timestamp:TIME\tfile:app 1.zip\thashed", f"{what}, the default comment of a File")

@@ -30,7 +30,7 @@ from shared_cases import TOP, check_mutants, read, run
 # For each language: its files, from the top of the repository; the maximum width of lines; and the formatter, its Debian package and its
 # arguments. If all files have the right layout, the formatter prints nothing and exits with status 0.
 LANGUAGES = {
-    "Rust": (["bindings/rust*/build.rs", "bindings/rust*/examples/*.rs", "bindings/rust*/src/**/*.rs"], 100,
+    "Rust": (["bindings/rust*/*.rs", "bindings/rust*/examples/*.rs", "bindings/rust*/src/**/*.rs"], 100,
              ["rustfmt", "rustfmt", "--check", "--edition", "2021"]),
     "Go": (["bindings/go/*.go"], None, ["gofmt", "golang-go", "-l"]),
     "Python": (["bindings/python/setup.py", "bindings/python/src/**/*.py"], 88, ["black", "black", "--check", "--quiet"]),

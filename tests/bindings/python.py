@@ -159,38 +159,40 @@ def check_sources(checks):
         checks.check(ast.parse(read(path), path, feature_version=(3, 9)))
 
 
-# A program that prints what the package declares: the errors; the sizes of structs, and the offsets of their fields; and the sizes and
-# offsets of the installer's structs, named by the C expressions that give the same numbers. In C, three fields of one of these structs are
-# in nested structs.
+# A program that prints what the package declares: the errors; the sizes of structs, and the offsets of their fields; and the constants and the
+# structs of minisign_installing.h, named by the C expressions that give the same numbers.
 DECLARED = r"""
 import ctypes, json, re
 from minisign_proved import _calls, _header, errors, installing
-places, installer = {}, {"INT64_MAX": installing.MAX_SIZE, "sizeof(struct run_options)": ctypes.sizeof(installing.RunOptions)}
+places, installer = {}, {}
 for name, struct in vars(_header).items():
     if isinstance(struct, type) and issubclass(struct, ctypes.Structure) and struct is not ctypes.Structure:
         name = "minisign" + re.sub("([A-Z])", r"_\1", name).lower()
         places[name] = ctypes.sizeof(struct)
         places.update((f"{name}.{field}", getattr(struct, field).offset) for field, _ in struct._fields_)
-for struct in (installing.RunOptions, installing.Installing):
+for name, struct in (("minisign_installing_options", installing.InstallingOptions), ("minisign_installing_message", installing.Message),
+                     ("minisign_installing_progress", installing.Phase)):
+    installer[f"sizeof({name})"] = ctypes.sizeof(struct)
     for field, _ in struct._fields_:
-        name, value = "struct " + re.sub(r"\B([A-Z])", r"_\1", struct.__name__).lower(), getattr(struct, field)
-        if name == "struct installing" and field in ("shown", "cause", "number"):
-            field = "directory.trouble." + field
+        value = getattr(struct, field)
         installer.update({f"offsetof({name}, {field})": value.offset, f"sizeof((({name} *) 0)->{field})": value.size})
+for name, value in vars(installing).items():
+    if name.startswith(("STATUS_", "PHASE_", "MESSAGE_")):
+        installer[f"MINISIGN_{name}"] = value
 print(json.dumps([[[number, kind.__name__, str(_calls.error_of(number))] for number, kind in errors.BY_NUMBER.items()], places, installer]))
 """
 
 
 def check_headers(checks, room, python_path, package):
     """Checks that the library is linked with the archives, and that the exceptions, the constants and the structs are those of the headers,
-    and those of c/install/installing.h that the package declares."""
+    and those of minisign_installing.h that the package declares."""
     checks.check("v3_minisign_update" in shared.symbols_of(f"{package}/libminisign.so"), "the library is not linked with the archives")
     errors, places, installer = json.loads(hold([python_path, "-c", DECLARED]))
     expected = [[number, "".join(map(str.capitalize, name.split("_"))), shared.error_texts()[name]]
                 for name, number in shared.ERRORS.items()]
     checks.same(sorted(errors), sorted(expected), "the exceptions")
     checks.same(places, shared.layout(room), "the structs")
-    in_c = shared.numbers_in_c(room, ['"install/installing.h"'], [(expression, expression) for expression in installer])
+    in_c = shared.numbers_in_c(room, ['"minisign_installing.h"'], [(expression, expression) for expression in installer])
     checks.check(installer == in_c and len(in_c) > 30, f"the structs of the installer are {installer}, and in C {in_c}")
 
 
@@ -223,6 +225,7 @@ def compare_results(user, minisign, cases):
     user.check_errors(["answers", "reject"], shared.rejections())
     user.check_vectors(["answers", "allow"])
     user.check_fields(["read"], fields_line)
+    user.check_lists(minisign)
 
 
 def check_examples(checks, python_path, room):
@@ -232,7 +235,9 @@ def check_examples(checks, python_path, room):
         write(room, name, data)
     minisign = lambda *words: run([needs.minisign(), *words], room)
     minisign("-G", "-W", "-p", "app.pub", "-s", "app.key")
-    for name, comment in (("app-2", "version:2\tfile:app"), ("data", "data")):
+    digests = "".join(f"{shared.hex_of('sha256', data)}  {name}\n" for name, data in (("app-2", b"version 2"), ("data", b"data")))
+    write(room, "SHA256SUMS", digests.encode())
+    for name, comment in (("app-2", "version:2\tfile:app"), ("data", "data"), ("SHA256SUMS", "file:SHA256SUMS")):
         minisign("-S", "-s", "app.key", "-m", name, "-t", comment)
     status, _, why = run([python_path, write(room, "program.py", shared.readme_examples("python").encode())], room)
     checks.check(status == 0 and read(room, "there", "app") == b"version 2", f"the examples of the README: {why[-500:]}")
@@ -262,6 +267,7 @@ def check_mutants(checks, python_path, package, room, minisign):
                  "pieces": lambda: user.check_verdicts(minisign, shared.corpus(), (["pieces"], True)),
                  "vectors": lambda: user.check_vectors(["answers", "allow"]),
                  "strict": lambda: user.check_pairs(1, "installing", directory),
+                 "listed": lambda: user.check_lists(minisign),
                  "ids": lambda: shared.check_key_ids(user, os.path.join(directory, "ids"), minisign),
                  "sign": lambda: shared.check_signing(user, os.path.join(directory, "signed"), minisign)}
         cases.get(word, lambda: user.check_pairs(1, word, directory))()
@@ -279,7 +285,8 @@ def run_all(checks, room):
     check_examples(checks, with_libsodium, os.path.join(room, "examples"))
     cases = shared.all_cases(checks, minisign)
     # The words of python_checks.py, and how many results each has at least.
-    words = {"memory": 1, "threads": 3, "installing": 40, "signals": 3, "arguments": 1000, "parts": 25, "keys": 30, "writing": 40}
+    words = {"memory": 1, "threads": 3, "installing": 40, "signals": 3, "arguments": 1000, "parts": 25, "keys": 30, "writing": 40,
+             "lists": 15}
     for kind, python_path, more in (("libsodium", with_libsodium, {"passwords": 10, "documentation": 100}),
                                     ("cryptography", with_cryptography, {})):
         user, directory = user_of(checks, python_path, kind), os.path.join(room, kind)

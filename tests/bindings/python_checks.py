@@ -15,6 +15,7 @@ import copy
 import enum
 import errno
 import functools
+import hashlib
 import importlib
 import inspect
 import io
@@ -415,9 +416,13 @@ def installing(room: str) -> None:
     with open(path, "rb") as file:
         interrupted = mock.Mock(fileno=file.fileno, read=mock.Mock(side_effect=KeyboardInterrupt))
         fails_unchanged(KeyboardInterrupt, "an interrupted run", interrupted)
-    unable = mock.Mock(**{"accepts.side_effect": KeyboardInterrupt})
-    with mock.patch.object(_calls, "_current", [unable]), mock.patch.object(sys, "unraisablehook"):
-        fails_unchanged(minisign.ReadingFailed, "an Ed25519 that raises")
+    for raised in (KeyboardInterrupt, LookupError):
+        unable = mock.Mock(**{"accepts.side_effect": raised})
+        with mock.patch.object(_calls, "_current", [unable]):
+            fails_unchanged(raised, f"an Ed25519 that raises {raised.__name__}")
+    check_early_exceptions(fails_unchanged)
+    too_long = mock.Mock(fileno=lambda: 0, read=lambda size: bytes(size + 1))
+    fails_unchanged(ValueError, "a file that returns more than was asked for", too_long)
     with open(path, "rb") as file:
         check(install(file, mode=0o755, most=3) is True, "an open file is not reported as installed")
     is_installed(b"two", 2, "an open file")
@@ -430,6 +435,19 @@ def installing(room: str) -> None:
         check(install(keys=keys) is False, "an installation with two keys")
     rejects(minisign.DifferentKeyIds, lambda: offer(second_update, [other_public, other_public]), "two other keys")
     rejects(ValueError, lambda: offer(second_update, [other_public] * 3), "three keys")
+    for option in ("new_key", "roll_back"):
+        choices: Dict[str, Any] = {"first": True, option: True}
+        rejects(ValueError, lambda: install(**choices), f"first with {option}", "^first must not be combined")
+    check_pipes(key, place)
+    check(install(io.BytesIO(b"one"), first_update, roll_back=True) is True, "a roll-back")
+    is_installed(b"one", 2, "a roll-back")
+    rejects(minisign.SameNumber, install, "the update that was taken back")
+    check(install(again=True) is True, "the update that was taken back, with again")
+    other_key = SecretKey.generate()
+    other_update = other_key.sign(path, trusted_comment="version:1\tfile:app")
+    rejects(minisign.OlderUpdate, lambda: install(update=other_update, keys=other_key.public_key), "an older update under another key")
+    check(install(update=other_update, keys=other_key.public_key, new_key=True) is True, "an older update under a new key")
+    is_installed(b"two", 1, "an older update under a new key")
     opened = len(os.listdir("/proc/self/fd"))
     for _ in range(20):
         install()
@@ -438,6 +456,75 @@ def installing(room: str) -> None:
     with mock.patch.object(_calls, "library", object()):
         importlib.reload(installer)
     rejects(NotImplementedError, lambda: installer.install(public, path, second_update, place), "a library without the installer", "^installing is supported only on Linux$")
+
+
+def check_early_exceptions(fails_unchanged: Callable[..., None]) -> None:
+    """If a function raises before it can catch the exception, no signature counts as valid, and the run does not go on."""
+    for name, error in (("Answer", minisign.ReadingFailed), ("Show", KeyboardInterrupt)):
+        raising = getattr(installer, name)(mock.Mock(side_effect=KeyboardInterrupt))
+        with mock.patch.object(installer, name, lambda _: raising), mock.patch.object(sys, "unraisablehook"):
+            fails_unchanged(error, f"an early exception in {name}")
+
+
+def check_pipes(key: SecretKey, place: str) -> None:
+    """An open file is read only if the update is to be installed, and no further than one byte after the signed size."""
+    for number, size, most, count, error in ((1, 3, None, 0, minisign.OlderUpdate), (2, 3, None, 0, None), (3, 3, None, 4, minisign.OtherSize),
+                                             (3, 1 << 20, None, (1 << 20) + 1, minisign.OtherSize), (3, 1 << 20, 1000, 1001, minisign.TooLong)):
+        source, data = io.BytesIO(bytes(4 << 20)), write(os.path.dirname(place), "data", b"two")
+        update = key.sign(data, trusted_comment=f"version:{number}\tfile:app\tsize:{size}")
+
+        def install() -> bool:
+            return minisign.install(key.public_key, source, update, place, numbering="version", most=most)
+
+        if error is None:
+            check(install() is False, "an open file is installed over the same update")
+        else:
+            rejects(error, install, f"an open file for version {number}")
+        check(source.tell() == count, f"version {number}: read {source.tell()} bytes, expected {count}")
+
+
+def lists(room: str) -> None:
+    """Lists and files are found by their names, and what is wrong with them is reported."""
+    key, other = SecretKey.generate(), SecretKey.generate()
+    public, path, list_path = key.public_key, write(room, "app", b"data"), os.path.join(room, "SHA512SUMS")
+
+    def write_list(text: str, comment: str = "version:1\tfile:SHA512SUMS") -> None:
+        write(room, "SHA512SUMS", text.encode())
+        minisign.sign(list_path, key, trusted_comment=comment)
+
+    line = hashlib.sha512(b"data").hexdigest() + "  app\n"
+    write_list(line)
+    check(minisign.verify_listed(path, list_path, public) == "version:1\tfile:SHA512SUMS", "a file of a list")
+    renamed = write(room, "renamed", b"data")
+    seen: List[Tuple[int, int]] = []
+    check(minisign.verify_listed(renamed, list_path, public, name="app", progress=lambda done, size: seen.append((done, size))) != "", "a renamed file of a list")
+    check(seen == [(4, 4)], f"progress: {seen}")
+    rejects(minisign.NotListed, lambda: minisign.verify_listed(renamed, list_path, public), "a file that is not listed")
+    rejects(minisign.DigestMismatch, lambda: minisign.verify_listed(renamed, list_path, public, name="app", long_digest="blake2b"), "BLAKE2b instead of SHA-512")
+    rejects(minisign.DifferentKeyIds, lambda: minisign.verify_listed(path, list_path, other.public_key), "another key")
+    rejects(FileNotFoundError, lambda: minisign.verify_listed(path, path, public), "a list without a signature")
+    rejects(FileNotFoundError, lambda: minisign.verify_listed(path + "2", list_path, public, name="app"), "a missing file")
+
+    signed = minisign.SignedList.from_file(list_path, public)
+    check((signed.text, signed.trusted_comment) == (line.encode(), "version:1\tfile:SHA512SUMS"), "the parts of a list")
+    entry = minisign.ListEntry("app", "sha512", hashlib.sha512(b"data").digest(), 1, False)
+    check([signed.find("./app"), *signed.entries()] == [entry, entry], "the entry of a list")
+    moved = os.path.join(room, "OTHERSUMS")
+    for suffix in ("", ".minisig"):
+        shutil.copy(list_path + suffix, moved + suffix)
+    rejects(minisign.OtherList, lambda: minisign.SignedList.from_file(moved, public), "a renamed list")
+    check(minisign.SignedList(line, public, Signature.from_file(moved + ".minisig"), None).find("app") == entry, "a list of any name")
+    rejects(minisign.OtherList, lambda: minisign.SignedList(line, public, Signature.from_file(moved + ".minisig"), ""), "an empty name is not any name")
+
+    write_list(f"{line}# comment\nMD5 (b) = 00\n")
+    broken = minisign.SignedList.from_file(list_path, public)
+    calls: List[Callable[[], object]] = [broken.entries, lambda: broken.find("app"), lambda: broken.verify_listed(b"data", "app")]
+    for call in calls:
+        rejects(minisign.MalformedLine, call, "a malformed line", "^line 3: ")
+    write_list("#" * (2**20 + 1))
+    rejects(minisign.TooLong, lambda: minisign.SignedList.from_file(list_path, public), "a list of more than 1 MiB", "SHA512SUMS is larger")
+    write_list("#" * (2**20 - 1) + "\n")
+    check(minisign.SignedList.from_file(list_path, public).entries() == [], "a list of 1 MiB")
 
 
 def weak_update(comment: bytes) -> Tuple[PublicKey, Signature]:
@@ -467,11 +554,13 @@ def signals(room: str) -> None:
     key = SecretKey.generate()
     path, place = write(room, "update", b"one"), os.path.join(room, "app")
 
-    def make_call(begun: Any) -> Any:
+    def show_phase(run: Any, passed: Any) -> None:
         """Sends a signal when the record is to be renamed."""
-        if _calls.library.minisign_install_due(begun.contents.machine) == _header.DUE_RENAME_RECORD:
+        original(run, passed)
+        if passed.contents.phase == installer.PHASE_RENAMING:
             os.kill(os.getpid(), signal.SIGTERM)
-        return _calls.library.make_call(begun)
+
+    original = installer._Run._show_phase
 
     def signed(number: int) -> Signature:
         return key.sign(path, trusted_comment=f"version:{number}\tfile:app")
@@ -482,7 +571,7 @@ def signals(room: str) -> None:
     child = os.fork()
     if child == 0:
         signal.signal(signal.SIGTERM, signal.SIG_DFL)
-        setattr(installer, "library", mock.Mock(wraps=_calls.library, make_call=make_call))
+        setattr(installer._Run, "_show_phase", show_phase)
         install(1, first=True)
         os._exit(0)
     ended = os.waitpid(child, 0)[1]
@@ -548,6 +637,7 @@ KINDS = {
     "size": Kind((None, True, False, 1e6, "1M", b"1", *OTHER_TYPES), bad=(-1, 2**64), same=(lambda _: 4, lambda _: 2**64 - 1)),
     "seconds": Kind((None, True, 1.0, "1", b"1", *OTHER_TYPES), bad=(-1, 24 * 60 * 60 + 1), same=(lambda _: 0, lambda _: 24 * 60 * 60)),
     "function": Kind((None, "f", b"f", *NUMBER_TYPES, *OTHER_TYPES)),
+    "long digest": Kind((None, b"sha512", *NUMBER_TYPES, *OTHER_TYPES), bad=("", "sha256", "SHA512", "md5"), same=(lambda _: "none", lambda _: "blake2b")),
     "numbering": Kind((None, b"version", *NUMBER_TYPES, *OTHER_TYPES), bad=("", "date", "Version", "version ")),
     "Ed25519": Kind((None, b"libsodium", *NUMBER_TYPES, *OTHER_TYPES), bad=("", "sodium", "Libsodium")),
     "public keys": Kind((None, "RWQ", b"RWQ", *NUMBER_TYPES, *OTHER_TYPES), bad=([], ()), same=(lambda value: [value], lambda value: (value, value))),
@@ -584,6 +674,11 @@ def table(room: str) -> List[Call]:
     minisign.write_new(key_path, secret.to_bytes(None))
     minisign.write_new(os.path.join(room, "data.pub"), secret.public_bytes())
     signature = minisign.sign(path, secret, trusted_comment="version:1\tfile:app")
+    list_path = os.path.join(room, "SHA256SUMS")
+    list_text = f"{hashlib.sha256(b'data').hexdigest()}  data\n"
+    pathlib.Path(list_path).write_text(list_text)
+    list_signature = minisign.sign(list_path, secret, trusted_comment="file:SHA256SUMS")
+    signed = minisign.SignedList(list_text, public, list_signature, "SHA256SUMS")
     kind = "libsodium" if isinstance(_calls.ed25519(), _calls.Sodium) else "cryptography"
 
     def there() -> str:
@@ -609,7 +704,7 @@ def table(room: str) -> List[Call]:
     limits: Dict[str, Any] = {"operations_limit": ("operations", 2**20), "memory_limit": ("memory", 2**25)}
     comments: Dict[str, Any] = {"trusted_comment": ("text or none", "comment \u00e9"), "untrusted_comment": ("text", "other")}
     progress: Dict[str, Any] = {"progress": ("function or none", None)}
-    update: Dict[str, Any] = {"must_expire": ("truth", False), "numbering": ("numbering", "version"), "name": ("name or none", "app")}
+    update: Dict[str, Any] = {"must_expire": ("truth", False), "new_key": ("truth", False), "roll_back": ("truth", False), "numbering": ("numbering", "version"), "name": ("name or none", "app")}
     return [
         Call("Signature", minisign, text=("text", signature.text.decode())),
         Call("Signature.from_file", Signature, path=("path", path + ".minisig")),
@@ -622,6 +717,17 @@ def table(room: str) -> List[Call]:
         Call("Verifier.trusted_comment", verifier),
         Call("Verifier.finish", fed),
         Call("verify", minisign, path=("path", path), key=("public key", public), signature=("signature or none", None), allow_legacy=("truth", False), **progress),
+        Call("SignedList", minisign, text=("text", list_text), key=("public key", public), signature=("signature", list_signature),
+            name=("text or none", "SHA256SUMS"), long_digest=("long digest", "sha512")),
+        Call("SignedList.from_file", minisign.SignedList, path=("path", list_path), key=("public key", public), signature=("signature or none", None),
+            long_digest=("long digest", "sha512")),
+        Call("SignedList.entries", signed),
+        Call("SignedList.find", signed, name=("text", "data")),
+        Call("SignedList.verify_listed", signed, data=("data", b"data"), name=("text", "data")),
+        Call("SignedList.verify_listed_file", signed, path=("path", path), name=("text or none", "data"), **progress),
+        Call("SignedList.verify_listed_trusting_hashlib", signed, data=("data", b"data"), name=("text", "data")),
+        Call("verify_listed", minisign, path=("path", path), list_path=("path", list_path), key=("public key", public), name=("text or none", "data"),
+            long_digest=("long digest", "sha512"), **progress),
         Call("SecretKey", minisign, opened=("secret key", secret._opened)),
         Call("SecretKey.generate", SecretKey),
         Call("SecretKey.from_bytes", SecretKey, text=("text", secret.to_bytes(None).decode()), **opening),
@@ -647,7 +753,7 @@ def public_calls() -> Iterator[Tuple[str, Callable[..., object]]]:
         item = getattr(minisign, name)
         if inspect.isfunction(item):
             yield name, item
-        elif inspect.isclass(item) and not issubclass(item, (BaseException, enum.Enum, minisign.Checked)):
+        elif inspect.isclass(item) and not issubclass(item, (BaseException, enum.Enum, minisign.Checked, minisign.ListEntry)):
             yield name, item
             for method, value in vars(item).items():
                 if not method.startswith("_") and not isinstance(value, property):
@@ -661,7 +767,7 @@ def files(room: str) -> Dict[str, bytes]:
 
 def comparable(result: object) -> object:
     """Returns the part of a result that is the same in each run."""
-    part = {PublicKey: "key", SecretKey: "public_key", Signature: "text", Verifier: "__doc__"}.get(type(result))
+    part = {PublicKey: "key", SecretKey: "public_key", Signature: "text", Verifier: "__doc__", minisign.SignedList: "trusted_comment"}.get(type(result))
     return getattr(result, part) if part else result
 
 

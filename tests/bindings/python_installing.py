@@ -31,7 +31,7 @@ from words import word_cases
 
 FAILED, MISUSED, REJECTED, OLDER, IN_USE, NOT_ON_DISK, UNRECORDED, SAME, EXPIRED, THERE = range(1, 11)
 OFFERS = {minisign.Offer.NEWER: 0, minisign.Offer.THERE: THERE, minisign.Offer.OLDER: OLDER}
-OPTIONS = ["first", "again", "check", "must-expire", "key=", "name=", "numbering=", "mode=", "max-size=", "most=", "wait="]
+OPTIONS = ["first", "again", "check", "must-expire", "new-key", "roll-back", "key=", "name=", "numbering=", "mode=", "max-size=", "most=", "wait="]
 
 # The exit statuses of `minisign-install` for errors. For all other errors the status is that of a rejected update.
 STATUSES = {
@@ -57,7 +57,7 @@ HINTS_OF_CAUSES = {
     "only the owner of this file can open it": "use chown to change its owner to that of the installed file",
     "this file is too long for a version record": "remove it and use --first to install anyway",
     "another process removed or replaced this lock file": "run the command again",
-    "the system does not allow the mode ": "use --mode to choose another mode", "written at ": "set the system clock",
+    "the system does not allow the mode ": "use --mode to choose another mode",
     "another file is mounted": "unmount it, or give the path of another file",
 }
 
@@ -124,14 +124,15 @@ def install(words):
     try:
         public_keys = [read_text(minisign.PublicKey.from_base64, text) for text in keys] or read_text(minisign.PublicKey.from_file, key)
         text = read_text(minisign.Signature.from_file, signature)
-        parameters = {"first": "--first" in options, "must_expire": "--must-expire" in options, "numbering": numbering, "name": name}
+        flags = {name.replace("-", "_"): f"--{name}" in options for name in ("first", "again", "must-expire", "new-key", "roll-back")}
+        parameters = {**flags, "numbering": numbering, "name": name}
         if "--check" in options:
-            return OFFERS[minisign.check(public_keys, text, place, again="--again" in options, **parameters)]
-        is_new = minisign.install(public_keys, data, text, place, again="--again" in options, mode=None if mode is None else int(mode, 8),
+            return OFFERS[minisign.check(public_keys, text, place, **parameters)]
+        is_new = minisign.install(public_keys, data, text, place, mode=None if mode is None else int(mode, 8),
                                   most=most, wait=int(options.get("--wait", 0)), **parameters)
     except minisign.MinisignError as error:
         status, cause = STATUSES.get(type(error), REJECTED), error.__cause__
-        has_cause = status in (FAILED, NOT_ON_DISK, EXPIRED) and isinstance(cause, OSError)
+        has_cause = status in (FAILED, NOT_ON_DISK) and isinstance(cause, OSError)
         errors = [rejection(data, signature, place, name or os.path.basename(place), numbering, error)]
         if has_cause:
             errors = [*errors[status == FAILED:], failure(cause, place)]

@@ -2,8 +2,8 @@
 
     python_user.py IMPLEMENTATION COMMAND [ARGUMENT ..]
 
-IMPLEMENTATION is the implementation of Ed25519: `libsodium` or `cryptography`. The commands `answers`, `pieces` and `read`
-print a line for each case on standard input. `make`, `sign`, `opened`, `sealed`, `write` and `ids` use a key. Any other
+IMPLEMENTATION is the implementation of Ed25519: `libsodium` or `cryptography`. The commands `answers`, `pieces`, `read`,
+`listed` and `entries` print a line for each case on standard input. `make`, `sign`, `opened`, `sealed`, `write` and `ids` use a key. Any other
 command is a function of `python_checks.py`, which is a separate module because its imports take long to start.
 
 Needs Python 3.9 or later.
@@ -15,10 +15,11 @@ import os
 import random
 import re
 import sys
+import tempfile
 from typing import Callable, Dict, Iterator, List, Optional, Tuple
 
 import minisign_proved as minisign
-from minisign_proved import PublicKey, SecretKey, Signature, Verifier
+from minisign_proved import ListEntry, PublicKey, SecretKey, Signature, SignedList, Verifier
 
 
 # ---- Cases ----
@@ -85,6 +86,58 @@ def read() -> None:
     for key, _, text in read_cases():
         signature = Signature(text)
         print(PublicKey(key).key_id, signature.key_id, signature.is_legacy)
+
+
+# ---- Signed lists ----
+
+
+def read_list_cases() -> Iterator[List[bytes]]:
+    """Yields the parts of each case of a list on standard input: key, list, signature, name of the list, what 128 digits mean, name, data."""
+    for line in sys.stdin:
+        yield [bytes.fromhex(part.strip("-\n")) for part in line.split(" ")]
+
+
+def listed_answer(verify: Callable[[], Tuple[SignedList, ListEntry]]) -> str:
+    """Returns `accepted`, the trusted comment and the line of the entry, or `rejected`, the error and the line at fault."""
+    try:
+        signed, entry = verify()
+        return f"accepted {signed.trusted_comment.encode().hex()} {entry.line}"
+    except minisign.MinisignError as why:
+        has_line = str(why).startswith(f"line {why.line}: ") if why.line else not str(why).startswith("line ")
+        return f"rejected {name_of(why)} {why.line}{'' if has_line else f': {why}'}"
+
+
+def listed() -> None:
+    """Verifies the file of each case with each way to pass data, and prints the result, or all results if they differ."""
+    choose = random.Random(4)
+    with tempfile.TemporaryDirectory() as room:
+        for key, text, signature, list_name, long_digest, name, data in read_list_cases():
+            path = write(room, "data", data)
+
+            def signed() -> SignedList:
+                return SignedList(text, PublicKey(key), Signature(signature), list_name or None, long_digest=long_digest.decode())
+
+            def at_path(*words: bytes) -> ListEntry:
+                seen: List[int] = []
+                entry = signed().verify_listed_file(path, *words, progress=lambda done, _: seen.append(done))
+                assert seen == ([*seen[:-1], len(data)] if data else []), seen
+                return entry
+
+            ways: List[Callable[[], ListEntry]] = [
+                lambda: signed().verify_listed(data, name), lambda: signed().verify_listed(io.BytesIO(data), name),
+                lambda: signed().verify_listed(cut(data, choose), name), lambda: at_path(name),
+                lambda: signed().verify_listed_trusting_hashlib(data, name),
+                lambda: signed().verify_listed_trusting_hashlib(cut(data, choose), name)]
+            results = {listed_answer(lambda: (signed(), way())) for way in ways}
+            print(results.pop() if len(results) == 1 else f"differs {results}")
+
+
+def entries() -> None:
+    """Prints the entries of each list."""
+    for key, text, signature, list_name, long_digest, *_ in read_list_cases():
+        signed = SignedList(text, PublicKey(key), Signature(signature), list_name, long_digest=long_digest.decode())
+        print(*(f"{entry.line} {entry.hash} {entry.digest.hex()} {entry.name.encode().hex()} {entry.is_escaped}" for entry in signed.entries()),
+              sep=",")
 
 
 # ---- Keys and signing ----

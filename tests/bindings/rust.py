@@ -7,7 +7,7 @@ an empty directory, and built by cargo, without network and kit, as dependencies
 
 They are also built in a path with spaces, with neither make nor objcopy in PATH, with the variables of the crate cc and of
 libsodium, as a git dependency, for Windows, where wine runs them, and for AArch64. The examples of README.md are pasted into
-a crate and run. The results are compared with `c/minisign`, libsodium and the header (`compare_results`), and the layout of structs
+a crate and run, and the examples in the documentation are run. The results are compared with `c/minisign`, libsodium and the header (`compare_results`), and the layout of structs
 with the header. `unsafe` is in one module only, and without the feature `sodium` nothing of libsodium is linked. Each mutant
 of rust/mutants is detected. It prints a line for each failure; the last line is `N passed, M failed`.
 
@@ -42,7 +42,8 @@ from shared_cases import TOP, Program, read, record_of, run, write
 CRATE, SYS = (os.path.join(TOP, "bindings", name) for name in ("rust", "rust-sys"))
 # The files of bindings/rust that are written by hand, of which the first five have no `unsafe`; and the files that tools/bindings.py
 # makes, of bindings/rust and of bindings/rust-sys.
-BY_HAND = ["src/lib.rs", "src/base64.rs", "src/files.rs", "src/records.rs", "src/signing.rs", "src/raw.rs", "src/raw/sodium.rs"]
+BY_HAND = ["src/lib.rs", "src/base64.rs", "src/files.rs", "src/records.rs", "src/signing.rs", "src/raw.rs", "src/raw/sodium.rs", "src/lists.rs",
+           "src/raw/lists.rs"]
 GENERATED, GENERATED_SYS = "src/raw/header.rs", "src/header.rs"
 NO_SODIUM = dict.fromkeys(("crypto_sign", "sodium_init", "randombytes"), False)
 # The number of calls, and by how many pages of 4 KiB the memory may grow after a tenth of them.
@@ -72,6 +73,11 @@ def depends_on(form, crate, unpacked=None, used=("minisign-proved-sys",)):
     unpacked = unpacked or os.path.dirname(crate)
     patches = "".join(f'{name} = {{ path = "{unpacked}/{name}-{shared_cases.VERSION}" }}\n' for name in used)
     return f"{form.format(crate=crate)}\n\n[patch.crates-io]\n{patches}"
+
+
+def patch_options(unpacked, *names):
+    """Returns options of cargo that name unpacked crates in this directory."""
+    return [word for name in names for word in ("--config", f'patch.crates-io.{name}.path="{unpacked}/{name}-{shared_cases.VERSION}"')]
 
 
 def new_crate(room, name, dependency, source):
@@ -108,8 +114,27 @@ class Cargo:
         return static_library.hold([self.cargo, *words], directory, **{**self.environment, **environment})
 
 
+# The begin of the parts that each README of a Rust crate has, in this order.
+README_ORDER = ["```rust\n", "## (?:How to|Install and) switch\n", "## What is different from ", "## What is proved, and what is not\n",
+                "## Questions\n"]
+# What the table of questions answers: a part of each first cell.
+ANSWERED = ["Licence", "C compiler", "libsodium", "Targets", "`no_std`", "WebAssembly", "async", "[Ss]ize", "[Bb]uild time"]
+
+
+def check_order(checks, name):
+    """Checks that the README of a crate has the parts of README_ORDER, and answers what ANSWERED lists."""
+    text = read(TOP, "bindings", name, "README.md").decode()
+    places = [[found.start() for found in re.finditer(f"(?m)^{part}", text)][:1] for part in README_ORDER]
+    checks.check(all(places) and places == sorted(places), f"{name}/README.md has the parts of README_ORDER at {places}")
+    cells = "\n".join(re.findall(r"(?m)^\| ([^|]*) \|", text.partition("\n## Questions\n")[2]))
+    missing = [word for word in ANSWERED if not re.search(word, cells)]
+    checks.check(not missing, f"{name}/README.md does not answer {missing}")
+
+
 def check_sources(checks):
-    """Checks that `unsafe` is in one module only, and checks the README and the list of files."""
+    """Checks that `unsafe` is in one module only, and checks the READMEs and the list of files."""
+    for name in ("rust", "rust-sys", "rust-minisign"):
+        check_order(checks, name)
     code = {name: shared_cases.code_of(read(CRATE, name).decode()) for name in BY_HAND}
     shared_cases.check_readme(checks, "rust")
     for name, lines in code.items():
@@ -117,6 +142,23 @@ def check_sources(checks):
         checks.check(name.startswith("src/raw") or "unsafe" not in words, f"{name}: it has `unsafe`")
     files = {os.path.relpath(path, CRATE) for path in glob.glob(f"{CRATE}/src/**", recursive=True) if os.path.isfile(path)}
     checks.check(files == {*BY_HAND, GENERATED}, f"the crate has the files {sorted(files)}")
+
+
+def check_tests(checks, cargo, crate, least, *options):
+    """Checks that the tests of a crate pass, among them the examples in its documentation, and that there are at least so many."""
+    status, output = cargo.try_to_run(crate, "test", *options, **Cargo.UNOPTIMIZED)
+    passed = sum(int(count) for count in re.findall(r"(\d+) passed; 0 failed", output))
+    checks.check(status == 0 and passed >= least, f"{os.path.basename(crate)}: {passed} tests passed, at least {least} expected: {output[-1500:]}")
+
+
+def check_archives(checks, sys_crate):
+    """Checks that the symbols in the archives of the packed crate have prefixes, so that whoever links them needs no objcopy."""
+    archives = glob.glob(f"{sys_crate}/library/dist/calls-*.a")
+    for archive in archives:
+        prefix, data = re.search(r"(\w+)\.a$", archive)[1], read(archive)
+        has_prefix = f"\0{prefix}_minisign_update\0".encode() in data and b"\0minisign_update\0" not in data
+        checks.check(has_prefix, f"{archive}: its symbols do not have the prefix {prefix}_")
+    checks.check(len(archives) == 3, f"the packed crate has the archives {archives}")
 
 
 def check_inside(checks, cargo, crate, room):
@@ -167,10 +209,23 @@ def compare_results(program, room, minisign, cases):
     # Debug prints nothing secret, and a reason by its name.
     program.check_pairs(6, "shown")
     # Traits, records, bare signatures and keys that are not decrypted yet.
-    program.check_pairs(30, "types")
+    program.check_pairs(36, "types")
     shared_cases.check_signing(program, os.path.join(room, "signed"), minisign, lambda name: f"Err(Rejected({name}))", "Ok(())")
     shared_cases.check_key_ids(program, os.path.join(room, "ids"), minisign)
     shared_cases.check_new_key_files(program, os.path.join(room, "written"), "Ok(())")
+
+
+def check_lists(program, room, minisign):
+    """Checks the results of a program that verifies files with signed lists, and the lists and files that it reads from a directory."""
+    program.check_lists(minisign, boolean=lambda is_true: str(is_true).lower())
+    os.makedirs(room)
+    write(room, "app", b"data")
+    run([minisign, "-G", "-W", "-p", "a.pub", "-s", "a.key"], room)
+    write(room, "SUMS", f"{shared_cases.hex_of('sha256', b'data')}  app\n".encode())
+    run([minisign, "-S", "-s", "a.key", "-m", "SUMS", "-t", "version:1\tfile:SUMS"], room)
+    for ending in ("", ".minisig"):
+        shutil.copy(os.path.join(room, f"SUMS{ending}"), os.path.join(room, f"OTHER{ending}"))
+    program.check_pairs(9, "files", room)
 
 
 # ---- Builds ----
@@ -277,11 +332,8 @@ def check_here(checks, programs, crate, room):
     checks.check(status == 0 and os.path.exists(f"{compiler}-calls"), f"a compiler for one target: {why[-500:]}")
     check_libsodium(checks, crate, room)
     dependency = f'minisign-proved = {{ git = "file://{commands.Clone(room).top}", default-features = false }}'
-    for what, has_objcopy in (("by git without objcopy", False), ("by git", True)):
-        if has_objcopy:
-            os.symlink(os.path.join(needs.DEBIAN, "objcopy"), os.path.join(programs, "objcopy"))
-        place = UserCrate(programs, room, what, dependency)
-        place.check(checks, what, {"v3_minisign_update": has_objcopy}, CARGO_NET_OFFLINE="false")
+    place = UserCrate(programs, room, "by git", dependency)
+    place.check(checks, "by git", {"v3_minisign_update": True, "v2_minisign_update": True}, CARGO_NET_OFFLINE="false")
 
 
 def check_libsodium(checks, crate, room):
@@ -318,13 +370,20 @@ def check_mutants(checks, cargo, crate, room, minisign):
     """Checks that a program that uses the crate detects each mutant. A mutant may cause warnings. All mutants are built in one directory,
     so that cargo compiles only what differs from the previous mutant."""
     crate_path = os.path.join(room, "changed")
-    user = new_crate(room, "mutants", depends_on(RENAMED, crate_path, os.path.dirname(crate)), "answers.rs")
+    users = {name: new_crate(room, f"mutants-{name}", depends_on(RENAMED, crate_path, os.path.dirname(crate)), f"{name}.rs")
+             for name in ("answers", "lists")}
 
-    def ask(checks, changed, directory, _):
+    def ask(checks, changed, directory, word):
         shutil.rmtree(crate_path, ignore_errors=True)
         os.rename(changed, crate_path)
-        cargo.run(user, "build", RUSTFLAGS="", CARGO_INCREMENTAL="1", **Cargo.UNOPTIMIZED)
-        compare_results(Program(checks, f"{cargo.target}/debug/user"), directory, minisign, shared_cases.corpus())
+        # cargo compares times. A copy without a mutant is older than the build of the previous mutant.
+        os.utime(os.path.join(crate_path, "src", "lib.rs"))
+        cargo.run(users["lists" if word == "lists" else "answers"], "build", RUSTFLAGS="", CARGO_INCREMENTAL="1", **Cargo.UNOPTIMIZED)
+        program = Program(checks, f"{cargo.target}/debug/user")
+        if word == "lists":
+            check_lists(program, os.path.join(directory, "listed"), minisign)
+        else:
+            compare_results(program, directory, minisign, shared_cases.corpus())
 
     shared_cases.check_mutants(checks, crate, "bindings/rust", mutants_of("bindings", "rust", "mutants"), room, ask)
 
@@ -339,17 +398,24 @@ def check_toolchain(checks, room, toolchain, minisign, is_first):
     program = Program(checks, shutil.copy(os.path.join(cargo.target, "release", "user"), answers))
     few = shared_cases.corpus() + shared_cases.damaged_cases(60)
     compare_results(program, room, minisign, shared_cases.all_cases(checks, minisign) if is_first else few)
+    lists = new_crate(room, "lists", depends_on(RENAMED, crate), "lists.rs")
+    cargo.run(lists, "build", "--release")
+    check_lists(Program(checks, shutil.copy(os.path.join(cargo.target, "release", "user"), lists)), os.path.join(room, "listed"), minisign)
     check_readme(checks, cargo, room, crate, minisign)
     check_inside(checks, cargo, crate, room)
     if not is_first:
         return
+    unpacked = os.path.dirname(crate)
+    sys_crate = f"{unpacked}/minisign-proved-sys-{shared_cases.VERSION}"
+    check_archives(checks, sys_crate)
+    check_tests(checks, cargo, sys_crate, 1, "--doc")
+    check_tests(checks, cargo, crate, 40, *patch_options(unpacked, "minisign-proved-sys"))
     program.check_growth(CALLS, PAGES, few)
     program.check_threads(few)
     check_mutants(checks, cargo, crate, room, minisign)
     programs = shared_cases.path_directory(room, *NEEDED)
     check_here(checks, programs, crate, room)
     check_targets(checks, programs, crate, room)
-    sys_crate = f"{os.path.dirname(crate)}/minisign-proved-sys-{shared_cases.VERSION}"
     shutil.rmtree(os.path.join(sys_crate, "library"))
     status, _ = cargo.try_to_run(sys_crate, "build", "--profile", "bench")
     checks.check(status != 0, "the crate can be built without its directory library")

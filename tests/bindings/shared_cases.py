@@ -11,6 +11,7 @@ import base64
 import concurrent.futures
 import contextlib
 import functools
+import hashlib
 import os
 import random
 import re
@@ -220,6 +221,96 @@ def with_key_id(case, number):
     return case._replace(name=f"the key ID {number:X}", key=changed(case.key), signature=changed(case.signature))
 
 
+# ---- Signed lists ----
+
+# A key, a list and its signature; the name of the list, or nothing if every trusted comment is accepted; what 128 digits mean on a line that
+# names no hash function; and a file with its name. All parts except for the title are bytes.
+ListCase = namedtuple("ListCase", "title key text signature list_name long_digest name data")
+LIST_NAME, LIST_COMMENT = "SHA256SUMS", "version:2\tfile:SHA256SUMS"
+ACCENT = "\u00e9"
+# The files of the list, by their names in it.
+LISTED = {"app": b"version 2\n", "dir/b c": b"", "x) = y": b"parentheses", "star": b"binary", "twice": b"2", "long": b"l" * 200_000,
+          ACCENT: b"accent"}
+
+
+def hex_of(name, data):
+    """Returns the digest of data in hexadecimal, as hashlib computes it."""
+    return getattr(hashlib, name)(data).hexdigest()
+
+
+# The lines of the list, with the entry of each: its hash function, its name and whether it has escapes.
+LIST_LINES = [
+    ("# the files of version 2\r\n", None),
+    ("\n", None),
+    (f"{hex_of('sha256', LISTED['app'])}  app\r\n", ("sha256", "app", False)),
+    (f"SHA512 (dir/b c) = {hex_of('sha512', b'').upper()}\n", ("sha512", "dir/b c", False)),
+    (f"BLAKE2b (x) = y) = {hex_of('blake2b', LISTED['x) = y'])}\n", ("blake2b", "x) = y", False)),
+    (f"{hex_of('sha256', LISTED['star'])} *./star\n", ("sha256", "star", False)),
+    (f"\\{hex_of('sha256', b'')}  new\\nline\n", ("sha256", "new\\nline", True)),
+    (f"{hex_of('sha256', LISTED['twice'])}  twice\n", ("sha256", "twice", False)),
+    (f"{hex_of('sha512', LISTED['long'])}  long\n", ("sha512", "long", False)),
+    (f"{hex_of('sha256', LISTED[ACCENT])}  {ACCENT}\n", ("sha256", ACCENT, False)),
+    (f"SHA256 (./twice) = {hex_of('sha256', LISTED['twice'])}", ("sha256", "twice", False)),
+]
+# Lists with a malformed line, whose number is 2. The last one is not UTF-8.
+LIST_BEGIN = LIST_LINES[2][0].encode()
+MALFORMED_LISTS = [LIST_BEGIN + line.encode() for line in (
+    f"{hex_of('sha256', b'')} b\n", f"{hex_of('sha256', b'')}  /b\n", f"{hex_of('sha256', b'')}  ../b\n", f"MD5 (b) = {hex_of('md5', b'')}",
+    f"{hex_of('sha256', b'')}  b\tc\n", f"{hex_of('sha256', b'')}  b\r\r\n", "b\n", " \n", f"{hex_of('sha256', b'')[1:]}  b\n")]
+
+
+@functools.lru_cache(maxsize=None)
+def list_rows(minisign):
+    """Returns cases of verifying a file with a signed list, each with the expected line: `accepted`, the trusted comment and the number of
+    the file's line in the list; or `rejected`, the error and the number of the line at fault, or 0."""
+    text = "".join(line for line, _ in LIST_LINES).encode()
+    with tempfile.TemporaryDirectory(prefix="lists-") as room:
+        for name in ("ours", "theirs"):
+            run([minisign, "-G", "-W", "-p", f"{name}.pub", "-s", f"{name}.key"], room)
+
+        def signed(text, *words, comment=LIST_COMMENT, key="ours"):
+            write(room, LIST_NAME, text)
+            run([minisign, "-S", "-s", f"{key}.key", "-m", LIST_NAME, "-x", "sig", "-t", comment, *words], room)
+            return read(room, "sig")
+
+        first, good = read(room, "ours.pub"), signed(text)
+        case = ListCase("", first, text, good, LIST_NAME.encode(), b"sha512", b"app", LISTED["app"])
+        accepted = lambda line, comment=LIST_COMMENT: f"accepted {comment.encode().hex()} {line}"
+        rejected = lambda name, line=0: f"rejected {name} {line}"
+        rows = [(case._replace(name=name.encode(), data=data), accepted(next(at for at, (_, entry) in enumerate(LIST_LINES, 1) if entry and entry[1] == name)))
+                for name, data in LISTED.items() if name != "twice"]
+        rows += [(case._replace(name=name.encode(), data=data + b"x"), rejected("DIGEST_MISMATCH")) for name, data in LISTED.items() if name != "twice"]
+        rows += [(case._replace(name=b"./app"), accepted(3)), (case._replace(name=b"App"), rejected("NOT_LISTED")),
+                 (case._replace(name=b"twice", data=LISTED["twice"]), rejected("LISTED_TWICE", 11)),
+                 (case._replace(long_digest=b"none"), rejected("MALFORMED_LINE", 9)),
+                 (case._replace(long_digest=b"blake2b", name=b"long", data=LISTED["long"]), rejected("DIGEST_MISMATCH")),
+                 (case._replace(list_name=b""), accepted(3)), (case._replace(list_name=b"SHA256SUM"), rejected("OTHER_LIST")),
+                 (case._replace(text=text + b"\n"), rejected("SIGNATURE_REFUSED")),
+                 (case._replace(signature=good.replace(b"version:2", b"version:3")), rejected("COMMENT_SIGNATURE_REFUSED")),
+                 (case._replace(signature=signed(text, key="theirs")), rejected("DIFFERENT_KEY_IDS")),
+                 (case._replace(signature=signed(text, "-l")), rejected("LEGACY_NOT_ACCEPTED")),
+                 (case._replace(signature=b"none"), rejected("MISSING_SIGNATURE")),
+                 (case._replace(signature=signed(text, comment="version:3"), list_name=b""), accepted(3, "version:3")),
+                 (case._replace(signature=signed(text, comment="version:3")), rejected("OTHER_LIST"))]
+        rows += [(case._replace(name=name), rejected("BAD_NAME"))
+                 for name in (b"../app", b"/app", b"", b"a/", b"new\\nline", b"new\nline", b"a\0", b".")]
+        rows += [(case._replace(name=b"\xff"), rejected("NOT_UTF8")),
+                 (case._replace(text=b"# \xff\n" + text, signature=signed(b"# \xff\n" + text)), rejected("NOT_UTF8"))]
+        rows += [(case._replace(text=other, signature=signed(other)), rejected("MALFORMED_LINE", 2)) for other in MALFORMED_LISTS]
+        rows += [(case._replace(text=b"", signature=signed(b"")), rejected("NOT_LISTED"))]
+    return [(each._replace(title=f"{each.name} of a list, {expected}"), expected) for each, expected in rows]
+
+
+def listed_entries():
+    """Returns the line that a program prints for the entries of the list: for each one its line, hash function, digest, name and whether it
+    has escapes."""
+    def shown(at, line, kind, name, is_escaped):
+        digest = re.search("[0-9a-fA-F]{64,}", line)[0].lower()
+        return f"{at} {kind} {digest} {name.encode().hex()} {is_escaped}"
+
+    return ",".join(shown(at, line, *entry) for at, (line, entry) in enumerate(LIST_LINES, 1) if entry)
+
+
 # ---- The results of c/minisign ----
 
 
@@ -331,6 +422,17 @@ class Program:
         rows = expected_fields()
         self.checks.check(len(rows) > 20 and {fields.is_legacy for fields in rows} == {True, False}, f"only {len(rows)} cases are read")
         self.check_lines(words, [fields.case for fields in rows], [form(fields) for fields in rows])
+
+    def check_lists(self, minisign, boolean=str, form=str):
+        """Checks how the program verifies files with signed lists. `listed` verifies the file of each case in each way of the package, with
+        its own hash too; `entries` prints the entries of each list. `boolean` and `form` make the booleans and names of errors in the
+        expected lines those of the package."""
+        rows = list_rows(minisign)
+        self.checks.check(len(rows) >= 45, f"there are {len(rows)} cases of lists")
+        expected = [re.sub(r"(?<=rejected )\w+", lambda name: form(name[0]), line) for _, line in rows]
+        self.check_lines(["listed"], [case for case, _ in rows], list(map(re.escape, expected)))
+        entries = re.sub("True|False", lambda word: boolean(word[0] == "True"), listed_entries())
+        self.check_lines(["entries"], [rows[0][0], rows[-1][0]], [re.escape(entries), ""])
 
     def check_bare_keys(self, *forms):
         """Checks how the program reads a public key from its base64 line only. The inputs are a valid key, one that is too short, one that
@@ -562,7 +664,7 @@ def check_mutants(checks, package, inside, package_mutants, room, run_checks, se
 # ---- The errors and structs of the header ----
 
 
-HEADERS = c_header.both()
+HEADERS = c_header.every()
 VERSION = dict(HEADERS.texts)["VERSION_TEXT"].strip('"')
 # The numbers of the errors by name, without `MINISIGN_`.
 ERRORS = {error.name: error.number for error in HEADERS.errors}
@@ -585,7 +687,7 @@ def numbers_in_c(room, includes, rows):
 
 
 def layout(room):
-    """Returns the sizes of the structs of both headers by `name`, and the offsets of their fields by `name.field`, in bytes."""
+    """Returns the sizes of the structs of the headers by `name`, and the offsets of their fields by `name.field`, in bytes."""
     rows = [(name, f"sizeof({name})") for name in HEADERS.structs]
     rows += [(f"{name}.{field.name}", f"offsetof({name}, {field.name})") for name, fields in HEADERS.structs.items() for field in fields]
-    return numbers_in_c(room, ['"minisign_install.h"'], rows)
+    return numbers_in_c(room, ['"minisign_install.h"', '"minisign_list.h"'], rows)

@@ -9,12 +9,14 @@ WORD selects the libraries and the programs whose name contains it.
 - usage_errors.c: API misuse and NULL;
 - weak_ed25519.c: keys and signatures that strict Ed25519 rejects;
 - asked_texts.c: key and signature files, and the error of each rejection;
-- error_texts.c: the text of each error;
+- records.c: records of keys and signatures, bare signatures, and the check of a sealed key before the prompt;
+- error_texts.c: the text and the kind of each error;
 - installations.c: an installation at each of its calls;
 - guard_pages.c: buffers beside pages without access;
 - random_calls.c: random calls against a model;
 - allocations.c: memory, which is cleared before it is freed;
 - threads.c: several threads at once;
+- signed_lists.c: files that are checked against signed lists;
 - out_of_memory.c: failing allocations.
 
 The library is built over `dist/` (static_library.py), once more only with the copy of the calls for processors without
@@ -44,8 +46,8 @@ SANITIZED = ["-fsanitize=address,undefined", "-fno-sanitize-recover=all"]
 WRAPPED = ["-Wl,--wrap=malloc", "-Wl,--wrap=realloc", "-Wl,--wrap=free"]
 
 # The programs, with linker flags.
-PROGRAMS = {"usage_errors": [], "weak_ed25519": [], "asked_texts": WRAPPED, "error_texts": [], "installations": WRAPPED, "guard_pages": [], "random_calls": [],
-            "allocations": [*WRAPPED, "-Wl,--wrap=madvise"], "threads": ["-pthread"],
+PROGRAMS = {"usage_errors": [], "weak_ed25519": [], "asked_texts": WRAPPED, "records": WRAPPED, "error_texts": [], "installations": WRAPPED, "guard_pages": [], "random_calls": [],
+            "allocations": [*WRAPPED, "-Wl,--wrap=madvise"], "threads": ["-pthread"], "signed_lists": ["-pthread"],
             "out_of_memory": [*WRAPPED, "-Wl,--wrap=madvise", "-Wl,--wrap=pthread_create"]}
 programs_named = lambda *names: {name: PROGRAMS[name] for name in names}
 # With this flag the programs do less of what takes long.

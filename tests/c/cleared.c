@@ -18,6 +18,7 @@
 /* ---- Arguments and results of the calls ---- */
 
 static uint8_t password[64], sealed[1024], damaged[1024], unsealed[1024], public_key[1024], text[4096];
+static uint8_t secret_record[MINISIGN_SECRET_KEY_RECORD_BYTES];
 static size_t password_len, sealed_len, unsealed_len, public_len, text_len;
 static minisign_new_key new_key = { .key_id = { '1', '2', '3', '4', '5', '6', '7', '8' } };
 static minisign_sealing sealing;
@@ -44,7 +45,8 @@ struct range {
 /* The caller's variables, which may hold secrets. */
 static const struct range own[] = { { new_key.secret, sizeof new_key.secret }, { password, sizeof password },
                                     { unsealed, sizeof unsealed },     { &key, sizeof key },
-                                    { &opened, sizeof opened },        { &unopened, sizeof unopened } };
+                                    { &opened, sizeof opened },        { &unopened, sizeof unopened },
+                                    { secret_record, sizeof secret_record } };
 
 static const uint8_t *frame;
 static size_t depth;
@@ -135,6 +137,23 @@ static enum minisign_error open_unsealed(void)
     enum minisign_error error = minisign_read_secret_key(unsealed, unsealed_len, &unopened);
 
     return error != MINISIGN_OK ? error : minisign_open_unsealed_key(&unopened, &opened);
+}
+
+static enum minisign_error make_record(void)
+{
+    return minisign_secret_key_record(&opened, secret_record);
+}
+
+static enum minisign_error open_record(void)
+{
+    enum minisign_error error = minisign_read_secret_key_record(secret_record, sizeof secret_record, &unopened);
+
+    return error != MINISIGN_OK ? error : minisign_open_unsealed_key(&unopened, &opened);
+}
+
+static enum minisign_error encode(void)
+{
+    return minisign_encode_unopened_key(&unopened, COMMENT, sizeof COMMENT - 1, unsealed, sizeof unsealed, &unsealed_len);
 }
 
 /* Memory for opening in place. It is searched as if it were the library's, because the library has to clear it. */
@@ -229,6 +248,9 @@ static const struct step steps[] = {
     { "opening a key with few rows in place", .call = open_sealed, .how = IN_PLACE },
     { "writing a key without a password", .call = make_unsealed },
     { "opening a key without a password", .call = open_unsealed },
+    { "writing a record", .call = make_record },
+    { "opening a record", .call = open_record },
+    { "encoding an unopened key", .call = encode },
     { "writing a signature", .call = sign },
     { "leaving a secret on purpose", .call = leave_all },
 };

@@ -54,7 +54,7 @@ LEVELS = {"-O0": ("CFLAGS=-O0", "CPPFLAGS="), "-O2": ()}
 # what is left in memory.
 COPIES = (["V3=../dist/calls-x86-64-v2.a", "C_CALLS="], ["C_CALLS="], ["PORTABLE=1"])
 LEFT = "leaving a secret on purpose"
-STEPS = 19
+STEPS = 22
 # The needles that the search must find in the caller's variables after each step.
 OWN = ("seed", "half of the seed", "password")
 

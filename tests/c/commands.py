@@ -1,6 +1,6 @@
 #!/usr/bin/env python3
-"""Checks that the commands of README.md, examples/README.md, docs/INSTALLING.md and docs/QUESTIONS.md work, one after
-the other in one clone of the repository, in one shell at a terminal.
+"""Checks that the commands of README.md, examples/README.md, docs/INSTALLING.md, docs/LISTS.md and docs/QUESTIONS.md
+work, one after the other in one clone of the repository, in one shell at a terminal.
 
     tests/c/commands.py
 
@@ -28,7 +28,7 @@ from at_terminal import AtTerminal
 from copies import TOP, copy_tree, files_below
 from running import read, write
 
-DOCUMENTS = ("README.md", "examples/README.md", "docs/INSTALLING.md", "docs/QUESTIONS.md")
+DOCUMENTS = ("README.md", "examples/README.md", "docs/INSTALLING.md", "docs/LISTS.md", "docs/QUESTIONS.md")
 # The beginnings of commands that are left out, and why.
 LEFT_OUT = {"make -C c prove": "it needs the kit", "bash .ci/run": "it needs the kit", "(cd crates/minisign_tool ": "it needs the kit",
             "make -C c check": "it runs this", "apt install ": "it changes the system"}
@@ -41,8 +41,9 @@ ENDS = {"../c/out/minisign-install --check ": (10, "2\r\nversion:2\tfile:app\r\n
 # first line.
 LEFT = {"try-signing/copy": b"test", "try-signing/there/app": b"version 3\n", "try-signing/there/.app.number": b"version:3",
         "try-installing/there/app": b"version 2\n", "try-installing/there/.app.number": b"version:2",
-        "try-installing/there/.release.pub.number": b"version:1", "try-ci/app": b"version 1\n"}
-SECRET_KEYS = {"try-signing/my.key", "try-installing/clock.key", "try-installing/my.key", "try-installing/root.key"}
+        "try-installing/there/.release.pub.number": b"version:1", "try-ci/app": b"version 1\n",
+        "try-lists/upload/app": b"version 1\n"}
+SECRET_KEYS = {"try-signing/my.key", "try-installing/clock.key", "try-installing/my.key", "try-installing/root.key", "try-lists/release.key"}
 # The end of a command, or a password prompt.
 ENDED = "--- ended with status "
 STOP = re.compile(rb"\r?\n" + ENDED.encode() + rb"(\d+)\r\n|Password[^\n:]*: $")

@@ -16,13 +16,14 @@ from collections import namedtuple
 import exports
 import needs
 import static_library
-from c_library import INCLUDE, LESS, STRICT, check_programs, compiled
+from c_library import INCLUDE, LESS, STRICT, check_programs
 from process import run
 from proved import ROOT
 from running import read, write
+from texts import Limits, record_of, sealed, text_of
 
-# The number of scrypt rows for a key with the default limits.
-USUAL_ROWS = "1048576"
+# Cheap limits for an encrypted key.
+CHEAP = Limits(1 << 24, 1 << 15, 1 << 10, 1)
 
 # glibc functions that Debian's libsodium needs and musl lacks.
 GLIBC_FUNCTIONS = b"""#define _GNU_SOURCE
@@ -129,26 +130,17 @@ class Emulated:
         return self.checks.ended(f"{self.kind.name}: {name} {' '.join(words)}", ran, status)
 
 
-def check_keys(checks, built, native):
-    """Checks that a key can be made, encrypted, decrypted and used to sign. The encrypted key file must be the one that the
-    library for this machine (`native`) makes with the same salt."""
-    compiled(checks, built.kind.name, "keys", built.compiler, built.library, *LESS)
+def check_keys(checks, built):
+    """Checks that the program makes a key, signs with it and with the same key encrypted, and verifies what Minisign verifies."""
     built.ended("minisign", "-G", "-W", "-p", "a.pub", "-s", "open.key")
-    opened = built.ended("keys", "open", "1", USUAL_ROWS, read(built.directory, "open.key").decode()).split()
-    sealing = ["secret", *opened, "5a" * 32, "32768", "1048576", "1", "sealed", "pw"]
-    sealed = checks.ended("sealing", run([compiled(checks, "this machine", "keys", needs.c_compiler(), native), *sealing]))
-    said = built.ended("keys", *sealing)
-    checks.same(said, sealed, f"{built.kind.name}: sealing")
-    write(built.directory, "sealed.key", said.encode())
-    for keep_every in ("1", "16"):
-        said = built.ended("keys", "open", keep_every, USUAL_ROWS, sealed, "pw")
-        checks.check(said.split() == opened, f"{built.kind.name}: decrypting with keep_every {keep_every}: {said}")
-    built.ended("keys", "open", "1", USUAL_ROWS, sealed, "pv", status=1)
+    write(built.directory, "sealed.key", text_of(sealed(record_of(read(built.directory, "open.key")), b"pw", CHEAP)))
     data = write(built.directory, "data", bytes(range(256)) * 1000)
-    built.ended("minisign", "-S", "-s", "sealed.key", "-m", "data", "-t", "a comment", typed=b"pw\n")
     verifying = ("-V", "-Q", "-p", "a.pub", "-m", "data")
-    for said in (checks.ended("minisign", run([needs.minisign(), *verifying], built.directory)), built.ended("minisign", *verifying)):
-        checks.check(said == "a comment\n", f"{built.kind.name}: verified: {said}")
+    for key, typed in (("open.key", b""), ("sealed.key", b"pw\n")):
+        built.ended("minisign", "-S", "-s", key, "-m", "data", "-t", "a comment", typed=typed)
+        for said in (checks.ended("minisign", run([needs.minisign(), *verifying], built.directory)), built.ended("minisign", *verifying)):
+            checks.check(said == "a comment\n", f"{built.kind.name}: verified: {said}")
+    built.ended("minisign", "-S", "-s", "sealed.key", "-m", "data", typed=b"pv\n", status=2)
     write(built.directory, "data", read(data) + b"more")
     built.ended("minisign", *verifying, status=1)
 
@@ -166,10 +158,10 @@ def check_installing(checks, built):
         checks.same(content, f"version {installed}\n".encode(), f"{built.kind.name}: installing {number}")
 
 
-def check_all(checks, built, native, programs):
+def check_all(checks, built, programs):
     """Checks that the library is built for this processor, that the structs of the header have the layout of the library, and
-    that the programs of tests/c pass. If Debian has libsodium for the processor, also runs `make test` and the programs of c/, and
-    compares encrypted keys with those of the library for this machine (`native`)."""
+    that these programs of tests/c pass. If Debian has libsodium for the processor, also runs `make test` and the programs of
+    c/."""
     name = built.kind.name
     checks.ended(f"{name}: the library", run(["readelf", "-h", f"{built.out}/libminisign.so"]), says=built.kind.elf)
     layout = [built.compiler, "-std=c11", *STRICT, "-I", INCLUDE, "-fsyntax-only", exports.write_layout(built.room)]
@@ -179,5 +171,5 @@ def check_all(checks, built, native, programs):
         testing = ["make", "-s", "-C", static_library.DIRECTORY, *built.flags, f"OUT={built.out}", "test"]
         said = checks.ended(f"{name}: make test", run(testing, RUN=" ".join(built.emulator)))
         checks.check(static_library.VERIFIED.search(said), f"{name}: make test: {said[-600:]}")
-        check_keys(checks, built, native)
+        check_keys(checks, built)
         check_installing(checks, built)

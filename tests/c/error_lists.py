@@ -35,7 +35,7 @@ from running import read
 
 RELEASE = os.path.join(HERE, "last_release.txt")
 CRATE = "minisign_c"
-ENUMS = ("NamedFault", "Misuse", "InstallFault")
+ENUMS = ("NamedFault", "Misuse", "InstallFault", "ListFault")
 # The error that is no variant of an enum: the definition of its number, and its name.
 WEAK = ("weak_number", "WEAK_ED25519")
 # Definitions that map all errors to numbers and texts. They are not followed.
@@ -48,24 +48,29 @@ NO_ERROR = {"LIBRARY"}
 READ_BEFORE = "minisign_read_signature has read the text, and the call compares its digest"
 KEY_READ_BEFORE = "the definition of a verdict reads the key file too, which the caller has read before"
 ASKED_BEFORE = "minisign_ask has checked it, and a state without a question is rejected"
+BARE_ASKED_BEFORE = "minisign_ask_bare has checked it, and a state without a question is rejected"
 JUDGED_APART = "minisign_judge_comment has no such argument"
+LIST_ASKED_BEFORE = "minisign_list_ask has checked it, and a list that was not asked about is rejected"
 NEVER_RETURNED = {
     "minisign_ask": [("minisign_read_signature", READ_BEFORE)],
     "minisign_comment_verdict": [("minisign_read_signature", READ_BEFORE), ("DIFFERENT_KEY_IDS LEGACY_NOT_ACCEPTED", ASKED_BEFORE)],
     "minisign_verdict": [("minisign_read_signature", READ_BEFORE), ("minisign_read_public_key", KEY_READ_BEFORE),
                          ("DIFFERENT_KEY_IDS LEGACY_NOT_ACCEPTED", ASKED_BEFORE)],
+    "minisign_bare_verdict": [("COMMENT_SIGNATURE_REFUSED", "a bare signature has no comment signature"),
+                              ("DIFFERENT_KEY_IDS LEGACY_NOT_ACCEPTED", BARE_ASKED_BEFORE)],
+    "minisign_read_secret_key_record": [("PARAMETERS_TOO_HIGH INVALID_PARAMETERS", "it writes zeros in these cases")],
     "minisign_read_secret_key": [("KEY_SEALED KEY_CORRUPTED KEY_NOT_SEALED UNSUPPORTED_KEY_DERIVATION PARAMETERS_TOO_HIGH INVALID_PARAMETERS "
                                   "WORK_TOO_HIGH WRONG_PASSWORD", "it returns what opening would need, and opens nothing")],
     "minisign_opening_memory": [("PARAMETERS_TOO_HIGH INVALID_PARAMETERS", "it writes zeros in these cases")],
-    "minisign_install_piece": [("NOT_BEGUN ALREADY_ASKED", "the installation begins its state before it takes a piece")],
-    "minisign_install_ask": [("MISSING_PUBLIC_KEY_COMMENT MISSING_PUBLIC_KEY PUBLIC_KEY_LENGTH PUBLIC_KEY_NOT_BASE64", KEY_READ_BEFORE),
-                             ("NOT_BEGUN", "the installation begins its state itself"),
-                             ("PUBLIC_KEY_NOT_READ", "minisign_install_init has checked the keys"),
-                             ("SIGNATURE_NOT_READ OTHER_SIGNATURE_TEXT", "the call reads the signature itself"),
-                             ("SIGNATURE_REFUSED COMMENT_SIGNATURE_REFUSED", "minisign_install_answer returns these")],
-    "minisign_install_answer": [("minisign_read_signature", READ_BEFORE), ("minisign_read_public_key", KEY_READ_BEFORE),
-                                ("DIFFERENT_KEY_IDS LEGACY_NOT_ACCEPTED NOT_BEGUN", ASKED_BEFORE)],
-    "minisign_judge_comment": [("BAD_SIZE NO_EXPIRY", JUDGED_APART)],
+    "minisign_install_answer": [("DIFFERENT_KEY_IDS LEGACY_NOT_ACCEPTED NOT_UTF8", "minisign_install_signature returns these")],
+    "minisign_install_signature": [("OTHER_FILE NO_NUMBER NO_EXPIRY BAD_EXPIRY EXPIRED BAD_SIZE OLDER_UPDATE",
+                                    "minisign_install_answer returns these")],
+    "minisign_judge_comment": [("NO_EXPIRY", JUDGED_APART)],
+    "minisign_list_ask": [("minisign_read_signature", READ_BEFORE)],
+    "minisign_list_ask_any": [("minisign_read_signature", READ_BEFORE)],
+    "minisign_list_verdict": [("minisign_read_signature", READ_BEFORE), ("DIFFERENT_KEY_IDS LEGACY_NOT_ACCEPTED", LIST_ASKED_BEFORE)],
+    "minisign_list_find": [("ENTRY_NOT_READ", "an entry that was found is marked as read")],
+    "minisign_list_append": [("NOT_LISTED", "the name is appended in this case")],
 }
 # Errors that the comment of a call names but the call does not return, and why.
 ONE_COMMENT = "two calls share the comment"
@@ -73,8 +78,24 @@ NAMED_APART = {
     "minisign_read_public_key": [("BARE_PUBLIC_KEY_LENGTH BARE_PUBLIC_KEY_NOT_BASE64", ONE_COMMENT)],
     "minisign_read_bare_public_key": [("MISSING_PUBLIC_KEY MISSING_PUBLIC_KEY_COMMENT PUBLIC_KEY_LENGTH PUBLIC_KEY_NOT_BASE64", ONE_COMMENT)],
     "minisign_open_sealed_key_in_place": [("OUT_OF_MEMORY", "the comment says that it is never returned")],
-    "minisign_install_init": [("COMMENT_SIGNATURE_REFUSED", "the comment says what to do at the end of an installation")],
+    "minisign_test_sealed_key": [("NOT_UTF8 OUT_OF_MEMORY WRONG_PASSWORD", "the comment says that opening can still return them")],
     "minisign_secret_key_text_with_any_limits": [("WEAK_SEALING", "the comment says that it is never returned")],
+}
+
+# The calls whose contract is an equation with the installer's step function, and the events of it that they report, or calls
+# whose errors they return too. The definition `after` has a line for each event that is expected at an operation.
+# minisign_install_answer returns what is found wrong with the comment when the signature file is read.
+STEP = os.path.join(TOP, "crates", "minisign_install", "specs", "Step.antt")
+EVENTS = {
+    "minisign_install_done": ("Done",),
+    "minisign_install_copied": ("PieceCopied",),
+    "minisign_install_failed": ("Failed", "InUse"),
+    "minisign_install_record": ("RecordRead",),
+    "minisign_install_no_record": ("RecordRead",),
+    "minisign_install_piece": ("PieceRead",),
+    "minisign_install_no_target": ("TargetMissing",),
+    "minisign_install_signature": ("SignatureRead", "minisign_read_signature"),
+    "minisign_install_answer": ("Answered", "SignatureRead"),
 }
 
 # Documentation of packages that lists the errors of these calls. It leaves out API misuse, because the packages make
@@ -121,12 +142,25 @@ def reached_errors(library, text, imports, definitions, seen):
     return errors
 
 
+def by_event(library, event):
+    """Returns the errors that the definitions name on the lines for an event, or those of a call."""
+    if event.startswith("minisign_"):
+        return by_contract(event)
+    step = sources.read_module(STEP)
+    lines = re.findall(rf"(?m)^after \w+ \(?{event}\b.*? = (.*)$", step.definitions["after"].text)
+    lines += re.findall(rf"(?m)^after op \({event} f\) s = (.*)$", step.definitions["after"].text)
+    return set().union(*(reached_errors(library, line, step.imports, step.definitions, set()) for line in lines))
+
+
 @functools.lru_cache(maxsize=None)
 def by_contract(call):
     """Returns the errors that the definitions of a call's clauses name."""
     library, found = exports()
     item, source = found.get(call, (None, None))
     clauses = item.clauses if item else ()
+    if call in EVENTS:
+        misuses = {name_in_c(name) for clause in clauses for name in re.findall(r"misuse_number (\w+)", clause.text)}
+        return misuses.union(*(by_event(library, event) for event in EVENTS[call])) - NO_ERROR
     return set().union(*(reached_errors(library, clause.text, source.imports, {}, set()) for clause in clauses)) - NO_ERROR
 
 
@@ -233,7 +267,7 @@ def check_since(checks, calls, errors, version):
 
 def all_of_headers():
     """Returns the calls, the names of the errors, and the version of both headers."""
-    both = c_header.both()
+    both = c_header.every()
     numbers = dict(both.numbers)
     return {call.name: call for call in both.calls}, {error.name for error in both.errors}, f"{numbers['VERSION_MAJOR']}.{numbers['VERSION_MINOR']}"
 

@@ -194,6 +194,45 @@ static void writes_keys(void)
     }
 }
 
+/* Records of exactly their sizes and of a byte less, and buffers of each size for the files of keys that were only read. */
+static void reads_and_writes_records(void)
+{
+    const minisign_public_key public_key = key_of(KEY);
+    const minisign_signature signature = signature_of(SIGNATURE);
+    minisign_unopened_key read = { 0 };
+    minisign_secret_key opened = { 0 };
+
+    CHECK(read_and_open(SECRET_KEY, NULL, &read, &opened) == MINISIGN_OK);
+    for (size_t less = 0; less < 2; less++) {
+        const enum minisign_error expected = less ? MINISIGN_RECORD_TOO_SHORT : MINISIGN_OK;
+
+        used = 0;
+        minisign_public_key *key = ALONE(minisign_public_key, public_key);
+        minisign_signature *bare = ALONE(minisign_signature, signature);
+        minisign_secret_key *secret = ALONE(minisign_secret_key, opened);
+        minisign_unopened_key *unopened = ALONE(minisign_unopened_key, read);
+        uint8_t *of_key = buffer(42), *of_signature = buffer(74), *of_secret = buffer(158);
+
+        CHECK(minisign_public_key_record(key, of_key) == MINISIGN_OK);
+        CHECK(minisign_read_public_key_record(copied(of_key, 42 - less), 42 - less, key) == expected);
+        CHECK(minisign_signature_record(bare, of_signature) == MINISIGN_OK);
+        CHECK(minisign_read_signature_record(copied(of_signature, 74 - less), 74 - less, bare) == expected);
+        CHECK(minisign_secret_key_record(secret, of_secret) == MINISIGN_OK);
+        CHECK(minisign_read_secret_key_record(copied(of_secret, 158 - less), 158 - less, unopened) == expected);
+        CHECK(minisign_test_sealed_key(unopened, 1) == MINISIGN_KEY_NOT_SEALED);
+        CHECK(minisign_ask_bare(new_state(), key, bare, 0, NEW(minisign_questions)) == MINISIGN_OK);
+    }
+    for (size_t room = 0; room <= MINISIGN_SECRET_KEY_BYTES(1); room++) {
+        used = 0;
+        size_t *text_len = NEW(size_t);
+        CHECK(minisign_encode_public_key(ALONE(minisign_public_key, public_key), copied("c", 1), 1, buffer(room), room, text_len)
+              == (room < MINISIGN_PUBLIC_KEY_BYTES(1) ? MINISIGN_NO_ROOM : MINISIGN_OK));
+        used = 1;
+        CHECK(minisign_encode_unopened_key(ALONE(minisign_unopened_key, read), copied("c", 1), 1, buffer(room), room, text_len)
+              == (room < MINISIGN_SECRET_KEY_BYTES(1) ? MINISIGN_NO_ROOM : MINISIGN_OK));
+    }
+}
+
 /* Opens a key in memory of exactly the size that is needed, and of a word or a byte less. The memory is cleared. */
 static void opens_in_place(uint64_t p)
 {
@@ -229,13 +268,11 @@ static void opens_in_place(uint64_t p)
     }
 }
 
-/* Asks about the signature, and answers yes. */
-static enum minisign_error ask_and_answer(minisign_installation *i)
+/* Passes on the signature. */
+static enum minisign_error pass_signature(minisign_installation *i)
 {
-    enum minisign_error error = minisign_install_ask(i, bytes_of(SIGNATURE), sizeof SIGNATURE - 1, copied("test", 4), 4, 0,
-                                                     NEW(minisign_questions), buffer(MESSAGE_LEN), MESSAGE_LEN);
-
-    return error == MINISIGN_OK ? minisign_install_answer(i, YES, YES) : error;
+    return minisign_install_signature(i, bytes_of(SIGNATURE), sizeof SIGNATURE - 1, copied("test", 4), 4, 0, buffer(MESSAGE_LEN),
+                                      MESSAGE_LEN, NEW(size_t));
 }
 
 /* Returns an installation at which this is due. */
@@ -247,10 +284,11 @@ static minisign_installation *installing(uint32_t due)
 
     while (error == MINISIGN_OK && minisign_install_due(i) != due) {
         switch (minisign_install_due(i)) {
-        case MINISIGN_DUE_READ_RECORD: error = minisign_install_record(i, copied("5", 1), 1, 0); break;
+        case MINISIGN_DUE_READ_RECORD: error = minisign_install_record(i, copied("5", 1), 1); break;
         case MINISIGN_DUE_READ_BACK: error = minisign_install_piece(i, buffer(0), 0); break;
-        case MINISIGN_DUE_JUDGE:
-        case MINISIGN_DUE_ANSWER: error = ask_and_answer(i); break;
+        case MINISIGN_DUE_READ_SIGNATURE: error = pass_signature(i); break;
+        case MINISIGN_DUE_CHECK_COMMENT:
+        case MINISIGN_DUE_CHECK_DATA: error = minisign_install_answer(i, YES); break;
         default: error = minisign_install_done(i);
         }
     }
@@ -258,13 +296,13 @@ static minisign_installation *installing(uint32_t due)
     return i;
 }
 
-/* Asks to install with the first bytes of a signature file, and a message buffer of this size. */
-static enum minisign_error ask_to_install(size_t len, size_t room)
+/* Passes on the first bytes of a signature file, with a message buffer of this size. */
+static enum minisign_error pass_to_install(size_t len, size_t room)
 {
     used = 0;
-    minisign_installation *i = installing(MINISIGN_DUE_JUDGE);
+    minisign_installation *i = installing(MINISIGN_DUE_READ_SIGNATURE);
     used = 2;
-    return minisign_install_ask(i, copied(SIGNATURE, len), len, copied("test", 4), 4, 0, NEW(minisign_questions), buffer(room), room);
+    return minisign_install_signature(i, copied(SIGNATURE, len), len, copied("test", 4), 4, 0, buffer(room), room, NEW(size_t));
 }
 
 /* Records, names and comments of each length, and buffers of each size for the message and the record. */
@@ -276,17 +314,22 @@ static void installs(void)
     for (size_t size = 0; size <= MINISIGN_RECORD_TEXT_BYTES; size++) {
         used = 0;
         minisign_installation *i = installing(MINISIGN_DUE_READ_RECORD);
-        CHECK(minisign_install_record(i, filled(size, '0'), size, 0) == MINISIGN_OK);
-        CHECK(minisign_install_due(i) == (0 < size && size <= 64 ? MINISIGN_DUE_JUDGE : MINISIGN_DUE_REFUSED));
+        CHECK(minisign_install_record(i, filled(size, '0'), size) == (0 < size && size <= 64 ? MINISIGN_OK : MINISIGN_DAMAGED_RECORD));
     }
     for (size_t room = 0; room <= MESSAGE_LEN; room++) {
-        CHECK(ask_to_install(len, room) == (room < MESSAGE_LEN ? MINISIGN_NO_ROOM : MINISIGN_OK));
+        CHECK(pass_to_install(len, room) == (room < MESSAGE_LEN ? MINISIGN_NO_ROOM : MINISIGN_OK));
     }
     for (size_t size = 0; size < len; size++) {
         minisign_signature read;
+        enum minisign_error error = minisign_read_signature(bytes_of(SIGNATURE), size, &read);
 
-        CHECK(ask_to_install(size, MESSAGE_LEN) == minisign_read_signature(bytes_of(SIGNATURE), size, &read));
+        /* A comment signature that is cut off can be read, but is too short. */
+        CHECK(pass_to_install(size, MESSAGE_LEN) == (error == MINISIGN_OK ? MINISIGN_COMMENT_SIGNATURE_REFUSED : error));
     }
+    used = 0;
+    minisign_installation *checked = installing(MINISIGN_DUE_CHECK_DATA);
+    CHECK(minisign_install_question(checked, buffer(32), buffer(64), buffer(64)) == MINISIGN_OK);
+    CHECK(minisign_install_size(checked, NEW(uint64_t)) == 0);
     for (size_t room = 0; room <= MINISIGN_RECORD_TEXT_BYTES; room++) {
         used = 0;
         minisign_installation *i = installing(MINISIGN_DUE_WRITE_RECORD);
@@ -329,6 +372,7 @@ int main(void)
         asks_with_cut_texts();
         signs_with_cut_keys();
         writes_keys();
+        reads_and_writes_records();
         for (uint64_t p = IS_EMULATED ? 2 : 1; p <= 2; p++) {
             opens_in_place(p);
         }

@@ -4,7 +4,7 @@ headers, and that the examples follow the headers' rules.
 
     tests/c/header_rules.py
 
-For each call of minisign.h and minisign_install.h, and each pointer with a length, gcc must warn of a length that is
+For each call of the headers with proved calls, and each pointer with a length, gcc must warn of a length that is
 one greater than the buffer; for each other pointer gcc and clang must warn of NULL. Without the attributes none of
 these warnings comes. A program that makes every call correctly compiles without a warning with gcc, g++, clang,
 clang++, tcc and musl-gcc, also with a NULL pointer for each length of 0. Other compilers see no attribute.
@@ -32,9 +32,11 @@ from process import run
 from running import read, write
 
 INCLUDE = f"{TOP}/include"
-HEADERS = ("minisign.h", "minisign_install.h")
+HEADERS = ("minisign.h", "minisign_install.h", "minisign_list.h")
 STRICT = ("-Wall", "-Wextra", "-Wpedantic", "-Wredundant-decls")
 ELEMENTS = 8
+# The types of the elements of arrays with a length.
+COUNTED = ("uint8_t", "uint32_t", "char", "void", "minisign_list_entry")
 BLOCK = re.compile(r"/\* Attributes, made by tools/header\.py\. \*/\n.*?/\* The end of the attributes\. \*/\n", re.S)
 
 
@@ -44,7 +46,7 @@ def pointers(call):
     for at, parameter in enumerate(parameters):
         if parameter.star or parameter.count:
             after = parameters[at + 1] if at + 1 < len(parameters) else None
-            is_counted = parameter.kind in ("uint8_t", "uint32_t", "char", "void") and not parameter.count
+            is_counted = parameter.kind in COUNTED and not parameter.count
             yield at, bool(is_counted and after and after.kind == "size_t" and not after.star)
 
 
@@ -173,7 +175,7 @@ def check_roles(checks, calls, structs):
 
 
 def run_all(checks, room):
-    header = c_header.both()
+    header = c_header.every()
     calls = [call for call in header.calls if call.parameters]
     check_roles(checks, calls, header.secrets)
     check_mistakes(checks, room, calls)

@@ -1,7 +1,7 @@
 /*
- * Checks installations with the calls of minisign_install.h. At each due action it makes each call of the header, and
- * compares the next due action with a table. API misuse changes no byte of the struct. Further checks: valid and
- * invalid records and trusted comments, and the questions for Ed25519. Nothing allocates.
+ * Checks installations with the calls of minisign_install.h. At each operation that is due it makes each call of the
+ * header, and compares the next operation with a table. API misuse changes no byte of the struct. Further checks: valid
+ * and invalid records and trusted comments, the questions for Ed25519, and the new record. Nothing allocates.
  *
  * Linked with -Wl,--wrap=malloc -Wl,--wrap=realloc -Wl,--wrap=free.
  */
@@ -14,45 +14,46 @@
 #define CHECK_AT(due, condition) check((condition), "while %u is due: %s", (due), #condition)
 
 #define NUMBER 1556193335
-/* The record of this timestamp for the data `abc`: the key, and the digest. */
+/* The key, and the record of this timestamp for the data `abc`: the key, and the digest. */
+#define OWN_KEY "79a561e70ee08cd3e754c63e9bd6b9c3520a1d4204cd104da2e7ef763b1853b7"
 #define OWN_NUMBER "timestamp:1556193335"
-#define OWN_RECORD OWN_NUMBER                                            \
-    "\n79a561e70ee08cd3e754c63e9bd6b9c3520a1d4204cd104da2e7ef763b1853b7" \
-    "\n" HEX_OF_ABC
+#define OWN_RECORD OWN_NUMBER "\n" OWN_KEY "\n" HEX_OF_ABC
+/* A later timestamp, and a key that has not signed. */
+#define LATER_NUMBER "timestamp:1556193336"
+#define THIRD_KEY "5b5a5a5a5a5a5a5a5a5a5a5a5a5a5a5a5a5a5a5a5a5a5a5a5a5a5a5a5a5a5a5a"
 
 /* What is due next after minisign_install_done (0 if that is not allowed), and after minisign_install_failed. */
 static const struct row {
     uint32_t due, done, failed;
 } table[] = {
-    { MINISIGN_DUE_LOCK, MINISIGN_DUE_READ_RECORD, MINISIGN_DUE_REFUSED },
-    { MINISIGN_DUE_READ_RECORD, 0, MINISIGN_DUE_REFUSED },
-    { MINISIGN_DUE_JUDGE, 0, MINISIGN_DUE_REFUSED },
-    { MINISIGN_DUE_LOOK, 0, MINISIGN_DUE_REFUSED },
-    { MINISIGN_DUE_JUDGE_TARGET, 0, MINISIGN_DUE_REFUSED },
-    { MINISIGN_DUE_SYNC_TARGET, MINISIGN_DUE_SYNC_TARGET_NAME, MINISIGN_DUE_REFUSED },
-    { MINISIGN_DUE_SYNC_TARGET_NAME, MINISIGN_DUE_ALREADY, MINISIGN_DUE_REFUSED },
-    { MINISIGN_DUE_UNLOCK, MINISIGN_DUE_RECEIVE, MINISIGN_DUE_REFUSED },
-    { MINISIGN_DUE_RECEIVE, MINISIGN_DUE_LOCK, MINISIGN_DUE_REFUSED },
-    { MINISIGN_DUE_CLEAR, MINISIGN_DUE_CREATE, MINISIGN_DUE_REFUSED },
-    { MINISIGN_DUE_CREATE, MINISIGN_DUE_COPY, MINISIGN_DUE_REFUSED },
-    { MINISIGN_DUE_COPY, MINISIGN_DUE_READ_BACK, MINISIGN_DUE_REMOVE },
-    { MINISIGN_DUE_READ_BACK, 0, MINISIGN_DUE_REMOVE },
-    { MINISIGN_DUE_ANSWER, 0, MINISIGN_DUE_REMOVE },
-    { MINISIGN_DUE_TAKE_PERMISSIONS, MINISIGN_DUE_SYNC, MINISIGN_DUE_REMOVE },
-    { MINISIGN_DUE_SYNC, MINISIGN_DUE_CREATE_RECORD, MINISIGN_DUE_REMOVE },
-    { MINISIGN_DUE_CREATE_RECORD, MINISIGN_DUE_WRITE_RECORD, MINISIGN_DUE_REMOVE },
-    { MINISIGN_DUE_WRITE_RECORD, MINISIGN_DUE_SYNC_RECORD, MINISIGN_DUE_REMOVE_RECORD },
-    { MINISIGN_DUE_SYNC_RECORD, MINISIGN_DUE_RENAME_RECORD, MINISIGN_DUE_REMOVE_RECORD },
-    { MINISIGN_DUE_RENAME_RECORD, MINISIGN_DUE_SYNC_RECORD_NAME, MINISIGN_DUE_REMOVE_RECORD },
-    { MINISIGN_DUE_SYNC_RECORD_NAME, MINISIGN_DUE_RENAME, MINISIGN_DUE_REMOVE_RECORD },
-    { MINISIGN_DUE_RENAME, MINISIGN_DUE_SYNC_NAME, MINISIGN_DUE_REMOVE },
-    { MINISIGN_DUE_SYNC_NAME, MINISIGN_DUE_INSTALLED, MINISIGN_DUE_REMOVE },
-    { MINISIGN_DUE_REMOVE_RECORD, MINISIGN_DUE_REMOVE, MINISIGN_DUE_REMOVE },
-    { MINISIGN_DUE_REMOVE, MINISIGN_DUE_REFUSED, MINISIGN_DUE_REFUSED },
+    { MINISIGN_DUE_LOCK, MINISIGN_DUE_READ_RECORD, MINISIGN_DUE_REJECTED },
+    { MINISIGN_DUE_READ_RECORD, 0, MINISIGN_DUE_REJECTED },
+    { MINISIGN_DUE_READ_SIGNATURE, 0, MINISIGN_DUE_REJECTED },
+    { MINISIGN_DUE_CHECK_COMMENT, 0, MINISIGN_DUE_REJECTED },
+    { MINISIGN_DUE_CHECK_RECORD, 0, MINISIGN_DUE_REJECTED },
+    { MINISIGN_DUE_READ_TARGET, MINISIGN_DUE_CHECK_TARGET, MINISIGN_DUE_REJECTED },
+    { MINISIGN_DUE_CHECK_TARGET, 0, MINISIGN_DUE_REJECTED },
+    { MINISIGN_DUE_SYNC_TARGET, MINISIGN_DUE_SYNC_TARGET_NAME, MINISIGN_DUE_REJECTED },
+    { MINISIGN_DUE_SYNC_TARGET_NAME, MINISIGN_DUE_ALREADY_INSTALLED, MINISIGN_DUE_REJECTED },
+    { MINISIGN_DUE_REMOVE_LEFTOVERS, MINISIGN_DUE_CREATE_FILE, MINISIGN_DUE_REJECTED },
+    { MINISIGN_DUE_CREATE_FILE, MINISIGN_DUE_COPY_DATA, MINISIGN_DUE_REJECTED },
+    { MINISIGN_DUE_COPY_DATA, MINISIGN_DUE_READ_BACK, MINISIGN_DUE_REMOVE_FILES },
+    { MINISIGN_DUE_READ_BACK, MINISIGN_DUE_CHECK_DATA, MINISIGN_DUE_REMOVE_FILES },
+    { MINISIGN_DUE_CHECK_DATA, 0, MINISIGN_DUE_REMOVE_FILES },
+    { MINISIGN_DUE_SET_PERMISSIONS, MINISIGN_DUE_SYNC_FILE, MINISIGN_DUE_REMOVE_FILES },
+    { MINISIGN_DUE_SYNC_FILE, MINISIGN_DUE_CREATE_RECORD, MINISIGN_DUE_REMOVE_FILES },
+    { MINISIGN_DUE_CREATE_RECORD, MINISIGN_DUE_WRITE_RECORD, MINISIGN_DUE_REMOVE_FILES },
+    { MINISIGN_DUE_WRITE_RECORD, MINISIGN_DUE_SYNC_RECORD, MINISIGN_DUE_REMOVE_FILES },
+    { MINISIGN_DUE_SYNC_RECORD, MINISIGN_DUE_RENAME_RECORD, MINISIGN_DUE_REMOVE_FILES },
+    { MINISIGN_DUE_RENAME_RECORD, MINISIGN_DUE_SYNC_RECORD_NAME, MINISIGN_DUE_REMOVE_FILES },
+    { MINISIGN_DUE_SYNC_RECORD_NAME, MINISIGN_DUE_RENAME_FILE, MINISIGN_DUE_REMOVE_FILES },
+    { MINISIGN_DUE_RENAME_FILE, MINISIGN_DUE_SYNC_FILE_NAME, MINISIGN_DUE_REMOVE_FILES },
+    { MINISIGN_DUE_SYNC_FILE_NAME, MINISIGN_DUE_INSTALLED, MINISIGN_DUE_REJECTED },
+    { MINISIGN_DUE_REMOVE_FILES, MINISIGN_DUE_REJECTED, MINISIGN_DUE_REJECTED },
     { MINISIGN_DUE_INSTALLED, 0, 0 },
-    { MINISIGN_DUE_ALREADY, 0, 0 },
+    { MINISIGN_DUE_ALREADY_INSTALLED, 0, 0 },
     { MINISIGN_DUE_WOULD_INSTALL, 0, 0 },
-    { MINISIGN_DUE_REFUSED, 0, 0 },
+    { MINISIGN_DUE_REJECTED, 0, 0 },
 };
 
 #define ROWS LENGTH(table)
@@ -60,36 +61,33 @@ static const struct row {
 /* The current time of the calls. The signature of these tests never expires. */
 #define NOW 1000
 
-static minisign_questions questions;
-static uint8_t message[4096];
+static uint8_t message[4096], key_asked[32], signature_asked[64], digest_asked[64];
+static size_t message_len;
 
-/* The signature file and the file name of `ask`, and the date of the record. */
-static const char *asked_text = SIGNATURE, *asked_name = "test";
-static uint64_t written;
+/* The signature file, the file name and the time of `pass_signature`. */
+static const char *passed_text = SIGNATURE, *passed_name = "test";
+static int64_t passed_time = NOW;
 
-/* Asks about a signature file. */
-static enum minisign_error ask_of(minisign_installation *i, const char *sig_text, const char *file, size_t room)
+/* Passes on a signature file. */
+static enum minisign_error pass_text(minisign_installation *i, const char *sig_text, const char *file, size_t room)
 {
-    return minisign_install_ask(i, bytes_of(sig_text), strlen(sig_text), bytes_of(file), strlen(file), NOW,
-                                &questions, message, room);
+    return minisign_install_signature(i, bytes_of(sig_text), strlen(sig_text), bytes_of(file), strlen(file), passed_time,
+                                      message, room, &message_len);
 }
 
-static enum minisign_error ask(minisign_installation *i)
+static enum minisign_error pass_signature(minisign_installation *i)
 {
-    return ask_of(i, asked_text, asked_name, sizeof message);
+    return pass_text(i, passed_text, passed_name, sizeof message);
 }
 
-/* Asks and answers. */
-static enum minisign_error judge(minisign_installation *i, enum minisign_answer first, enum minisign_answer second)
+static enum minisign_error ask(const minisign_installation *i)
 {
-    enum minisign_error error = ask(i);
-
-    return error == MINISIGN_OK ? minisign_install_answer(i, first, second) : error;
+    return minisign_install_question(i, key_asked, signature_asked, digest_asked);
 }
 
 static enum minisign_error record(minisign_installation *i, const char *text)
 {
-    return minisign_install_record(i, bytes_of(text), strlen(text), written);
+    return minisign_install_record(i, bytes_of(text), strlen(text));
 }
 
 static enum minisign_error piece(minisign_installation *i, const char *data)
@@ -105,45 +103,52 @@ static enum minisign_error pieces(minisign_installation *i)
     return error == MINISIGN_OK ? piece(i, "") : error;
 }
 
-/* Begins an installation under the published key. must_expire is an option of it. */
-static uint32_t must_expire;
+/* Answers about the trusted comment. The key is passed twice, so it is asked twice. */
+static enum minisign_error answer_comment(minisign_installation *i, enum minisign_answer answer)
+{
+    enum minisign_error error = minisign_install_answer(i, answer);
 
-static enum minisign_error begin(minisign_installation *i, uint32_t is_first, uint32_t again, uint32_t is_check,
-                                 uint32_t is_waiting, uint32_t numbering)
+    return error == MINISIGN_OK && answer == NO ? minisign_install_answer(i, answer) : error;
+}
+
+/* Begins an installation under the published key. */
+static enum minisign_error begin(minisign_installation *i, minisign_install_options options)
 {
     const minisign_public_key key = key_of(KEY);
-
-    const minisign_install_options options = { numbering, is_first, again, is_check, is_waiting, must_expire };
 
     return minisign_install_init(i, &key, &key, &options);
 }
 
-/* Does what is due, successfully. The record has this text. */
+#define BEGIN(i, ...) begin((i), (minisign_install_options) { __VA_ARGS__ })
+
+/* Performs the operation that is due, successfully. The record has this text. */
 static void step(minisign_installation *i, const char *record_text)
 {
     enum minisign_error error;
 
     switch (minisign_install_due(i)) {
     case MINISIGN_DUE_READ_RECORD: error = record(i, record_text); break;
-    case MINISIGN_DUE_JUDGE: error = judge(i, NO, YES); break;
-    case MINISIGN_DUE_LOOK:
+    case MINISIGN_DUE_READ_SIGNATURE: error = pass_signature(i); break;
+    case MINISIGN_DUE_CHECK_COMMENT:
+    case MINISIGN_DUE_CHECK_RECORD:
+    case MINISIGN_DUE_CHECK_TARGET:
+    case MINISIGN_DUE_CHECK_DATA: error = minisign_install_answer(i, YES); break;
+    case MINISIGN_DUE_READ_TARGET:
     case MINISIGN_DUE_READ_BACK: error = pieces(i); break;
-    case MINISIGN_DUE_JUDGE_TARGET:
-    case MINISIGN_DUE_ANSWER: error = judge(i, YES, YES); break;
     default: error = minisign_install_done(i);
     }
     if (error != MINISIGN_OK) {
-        printf("the action %u fails with error %u\n", minisign_install_due(i), (unsigned) error);
+        printf("the operation %u fails with error %u\n", minisign_install_due(i), (unsigned) error);
         exit(1);
     }
 }
 
-/* Does what is due until this is due. The record has this text. */
+/* Performs operations until this one is due. The record has this text. */
 static void go_to(minisign_installation *i, uint32_t due, const char *record_text)
 {
     for (int calls = 0; minisign_install_due(i) != due; calls++) {
         if (calls == 40) {
-            printf("the action %u is never due\n", due);
+            printf("the operation %u is never due\n", due);
             exit(1);
         }
         step(i, record_text);
@@ -154,17 +159,16 @@ static void go_to(minisign_installation *i, uint32_t due, const char *record_tex
  * read. */
 static minisign_installation at(uint32_t due)
 {
-    int reads_target = due >= MINISIGN_DUE_LOOK && due <= MINISIGN_DUE_SYNC_TARGET_NAME;
-    int waits = due == MINISIGN_DUE_UNLOCK || due == MINISIGN_DUE_RECEIVE;
-    uint32_t by = due == MINISIGN_DUE_REMOVE_RECORD ? MINISIGN_DUE_WRITE_RECORD
-                  : due == MINISIGN_DUE_REMOVE      ? MINISIGN_DUE_COPY
-                  : due == MINISIGN_DUE_REFUSED     ? MINISIGN_DUE_LOCK
-                                                    : due;
+    int reads_target = (due >= MINISIGN_DUE_CHECK_RECORD && due <= MINISIGN_DUE_SYNC_TARGET_NAME)
+                       || due == MINISIGN_DUE_ALREADY_INSTALLED;
+    uint32_t by = due == MINISIGN_DUE_REMOVE_FILES ? MINISIGN_DUE_COPY_DATA
+                  : due == MINISIGN_DUE_REJECTED   ? MINISIGN_DUE_LOCK
+                                                   : due;
     minisign_installation i;
 
-    CHECK(begin(&i, 0, 0, due == MINISIGN_DUE_WOULD_INSTALL, waits, MINISIGN_NUMBERING_TIMESTAMP) == MINISIGN_OK);
-    go_to(&i, by, reads_target || due == MINISIGN_DUE_ALREADY ? OWN_NUMBER : "5");
-    CHECK(by == due || minisign_install_failed(&i, MINISIGN_WRITING_FAILED) == MINISIGN_OK);
+    CHECK(BEGIN(&i, .is_check = due == MINISIGN_DUE_WOULD_INSTALL) == MINISIGN_OK);
+    go_to(&i, by, reads_target ? OWN_RECORD : "5");
+    CHECK(by == due || minisign_install_failed(&i, MINISIGN_WRITING_FAILED) == MINISIGN_WRITING_FAILED);
     CHECK(minisign_install_due(&i) == due);
     return i;
 }
@@ -174,9 +178,9 @@ static int same(const minisign_installation *one, const minisign_installation *o
     return memcmp(one, other, sizeof *one) == 0;
 }
 
-/* Checks that a call succeeds and what is due next (`to`), or with `to` 0 that it returns MINISIGN_NOT_DUE and
+/* Checks that a call returns this error and what is due next (`to`), or with `to` 0 that it returns MINISIGN_NOT_DUE and
  * changes nothing. */
-#define GOES(due, call, to)                                                                                             \
+#define ENDS(due, call, to, why)                                                                                        \
     do {                                                                                                                \
         const minisign_installation before = at(due);                                                                   \
         minisign_installation i = before;                                                                               \
@@ -184,35 +188,65 @@ static int same(const minisign_installation *one, const minisign_installation *o
         enum minisign_error error = (call);                                                                             \
                                                                                                                         \
         CHECK_AT(due, next == 0 ? error == MINISIGN_NOT_DUE && same(&i, &before)                                        \
-                                : error == MINISIGN_OK && minisign_install_due(&i) == next);                            \
+                                : error == (why) && minisign_install_due(&i) == next);                                  \
     } while (0)
 
-/* Makes each call at each due action. The record text is available when it is to be written. */
-static void makes_each_call_at_each_action(void)
+#define GOES(due, call, to) ENDS(due, call, to, MINISIGN_OK)
+
+static int is_check_of(uint32_t due)
+{
+    return due == MINISIGN_DUE_CHECK_COMMENT || due == MINISIGN_DUE_CHECK_RECORD || due == MINISIGN_DUE_CHECK_TARGET
+           || due == MINISIGN_DUE_CHECK_DATA;
+}
+
+static int syncs_installed(uint32_t due)
+{
+    return due == MINISIGN_DUE_SYNC_TARGET || due == MINISIGN_DUE_SYNC_TARGET_NAME || due == MINISIGN_DUE_SYNC_FILE_NAME;
+}
+
+/* Returns what is due after the answer yes, or 0. */
+static uint32_t after_yes(uint32_t due)
+{
+    switch (due) {
+    case MINISIGN_DUE_CHECK_COMMENT: return MINISIGN_DUE_REMOVE_LEFTOVERS;
+    case MINISIGN_DUE_CHECK_RECORD: return MINISIGN_DUE_READ_TARGET;
+    case MINISIGN_DUE_CHECK_TARGET: return MINISIGN_DUE_SYNC_TARGET;
+    case MINISIGN_DUE_CHECK_DATA: return MINISIGN_DUE_SET_PERMISSIONS;
+    default: return 0;
+    }
+}
+
+/* Makes each call at each operation. The record text is available when it is to be written. */
+static void makes_each_call_at_each_operation(void)
 {
     for (size_t row = 0; row < ROWS; row++) {
         const uint32_t due = table[row].due;
-        const int reads = due == MINISIGN_DUE_LOOK || due == MINISIGN_DUE_READ_BACK;
+        const int reads = due == MINISIGN_DUE_READ_TARGET || due == MINISIGN_DUE_READ_BACK;
+        const int is_signed = due > MINISIGN_DUE_CHECK_COMMENT && due != MINISIGN_DUE_REJECTED;
+        const int is_rejected = due == MINISIGN_DUE_REJECTED || due == MINISIGN_DUE_REMOVE_FILES;
+        const enum minisign_error failure = due == MINISIGN_DUE_REMOVE_FILES ? MINISIGN_OK
+                                            : syncs_installed(due)           ? MINISIGN_DIRECTORY_NOT_SYNCED
+                                                                             : MINISIGN_WRITING_FAILED;
         const size_t len = due == MINISIGN_DUE_WRITE_RECORD ? sizeof OWN_RECORD - 1 : 0;
         const minisign_installation begun = at(due);
+        uint64_t size = 77;
 
         GOES(due, minisign_install_done(&i), table[row].done);
-        GOES(due, minisign_install_failed(&i, MINISIGN_WRITING_FAILED), table[row].failed);
-        GOES(due, minisign_install_more(&i, 3), due == MINISIGN_DUE_COPY || due == MINISIGN_DUE_RECEIVE ? due : 0);
-        GOES(due, record(&i, "5"), due == MINISIGN_DUE_READ_RECORD ? MINISIGN_DUE_JUDGE : 0);
-        GOES(due, minisign_install_no_record(&i), due == MINISIGN_DUE_READ_RECORD ? MINISIGN_DUE_REFUSED : 0);
+        ENDS(due, minisign_install_failed(&i, MINISIGN_WRITING_FAILED), table[row].failed, failure);
+        GOES(due, minisign_install_copied(&i, 3), due == MINISIGN_DUE_COPY_DATA ? due : 0);
+        GOES(due, record(&i, "5"), due == MINISIGN_DUE_READ_RECORD ? MINISIGN_DUE_READ_SIGNATURE : 0);
+        ENDS(due, minisign_install_no_record(&i), due == MINISIGN_DUE_READ_RECORD ? MINISIGN_DUE_REJECTED : 0,
+             MINISIGN_NO_RECORD);
         GOES(due, piece(&i, "abc"), reads ? due : 0);
         GOES(due, piece(&i, ""), reads ? due + 1 : 0);
-        GOES(due, minisign_install_no_target(&i), due == MINISIGN_DUE_LOOK ? MINISIGN_DUE_CLEAR : 0);
-        GOES(due, ask(&i), due == MINISIGN_DUE_JUDGE || due == MINISIGN_DUE_JUDGE_TARGET || due == MINISIGN_DUE_ANSWER ? due : 0);
-        GOES(due, judge(&i, YES, YES),
-             due == MINISIGN_DUE_JUDGE           ? MINISIGN_DUE_CLEAR
-             : due == MINISIGN_DUE_JUDGE_TARGET ? MINISIGN_DUE_SYNC_TARGET
-             : due == MINISIGN_DUE_ANSWER       ? MINISIGN_DUE_TAKE_PERMISSIONS
-                                                : 0);
-        CHECK_AT(due, minisign_install_error(&begun) == (due == MINISIGN_DUE_REFUSED ? MINISIGN_WRITING_FAILED : MINISIGN_OK));
-        CHECK_AT(due, minisign_install_number(&begun) == (due <= MINISIGN_DUE_JUDGE || due == MINISIGN_DUE_REFUSED ? 0 : NUMBER));
-        CHECK_AT(due, minisign_install_is_vouched(&begun) == (minisign_install_number(&begun) == NUMBER));
+        GOES(due, minisign_install_no_target(&i), due == MINISIGN_DUE_READ_TARGET ? MINISIGN_DUE_REMOVE_LEFTOVERS : 0);
+        GOES(due, pass_signature(&i), due == MINISIGN_DUE_READ_SIGNATURE ? MINISIGN_DUE_CHECK_COMMENT : 0);
+        GOES(due, ask(&i), is_check_of(due) ? due : 0);
+        GOES(due, minisign_install_answer(&i, YES), after_yes(due));
+        CHECK_AT(due, minisign_install_error(&begun) == (is_rejected ? MINISIGN_WRITING_FAILED : MINISIGN_OK));
+        CHECK_AT(due, minisign_install_version(&begun) == (is_signed ? NUMBER : 0));
+        CHECK_AT(due, minisign_install_is_signed(&begun) == (uint32_t) is_signed);
+        CHECK_AT(due, minisign_install_size(&begun, &size) == 0 && size == 77);
         memset(message, 0xaa, sizeof message);
         CHECK_AT(due, minisign_install_record_text(&begun, message, sizeof OWN_RECORD - 2) == 0 && message[0] == 0xaa);
         CHECK_AT(due, minisign_install_record_text(&begun, message, MINISIGN_RECORD_TEXT_BYTES) == len);
@@ -220,7 +254,7 @@ static void makes_each_call_at_each_action(void)
     }
 }
 
-/* The error of an installation is its first failure, whatever happens to the removals after it. */
+/* The error of an installation is its first failure, whatever happens to the removal after it. */
 static void keeps_first_failure(void)
 {
     static const enum minisign_error reasons[] = { MINISIGN_OUT_OF_MEMORY, MINISIGN_READING_FAILED, MINISIGN_WRITING_FAILED,
@@ -228,25 +262,23 @@ static void keeps_first_failure(void)
     static const enum minisign_error none[] = { MINISIGN_OK, MINISIGN_NOT_DUE, MINISIGN_SIGNATURE_REFUSED,
                                                 MINISIGN_DIRECTORY_NOT_SYNCED, (enum minisign_error) 999 };
 
-    for (uint32_t due = MINISIGN_DUE_LOCK; due <= MINISIGN_DUE_SYNC_NAME; due++) {
-        const int syncs = due == MINISIGN_DUE_SYNC_TARGET || due == MINISIGN_DUE_SYNC_TARGET_NAME || due == MINISIGN_DUE_SYNC_NAME;
+    for (uint32_t due = MINISIGN_DUE_LOCK; due <= MINISIGN_DUE_SYNC_FILE_NAME; due++) {
         const minisign_installation begun = at(due);
 
         for (size_t n = 0; n < LENGTH(reasons); n++) {
-            enum minisign_error why = syncs ? MINISIGN_DIRECTORY_NOT_SYNCED : reasons[n];
+            enum minisign_error why = syncs_installed(due) ? MINISIGN_DIRECTORY_NOT_SYNCED : reasons[n];
             minisign_installation i = begun;
 
             if (reasons[n] == MINISIGN_TARGET_IN_USE && due != MINISIGN_DUE_LOCK) {
                 CHECK_AT(due, minisign_install_failed(&i, reasons[n]) == MINISIGN_NOT_DUE && same(&i, &begun));
                 continue;
             }
-            CHECK_AT(due, minisign_install_failed(&i, reasons[n]) == MINISIGN_OK);
-            for (int calls = 0; minisign_install_due(&i) != MINISIGN_DUE_REFUSED && calls < 3; calls++) {
-                CHECK_AT(due, minisign_install_error(&i) == MINISIGN_OK);
-                CHECK_AT(due, (calls == 0 ? minisign_install_failed(&i, MINISIGN_WRITING_FAILED) : minisign_install_done(&i))
+            CHECK_AT(due, minisign_install_failed(&i, reasons[n]) == why && minisign_install_error(&i) == why);
+            if (minisign_install_due(&i) == MINISIGN_DUE_REMOVE_FILES) {
+                CHECK_AT(due, (n & 1 ? minisign_install_failed(&i, MINISIGN_WRITING_FAILED) : minisign_install_done(&i))
                                   == MINISIGN_OK);
             }
-            CHECK_AT(due, minisign_install_due(&i) == MINISIGN_DUE_REFUSED && minisign_install_error(&i) == why);
+            CHECK_AT(due, minisign_install_due(&i) == MINISIGN_DUE_REJECTED && minisign_install_error(&i) == why);
         }
         for (size_t n = 0; n < LENGTH(none); n++) {
             minisign_installation i = begun;
@@ -262,50 +294,57 @@ static void rejects_bad_beginnings(void)
     minisign_installation i, before;
 
     for (int byte = 0; byte < 256; byte += 85) {
+        uint64_t size;
+
         memset(&i, byte, sizeof i);
         before = i;
         CHECK(minisign_install_due(&i) == 0 && minisign_install_error(&i) == MINISIGN_OK);
-        CHECK(minisign_install_done(&i) == MINISIGN_NOT_DUE && minisign_install_more(&i, 0) == MINISIGN_NOT_DUE);
+        CHECK(minisign_install_done(&i) == MINISIGN_NOT_DUE && minisign_install_copied(&i, 0) == MINISIGN_NOT_DUE);
         CHECK(minisign_install_failed(&i, MINISIGN_WRITING_FAILED) == MINISIGN_NOT_DUE);
         CHECK(record(&i, "5") == MINISIGN_NOT_DUE && minisign_install_no_record(&i) == MINISIGN_NOT_DUE);
-        CHECK(piece(&i, "abc") == MINISIGN_NOT_DUE && ask(&i) == MINISIGN_NOT_DUE);
-        CHECK(minisign_install_answer(&i, YES, YES) == MINISIGN_NOT_DUE);
-        CHECK(minisign_install_no_target(&i) == MINISIGN_NOT_DUE && minisign_install_number(&i) == 0);
+        CHECK(piece(&i, "abc") == MINISIGN_NOT_DUE && pass_signature(&i) == MINISIGN_NOT_DUE && ask(&i) == MINISIGN_NOT_DUE);
+        CHECK(minisign_install_answer(&i, YES) == MINISIGN_NOT_DUE);
+        CHECK(minisign_install_no_target(&i) == MINISIGN_NOT_DUE && minisign_install_version(&i) == 0);
+        CHECK(minisign_install_is_signed(&i) == 0 && minisign_install_size(&i, &size) == 0);
         CHECK(minisign_install_record_text(&i, message, sizeof message) == 0);
-        CHECK(begin(&i, 2, 0, 0, 0, MINISIGN_NUMBERING_TIMESTAMP) == MINISIGN_BAD_OPTION);
-        CHECK(begin(&i, 0, 2, 0, 0, MINISIGN_NUMBERING_TIMESTAMP) == MINISIGN_BAD_OPTION);
-        CHECK(begin(&i, 0, 0, UINT32_MAX, 0, MINISIGN_NUMBERING_TIMESTAMP) == MINISIGN_BAD_OPTION);
-        CHECK(begin(&i, 0, 0, 0, 2, MINISIGN_NUMBERING_TIMESTAMP) == MINISIGN_BAD_OPTION);
-        must_expire = 2;
-        CHECK(begin(&i, 0, 0, 0, 0, MINISIGN_NUMBERING_TIMESTAMP) == MINISIGN_BAD_OPTION);
-        must_expire = 0;
-        CHECK(begin(&i, 2, 0, 0, 0, 2) == MINISIGN_BAD_OPTION);
-        CHECK(begin(&i, 0, 0, 0, 0, 2) == MINISIGN_BAD_NUMBERING && begin(&i, 1, 0, 0, 0, UINT32_MAX) == MINISIGN_BAD_NUMBERING);
+        CHECK(BEGIN(&i, .is_first = 2) == MINISIGN_BAD_OPTION && BEGIN(&i, .again = 2) == MINISIGN_BAD_OPTION);
+        CHECK(BEGIN(&i, .is_check = UINT32_MAX) == MINISIGN_BAD_OPTION && BEGIN(&i, .must_expire = 2) == MINISIGN_BAD_OPTION);
+        CHECK(BEGIN(&i, .new_key = 2) == MINISIGN_BAD_OPTION && BEGIN(&i, .roll_back = 2) == MINISIGN_BAD_OPTION);
+        CHECK(BEGIN(&i, .is_first = 1, .new_key = 1) == MINISIGN_BAD_OPTION);
+        CHECK(BEGIN(&i, .is_first = 1, .roll_back = 1) == MINISIGN_BAD_OPTION);
+        CHECK(BEGIN(&i, .is_first = 2, .numbering = 2) == MINISIGN_BAD_OPTION);
+        CHECK(BEGIN(&i, .numbering = 2) == MINISIGN_BAD_NUMBERING);
+        CHECK(BEGIN(&i, .is_first = 1, .numbering = UINT32_MAX) == MINISIGN_BAD_NUMBERING);
         CHECK(same(&i, &before));
-        CHECK(begin(&i, 1, 0, 0, 0, MINISIGN_NUMBERING_VERSION) == MINISIGN_OK && minisign_install_due(&i) == MINISIGN_DUE_LOCK);
-        CHECK(begin(&i, 0, 1, 1, 1, MINISIGN_NUMBERING_VERSION) == MINISIGN_OK && minisign_install_due(&i) == MINISIGN_DUE_READ_RECORD);
+        CHECK(BEGIN(&i, .is_first = 1, .again = 1, .numbering = 1) == MINISIGN_OK && minisign_install_due(&i) == MINISIGN_DUE_LOCK);
+        CHECK(BEGIN(&i, .new_key = 1, .roll_back = 1, .is_check = 1) == MINISIGN_OK
+              && minisign_install_due(&i) == MINISIGN_DUE_READ_RECORD);
     }
 }
 
 /* Checks the error of a record with these options. A NULL text is a missing record. */
-static void check_record(const uint8_t *text, size_t len, uint32_t is_first, uint32_t numbering, enum minisign_error rejected)
+static void check_record(const uint8_t *text, size_t len, minisign_install_options options, enum minisign_error rejected)
 {
     minisign_installation i;
 
-    CHECK(begin(&i, is_first, 0, 0, 0, numbering) == MINISIGN_OK);
+    CHECK(begin(&i, options) == MINISIGN_OK);
     step(&i, "");
-    CHECK((text == NULL ? minisign_install_no_record(&i) : minisign_install_record(&i, text, len, 0)) == MINISIGN_OK);
-    CHECK(minisign_install_due(&i) == (rejected == MINISIGN_OK ? MINISIGN_DUE_JUDGE : MINISIGN_DUE_REFUSED));
+    CHECK((text == NULL ? minisign_install_no_record(&i) : minisign_install_record(&i, text, len)) == rejected);
+    CHECK(minisign_install_due(&i) == (rejected == MINISIGN_OK ? MINISIGN_DUE_READ_SIGNATURE : MINISIGN_DUE_REJECTED));
     CHECK(minisign_install_error(&i) == rejected);
 }
+
+#define CHECK_RECORD(text, len, rejected, ...) \
+    check_record((text), (len), (minisign_install_options) { __VA_ARGS__ }, (rejected))
 
 /* Checks the errors of a record for each field, with and without is_first. */
 static void check_record_text(const char *text, enum minisign_error by_time, enum minisign_error by_version)
 {
-    check_record(bytes_of(text), strlen(text), 0, MINISIGN_NUMBERING_TIMESTAMP, by_time);
-    check_record(bytes_of(text), strlen(text), 0, MINISIGN_NUMBERING_VERSION, by_version);
-    check_record(bytes_of(text), strlen(text), 1, MINISIGN_NUMBERING_TIMESTAMP, MINISIGN_OK);
-    check_record(bytes_of(text), strlen(text), 1, MINISIGN_NUMBERING_VERSION, MINISIGN_OK);
+    CHECK_RECORD(bytes_of(text), strlen(text), by_time, .new_key = 0);
+    CHECK_RECORD(bytes_of(text), strlen(text), by_version, .numbering = MINISIGN_NUMBERING_VERSION);
+    CHECK_RECORD(bytes_of(text), strlen(text), by_time, .new_key = 1, .roll_back = 1);
+    CHECK_RECORD(bytes_of(text), strlen(text), MINISIGN_OK, .is_first = 1);
+    CHECK_RECORD(bytes_of(text), strlen(text), MINISIGN_OK, .is_first = 1, .numbering = MINISIGN_NUMBERING_VERSION);
 }
 
 static void reads_records(void)
@@ -343,53 +382,42 @@ static void reads_records(void)
         check_record_text(none[n], MINISIGN_DAMAGED_RECORD, MINISIGN_DAMAGED_RECORD);
     }
     for (uint32_t numbering = 0; numbering < 2; numbering++) {
-        check_record(bytes_of("5\0"), 2, 0, numbering, MINISIGN_DAMAGED_RECORD);
-        check_record(bytes_of("\xff"), 1, 0, numbering, MINISIGN_DAMAGED_RECORD);
-        check_record(NULL, 0, 0, numbering, MINISIGN_NO_RECORD);
-        check_record(NULL, 0, 1, numbering, MINISIGN_OK);
+        CHECK_RECORD(bytes_of("5\0"), 2, MINISIGN_DAMAGED_RECORD, .numbering = numbering);
+        CHECK_RECORD(bytes_of("\xff"), 1, MINISIGN_DAMAGED_RECORD, .numbering = numbering);
+        CHECK_RECORD(NULL, 0, MINISIGN_NO_RECORD, .numbering = numbering);
+        CHECK_RECORD(NULL, 0, MINISIGN_NO_RECORD, .numbering = numbering, .new_key = 1, .roll_back = 1);
+        CHECK_RECORD(NULL, 0, MINISIGN_OK, .numbering = numbering, .is_first = 1);
     }
 }
 
-/* Checks the error and the version number of a trusted comment over a record, if `second` is the result for the
- * comment signature. */
+/* The option must_expire of check_comment. */
+static uint32_t must_expire;
+
+/* Checks the error and the version number of a trusted comment over a record, if this is the result for the comment
+ * signature. */
 static void check_comment(const char *record_text, uint32_t is_first, const char *signature, const char *file, uint32_t numbering,
-                  enum minisign_answer second, enum minisign_error rejected, uint64_t number)
+                          enum minisign_answer answer, enum minisign_error rejected, uint64_t number)
 {
     minisign_installation i;
     enum minisign_error error;
-    uint32_t vouched = 0;
+    uint32_t is_signed = 0;
 
-    CHECK(begin(&i, is_first, 0, 0, 0, numbering) == MINISIGN_OK);
-    go_to(&i, MINISIGN_DUE_JUDGE, record_text);
-    error = ask_of(&i, signature, file, sizeof message);
+    CHECK(BEGIN(&i, .is_first = is_first, .numbering = numbering, .must_expire = must_expire) == MINISIGN_OK);
+    go_to(&i, MINISIGN_DUE_READ_SIGNATURE, record_text);
+    error = pass_text(&i, signature, file, sizeof message);
     if (error == MINISIGN_OK) {
-        CHECK(minisign_install_error(&i) == MINISIGN_OK && minisign_install_due(&i) == MINISIGN_DUE_JUDGE);
-        CHECK(minisign_install_number(&i) == 0 && minisign_install_is_vouched(&i) == 0);
-        error = minisign_install_answer(&i, NO, second);
-        vouched = second == YES;
+        CHECK(minisign_install_error(&i) == MINISIGN_OK && minisign_install_due(&i) == MINISIGN_DUE_CHECK_COMMENT);
+        CHECK(minisign_install_version(&i) == 0 && minisign_install_is_signed(&i) == 0);
+        error = answer_comment(&i, answer);
+        is_signed = answer == YES;
     }
     check(error == rejected && minisign_install_error(&i) == rejected, "%s: error %u, expected %u", signature, (unsigned) error,
           (unsigned) rejected);
-    CHECK((minisign_install_due(&i) == MINISIGN_DUE_REFUSED) == (rejected != MINISIGN_OK));
-    check(minisign_install_is_vouched(&i) == vouched && minisign_install_number(&i) == number, "%s: wrong version number", signature);
+    CHECK((minisign_install_due(&i) == MINISIGN_DUE_REJECTED) == (rejected != MINISIGN_OK));
+    check(minisign_install_is_signed(&i) == is_signed && minisign_install_version(&i) == number, "%s: wrong version number", signature);
 }
 
-/* Checks the verdict on the temporary file. */
-static void check_staged(enum minisign_answer first, enum minisign_answer second, enum minisign_error rejected)
-{
-    minisign_installation i = at(MINISIGN_DUE_ANSWER);
-
-    CHECK(ask(&i) == MINISIGN_OK && is_hex(questions.digest, HEX_OF_ABC));
-    CHECK(minisign_install_is_vouched(&i) == 0 && minisign_install_number(&i) == 0);
-    CHECK(minisign_install_answer(&i, first, second) == rejected && minisign_install_error(&i) == MINISIGN_OK);
-    CHECK(minisign_install_is_vouched(&i) == (second == YES) && minisign_install_number(&i) == (second == YES ? NUMBER : 0));
-    CHECK(minisign_install_due(&i) == (rejected == MINISIGN_OK ? MINISIGN_DUE_TAKE_PERMISSIONS : MINISIGN_DUE_REMOVE));
-    if (rejected != MINISIGN_OK) {
-        CHECK(minisign_install_done(&i) == MINISIGN_OK && minisign_install_error(&i) == rejected);
-    }
-}
-
-static void judges_comments_and_data(void)
+static void judges_comments(void)
 {
     const uint32_t by_time = MINISIGN_NUMBERING_TIMESTAMP, by_version = MINISIGN_NUMBERING_VERSION;
 
@@ -413,10 +441,16 @@ static void judges_comments_and_data(void)
     check_comment("0", 0, OTHER_SIGNATURE, "test", by_time, YES, MINISIGN_DIFFERENT_KEY_IDS, 0);
     check_comment("0", 0, SIGNATURE, "\xff", by_time, YES, MINISIGN_NOT_UTF8, 0);
     check_comment("0", 0, "untrusted comment: none", "test", by_time, YES, MINISIGN_MISSING_SIGNATURE, 0);
-    check_staged(YES, YES, MINISIGN_OK);
-    check_staged(NO, NO, MINISIGN_SIGNATURE_REFUSED);
-    check_staged(NO, YES, MINISIGN_SIGNATURE_REFUSED);
-    check_staged(YES, NO, MINISIGN_COMMENT_SIGNATURE_REFUSED);
+}
+
+/* The data that was read back must have the signature. */
+static void judges_data(void)
+{
+    minisign_installation i = at(MINISIGN_DUE_CHECK_DATA);
+
+    CHECK(minisign_install_answer(&i, NO) == MINISIGN_SIGNATURE_REFUSED && minisign_install_due(&i) == MINISIGN_DUE_REMOVE_FILES);
+    CHECK(minisign_install_error(&i) == MINISIGN_SIGNATURE_REFUSED && minisign_install_is_signed(&i) == 1);
+    CHECK(minisign_install_done(&i) == MINISIGN_OK && minisign_install_error(&i) == MINISIGN_SIGNATURE_REFUSED);
 }
 
 /* Returns a signature file with this trusted comment. */
@@ -482,6 +516,20 @@ static void reads_expiry_and_size(void)
     }
 }
 
+/* Before 1970 every update that expires has expired. No time is too late for one that does not expire. */
+static void judges_times(void)
+{
+    static const int64_t times[] = { INT64_MIN, -1, 0, 1999, 2000, INT64_MAX };
+
+    for (size_t n = 0; n < LENGTH(times); n++) {
+        passed_time = times[n];
+        check_signed_comment("file:a\tversion:3\texpires:2000", "", 0, n == 2 || n == 3 ? MINISIGN_OK : MINISIGN_EXPIRED, 3);
+        check_signed_comment("file:a\tversion:3\texpires:18446744073709551615", "", 0, n < 2 ? MINISIGN_EXPIRED : MINISIGN_OK, 3);
+        check_signed_comment("file:a\tversion:3", "", 0, MINISIGN_OK, 3);
+    }
+    passed_time = NOW;
+}
+
 /* Returns an installation of version 3 over version 2 at which this is due. The trusted comment has this field. */
 static minisign_installation sized(const char *field, uint32_t due)
 {
@@ -489,205 +537,225 @@ static minisign_installation sized(const char *field, uint32_t due)
     minisign_installation i;
 
     snprintf(comment, sizeof comment, "file:a\tversion:3\t%s", field);
-    asked_text = with_comment(comment);
-    asked_name = "a";
-    CHECK(begin(&i, 0, 0, 0, due == MINISIGN_DUE_RECEIVE, MINISIGN_NUMBERING_VERSION) == MINISIGN_OK);
+    passed_text = with_comment(comment);
+    passed_name = "a";
+    CHECK(BEGIN(&i, .numbering = MINISIGN_NUMBERING_VERSION) == MINISIGN_OK);
     go_to(&i, due, "2");
+    passed_text = SIGNATURE;
+    passed_name = "test";
     return i;
 }
 
 /* Passes the sizes of two pieces, and the end. The call with the number `rejected` fails, or with 3 none. */
-static void check_pieces(const char *field, uint32_t due, size_t one, size_t two, int rejected)
+static void check_pieces(const char *field, size_t one, size_t two, int rejected)
 {
-    const uint32_t left = due == MINISIGN_DUE_COPY ? MINISIGN_DUE_REMOVE : MINISIGN_DUE_REFUSED;
-    const uint32_t next = due == MINISIGN_DUE_COPY ? MINISIGN_DUE_READ_BACK : MINISIGN_DUE_LOCK;
-    minisign_installation i = sized(field, due);
+    minisign_installation i = sized(field, MINISIGN_DUE_COPY_DATA);
 
     for (int call = 0; call < 3 && call <= rejected; call++) {
-        const enum minisign_error error = call == 2 ? minisign_install_done(&i) : minisign_install_more(&i, call == 0 ? one : two);
+        const enum minisign_error error = call == 2 ? minisign_install_done(&i) : minisign_install_copied(&i, call == 0 ? one : two);
 
         CHECK(error == (call == rejected ? MINISIGN_OTHER_SIZE : MINISIGN_OK));
-        CHECK(minisign_install_due(&i) == (call == rejected ? left : call == 2 ? next : due));
+        CHECK(minisign_install_due(&i) == (call == rejected ? MINISIGN_DUE_REMOVE_FILES
+                                           : call == 2      ? MINISIGN_DUE_READ_BACK
+                                                            : MINISIGN_DUE_COPY_DATA));
     }
-    if (minisign_install_due(&i) == MINISIGN_DUE_REMOVE) {
-        CHECK(minisign_install_more(&i, 0) == MINISIGN_NOT_DUE && minisign_install_done(&i) == MINISIGN_OK);
+    if (rejected < 3) {
+        CHECK(minisign_install_copied(&i, 0) == MINISIGN_NOT_DUE && minisign_install_done(&i) == MINISIGN_OK);
+        CHECK(minisign_install_due(&i) == MINISIGN_DUE_REJECTED && minisign_install_error(&i) == MINISIGN_OTHER_SIZE);
     }
-    CHECK(rejected == 3 || (minisign_install_due(&i) == MINISIGN_DUE_REFUSED && minisign_install_error(&i) == MINISIGN_OTHER_SIZE));
 }
 
-/* The data has to have the signed size, if there is one. The bytes are counted again when the data is copied. */
+/* The data has to have the signed size, if there is one. */
 static void checks_size_of_data(void)
 {
-    minisign_installation i;
+    static const char *const fields[] = { "size:5", "size:0", "size:18446744073709551615" };
+    static const uint64_t sizes[] = { 5, 0, UINT64_MAX };
 
-    for (uint32_t due = MINISIGN_DUE_RECEIVE; due <= MINISIGN_DUE_COPY; due += MINISIGN_DUE_COPY - MINISIGN_DUE_RECEIVE) {
-        check_pieces("size:0", due, 0, 0, 3);
-        check_pieces("size:0", due, 1, 0, 0);
-        check_pieces("size:5", due, 3, 2, 3);
-        check_pieces("size:5", due, 5, 0, 3);
-        check_pieces("size:5", due, 3, 1, 2);
-        check_pieces("size:5", due, 3, 3, 1);
-        check_pieces("size:5", due, 6, 0, 0);
-        check_pieces("size:5", due, 5, SIZE_MAX, 1);
-        check_pieces("size", due, SIZE_MAX, SIZE_MAX, 3);
+    for (size_t n = 0; n < LENGTH(fields); n++) {
+        minisign_installation i = sized(fields[n], MINISIGN_DUE_CHECK_COMMENT);
+        uint64_t size = 77;
+
+        CHECK(minisign_install_size(&i, &size) == 0 && size == 77);
+        CHECK(minisign_install_answer(&i, YES) == MINISIGN_OK);
+        CHECK(minisign_install_size(&i, &size) == 1 && size == sizes[n]);
     }
-    i = sized("size:5", MINISIGN_DUE_RECEIVE);
-    CHECK(minisign_install_more(&i, 5) == MINISIGN_OK && minisign_install_done(&i) == MINISIGN_OK);
-    go_to(&i, MINISIGN_DUE_COPY, "2");
-    CHECK(minisign_install_more(&i, 5) == MINISIGN_OK && minisign_install_done(&i) == MINISIGN_OK);
-    CHECK(minisign_install_due(&i) == MINISIGN_DUE_READ_BACK);
-    asked_text = SIGNATURE;
-    asked_name = "test";
+    check_pieces("size:5", 5, 0, 3);
+    check_pieces("size:5", 2, 3, 3);
+    check_pieces("size:5", 0, 5, 3);
+    check_pieces("size:0", 0, 0, 3);
+    check_pieces("size:18446744073709551615", SIZE_MAX, 0, sizeof(size_t) == 8 ? 3 : 2);
+    check_pieces("size:5", 2, 2, 2);
+    check_pieces("size:5", 0, 0, 2);
+    check_pieces("size:5", 2, 4, 1);
+    check_pieces("size:5", 6, 0, 0);
+    check_pieces("size:5", 5, SIZE_MAX, 1);
+    check_pieces("size", SIZE_MAX, SIZE_MAX, 3);
 }
 
-/* Checks a trusted comment over a record with this date. If the clock is behind that date, an update with an expiry
- * date counts as expired. */
-static void check_clock(const char *comment, uint64_t when, uint32_t is_first, enum minisign_error rejected, uint64_t number)
-{
-    written = when;
-    check_signed_comment("%s", comment, is_first, rejected, number);
-    written = 0;
-}
-
-static void distrusts_clock_behind_record(void)
-{
-    static const char expires[] = "file:a\tversion:3\texpires:18446744073709551615";
-
-    for (uint32_t is_first = 0; is_first < 2; is_first++) {
-        const enum minisign_error expired = is_first ? MINISIGN_OK : MINISIGN_EXPIRED;
-        const enum minisign_error older = is_first ? MINISIGN_OLDER_UPDATE : MINISIGN_EXPIRED;
-
-        check_clock(expires, 0, is_first, MINISIGN_OK, 3);
-        check_clock(expires, NOW, is_first, MINISIGN_OK, 3);
-        check_clock(expires, NOW + 1, is_first, expired, 3);
-        check_clock(expires, UINT64_MAX, is_first, expired, 3);
-        check_clock("file:a\tversion:3", UINT64_MAX, is_first, MINISIGN_OK, 3);
-        check_clock("file:a\tversion:1", UINT64_MAX, is_first, MINISIGN_OLDER_UPDATE, 1);
-        check_clock("file:a\tversion:1\texpires:2000", UINT64_MAX, is_first, older, 1);
-    }
-}
-
-/* Checks the error over a record under this key. With is_first a record under neither of the two keys is ignored,
- * whatever its number. */
-static void check_key_of_record(const char *digits, uint32_t is_first, enum minisign_error rejected)
+/* Checks the error over a record under this key. With is_first or new_key a record under neither of the two keys is
+ * ignored, whatever its number. */
+static void check_key_of_record(const char *digits, uint32_t is_first, uint32_t new_key, enum minisign_error rejected)
 {
     const minisign_public_key key = key_of(KEY);
-    const minisign_install_options options = { .numbering = MINISIGN_NUMBERING_TIMESTAMP, .is_first = is_first };
+    const minisign_install_options options = { .is_first = is_first, .new_key = new_key };
     minisign_public_key other = key;
     char text[512];
     minisign_installation i;
 
     other.key_id[0] ^= 1;
     memset(other.key, 0x5a, sizeof other.key);
-    snprintf(text, sizeof text, "timestamp:1556193336\n%s\n%s", digits, HEX_OF_ABC);
+    snprintf(text, sizeof text, LATER_NUMBER "\n%s\n%s", digits, HEX_OF_ABC);
     CHECK(minisign_install_init(&i, &key, &other, &options) == MINISIGN_OK);
-    go_to(&i, MINISIGN_DUE_JUDGE, text);
-    CHECK(judge(&i, YES, YES) == rejected);
+    go_to(&i, MINISIGN_DUE_CHECK_COMMENT, text);
+    CHECK(minisign_install_answer(&i, YES) == rejected);
 }
 
 static void compares_key_of_record(void)
 {
-    static const char own[] = "79a561e70ee08cd3e754c63e9bd6b9c3520a1d4204cd104da2e7ef763b1853b7";
     static const char second[] = "5a5a5a5a5a5a5a5a5a5a5a5a5a5a5a5a5a5a5a5a5a5a5a5a5a5a5a5a5a5a5a5a";
-    static const char third[] = "5b5a5a5a5a5a5a5a5a5a5a5a5a5a5a5a5a5a5a5a5a5a5a5a5a5a5a5a5a5a5a5a";
 
-    for (uint32_t is_first = 0; is_first < 2; is_first++) {
-        check_key_of_record(own, is_first, MINISIGN_OLDER_UPDATE);
-        check_key_of_record(second, is_first, MINISIGN_OLDER_UPDATE);
-        check_key_of_record(third, is_first, is_first ? MINISIGN_OK : MINISIGN_OLDER_UPDATE);
+    for (uint32_t n = 0; n < 3; n++) {
+        const uint32_t is_first = n == 1, new_key = n == 2;
+
+        check_key_of_record(OWN_KEY, is_first, new_key, MINISIGN_OLDER_UPDATE);
+        check_key_of_record(second, is_first, new_key, MINISIGN_OLDER_UPDATE);
+        check_key_of_record(THIRD_KEY, is_first, new_key, n == 0 ? MINISIGN_OLDER_UPDATE : MINISIGN_OK);
     }
 }
 
-/* The questions and their key. API misuse changes nothing. */
-static void asks_for_selected_key(void)
+/* The questions, their keys and messages. API misuse changes nothing. */
+static void asks_about_each_signature(void)
 {
-    static const uint32_t judging[] = { MINISIGN_DUE_JUDGE, MINISIGN_DUE_JUDGE_TARGET, MINISIGN_DUE_ANSWER };
+    static const uint32_t checks[] = { MINISIGN_DUE_CHECK_COMMENT, MINISIGN_DUE_CHECK_RECORD, MINISIGN_DUE_CHECK_TARGET,
+                                       MINISIGN_DUE_CHECK_DATA };
+    const minisign_public_key key = key_of(KEY);
+    const minisign_signature signature = signature_of(SIGNATURE);
+    const size_t len = 64 + sizeof COMMENT - 1;
+    minisign_installation i = at(MINISIGN_DUE_READ_SIGNATURE), before = i;
+
+    message_len = 77;
+    CHECK(pass_text(&i, SIGNATURE, "test", len - 1) == MINISIGN_NO_ROOM && same(&i, &before) && message_len == 77);
+    CHECK(pass_text(&i, SIGNATURE, "test", len) == MINISIGN_OK && message_len == len);
+    CHECK(memcmp(message, signature.signature, 64) == 0 && memcmp(message + 64, COMMENT, len - 64) == 0);
+    for (size_t n = 0; n < LENGTH(checks); n++) {
+        const int is_comment = checks[n] == MINISIGN_DUE_CHECK_COMMENT;
+
+        i = before = at(checks[n]);
+        CHECK_AT(checks[n], ask(&i) == MINISIGN_OK && memcmp(key_asked, key.key, sizeof key.key) == 0);
+        CHECK_AT(checks[n], is_comment ? memcmp(signature_asked, signature.comment_signature, 64) == 0 && is_zeros(digest_asked, 64)
+                                       : memcmp(signature_asked, signature.signature, 64) == 0 && is_hex(digest_asked, HEX_OF_ABC));
+        CHECK_AT(checks[n], minisign_install_answer(&i, (enum minisign_answer) 1) == MINISIGN_BAD_ANSWER && same(&i, &before));
+        CHECK_AT(checks[n], minisign_install_answer(&i, (enum minisign_answer) 0) == MINISIGN_BAD_ANSWER && same(&i, &before));
+    }
+    memset(key_asked, 0xaa, sizeof key_asked);
+    i = at(MINISIGN_DUE_LOCK);
+    CHECK(ask(&i) == MINISIGN_NOT_DUE && key_asked[0] == 0xaa && key_asked[31] == 0xaa);
+}
+
+/* Either of two keys may have signed. The key ID selects it, and if both have this ID, both are asked. */
+static void asks_selected_keys(void)
+{
     static const minisign_install_options options;
     const minisign_public_key key = key_of(KEY);
-    minisign_public_key other = key;
-    minisign_installation i, before;
+    minisign_public_key other = key, twin = key;
+    minisign_installation i;
 
-    for (size_t n = 0; n < LENGTH(judging); n++) {
-        i = before = at(judging[n]);
-        CHECK(minisign_install_answer(&i, YES, YES) == MINISIGN_NOT_ASKED && same(&i, &before));
-        CHECK(ask_of(&i, SIGNATURE, "test", 64 + sizeof COMMENT - 2) == MINISIGN_NO_ROOM && same(&i, &before));
-        CHECK(ask_of(&i, SIGNATURE, "test", 64 + sizeof COMMENT - 1) == MINISIGN_OK);
-        CHECK(questions.message_len == 64 + sizeof COMMENT - 1 && memcmp(message, questions.signature, 64) == 0
-              && memcmp(message + 64, COMMENT, sizeof COMMENT - 1) == 0 && questions.legacy == 0);
-        CHECK(questions.comment_offset == 64 && questions.comment_len == sizeof COMMENT - 1);
-        CHECK(memcmp(questions.public_key, key.key, sizeof key.key) == 0);
-        before = i;
-        CHECK(minisign_install_answer(&i, (enum minisign_answer) 1, YES) == MINISIGN_BAD_ANSWER && same(&i, &before));
-        CHECK(minisign_install_answer(&i, YES, (enum minisign_answer) 0) == MINISIGN_BAD_ANSWER && same(&i, &before));
-    }
-    /* Either of two keys may have signed. The key ID selects it. */
     other.key_id[0] ^= 1;
     other.key[0] ^= 1;
+    twin.key[0] ^= 1;
     for (int n = 0; n < 4; n++) {
         CHECK(minisign_install_init(&i, n & 1 ? &key : &other, n & 2 ? &key : &other, &options) == MINISIGN_OK);
-        go_to(&i, MINISIGN_DUE_JUDGE, "5");
-        CHECK(ask(&i) == (n == 0 ? MINISIGN_DIFFERENT_KEY_IDS : MINISIGN_OK));
-        CHECK(n == 0 || memcmp(questions.public_key, key.key, sizeof key.key) == 0);
+        go_to(&i, MINISIGN_DUE_READ_SIGNATURE, "5");
+        CHECK(pass_signature(&i) == (n == 0 ? MINISIGN_DIFFERENT_KEY_IDS : MINISIGN_OK));
+        CHECK(n == 0 || (ask(&i) == MINISIGN_OK && memcmp(key_asked, key.key, sizeof key.key) == 0));
+        CHECK(n == 0 || n == 3 || minisign_install_answer(&i, NO) == MINISIGN_COMMENT_SIGNATURE_REFUSED);
+    }
+    for (int n = 0; n < 2; n++) {
+        const minisign_public_key *first = n ? &key : &twin, *second = n ? &twin : &key;
+
+        CHECK(minisign_install_init(&i, first, second, &options) == MINISIGN_OK);
+        go_to(&i, MINISIGN_DUE_CHECK_COMMENT, "5");
+        CHECK(ask(&i) == MINISIGN_OK && memcmp(key_asked, first->key, sizeof first->key) == 0);
+        CHECK(minisign_install_answer(&i, NO) == MINISIGN_OK && minisign_install_due(&i) == MINISIGN_DUE_CHECK_COMMENT);
+        CHECK(minisign_install_is_signed(&i) == 0);
+        CHECK(ask(&i) == MINISIGN_OK && memcmp(key_asked, second->key, sizeof second->key) == 0);
+        go_to(&i, MINISIGN_DUE_CHECK_DATA, "5");
+        CHECK(ask(&i) == MINISIGN_OK && memcmp(key_asked, second->key, sizeof second->key) == 0);
     }
 }
 
 /* Checks what is due and the error for an update of the recorded version, with the answers about the record's digest
  * (`own`) and about the installed file (`installed`). */
-static void check_recorded(const char *record_text, uint32_t again, uint32_t is_check, uint32_t is_waiting, enum minisign_answer own,
+static void check_recorded(const char *record_text, uint32_t again, uint32_t is_check, enum minisign_answer own,
                            enum minisign_answer installed, uint32_t due, enum minisign_error rejected)
 {
     minisign_installation i;
 
-    CHECK(begin(&i, 0, again, is_check, is_waiting, MINISIGN_NUMBERING_TIMESTAMP) == MINISIGN_OK);
-    go_to(&i, MINISIGN_DUE_JUDGE, record_text);
-    CHECK(ask(&i) == MINISIGN_OK);
-    CHECK(strlen(record_text) > 64 ? is_hex(questions.digest, HEX_OF_ABC) : is_zeros(questions.digest, sizeof questions.digest));
-    CHECK(minisign_install_answer(&i, own, YES) == MINISIGN_OK && minisign_install_due(&i) == MINISIGN_DUE_LOOK);
-    CHECK(pieces(&i) == MINISIGN_OK && ask(&i) == MINISIGN_OK);
-    CHECK(is_hex(questions.digest, HEX_OF_ABC));
-    CHECK(minisign_install_is_vouched(&i) == 0);
-    CHECK(minisign_install_answer(&i, installed, YES) == rejected);
-    CHECK(minisign_install_is_vouched(&i) == 1 && minisign_install_number(&i) == NUMBER);
+    CHECK(BEGIN(&i, .again = again, .is_check = is_check) == MINISIGN_OK);
+    go_to(&i, MINISIGN_DUE_CHECK_COMMENT, record_text);
+    CHECK(minisign_install_answer(&i, YES) == MINISIGN_OK);
+    if (strlen(record_text) > 64) {
+        CHECK(minisign_install_due(&i) == MINISIGN_DUE_CHECK_RECORD && minisign_install_answer(&i, own) == MINISIGN_OK);
+    }
+    CHECK(minisign_install_due(&i) == MINISIGN_DUE_READ_TARGET && pieces(&i) == MINISIGN_OK);
+    CHECK(minisign_install_answer(&i, installed) == rejected);
+    CHECK(minisign_install_is_signed(&i) == 1 && minisign_install_version(&i) == NUMBER);
     CHECK(minisign_install_due(&i) == due && minisign_install_error(&i) == rejected);
 }
 
 static void judges_recorded_version(void)
 {
-    for (uint32_t waits = 0; waits < 2; waits++) {
-        const uint32_t next = waits ? MINISIGN_DUE_UNLOCK : MINISIGN_DUE_CLEAR;
-
-        for (uint32_t again = 0; again < 2; again++) {
-            check_recorded(OWN_RECORD, again, 0, waits, YES, YES, MINISIGN_DUE_SYNC_TARGET, MINISIGN_OK);
-            check_recorded(OWN_NUMBER, again, 0, waits, NO, YES, MINISIGN_DUE_SYNC_TARGET, MINISIGN_OK);
-            check_recorded(OWN_RECORD, again, 1, waits, YES, YES, MINISIGN_DUE_ALREADY, MINISIGN_OK);
-            check_recorded(OWN_RECORD, again, 0, waits, YES, NO, next, MINISIGN_OK);
-            check_recorded(OWN_RECORD, again, 1, waits, YES, NO, MINISIGN_DUE_WOULD_INSTALL, MINISIGN_OK);
-        }
-        check_recorded(OWN_RECORD, 1, 0, waits, NO, NO, next, MINISIGN_OK);
-        check_recorded(OWN_RECORD, 0, 0, waits, NO, NO, MINISIGN_DUE_REFUSED, MINISIGN_SAME_NUMBER);
-        check_recorded(OWN_RECORD, 0, 1, waits, NO, NO, MINISIGN_DUE_REFUSED, MINISIGN_SAME_NUMBER);
-        /* A record without a digest does not match any data, whatever the answer. */
-        check_recorded(OWN_NUMBER, 0, 0, waits, YES, NO, MINISIGN_DUE_REFUSED, MINISIGN_SAME_NUMBER);
-        check_recorded("1556193335", 0, 1, waits, YES, NO, MINISIGN_DUE_REFUSED, MINISIGN_SAME_NUMBER);
+    for (uint32_t again = 0; again < 2; again++) {
+        check_recorded(OWN_RECORD, again, 0, YES, YES, MINISIGN_DUE_SYNC_TARGET, MINISIGN_OK);
+        check_recorded(OWN_NUMBER, again, 0, NO, YES, MINISIGN_DUE_SYNC_TARGET, MINISIGN_OK);
+        check_recorded(OWN_RECORD, again, 1, YES, YES, MINISIGN_DUE_ALREADY_INSTALLED, MINISIGN_OK);
+        check_recorded(OWN_RECORD, again, 0, YES, NO, MINISIGN_DUE_REMOVE_LEFTOVERS, MINISIGN_OK);
+        check_recorded(OWN_RECORD, again, 1, YES, NO, MINISIGN_DUE_WOULD_INSTALL, MINISIGN_OK);
     }
+    check_recorded(OWN_RECORD, 1, 0, NO, NO, MINISIGN_DUE_REMOVE_LEFTOVERS, MINISIGN_OK);
+    check_recorded(OWN_RECORD, 0, 0, NO, NO, MINISIGN_DUE_REJECTED, MINISIGN_SAME_NUMBER);
+    check_recorded(OWN_RECORD, 0, 1, NO, NO, MINISIGN_DUE_REJECTED, MINISIGN_SAME_NUMBER);
+    /* A record without a digest does not match any data. */
+    check_recorded(OWN_NUMBER, 0, 0, YES, NO, MINISIGN_DUE_REJECTED, MINISIGN_SAME_NUMBER);
+    check_recorded("1556193335", 0, 1, YES, NO, MINISIGN_DUE_REJECTED, MINISIGN_SAME_NUMBER);
 }
 
-/* Data from a pipe is received while the target is not locked. Then everything is checked again. */
-static void receives_without_lock(void)
+/* Checks what is due after the trusted comment of a roll-back over this record is found to be signed, and the new record
+ * if the update is then installed. */
+static void check_roll_back(const char *record_text, uint32_t due, const char *new_record)
 {
     minisign_installation i;
 
-    CHECK(begin(&i, 0, 0, 0, 1, MINISIGN_NUMBERING_TIMESTAMP) == MINISIGN_OK);
-    CHECK(minisign_install_failed(&i, MINISIGN_TARGET_IN_USE) == MINISIGN_OK && minisign_install_due(&i) == MINISIGN_DUE_RECEIVE);
-    CHECK(minisign_install_more(&i, SIZE_MAX) == MINISIGN_OK && minisign_install_done(&i) == MINISIGN_OK);
-    CHECK(minisign_install_due(&i) == MINISIGN_DUE_LOCK && minisign_install_failed(&i, MINISIGN_TARGET_IN_USE) == MINISIGN_OK);
-    CHECK(minisign_install_due(&i) == MINISIGN_DUE_REFUSED && minisign_install_error(&i) == MINISIGN_TARGET_IN_USE);
+    CHECK(BEGIN(&i, .roll_back = 1) == MINISIGN_OK);
+    go_to(&i, MINISIGN_DUE_CHECK_COMMENT, record_text);
+    CHECK(minisign_install_answer(&i, YES) == MINISIGN_OK && minisign_install_due(&i) == due);
+    if (due == MINISIGN_DUE_CHECK_RECORD) {
+        CHECK(minisign_install_answer(&i, NO) == MINISIGN_OK);
+    }
+    CHECK(minisign_install_due(&i) == MINISIGN_DUE_REMOVE_LEFTOVERS);
+    go_to(&i, MINISIGN_DUE_WRITE_RECORD, record_text);
+    CHECK(minisign_install_record_text(&i, message, sizeof message) == strlen(new_record));
+    CHECK(memcmp(message, new_record, strlen(new_record)) == 0);
+}
 
-    i = at(MINISIGN_DUE_RECEIVE);
-    CHECK(minisign_install_done(&i) == MINISIGN_OK && minisign_install_due(&i) == MINISIGN_DUE_LOCK);
-    go_to(&i, MINISIGN_DUE_JUDGE, OWN_NUMBER);
-    CHECK(judge(&i, NO, YES) == MINISIGN_OK && minisign_install_due(&i) == MINISIGN_DUE_LOOK);
-    CHECK(minisign_install_no_target(&i) == MINISIGN_OK && minisign_install_due(&i) == MINISIGN_DUE_CLEAR);
+/* A roll-back keeps version and key of the record. */
+static void rolls_back(void)
+{
+    minisign_installation i;
+
+    check_roll_back("5", MINISIGN_DUE_REMOVE_LEFTOVERS, OWN_RECORD);
+    check_roll_back("1556193336", MINISIGN_DUE_REMOVE_LEFTOVERS, LATER_NUMBER "\n" OWN_KEY "\n" HEX_OF_ABC);
+    check_roll_back(LATER_NUMBER, MINISIGN_DUE_REMOVE_LEFTOVERS, LATER_NUMBER "\n" OWN_KEY "\n" HEX_OF_ABC);
+    for (int n = 0; n < 2; n++) {
+        const char *text = n ? LATER_NUMBER "\n" OWN_KEY "\n" HEX_OF_ABC : LATER_NUMBER "\n" THIRD_KEY "\n" HEX_OF_ABC;
+
+        check_roll_back(text, MINISIGN_DUE_CHECK_RECORD, text);
+        /* The update is the one that is recorded, so it may be installed already. */
+        CHECK(BEGIN(&i, .roll_back = 1) == MINISIGN_OK);
+        go_to(&i, MINISIGN_DUE_CHECK_TARGET, text);
+        CHECK(minisign_install_answer(&i, n ? YES : NO) == MINISIGN_OK);
+        CHECK(minisign_install_due(&i) == (n ? MINISIGN_DUE_SYNC_TARGET : MINISIGN_DUE_REMOVE_LEFTOVERS));
+    }
 }
 
 /* Checks the result of minisign_judge_comment. */
@@ -756,11 +824,12 @@ static void takes_null_for_no_bytes(void)
     minisign_installation i = at(MINISIGN_DUE_READ_RECORD);
     uint64_t number;
 
-    CHECK(minisign_install_record(&i, NULL, 0, 0) == MINISIGN_OK && minisign_install_error(&i) == MINISIGN_DAMAGED_RECORD);
+    CHECK(minisign_install_record(&i, NULL, 0) == MINISIGN_DAMAGED_RECORD && minisign_install_error(&i) == MINISIGN_DAMAGED_RECORD);
     i = at(MINISIGN_DUE_READ_BACK);
-    CHECK(minisign_install_piece(&i, NULL, 0) == MINISIGN_OK && minisign_install_due(&i) == MINISIGN_DUE_ANSWER);
-    CHECK(minisign_install_ask(&i, bytes_of(SIGNATURE), sizeof SIGNATURE - 1, NULL, 0, NOW, &questions, NULL, 0) == MINISIGN_NO_ROOM);
-    CHECK(minisign_install_ask(&i, NULL, 0, NULL, 0, NOW, &questions, NULL, 0) == MINISIGN_MISSING_UNTRUSTED_COMMENT);
+    CHECK(minisign_install_piece(&i, NULL, 0) == MINISIGN_OK && minisign_install_due(&i) == MINISIGN_DUE_CHECK_DATA);
+    i = at(MINISIGN_DUE_READ_SIGNATURE);
+    CHECK(minisign_install_signature(&i, bytes_of(SIGNATURE), sizeof SIGNATURE - 1, NULL, 0, NOW, NULL, 0, &message_len) == MINISIGN_NO_ROOM);
+    CHECK(minisign_install_signature(&i, NULL, 0, NULL, 0, NOW, NULL, 0, &message_len) == MINISIGN_MISSING_UNTRUSTED_COMMENT);
     i = at(MINISIGN_DUE_WRITE_RECORD);
     CHECK(minisign_install_record_text(&i, NULL, 0) == 0);
     CHECK(minisign_judge_comment(NULL, 0, NULL, 0, MINISIGN_NUMBERING_TIMESTAMP, NOW, 0, &number) == MINISIGN_OTHER_FILE);
@@ -768,18 +837,20 @@ static void takes_null_for_no_bytes(void)
 
 int main(void)
 {
-    makes_each_call_at_each_action();
+    makes_each_call_at_each_operation();
     keeps_first_failure();
     rejects_bad_beginnings();
     reads_records();
-    judges_comments_and_data();
+    judges_comments();
+    judges_data();
     reads_expiry_and_size();
+    judges_times();
     checks_size_of_data();
-    distrusts_clock_behind_record();
     compares_key_of_record();
-    asks_for_selected_key();
+    asks_about_each_signature();
+    asks_selected_keys();
     judges_recorded_version();
-    receives_without_lock();
+    rolls_back();
     judges_plain_comments();
     takes_null_for_no_bytes();
     CHECK(requests == 0 && held == 0);

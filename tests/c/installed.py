@@ -38,9 +38,11 @@ README = os.path.join(HERE, "..", "..", "README.md")
 STRICT = ["-Wall", "-Wextra", "-Wpedantic", "-Werror"]
 
 # The installed files, except the shared library, whose name has its version.
-FILES = ["bin/minisign", "bin/minisign-install", "include/minisign.h", "include/minisign_install.h", "include/minisign_stream.h",
-         "lib/libminisign.a", "lib/libminisign.so", "lib/pkgconfig/minisign.pc", "share/man/man1/minisign.1",
-         "share/man/man1/minisign-install.1", "share/man/man3/minisign.3", "share/man/man3/minisign_install.3"]
+FILES = ["bin/minisign", "bin/minisign-install", "bin/minisign-check", "include/minisign.h", "include/minisign_install.h",
+         "include/minisign_installing.h", "include/minisign_list.h", "include/minisign_stream.h", "lib/libminisign.a",
+         "lib/libminisign-installing.a", "lib/libminisign.so", "lib/pkgconfig/minisign.pc", "lib/pkgconfig/minisign-installing.pc",
+         "share/man/man1/minisign.1", "share/man/man1/minisign-install.1", "share/man/man1/minisign-check.1", "share/man/man3/minisign.3",
+         "share/man/man3/minisign_install.3", "share/man/man3/minisign_installing.3", "share/man/man3/minisign_list.3"]
 # C that drops a result.
 DROPPED = b"#include <minisign.h>\nint main(void) { minisign_state s; minisign_init(&s); minisign_update(&s, 0, 0); return 0; }\n"
 COMMENT = "version 2 \u00e9"
@@ -51,15 +53,17 @@ def installed_files(checks, root):
     found = {os.path.relpath(os.path.join(at, name), root) for at, _, names in os.walk(root) for name in names}
     versions = [name for name in found if re.fullmatch(r"lib/libminisign\.so\.\d+\.\d+(?:\.\d+)?", name)]
     pages = {page: {call.name for call in c_header.parsed(read(root, "include", f"{page}.h").decode()).calls}
-             for page in ("minisign", "minisign_install")}
+             for page in ("minisign", "minisign_install", "minisign_list")}
     names = set().union(*pages.values())
     links = {f"share/man/man3/{name}.3": page for page, calls in pages.items() for name in calls}
+    links["share/man/man3/minisign_install_file.3"] = "minisign_installing"
     checks.check(len(versions) == 2 and found == {*FILES, *versions, *links},
                  f"installed files that differ: {sorted(found ^ {*FILES, *versions, *links})}")
     is_led = all(read(root, link) == f".so man3/{page}.3\n".encode() for link, page in links.items())
     checks.check(is_led, "a manual page of a call leads to another page")
     checks.check(all(len(calls) >= 9 for calls in pages.values()), f"a header has only these calls: {pages}")
-    for name, flags in (("libminisign.so", ["-D"]), ("libminisign.a", [])):
+    for name, flags, names in (("libminisign.so", ["-D"], names), ("libminisign.a", [], names),
+                               ("libminisign-installing.a", [], {"minisign_install_file"})):
         _, said = run([needs.program("nm", "binutils"), "-g", "--defined-only", *flags, f"{root}/lib/{name}"])
         defined = {*re.findall(r"(?m)^[0-9a-f]+ [A-Z] (?:.* )?(\S+)$", said)}
         checks.check(defined == names, f"names that only {name} or only the headers have: {sorted(defined ^ names)}")
@@ -73,10 +77,10 @@ def installed_files(checks, root):
         checks.check(status == 0 and not said, f"{page}: {said}")
 
 
-def flags_of(root, room, *options):
-    """Returns pkg-config's flags for the installed library."""
+def flags_of(root, room, *options, library="minisign"):
+    """Returns pkg-config's flags for an installed library."""
     environment = {"PKG_CONFIG_PATH": f"{root}/lib/pkgconfig", "PKG_CONFIG_SYSROOT_DIR": f"{room}/dest"}
-    return shlex.split(static_library.hold([needs.program("pkg-config", "pkg-config"), *options, "minisign"], **environment))
+    return shlex.split(static_library.hold([needs.program("pkg-config", "pkg-config"), *options, library], **environment))
 
 
 class Installed:
@@ -293,6 +297,39 @@ def check_updater(checks, over):
     checks.same(run([*over.verifiers["stream"], "misuse", *published_paths]), (0, ""), "misuse of the stream calls")
 
 
+# C++ that includes the header of the call that installs.
+INSTALLING_IN_CPP = b"""#include <minisign_installing.h>
+int main() { minisign_installing_options options = {}; return minisign_install_file(&options, nullptr) != MINISIGN_STATUS_MISUSE; }
+"""
+
+
+def check_installing(checks, over):
+    """Runs the example that installs, over both libraries: it installs a newer update, and rejects older and other data."""
+    flags = [flags_of(over.root, over.room, option, library="minisign-installing") for option in ("--cflags", "--libs")]
+    install = over.build("install", [over.c, "-std=c99", *STRICT, *flags[0], f"{EXAMPLES}/install.c", *flags[1], "-lsodium"])
+    in_cpp = over.build("install-cpp", [over.cpp, "-std=c++11", *STRICT, *flags[0], write(over.room, "installing.cpp", INSTALLING_IN_CPP),
+                                        *flags[1]])
+    libraries = {"LD_LIBRARY_PATH": f"{over.root}/lib"}
+    checks.same(run(in_cpp, **libraries), (0, ""), "a C++ program that installs")
+    os.mkdir(over.path("there"))
+    write(over.room, "there/.app.number", b"version:1")
+    for number in (1, 2):
+        write(over.room, f"app-{number}", b"version %d" % number)
+        over.by_minisign("-S", "-s", "key.key", "-m", f"app-{number}", "-t", f"version:{number}\tfile:app")
+    two = [over.path(name) for name in ("key.pub", "app-2", "app-2.minisig", "there/app")]
+    one, other = [name.replace("app-2", "app-1") for name in two], [two[0], over.path("app-1"), *two[2:]]
+    for what, words, status, said in (
+            ("a newer update", two, 0, ""), ("the same update", two, 10, ""),
+            ("an older update", one, 4, f"error: {over.path('app-1')}: the update is older than the recorded version\n"),
+            ("a file that is no signature", [*two[:2], two[1], two[3]], 3, f"error: {two[1]}: "),
+            ("a missing file", [two[0], over.path("none"), two[2], over.path("there/tool")], 1, "error: ")):
+        found, text = run([*install, *words], **libraries)
+        checks.check(found == status and text.startswith(said) and bool(text) == bool(said), f"install, {what}: {found}, {text}")
+    os.remove(over.path("there/app"))
+    checks.check(run([*install, *other], **libraries)[0] == 3 and not os.path.exists(over.path("there/app")), "install, other data")
+    checks.check(run([*install, *two], **libraries)[0] == 0 and read(over.room, "there/app") == b"version 2", "install, after other data")
+
+
 # An agent that answers each request with these bytes.
 FALSE_AGENT = """
 import socket, sys
@@ -352,8 +389,8 @@ def check_agent(checks, over):
 
 
 def check_programs(checks, over):
-    """The installed programs are those that were built, which command_line.py and real_installing.py test."""
-    for name, flag in (("minisign", "-v"), ("minisign-install", "--version")):
+    """The installed programs are those that were built, which command_line.py, real_installing.py and check_program.py test."""
+    for name, flag in (("minisign", "-v"), ("minisign-install", "--version"), ("minisign-check", "--version")):
         checks.check(read(over.root, "bin", name) == read(over.room, "out", name), f"the installed {name} is not the one that was built")
         checks.ended(f"{name}, installed", run([f"{over.root}/bin/{name}", flag]), says=name)
 
@@ -364,8 +401,8 @@ def run_all(checks, room):
     root = f"{room}/dest/prefix"
     installed_files(checks, root)
     over = Installed(checks, root, room)
-    for check in (check_dropped_results, check_verifiers, check_signers, check_mutants, check_readme, check_updater, check_agent,
-                  check_programs):
+    for check in (check_dropped_results, check_verifiers, check_signers, check_mutants, check_readme, check_updater, check_installing,
+                  check_agent, check_programs):
         check(checks, over)
 
 

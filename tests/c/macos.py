@@ -11,12 +11,14 @@ Nothing is run on macOS. The last line is `N passed, M failed`.
 - Linking: the makefile builds and installs the library and the programs with LLVM's linker for macOS, against a stub of the system's
   library that has only the functions of these headers.
 - Signals: where SIGINFO exists, the program handles neither SIGINFO nor SIGIO, which are ignored by default there.
-- Names: with a file system that takes k.key and k.KEY for one name, a new key pair of these names is an error, and leaves no file.
+- Names: on a file system that takes k.key and k.KEY for one name, a new key pair of these names is an error, and leaves no file.
+  This is tried with a preloaded library, and, if root may mount it, on vfat, which FUSE provides.
 
 Needs Python 3.9 or later, clang, lld, make, a C compiler, libsodium with its header, and of Debian librust-libc-dev,
-golang-golang-x-sys-dev and llvm. It installs what is missing if it may.
+golang-golang-x-sys-dev, llvm, fusefat and dosfstools. It installs what is missing if it may.
 """
 
+import contextlib
 import glob
 import os
 import re
@@ -24,6 +26,7 @@ import signal
 import struct
 import subprocess
 import sys
+import tempfile
 
 HERE = os.path.dirname(os.path.realpath(__file__))
 sys.path += [os.path.join(HERE, "..", "shared")]
@@ -45,7 +48,7 @@ MACH_O, PROCESSORS = 0xfeedfacf, {"x86_64": 0x1000007, "arm64": 0x100000c}
 PROGRAM, LIBRARY = 2, 6
 # Functions that macos_headers.py does not take from Rust's crate: those of macOS's manual pages, and those of ISO C and POSIX.
 BY_MANUAL = {"acl_free", "acl_init", "acl_set_fd", "getentropy", "strsep"}
-STANDARD = {"atexit", "pthread_create", "putc", "putchar", "strftime", "vfprintf", "vsnprintf"}
+STANDARD = {"atexit", "pthread_create", "putc", "putchar", "qsort", "strftime", "vfprintf", "vsnprintf"}
 FEWEST_CONSTANTS = 50
 
 
@@ -58,7 +61,7 @@ def headers(checks, room):
     needs.need(lambda: os.path.exists(macos_headers.GO) or None, "Go's package for system calls", "golang-golang-x-sys-dev")
     needs.need(lambda: glob.glob(f"{macos_headers.CRATES}/libc-*") or None, "Rust's crate libc", "librust-libc-dev")
     place = os.path.join(room, "macos")
-    compared, unchecked = macos_headers.write(place, sources("minisign", "install", "shared", "library", "library/portable"))
+    compared, unchecked = macos_headers.write(place, sources("minisign", "install", "check", "shared", "library", "library/portable"))
     checks.check(compared >= FEWEST_CONSTANTS, f"only {compared} constants are compared between Rust's crate and Go's package")
     checks.check(set(unchecked) <= BY_MANUAL | STANDARD, f"macOS is not known to have {sorted({*unchecked} - BY_MANUAL - STANDARD)}")
     return place, ["-nostdlibinc", "-isystem", place, "-isystem", emulated.headers_of_sodium(room)]
@@ -66,7 +69,7 @@ def headers(checks, room):
 
 def check_types(checks, room, given):
     clang = [needs.program("clang", "clang"), *WARNINGS, *given, "-I", C, "-I", INCLUDE, "-fsyntax-only"]
-    programs = sources("minisign", "install", "shared", endings="c")
+    programs = sources("minisign", "install", "check", "shared", endings="c")
     checks.check(len(programs) > 25, f"the programs have only these files: {programs}")
     for target in TARGETS:
         checks.ended(f"the programs for {target}", run([*clang, f"--target={target}", *programs]))
@@ -89,7 +92,7 @@ def check_linking(checks, room, place, given):
     needs.need(lambda: glob.glob("/usr/lib/llvm-*/bin/ld64.lld") or None, "ld64.lld", "lld")
     write(place, "libsodium.tbd", macos_headers.STUB.format(symbols=", ".join(
         f"_{name}" for name in sorted({*re.findall(r"\b(?:crypto_|sodium_|randombytes_)\w+(?=\()", "".join(
-            macos_headers.read_text(path) for path in sources("minisign", "install", "shared", "library")))})))
+            macos_headers.read_text(path) for path in sources("minisign", "install", "check", "shared", "library")))})))
         .replace("/usr/lib/libSystem.B.dylib", "libsodium.23.dylib").replace("dyld_stub_binder, ", "").encode())
     # (GNU ar writes no index of the symbols of these objects)
     ar, nm = (needs.need(lambda: needs.which(name) or needs.which(f"{name}-14"), name, "llvm") for name in ("llvm-ar", "llvm-nm"))
@@ -101,10 +104,10 @@ def check_linking(checks, room, place, given):
         installed = {os.path.relpath(os.path.join(at, name), f"{root}/usr/local") for at, _, names in os.walk(root) for name in names}
         libraries = {name for name in installed if name.startswith("lib/") and not name.startswith("lib/pkgconfig/")}
         version = re.search(r'#define MINISIGN_VERSION_TEXT "((\d+\.\d+)\.\d+)"', macos_headers.read_text(f"{INCLUDE}/minisign.h"))
-        wanted = {"lib/libminisign.a", *(f"lib/libminisign{part}.dylib" for part in ("", f".{version[2]}", f".{version[1]}"))}
+        wanted = {"lib/libminisign.a", "lib/libminisign-installing.a", *(f"lib/libminisign{part}.dylib" for part in ("", f".{version[2]}", f".{version[1]}"))}
         checks.check(libraries == wanted, f"{target}: {sorted(libraries)} are installed, wanted {sorted(wanted)}")
         check_linked(checks, f"{root}/usr/local/lib/libminisign.{version[1]}.dylib", target, LIBRARY)
-        for name in ("minisign", "minisign-install"):
+        for name in ("minisign", "minisign-install", "minisign-check"):
             check_linked(checks, f"{root}/usr/local/bin/{name}", target, PROGRAM)
         status, said = run([nm, "-gUj", f"{out}/libminisign.dylib"])
         names = re.findall(r"(?m)^(\w+)$", macos_headers.read_text(f"{C}/library/names"))
@@ -162,12 +165,48 @@ def check_names(checks, room):
         checks.check(ran.status == 0 and sorted(os.listdir(place)) == ["k.key", "k.pub"], f"two other names: {ran}")
 
 
+@contextlib.contextmanager
+def vfat(room):
+    """Mounts an empty vfat file system, and returns its directory, or None if it cannot be mounted."""
+    image, place = os.path.join(room, "vfat-image"), os.path.join(room, "vfat")
+    if os.geteuid() != 0 or not os.path.exists("/dev/fuse"):
+        yield None
+        return
+    os.mkdir(place)
+    write(room, "vfat-image", b"")
+    os.truncate(image, 40 << 20)
+    static_library.hold([needs.program("mkfs.vfat", "dosfstools"), "-F", "32", image])
+    status, _ = run([needs.program("fusefat", "fusefat"), "-o", "rw+", image, place])
+    try:
+        yield place if status == 0 and os.path.ismount(place) else None
+    finally:
+        run(["umount", place])
+
+
+def check_names_on_vfat(checks, room):
+    """The file system has other inode numbers for k.key than for k.KEY."""
+    program = os.path.join(room, "usual", "minisign")
+    for public, words in (("k.KEY", []), ("k.KEY", ["-f"]), ("k.pub", [])):
+        with vfat(tempfile.mkdtemp(dir=room)) as place:
+            if place is None:
+                print("skipped: vfat, which only root can mount")
+                return
+            ran = run_program([program, "-G", "-W", *words, "-p", public, "-s", "k.key"], place)
+            if public == "k.pub":
+                checks.check(ran.status == 0 and sorted(os.listdir(place)) == ["k.key", "k.pub"], f"vfat: two names: {ran}")
+                continue
+            said = b"k.key: on this file system, this name and that of the other key file are the same"
+            checks.check(ran.status == 2 and said in ran.said, f"vfat: {' '.join(words)} k.KEY and k.key: {ran}")
+            checks.check(not os.listdir(place), f"vfat: {' '.join(words)} k.KEY and k.key: {os.listdir(place)} are left")
+
+
 def run_all(checks, room):
     place, given = headers(checks, room)
     check_types(checks, room, given)
     check_linking(checks, room, place, given)
     check_signals(checks, room)
     check_names(checks, room)
+    check_names_on_vfat(checks, room)
 
 
 if __name__ == "__main__":

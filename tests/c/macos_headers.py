@@ -52,6 +52,8 @@ int *__error(void);
 #define NAME_MAX 255
 typedef int sig_atomic_t;
 typedef struct fd_set fd_set;
+typedef struct pthread_mutex_t pthread_mutex_t;
+typedef struct pthread_cond_t pthread_cond_t;
 void FD_ZERO(fd_set *);
 void FD_SET(int, fd_set *);
 int FD_ISSET(int, const fd_set *);
@@ -67,7 +69,8 @@ UNCHECKED = {"putc": "int putc(int, FILE *);", "putchar": "int putchar(int);",
              "acl_init": "typedef struct access_list *acl_t; acl_t acl_init(int);",
              "acl_set_fd": "int acl_set_fd(int, acl_t);", "acl_free": "int acl_free(void *);",
              "atexit": "int atexit(void (*)(void));", "pthread_create":
-             "int pthread_create(pthread_t *, const struct pthread_attr_t *, void *(*)(void *), void *);"}
+             "int pthread_create(pthread_t *, const struct pthread_attr_t *, void *(*)(void *), void *);",
+             "qsort": "void qsort(void *, size_t, size_t, int (*)(const void *, const void *));"}
 
 
 # What compilers call, and data.
@@ -153,7 +156,7 @@ class Crate:
     def value(self, text):
         """Returns an expression in C. Adds the constants that it uses."""
         text = re.sub(r"\bas [\w:]+", "", text.replace("::", "").replace("!", "~"))
-        text = re.sub(r"(?<=[0-9a-fA-F])_(?=[0-9a-fA-F])", "", text)
+        text = re.sub(r"\b(?:0x[0-9a-fA-F_]+|[0-9][0-9_]*)", lambda number: number[0].replace("_", ""), text)
         for used in re.findall(r"\b[A-Z_]\w*\b", text):
             self.constant(used)
         return text.strip()
@@ -180,7 +183,7 @@ def write(place, sources, crates=CRATES, go=GO):
     called, structs = {*re.findall(r"\b([a-z_]\w*)(?:\(|$)", code, re.M)}, {*re.findall(r"\bstruct (\w+)", code)}
     own = {*re.findall(r"(?m)^ *# *define (\w+)", code), *re.findall(r"[{,]\s*([A-Z_]\w*)", "".join(re.findall(r"\benum \w* ?(\{[^}]*\})", code)))}
     for word in sorted({*re.findall(r"[A-Za-z_]\w*", code + BY_HAND)} - own):
-        if word in crate.structs and word in {*structs, "fd_set"}:
+        if word in crate.structs and word in {*structs, "fd_set", "pthread_mutex_t", "pthread_cond_t"}:
             crate.struct(word)
         if word in UNCHECKED:
             unchecked.append(word)

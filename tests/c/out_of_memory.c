@@ -65,6 +65,22 @@ static enum minisign_error write_public_key(void)
     return minisign_public_key_text(&key, bytes_of("c"), 1, message, sizeof message, &text_len);
 }
 
+static enum minisign_error encode_public_key(void)
+{
+    minisign_public_key half;
+    enum minisign_error error = minisign_public_key_of(&key, &half);
+
+    return error != MINISIGN_OK ? error : minisign_encode_public_key(&half, bytes_of("c"), 1, message, sizeof message, &text_len);
+}
+
+static enum minisign_error encode_unopened_key(void)
+{
+    minisign_unopened_key read;
+    enum minisign_error error = minisign_read_secret_key(bytes_of(SECRET_KEY), strlen(SECRET_KEY), &read);
+
+    return error != MINISIGN_OK ? error : minisign_encode_unopened_key(&read, bytes_of("c"), 1, message, sizeof message, &text_len);
+}
+
 static enum minisign_error write_text(void)
 {
     static const uint8_t first[64], second[64];
@@ -155,6 +171,8 @@ int main(void)
     refuse_each("minisign_signed_text", write_text, &opened);
     refuse_each("minisign_secret_key_text", write_secret_key, &opened);
     refuse_each("minisign_public_key_text", write_public_key, &opened);
+    refuse_each("minisign_encode_public_key", encode_public_key, &opened);
+    refuse_each("minisign_encode_unopened_key", encode_unopened_key, &opened);
     greatest = 100000;
     held = 0;
     CHECK(read_and_open(SEALED, "pw", &unopened, &key) == MINISIGN_OUT_OF_MEMORY);

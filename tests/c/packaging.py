@@ -33,7 +33,7 @@ from process import run
 from proved import ROOT as TOP
 from running import read, write
 
-PROGRAMS = ("minisign", "minisign-install")
+PROGRAMS = ("minisign", "minisign-install", "minisign-check")
 # The packages that a reader on Debian needs. The documents must name packages that install these without recommended
 # packages, which containers leave out: gcc, for example, only recommends libc6-dev.
 BUILDING = {"gcc", "libc6-dev", "make", "binutils"}
@@ -77,8 +77,8 @@ def check_flags(checks, room):
         lines = [line.split() for line in said.splitlines() if line.startswith("gcc ")]
         compiling = [line for line in lines if any(word.endswith(".c") for word in line)]
         linking = [line for line in lines if "-c" not in line]
-        checks.check(len(compiling) == 8 and len(linking) == 3,
-                     f"{len(compiling)} commands compile, expected 8, and {len(linking)} link, expected 3")
+        checks.check(len(compiling) == 16 and len(linking) == 4,
+                     f"{len(compiling)} commands compile, expected 16, and {len(linking)} link, expected 4")
         for line, flags in [(line, COMPILING) for line in compiling] + [(line, LINKING) for line in linking]:
             checks.check(flags <= {*line}, f"{' '.join(line)} has not the flags {flags}")
 

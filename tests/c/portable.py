@@ -6,16 +6,16 @@ calls come from the archives of dist/, or are compiled from dist/calls.c.
 
 PART is one of these parts. By default the script runs all of them:
 
-- compilers: builds with gcc, clang and tcc, with musl, and with sanitizers pass the programs of c_library.py;
+- compilers: builds with gcc, clang and tcc, with musl, and with sanitizers. That with gcc passes the programs of c_library.py;
 - archives: under qemu each x86-64 processor uses the right one of the three copies of the calls, and compilers for a
 processor without an archive say what to do;
 - processors: under qemu for AArch64, s390x (big-endian), ARM with 32-bit pointers, and RISC-V, all checks of emulated.py
 pass, and no secret is left in memory (RISC-V without the programs, because this Debian has no libsodium for it);
-- windows: the dynamic and the static library, built with mingw-w64, pass under wine;
+- windows: the dynamic and the static library, built with mingw-w64, under wine;
 - systems: all C compiles for the systems of Apple and the BSDs.
 
-The parts compilers, processors and windows also compare the results for many key and signature files with those of
-the archives, byte for byte. The script prints a line for each failure; the last line is `N passed, M failed`.
+The parts compilers, processors and windows compare every byte that random calls of all functions return with what the
+archives return (call_checksums.py). The script prints a line for each failure; the last line is `N passed, M failed`.
 
 PART may also be Debian's name of another processor that has a cross compiler. CI does not run these, and the library
 does not clear registers on them. On sh4 nothing can be tested, because no program runs under the emulator of Debian 12.
@@ -27,24 +27,21 @@ processors that are named, and installs what is missing if it may.
 
 import glob
 import os
-import random
 import re
-import struct
 import sys
 
 HERE = os.path.dirname(os.path.realpath(__file__))
-sys.path += [os.path.join(HERE, "..", name) for name in ("shared", "page", "verdicts")]
+sys.path.append(os.path.join(HERE, "..", "shared"))
 
-import cases
 import cleared
 import emulated
 import ending
 import needs
 import static_library
-from c_library import INCLUDE, LESS, NO_THREADS, PROGRAMS, SANITIZED, STRICT, check_programs, compiled, programs_named
+from c_library import INCLUDE, LESS, NO_THREADS, PROGRAMS, SANITIZED, STRICT, check_programs, programs_named
+from call_checksums import Checksums
 from emulated import Kind
-from minisign_cases import random_cases
-from process import run, run_apart
+from process import run
 from running import read, write
 from texts import CORPUS
 
@@ -52,36 +49,13 @@ C = static_library.DIRECTORY
 LIBRARY, PORTABLE, C_CALLS = f"{C}/library", f"{C}/library/portable", f"{static_library.DIST}/calls.c"
 # Include directories of builds with the calls as C.
 LIBRARY_INCLUDES = ["-I", PORTABLE, "-I", LIBRARY]
-RANDOM_CASES = 1500
-# The programs of tests/c for a library that allocates only with malloc, as it does everywhere except on Linux with 64-bit
-# pointers.
-MALLOC_PROGRAMS = {**PROGRAMS, "allocations": [*PROGRAMS["allocations"], "-DMINISIGN_MALLOC_ALONE", *LIBRARY_INCLUDES]}
+# The programs of tests/c that check the memory of the library. call_checksums.py covers what the others check.
+MEMORY_PROGRAMS = programs_named("guard_pages", "allocations", "threads", "out_of_memory")
+# The same for a library that allocates only with malloc, as it does everywhere except on Linux with 64-bit pointers.
+MALLOC_PROGRAMS = {**MEMORY_PROGRAMS, "allocations": [*PROGRAMS["allocations"], "-DMINISIGN_MALLOC_ALONE", *LIBRARY_INCLUDES]}
 
 
-class Answers:
-    """Runs tests/c/answers.c, which verifies the cases of the corpus and random changes of them, with a library over the
-    archives, and compares the results of other libraries with its results."""
-
-    def __init__(self, checks, room):
-        self.checks, corpus_cases, seed = checks, cases.kept_cases(), random.randrange(1 << 32)
-        print(f"random seed {seed}")
-        random.seed(seed)
-        tried_cases = [*corpus_cases, *random_cases(corpus_cases, RANDOM_CASES)]
-        parts = [struct.pack("<I", len(part)) + part for case in tried_cases for part in (case.pk, case.sig, case.data)]
-        self.file = write(room, "texts", struct.pack("<I", len(tried_cases)) + b"".join(parts))
-        self.library = static_library.library(os.path.join(room, "by-archives"))
-        _, self.expected, _ = run_apart([compiled(checks, "archives", "answers", needs.c_compiler(), self.library), self.file])
-        checks.check(len(self.expected) > 1000, f"the library over the archives prints only {self.expected[:100]}")
-
-    def check(self, what, compiler, library, *flags, before=()):
-        """Checks that another library gives the same results. `before` are the words before the command, such as an emulator."""
-        program = compiled(self.checks, what, "answers", compiler, library, *flags)
-        status, output, _ = run_apart([*before, program, self.file])
-        is_same = status == 0 and output.replace("\r\n", "\n") == self.expected
-        self.checks.check(is_same, f"{what}: status {status}, results that differ from those of the archives: {output[:100]!r}")
-
-
-def check_compilers(checks, room, answers):
+def check_compilers(checks, room, checksums):
     """Checks builds with the compilers of this system. The program minisign is also built with musl, and checked with
     c/check.sh."""
     gcc, clang, tcc = (needs.program(name, name) for name in ("gcc", "clang", "tcc"))
@@ -89,15 +63,15 @@ def check_compilers(checks, room, answers):
     # With -g, or with inlined checks of the sanitizer, gcc takes twice as long to compile the calls. Without -O1 all builds
     # and runs take several times as long.
     for what, words, compiler, flags, programs in (
-            ("gcc", [], gcc, [], PROGRAMS), ("clang", [f"CC={clang}"], gcc, [], PROGRAMS),
+            ("gcc", [], gcc, [], PROGRAMS), ("clang", [f"CC={clang}"], gcc, [], MEMORY_PROGRAMS),
             ("sanitized", [f"CFLAGS=-O1 {' '.join(SANITIZED)} --param=asan-instrumentation-with-call-threshold=0", "CPPFLAGS=",
-                           "LDFLAGS="], gcc, SANITIZED, PROGRAMS),
+                           "LDFLAGS="], gcc, SANITIZED, MEMORY_PROGRAMS),
             ("tcc", [f"CC={tcc}", "TARGET=x86_64-linux", "LD=ld", "OBJCOPY=objcopy", "AR=ar", "CFLAGS=", "CPPFLAGS=", "HAS_PAGES="],
              gcc, [NO_THREADS], MALLOC_PROGRAMS),
-            ("musl", musl_words, emulated.musl_compiler(), ["-static"], programs_named("usage_errors", "weak_ed25519", "asked_texts", "random_calls"))):
+            ("musl", musl_words, emulated.musl_compiler(), ["-static"], {})):
         library = f"{room}/{what}/libminisign.a"
         static_library.run_make("CC=gcc", "PORTABLE=1", f"OUT={room}/{what}", *words, library)
-        answers.check(what, compiler, library, *LESS, *flags)
+        checksums.check(what, compiler, library, *flags)
         check_programs(checks, what, programs, compiler, library, *(LESS if what != "gcc" else []), *flags)
     static_library.run_make("PORTABLE=1", f"OUT={room}/musl", *musl_words, "all")
     checks.ended("musl: the programs", run(["sh", "check.sh", f"{room}/musl/minisign"], C), says=" passed, 0 failed")
@@ -168,13 +142,13 @@ MORE_KINDS = {kind.debian: kind for kind in (
     Kind("sparc64", "sparc64-linux-gnu", "sparc64", "sparc64", "Sparc v9", has_sodium=False))}
 
 
-def check_processors(checks, room, answers, kinds=KINDS):
+def check_processors(checks, room, checksums, kinds=KINDS):
     """Checks the library for other processors under qemu. On those that CI runs, no secret may be left in registers either
     (cleared.py checks AArch64)."""
     for kind in kinds:
         built = emulated.Emulated(checks, room, kind, *(["CFLAGS=-O2"] if kind.debian in ("hppa", "alpha") else []))
-        emulated.check_all(checks, built, answers.library, MALLOC_PROGRAMS if kind.has_32_bits else PROGRAMS)
-        answers.check(kind.name, built.compiler, built.library, before=built.emulator)
+        emulated.check_all(checks, built, MALLOC_PROGRAMS if kind.has_32_bits else MEMORY_PROGRAMS)
+        checksums.check(kind.name, built.compiler, built.library, before=built.emulator)
         if kind in KINDS[1:]:
             program = cleared.Builder(built.room).program(built.compiler, "-O2", library=built.library, linking=["-static"])
             cleared.check_run(checks, kind.name, cleared.Run([*built.emulator, program]))
@@ -195,7 +169,7 @@ class Windows:
         run([f"{WINE}/wineserver", "-k"], **self.variables)
 
 
-def check_windows(checks, room, answers):
+def check_windows(checks, room, checksums):
     """Checks the dynamic and the static library for Windows."""
     compiler, out = needs.program("x86_64-w64-mingw32-gcc", "gcc-mingw-w64-x86-64"), os.path.join(room, "windows")
     windows = Windows(room)
@@ -204,9 +178,7 @@ def check_windows(checks, room, answers):
     before = ["env", *settings, "sh", "-c", f'exec {windows.program} "$0.exe" "$@"']
     static_library.run_make(f"CC={compiler}", f"OUT={out}", "library")
     for library in ("libminisign.a", "libminisign.dll.a"):
-        what, build = f"Windows, {library}", (compiler, f"{out}/{library}", *LESS, "-w", "-D__USE_MINGW_ANSI_STDIO=1")
-        answers.check(what, *build, before=before)
-        check_programs(checks, what, programs_named("usage_errors", "weak_ed25519", "asked_texts", "error_texts", "random_calls"), *build, before=before)
+        checksums.check(f"Windows, {library}", compiler, f"{out}/{library}", "-w", before=before)
     windows.end()
 
 
@@ -232,7 +204,7 @@ def check_systems(checks, room, _):
     clang = [needs.program("clang", "clang"), "-std=c11", *STRICT, "-nostdlibinc", "-I", INCLUDE]
     emulated.musl_compiler()
     include_directories = [f"{room}/linux", f"/usr/include/{os.uname().machine}-linux-musl", emulated.headers_of_sodium(room)]
-    sources = [path for name in ("minisign", "install", "shared") for path in sorted(glob.glob(f"{C}/{name}/*.c"))]
+    sources = [path for name in ("minisign", "install", "check", "shared") for path in sorted(glob.glob(f"{C}/{name}/*.c"))]
     checks.check(len(sources) > 25, f"only these source files were found: {sources}")
     # For the calls, which have no assembly, checking the syntax is sufficient.
     library = (f"{LIBRARY}/boundary.c", f"{LIBRARY}/clearing.c", *sorted(glob.glob(f"{PORTABLE}/*.c")), C_CALLS)
@@ -246,7 +218,7 @@ def check_systems(checks, room, _):
             system = [word for directory in include_directories for word in ("-isystem", directory)]
             checks.ended(f"the programs for {target}", run([*clang, f"--target={target}", *system, "-I", C, "-fsyntax-only", *sources]))
     said = checks.ended("make -n", run(["make", "-Bn", "-C", C, f"OUT={room}/none", "all"]))
-    for name in ("minisign", "minisign-install"):
+    for name in ("minisign", "minisign-install", "minisign-check"):
         checks.check(re.search(rf" -o {room}/none/{name} .* -lrt$", said, re.M), f"{name} is linked without -lrt: {said[-300:]}")
 
 
@@ -258,12 +230,12 @@ ALWAYS = tuple(check.__name__ for check in PARTS.values())
 
 def run_all(checks, room):
     needs.libsodium()
-    answers = Answers(checks, room)
+    checksums = Checksums(checks, room)
     for part in sys.argv[1:] or PARTS:
         if part in PARTS:
-            PARTS[part](checks, room, answers)
+            PARTS[part](checks, room, checksums)
         else:
-            check_processors(checks, room, answers, [MORE_KINDS[part]])
+            check_processors(checks, room, checksums, [MORE_KINDS[part]])
 
 
 if __name__ == "__main__":

@@ -3,11 +3,11 @@
 
     tests/c/posix_only.py
 
-It runs all cases of tests/command_line/command_line.py and tests/installer/real_installing.py. Each case passes, except
-those that WEAKER lists with the protection that is missing. A case of WEAKER that passes is a failure too. In no case
+It runs all cases of tests/command_line/command_line.py, tests/installer/real_installing.py and
+tests/check/check_program.py. Each case passes, except those that WEAKER lists with the protection that is missing. A case of WEAKER that passes is a failure too. In no case
 does another user get a key. It prints a line for each failure; the last line is `N passed, M failed`.
 
-Needs what these two scripts need, and installs what is missing if it may.
+Needs what these scripts need, and installs what is missing if it may.
 """
 
 import os
@@ -43,6 +43,7 @@ WEAKER = {
         r"first file (with --mode )?gets no inherited access list": LISTS,
         r"rejects a target at which a file is mounted": MOUNTS,
     },
+    "check/check_program.py": {},
 }
 
 # Calls that only Linux has.
@@ -71,13 +72,14 @@ def check_script(checks, script, *arguments):
 
 def run_all(checks, room):
     os.chmod(room, 0o711)
-    programs = [f"{room}/c/minisign", f"{room}/c/minisign-install"]
+    programs = [f"{room}/c/minisign", f"{room}/c/minisign-install", f"{room}/c/minisign-check"]
     static_library.run_make(f"OUT={room}/c", f"CC={needs.libsodium()}", "CPPFLAGS=-D_FORTIFY_SOURCE=2 -DPOSIX_ONLY", "C_CALLS=",
                             "-j4", *programs)
     for program in programs:
         check_calls(checks, program)
     check_script(checks, "command_line/command_line.py", "--posix-only", programs[0])
     check_script(checks, "installer/real_installing.py", programs[1])
+    check_script(checks, "check/check_program.py", programs[2])
 
 
 if __name__ == "__main__":

@@ -3,12 +3,12 @@
 
     tests/c/program_mutants.py [NAME ..]     tries all mutants, or those of these names
 
-The mutants of tests/installer break `minisign-install`, and those of tests/command_line remove steps of `minisign` that
-protect files from other users. Each is built in a copy of the sources over the static library
+The mutants of tests/installer break `minisign-install`, those of tests/check break `minisign-check`, and those of
+tests/command_line remove steps of `minisign` that protect files from other users. Each is built in a copy of the sources over the static library
 (tests/shared/mutants.py). The script prints a line for each mutant that nothing noticed; the last line is `N passed, M
 failed`.
 
-Needs what `real_installing.py` and `command_line.py` need, and root for the mutants of `minisign`.
+Needs what `real_installing.py`, `check_program.py` and `command_line.py` need, and root for the mutants of `minisign`.
 """
 
 import concurrent.futures
@@ -21,8 +21,10 @@ import tempfile
 from functools import partial
 
 HERE = os.path.dirname(os.path.realpath(__file__))
-sys.path += [os.path.join(HERE, "..", name) for name in ("shared", "verdicts", "installer", "command_line")]
+sys.path += [os.path.join(HERE, "..", name) for name in ("shared", "verdicts", "lists", "installer", "check", "command_line")]
 
+import check_program
+import check_running
 import ending
 import mutants
 import needs
@@ -38,7 +40,7 @@ from running import SECONDS, Failure, Skip, build_preload, expect, run_one
 from runs import Installing
 
 # The directory of c/ with the sources that only this program has.
-DIRECTORIES = {"minisign": "minisign", NAME: "install"}
+DIRECTORIES = {"minisign": "minisign", NAME: "install", check_running.NAME: "check"}
 
 
 def build(copy, name):
@@ -46,8 +48,8 @@ def build(copy, name):
     sources, own = os.path.join(copy, "c"), DIRECTORIES[name]
     objects = [f"{part}/{source.stem}.o" for part in (own, "shared") for source in sorted(pathlib.Path(sources, part).glob("*.c"))]
     words = [f"{own.upper()}_PARTS={' '.join(objects)} {'out/clearing.o' * (own == 'minisign')}", f"out/{name}"]
-    # (-o: the library in the copy is not rebuilt from its sources)
-    status, said = run(["make", "-C", sources, "-o", "out/libminisign.a", "CFLAGS=-O0 -std=c11 -I. -I../include", *words],
+    # With -o, the library in the copy is not rebuilt from its sources, so it may also be one that UNPROVED=1 has built.
+    status, said = run(["make", "-C", sources, "UNPROVED=", "OUT=out", "-o", "out/libminisign.a", "CFLAGS=-O0 -std=c11 -I. -I../include", *words],
                        seconds=10 * SECONDS)
     expect(status == 0, f"the mutant was not built: {said[-500:]}")
     return os.path.join(sources, "out", name)
@@ -88,6 +90,13 @@ def cases_of_installer(preload, program, room):
     return cases_of(installing)
 
 
+def cases_of_check(preload, program, room):
+    """Returns the cases of a minisign-check, with a fresh key."""
+    checking = check_running.Checking(program, room)
+    checking.preload = preload
+    return check_program.cases_of(checking)
+
+
 def cases_of_minisign(whole, keys, program, room):
     """Yields the cases of a minisign that have mutants."""
     for part in (OtherUsers, Places):
@@ -98,7 +107,9 @@ def run_all(room):
     """Tries the mutants. Returns the failures and the number of mutants."""
     needs.libsodium()
     names, failures, count = sys.argv[1:], [], 0
-    lists = [(mutants.mutants_of("installer", "mutants"), NAME, partial(cases_of_installer, build_preload(room, "disturbed_calls")))]
+    preload = build_preload(room, "disturbed_calls")
+    lists = [(mutants.mutants_of("installer", "mutants"), NAME, partial(cases_of_installer, preload)),
+             (mutants.mutants_of("check", "mutants"), check_running.NAME, partial(cases_of_check, preload))]
     if os.geteuid() == 0:
         whole = Whole(needs.minisign(), "", build_preload(room, "fixed_sources"))
         lists.append((mutants.mutants_of("command_line", "mutants"), "minisign", partial(cases_of_minisign, whole, keys_of(whole))))

@@ -32,18 +32,19 @@ from running import read, write
 
 C = static_library.DIRECTORY
 # Generated files.
-MADE = {f"{C}/install/usage.h", f"{C}/library/boundary.c"}
+MADE = {f"{C}/install/usage.h", f"{C}/check/usage.h", f"{C}/library/boundary.c"}
 # Functions with more lines cause a warning, except those of LONG.
 FUNCTION_LINES, LONG = 50, ()
-PROGRAM_ROOMS, ROOMS = ("minisign", "install", "shared"), ("minisign", "install", "shared", "windows", "library", "library/portable", "examples")
+PROGRAM_ROOMS = ("minisign", "install", "check", "shared")
+ROOMS = (*PROGRAM_ROOMS, "windows", "library", "library/portable", "examples")
 # The headers that each directory includes besides its own: those of a directory, or one file.
-INCLUDES = {"minisign": ("shared/", "library/clearing.h"), "install": ("shared/",), "shared": ("windows/posix.h",), "library": (),
-            "windows": ("shared/", "minisign/")}
+INCLUDES = {"minisign": ("shared/", "library/clearing.h"), "install": ("shared/",), "check": ("shared/",),
+            "shared": ("windows/posix.h",), "library": (), "windows": ("shared/", "minisign/")}
 # What only Linux has, by the only file that uses it; then a format of paths in /proc that are written through.
 LINUX_ONLY = {"handles.c": ("O_PATH", "fstatfs", "ST_NOSYMFOLLOW", '"/proc/self/fd/%d"'), "permissions.c": ("xattr",),
             "stages.c": ("O_TMPFILE", "renameat2", "RENAME_NOREPLACE", "sync_file_range", "getrandom")}
 # Directories whose tests name messages. (command_line/command_cases.py compares Minisign's own messages.)
-NAMING = ("command_line", "installer", "c", "verdicts", "shared", "bindings")
+NAMING = ("command_line", "installer", "check", "c", "verdicts", "shared", "bindings")
 # Messages that no test can cause, and why.
 NOT_CAUSED = {
     "the data could not be hashed": "the state was initialized, and its digest is finalized later",
@@ -77,7 +78,8 @@ def names_of(text):
 
 def check_rooms(checks, code):
     """Names have one meaning, and directories include only what they may."""
-    names = {room: set().union(*map(names_of, code[room].values())) for room in PROGRAM_ROOMS}
+    # (the macros of generated files have one meaning)
+    names = {room: set().union(*(names_of(text) for path, text in code[room].items() if path not in MADE)) for room in PROGRAM_ROOMS}
     checks.check(all(len(code[room]) > 5 and names[room] for room in PROGRAM_ROOMS), "a directory has too few files, or no names")
     for first, second in itertools.combinations(PROGRAM_ROOMS, 2):
         doubled = names[first] & names[second]
@@ -131,7 +133,7 @@ def check_messages(checks, files):
 def check_pages(checks):
     pages = sorted(glob.glob(f"{C}/man/*.[13]"))
     ran = run([needs.program("mandoc", "mandoc"), "-T", "lint", *pages])
-    checks.check(len(pages) == 4 and ran == (0, ""), f"mandoc: {ran}")
+    checks.check(len(pages) == 7 and ran == (0, ""), f"mandoc: {ran}")
     for page in pages:
         checks.check(re.search(r"^\.TH \S+ [13] \d{4}-\d\d-\d\d\b", read(page).decode(), re.M), f"{page} has no date")
 
@@ -158,8 +160,8 @@ def check_glibc(checks, compiler, files):
 
 def check_built(checks, room):
     compiler, out = needs.libsodium(), os.path.join(room, "c")
-    static_library.run_make(f"OUT={out}", f"CC={compiler}", "C_CALLS=", "-j4", "all", f"{out}/libminisign-installing.so")
-    names = ("minisign", "minisign-install", "libminisign.so", "libminisign-installing.so")
+    static_library.run_make(f"OUT={out}", f"CC={compiler}", "C_CALLS=", "-j4", "all")
+    names = ("minisign", "minisign-install", "libminisign.so")
     check_glibc(checks, compiler, [f"{out}/{name}" for name in names])
     write(room, "sodium.h", b"#error it is not there\n")
     said = checks.ended("without libsodium's header", run([needs.program("make", "make"), "-s", "-C", C, f"OUT={room}/none", "C_CALLS=",

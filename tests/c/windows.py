@@ -1,11 +1,12 @@
 #!/usr/bin/env python3
-"""Checks minisign.exe under wine, and what `make install` installs for Windows.
+"""Checks minisign.exe under wine, that the cases notice its mutants, and what `make install` installs for Windows.
 
-    tests/c/windows.py [CASE ..]
+    tests/c/windows.py [WORD ..]
 
-The program is built with mingw-w64 over libsodium from Debian's source package (tools/windows_libsodium.sh), or over the
-build that the variable SODIUM_PREFIX of the environment names. Keys and signatures are exchanged with Minisign's own
-program and with our program for Linux.
+WORD selects the cases and mutants whose name contains it; `mutants` selects all mutants. The program is built with mingw-w64 over libsodium from
+Debian's source package (tools/windows_libsodium.sh), or over the build that the variable SODIUM_PREFIX of the environment
+names. Keys and signatures are exchanged with Minisign's own program and with our program for Linux. For each mutant of
+windows_mutants only the changed file is compiled, and its case ends at the first check that fails.
 Wine shows no access lists, virus scanners, or other file systems than those of Linux: docs/WINDOWS.md says what has to be
 checked on Windows. The script prints a line for each failure; the last line is `N passed, M failed`.
 
@@ -17,6 +18,7 @@ import concurrent.futures
 import contextlib
 import fcntl
 import glob
+import hashlib
 import os
 import pty
 import re
@@ -35,12 +37,13 @@ HERE = os.path.dirname(os.path.realpath(__file__))
 sys.path.append(os.path.join(HERE, "..", "shared"))
 
 import ending
+import mutants
 import needs
 import selected
 import static_library
 from checks import Checks
-from process import run, run_program
-from running import read, write
+from process import Ran, run, run_program
+from running import Failure, expect, read, write
 from texts import Limits, record_of, sealed, text_of
 
 C = static_library.DIRECTORY
@@ -48,19 +51,26 @@ WINE, COMPILER, TARGET = "/usr/lib/wine", "x86_64-w64-mingw32-gcc", "x86_64-w64-
 SECONDS = 600
 # The only libraries that the program may load. All Windows systems have them.
 SYSTEM_LIBRARIES = {"ADVAPI32.dll", "KERNEL32.dll", "msvcrt.dll", "SHELL32.dll"}
-INSTALLED = {"bin/minisign.exe", "bin/minisign.dll", "lib/libminisign.a", "lib/libminisign.dll.a", "lib/pkgconfig/minisign.pc",
-             "include/minisign.h", "include/minisign_install.h", "include/minisign_stream.h"}
-ZIPPED = {"minisign.exe", "minisign.dll", "minisign.html", "lib/libminisign.dll.a", "include/minisign.h", "include/minisign_install.h",
-          "include/minisign_stream.h", "licences/libsodium.txt", "licences/mingw-w64.txt", "licences/minisign-in-rattle.txt"}
+INSTALLED = {"bin/minisign.exe", "bin/minisign-check.exe", "bin/minisign.dll", "lib/libminisign.a", "lib/libminisign.dll.a", "lib/pkgconfig/minisign.pc",
+             "include/minisign.h", "include/minisign_install.h", "include/minisign_list.h",
+             "include/minisign_stream.h"}
+ZIPPED = {"minisign.exe", "minisign-check.exe", "minisign.dll", "minisign.html", "lib/libminisign.dll.a", "include/minisign.h", "include/minisign_install.h",
+          "include/minisign_list.h", "include/minisign_stream.h", "licences/libsodium.txt", "licences/mingw-w64.txt", "licences/minisign-in-rattle.txt"}
 # Cheap limits for an encrypted key, and a password with characters of two, three and four bytes.
 CHEAP, PASSWORD = Limits(1 << 24, 1 << 15, 1 << 10, 1), "g\u00e9h\u65e5\U0001f512m".encode()
 GOOD = b"Signature and comment signature verified\n"
 # The messages for names that are rejected.
 COLON, RESERVED, DROPPED = ("a file name cannot contain a colon on Windows", "Windows reserves this name for a device",
                             "a file name cannot end with a dot or space on Windows")
+# Names that are rejected, and why.
+REJECTED = {"ab:c": COLON, "data:x": COLON, "c:a:b": COLON, "CON": RESERVED, "con.txt": RESERVED, "Com1": RESERVED, "LPT\u00b9": RESERVED,
+            "PRN .x": RESERVED, "AUX": RESERVED, "sub\\NUL": RESERVED, "nul.txt": RESERVED, "CONOUT$": RESERVED, "sub/COM0/x": RESERVED,
+            "end.": DROPPED, "end ": DROPPED, "sub \\x": DROPPED, "...": DROPPED, "\\\\.\\COM1": RESERVED}
 # How often a run is killed, at times that cover the whole run.
 KILLS = 14
 FOUR_GIB, HOME = 4 << 30, "h\u00f6me"
+# Messages of wine itself, as when a process of wine crashes on a busy machine.
+OF_WINE = re.compile(rb"(?m)^wine: .*\n")
 # Moves of the cursor by which wine's console draws a space, and all other escape sequences.
 ESCAPES = re.compile(rb"\x1b\[\??[0-9;]*[A-Za-z]|\x1b\][^\x07]*\x07|\x1b[=>]")
 
@@ -145,7 +155,8 @@ class Cases:
 
     def by_exe(self, *words, typed=b"", **how):
         variables = {**self.wine.variables, **how.pop("variables", {})}
-        return run_program([self.wine.program, self.exe, *words], self.room, typed, SECONDS, env=variables, **how)
+        ran = run_program([self.wine.program, self.exe, *words], self.room, typed, SECONDS, env=variables, **how)
+        return Ran(ran.status, ran.output, OF_WINE.sub(b"", ran.said))
 
     def by_theirs(self, *words, typed=b"", program=None):
         return run_program([program or self.theirs, *words], self.room, typed, SECONDS)
@@ -229,6 +240,8 @@ class Cases:
             ran = self.by_exe("-S", "-s", "closed.key", "-m", "data", typed=password + b"\n")
             self.ended(ran, f"-S with the password {password}", status, says)
         self.verified("a signature by an encrypted key", "a.pub", "data")
+        self.ended(self.by_exe("-R", "-s", "closed.key", "-p", "again.pub", typed=PASSWORD + b"\n"), "-R of an encrypted key")
+        self.checks.same(self.get("again.pub").split(b"\n")[1], self.get("a.pub").split(b"\n")[1], "the public key that -R writes")
         self.ended(self.by_exe("-C", "-s", "closed.key", "-k", "16", typed=PASSWORD + b"\nn\xc3\xa9w\nn\xc3\xa9w\n"), "-C")
         for program in (self.theirs, self.ours):
             ran = self.by_theirs("-S", "-s", "closed.key", "-m", "data", typed="n\u00e9w\n".encode(), program=program)
@@ -278,20 +291,28 @@ class Cases:
             self.ended(self.by_theirs("-V", "-p", "a.pub", "-m", real), f"Minisign verifies {real}")
             os.remove(f"{real}.minisig")
 
-    def rejects_names_of_windows(self):
-        """Rejects names that Windows takes for something else, as inputs and outputs, and leaves nothing."""
-        names = {"ab:c": COLON, "data:x": COLON, "c:a:b": COLON, "CON": RESERVED, "con.txt": RESERVED, "Com1": RESERVED, "LPT\u00b9": RESERVED,
-                 "PRN .x": RESERVED, "AUX": RESERVED, "sub\\NUL": RESERVED, "nul.txt": RESERVED, "CONOUT$": RESERVED, "sub/COM0/x": RESERVED,
-                 "end.": DROPPED, "end ": DROPPED, "sub \\x": DROPPED, "...": DROPPED, "\\\\.\\COM1": RESERVED}
+    def rejected(self, *words):
+        """Checks that all names that Windows takes for something else are rejected, and that no file is left. The last of
+        the words is before the name."""
         os.mkdir(f"{self.room}/sub")
-        self.ended(self.by_exe("-S", "-s", "a.key", "-m", "data"), "-S")
+        self.ended(self.by_theirs("-S", "-s", "a.key", "-m", "data"), "a signature by Minisign")
         before = sorted(os.listdir(self.room))
-        for name, why in names.items():
-            for words in (["-V", "-p", "a.pub", "-x", "data.minisig", "-m", name], ["-S", "-s", "a.key", "-m", "data", "-x", name],
-                          ["-G", "-p", name, "-s", "new.key"]):
-                ran = self.by_exe(*words)
-                self.checks.same((ran.status, ran.said.decode()), (2, f"{name}: {why}\n"), f"{words}")
+        for name, why in REJECTED.items():
+            ran = self.by_exe(*words, name)
+            self.checks.same((ran.status, ran.said.decode()), (2, f"{name}: {why}\n"), f"{words} {name}")
         self.checks.same(sorted(os.listdir(self.room)), before, "the files after names were rejected")
+
+    def rejects_names_to_read(self):
+        self.rejected("-V", "-p", "a.pub", "-x", "data.minisig", "-m")
+
+    def rejects_names_to_write(self):
+        self.rejected("-S", "-s", "a.key", "-m", "data", "-x")
+
+    def rejects_names_before_the_password(self):
+        self.rejected("-G", "-s", "new.key", "-p")
+
+    def uses_the_null_device(self):
+        before = sorted(os.listdir(self.room))
         self.ended(self.by_exe("-S", "-s", "a.key", "-m", "data", "-x", "NUL"), "-x NUL")
         self.ended(self.by_exe("-V", "-p", "nul", "-m", "data"), "-p nul", 2, "Error while loading the public key file")
         self.checks.same(sorted(os.listdir(self.room)), before, "the files after -x NUL")
@@ -329,7 +350,9 @@ class Cases:
         self.ended(self.by_exe("-G", "-W", "-p", "m.pub", "-s", "m.key"), "-G -W")
         os.chmod(f"{self.room}/closed.key", 0o644)
         self.ended(self.by_exe("-C", "-W", "-s", "closed.key", typed=PASSWORD + b"\n"), "-C -W")
-        for name, others in (("m.pub", 0o004), ("m.key", 0), ("closed.key", 0)):
+        os.chmod(f"{self.room}/a.pub", 0o600)
+        self.ended(self.by_exe("-G", "-W", "-f", "-p", "a.pub", "-s", "n.key"), "-G -f over a file for one user")
+        for name, others in (("m.pub", 0o004), ("m.key", 0), ("closed.key", 0), ("a.pub", 0)):
             mode = stat.S_IMODE(os.stat(f"{self.room}/{name}").st_mode)
             self.checks.check(mode & 0o004 == others, f"{name} has the mode {mode:o}, expected {others:o} for others")
 
@@ -397,9 +420,16 @@ class Cases:
         """A file that another program has open is replaced once it is closed, and otherwise after two seconds reported."""
         for how in ("hold", "lock"):
             self.put("data.minisig", b"old")
-            with self.holding("data.minisig", 700, how):
-                self.ended(self.by_exe("-S", "-s", "a.key", "-m", "data"), f"a file that is open for 0.7 seconds ({how})")
-            self.verified("after waiting", "a.pub", "data")
+            with self.holding("data.minisig", 60000, how):
+                ran = subprocess.Popen([self.wine.program, self.exe, "-S", "-s", "a.key", "-m", "data"], cwd=self.room,
+                                       env=self.wine.variables, stdin=subprocess.DEVNULL, stderr=subprocess.PIPE)
+                # The program creates its temporary file directly before it needs the other one.
+                while not self.leftovers() and ran.poll() is None:
+                    time.sleep(0.01)
+                time.sleep(0.3)
+            said = ran.communicate(timeout=SECONDS)[1]
+            self.checks.same((ran.returncode, OF_WINE.sub(b"", said)), (0, b""), f"a file that is open for a moment ({how})")
+            self.ended(self.by_theirs("-V", "-p", "a.pub", "-m", "data"), f"the signature after waiting ({how})")
             before = self.get("data.minisig")
             with self.holding("data.minisig", 60000, how):
                 self.ended(self.by_exe("-S", "-s", "a.key", "-m", "data"), f"a file that is open ({how})", 2, "another program has this file open")
@@ -462,7 +492,7 @@ class Cases:
 
     def reports_closed_streams(self):
         self.ended(self.by_theirs("-S", "-s", "a.key", "-m", "data"), "a signature by Minisign")
-        for what in (">&-", ">/dev/full"):
+        for what in (">&-", ">/dev/full", "-o -q >/dev/full"):
             line = f'exec "$0" "$1" -V -p a.pub -m data {what}'
             ran = run_program(["sh", "-c", line, self.wine.program, self.exe], self.room, None, SECONDS, env=self.wine.variables)
             self.checks.same(ran.status, 2, f"the exit status with standard output {what}")
@@ -484,11 +514,59 @@ class Cases:
         self.ended(self.by_exe("-V", "-p", "a.pub", "-m", "big"), "a change beyond 4 GiB", 1)
         os.remove(path)
 
+    # ---- minisign-check.exe ----
+
+    def checks_files_of_lists(self):
+        """minisign-check.exe finds files by their names in UTF-8, in parallel and in other directories, and opens no name that leads elsewhere."""
+        files, cyrillic = {f"f{number}": bytes([number]) * 70_000 for number in range(20)}, "\u0444\u0430\u0439\u043b.txt"
+        files |= {cyrillic: b"name", "sub/deep/x": b"below", "empty": b""}
+        os.makedirs(f"{self.room}/files/sub/deep")
+        for name, data in files.items():
+            self.put(os.path.join("files", name), data)
+
+        def check(what, lines, status, says="", *words, output=None):
+            """Signs a list with these lines, and checks the files with the program."""
+            self.put("SUMS", "".join(lines).encode())
+            self.ended(self.by_theirs("-S", "-s", "a.key", "-m", "SUMS"), f"{what}: the signature of the list")
+            exe = os.path.join(os.path.dirname(self.exe), "minisign-check.exe")
+            command = [self.wine.program, exe, "-p", "a.pub", "--in", "files", *words[:-1], "SUMS", *words[-1:]]
+            ran = run_program([word for word in command if word], self.room, None, SECONDS, env=self.wine.variables)
+            self.ended(ran, f"minisign-check.exe, {what}", status, says)
+            if output is not None:
+                self.checks.same(ran.output, output.encode(), f"minisign-check.exe, {what}: the output")
+
+        line = lambda name, data: f"{hashlib.sha256(data).hexdigest()}  {name}\n"
+        lines = [line(name, data) for name, data in files.items()]
+        all_good = "".join(f"{name}: OK\n" for name in files)
+        check("all files", lines, 0, "file:SUMS", "--nothing-else", "", output=all_good)
+        check("one file", lines, 0, "", cyrillic, output=f"{cyrillic}: OK\n")
+        check("a copy", lines, 0, "", "-o", "f3", output=files["f3"].decode())
+        check("a file of another digest", [*lines[1:], line("f0", b"x")], 4, "", "", output=all_good.replace("f0: OK\n", "") + "f0: FAILED\n")
+        check("an unlisted file", lines[:-1], 7, "empty: no line of the list has this file", "--nothing-else", "")
+        check("a missing file", [*lines, line("none", b"")], 6, "none: No such file or directory", "")
+        for name, why in (("C:/windows/system.ini", COLON), ("Z:/etc/passwd", COLON), ("f0:stream", COLON), ("NUL", "not a regular file"),
+                          ("aux.txt", RESERVED), ("f0.", DROPPED), ("f0 ", DROPPED), ("sub", "not a regular file")):
+            check(f"the name {name!r}", [line(name, b"")], 1, why, "")
+        check("a backslash", [line("sub\\deep\\x", b"below")], 6, "no file matches it", "")
+        check("a parent directory", [line("../data", b"")], 3, "malformed", "")
+        for link, target, status in (("link", "f1", 0), ("dangling", "absent", 6)):
+            os.symlink(target, f"{self.room}/files/{link}")
+            check(f"the link {link}", [line(link, files["f1"])], status, "", "")
+
+
+    def describes_the_program(self):
+        """The version resource and `minisign -v` show the version of the header."""
+        header = read(C, "..", "include", "minisign.h").decode()
+        version = ".".join(re.search(rf"define MINISIGN_VERSION_{part} (\d+)", header)[1] for part in ("MAJOR", "MINOR", "PATCH"))
+        ran = run_program([self.wine.program, self.helper, "version", self.exe], self.room, None, SECONDS, env=self.wine.variables)
+        self.checks.same(ran.output.decode(), f"{version} {version} minisign.exe", "the version resource")
+        self.checks.same(self.by_exe("-v").output.decode(), f"minisign 0.11\nMinisign in Rattle {version}\n", "-v")
+
 
 CASES = [name for name, value in vars(Cases).items() if not name.startswith("_") and callable(value) and "_" in name
          and name not in ("by_exe", "by_theirs", "by_all", "kill_after", "at_home")]
 # The slowest cases start first.
-CASES.sort(key=lambda name: name not in ("reads_more_than_4_gib", "hides_passwords", "replaces_whole_pairs", "rejects_names_of_windows"))
+CASES.sort(key=lambda name: name not in ("reads_more_than_4_gib", "hides_passwords", "replaces_whole_pairs"))
 
 
 def run_case(programs, room, name):
@@ -499,6 +577,79 @@ def run_case(programs, room, name):
     except (OSError, ValueError, subprocess.SubprocessError) as why:
         checks.check(False, f"{type(why).__name__}: {why}")
     return checks
+
+
+# ---- Mutants ----
+
+
+class Noticed(Exception):
+    """A check of a mutant failed."""
+
+
+class MutantChecks(Checks):
+    """Checks that end the case at the first failure."""
+
+    def check(self, holds, *what):
+        if not super().check(holds, *what):
+            raise Noticed(self.failures[0])
+        return True
+
+
+class Parts:
+    """The compiled parts of minisign.exe, of which a mutant replaces one."""
+
+    def __init__(self, room):
+        sodium = os.environ.get("SODIUM_PREFIX") or os.path.join(C, "..", "out", f"libsodium-{TARGET}")
+        self.room, self.copy, self.built = room, mutants.copy_sources(room, "c", "include"), f"{room}/windows"
+        self.compile = [COMPILER, "-std=c11", "-pthread", "-I.", "-I../include", "-DSODIUM_STATIC", f"-I{sodium}/include"]
+        self.link = [f"{self.built}/libminisign.a", f"{sodium}/lib/libsodium.a", "-static", "-pthread", "-ladvapi32", "-lshell32"]
+        listed = static_library.hold(["make", "-s", "-C", C, *settings(), f"OUT={self.built}", "--eval=parts: ; @echo $(MINISIGN_WINDOWS_PARTS)", "parts"])
+        self.sources = [word for word in listed.split() if word.endswith(".c")]
+        self.objects = {source: f"{self.copy}/{source.replace('/', '-')}.o" for source in self.sources}
+        for source, made in self.objects.items():
+            static_library.hold([*self.compile, "-c", "-o", made, source], f"{self.copy}/c")
+
+    def mutant(self, mutant):
+        """Builds a mutant, and returns its path."""
+        copy = tempfile.mkdtemp(dir=self.room)
+        for part in ("c", "include"):
+            shutil.copytree(f"{self.copy}/{part}", f"{copy}/{part}")
+        mutants.apply(mutant, copy)
+        source, program, resource = mutant.file.removeprefix("c/"), f"{copy}/minisign.exe", f"{self.built}/minisign.res"
+        objects = {**self.objects, source: f"{copy}/changed.o"}
+        if source in self.objects:
+            static_library.hold([*self.compile, "-c", "-o", objects[source], source], f"{copy}/c")
+        else:
+            resource = objects.pop(source)
+            static_library.hold(["make", "-s", "-C", f"{copy}/c", *settings(), f"OUT={copy}/c/out", f"{copy}/c/out/minisign.res"])
+            shutil.move(f"{copy}/c/out/minisign.res", resource)
+        clearing = f"{self.built}/clearing.o"
+        static_library.hold([*self.compile, "-o", program, *objects.values(), clearing, resource, *self.link], f"{copy}/c")
+        return program
+
+
+def failure_of(programs, room, parts, mutant):
+    """Returns why a mutant is a failure of this script, or "" if its case notices it."""
+    wine, _, *others = programs
+    try:
+        expect(mutant.case in CASES, f"there is no case {mutant.case}")
+        cases = Cases((wine, parts.mutant(mutant), *others), MutantChecks(), room)
+    except (Failure, static_library.NotBuilt, OSError) as why:
+        return f"{mutant.name}: {type(why).__name__}: {why}"
+    try:
+        getattr(cases, mutant.case)()
+    except (Noticed, OSError, ValueError, subprocess.SubprocessError):
+        return ""
+    return f"{mutant.name}: the case {mutant.case} does not notice it"
+
+
+def check_mutants(checks, pool, programs, room):
+    """Checks that each mutant is noticed by the case that it names."""
+    chosen = [mutant for mutant in mutants.mutants_of("c", "windows_mutants") if selected.is_selected(mutant.name, "mutants")]
+    if chosen:
+        parts = Parts(room)
+        for why in pool.map(lambda mutant: failure_of(programs, room, parts, mutant), chosen):
+            checks.check(not why, why)
 
 
 def add(checks, name, found):
@@ -527,18 +678,12 @@ def build(room):
     return f"{room}/windows/minisign.exe", f"{room}/helper.exe", f"{room}/linux/minisign"
 
 
-def check_program(checks, programs, room):
-    """The program loads only libraries of Windows, has a version resource, and passes `make test`."""
-    said = run([f"{TARGET}-objdump", "-p", programs[1]])[1]
+def check_program(checks, programs, _):
+    """The program loads only libraries of Windows, and passes `make test`."""
+    wine, exe, *_ = programs
+    said = run([f"{TARGET}-objdump", "-p", exe])[1]
     checks.same({*re.findall(r"DLL Name: (\S+)", said)}, SYSTEM_LIBRARIES, "the libraries that minisign.exe loads")
-    variables, (wine, exe, helper, *_) = programs[0].variables, programs
-    header = read(C, "..", "include", "minisign.h").decode()
-    version = ".".join(re.search(rf"define MINISIGN_VERSION_{part} (\d+)", header)[1] for part in ("MAJOR", "MINOR", "PATCH"))
-    ran = run_program([wine.program, helper, "version", exe], room, None, SECONDS, env=variables)
-    checks.same(ran.output.decode(), f"{version} {version} minisign.exe", "the version resource")
-    ran = run_program([wine.program, exe, "-v"], room, None, SECONDS, env=variables)
-    checks.same(ran.output.decode(), f"minisign 0.11\nMinisign in Rattle {version}\n", "-v")
-    said = checks.ended("check.sh", run(["sh", "check.sh", exe], C, **{**variables, "RUN": wine.program}))
+    said = checks.ended("check.sh", run(["sh", "check.sh", exe], C, **{**wine.variables, "RUN": wine.program}))
     checks.check(static_library.VERIFIED.search(said), f"check.sh: {said[-300:]}")
 
 
@@ -596,10 +741,11 @@ def check_release(checks, programs, room):
 
 def check_one_layer(checks):
     """Only system.h, and the sources in windows/, depend on Windows."""
-    for path in sorted(glob.glob(f"{C}/minisign/*.[ch]") + glob.glob(f"{C}/install/*.[ch]") + glob.glob(f"{C}/shared/*.[ch]")):
-        is_system = path.endswith("shared/system.h")
-        checks.same("_WIN32" in read(path).decode() or "windows" in re.sub(r"/\*.*?\*/", "", read(path).decode(), flags=re.S), is_system,
-                    f"{path} depends on Windows")
+    others = [path for path in glob.glob(f"{C}/**/*.[ch]", recursive=True) if os.path.relpath(path, C).split(os.sep)[0] not in ("windows", "out")]
+    checks.check(len(others) > 60, f"c/ has only these sources: {others}")
+    for path in sorted(others):
+        code = re.sub(r"/\*.*?\*/", "", read(path).decode(), flags=re.S)
+        checks.same(bool(re.search(r"_WIN(32|64)|__MINGW|__CYGWIN__|\bwindows\b", code)), path.endswith("shared/system.h"), f"{path} depends on Windows")
 
 
 def run_all(checks, room):
@@ -609,11 +755,13 @@ def run_all(checks, room):
     try:
         with concurrent.futures.ThreadPoolExecutor(os.cpu_count() or 1) as pool:
             chosen = [name for name in CASES if selected.is_selected(name)]
-            for name, found in zip(chosen, pool.map(lambda name: run_case(programs, room, name), chosen)):
+            results = pool.map(lambda name: run_case(programs, room, name), chosen)
+            check_mutants(checks, pool, programs, room)
+            for name, found in zip(chosen, results):
                 add(checks, name, found)
-            check_program(checks, programs, room)
-            check_install(checks, programs, room)
-            check_release(checks, programs, room)
+            for check in (check_program, check_install, check_release):
+                if selected.is_selected(check.__name__):
+                    check(checks, programs, room)
             check_one_layer(checks)
     finally:
         wine.end()

@@ -295,7 +295,7 @@ class Safety(Programs):
         """The tags that compare two reads of a piece are those of the formula, also if the compiler has no 128-bit
         integers."""
         program, key = os.path.join(self.room, "tags"), os.urandom(BLOCK + 512)
-        sources = [os.path.join(HERE, "tags.c"), os.path.join(static_library.DIRECTORY, "minisign", "piece_tags.c")]
+        sources = [os.path.join(HERE, "tags.c"), os.path.join(static_library.DIRECTORY, "shared", "piece_tags.c")]
         for flags in ([], ["-U__SIZEOF_INT128__"]):
             subprocess.run([needs.libsodium(), "-O2", *flags, f"-I{static_library.DIRECTORY}", "-o", program, *sources], check=True)
             for length in (0, 1, 8, 15, 16, 17, 4095, 4096, 4097, 70000, 131071, 131072):

@@ -1,4 +1,4 @@
-/* Prints the tag of a piece of data, which c/minisign/piece_tags.c makes. Reads the key of the tags and then the
+/* Prints the tag of a piece of data, which c/shared/piece_tags.c makes. Reads the key of the tags and then the
  * piece from standard input. command_safety.py runs it. */
 #include <inttypes.h>
 #include <stdio.h>
@@ -6,7 +6,7 @@
 
 #include <sodium.h>
 
-#include "minisign/piece_tags.h"
+#include "shared/piece_tags.h"
 
 /* Replaces libsodium's function, so that the key of the tags is known. */
 void randombytes_buf(void *const bytes, const size_t len)

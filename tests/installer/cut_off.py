@@ -347,13 +347,13 @@ def makes_calls_in_order(directory, step):
 
 
 # The name and number of the failing call, the temporary files that the run then removes, and the exit status.
-@cut_off_cases.table(*((f"removes {' and '.join(removed)} after {call} {number} failed", call, number, removed, status)
+@cut_off_cases.table(*((f"removes {' and '.join(removed) or 'nothing'} after {call} {number} failed", call, number, removed, status)
                        for call, number, removed, status in (
     ("write", 1, "S", FAILED), ("read-back", 1, "S", FAILED), ("permissions", 1, "S", FAILED), ("sync", 1, "S", FAILED),
-    ("write", 2, "NS", FAILED), ("sync", 2, "NS", FAILED), ("rename", 1, "NS", FAILED), ("sync", 3, "NS", FAILED),
-    ("rename", 2, "S", FAILED), ("sync", 4, "S", NOT_ON_DISK))))
+    ("write", 2, "NS", FAILED), ("sync", 2, "NS", FAILED), ("rename", 1, "NS", FAILED), ("sync", 3, "S", FAILED),
+    ("rename", 2, "S", FAILED), ("sync", 4, "", NOT_ON_DISK))))
 def removes_temporary_files(directory, call, number, removed, status):
-    """After a failed call, the run removes its temporary files and makes no other call."""
+    """After a failed call, the run removes the temporary files that it has not renamed, and makes no other call."""
     # Data that one call writes, so that each file has one write.
     directory.offer(data=NEW[:1000])
     calls = traced(directory, status, BREAK_CALLS=LIBC_CALLS[call], BREAK_AT=str(number), BREAK_ERRNO=str(errno.EIO))

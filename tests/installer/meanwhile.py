@@ -2,6 +2,7 @@
 runs.
 """
 
+import concurrent.futures
 import fcntl
 import os
 import select
@@ -66,6 +67,29 @@ def stalled_device(directory):
     directory.expect_end_of(process, -signal.SIGKILL)
     os.close(ours)
     os.close(theirs)
+
+
+@meanwhile_cases.table(
+    ("reads no more of a pipe than was signed, and one byte", len(NEW) + 1, dict(more=SIZED)),
+    ("reads no more of a pipe than --max-size allows, and one byte", 1001, dict(options=("--max-size", "1000"))),
+    ("reads no more of a pipe than the smaller of both limits, and one byte", 1001, dict(options=("--max-size", "1000"), more=SIZED)),
+    ("reads nothing of a pipe if the update is rejected", 0, dict(number=4)),
+)
+def reads_no_more(directory, count, options=(), **offered):
+    """A pipe is read only after the comment was accepted. The byte after the signed size shows that the data is too long."""
+    directory.offer(**offered)
+    data = NEW + LATER
+    reader, writer = os.pipe()
+    with open(reader, "rb", buffering=0) as pipe, concurrent.futures.ThreadPoolExecutor(1) as pool:
+        with open(writer, "wb") as fed:
+            process = directory.start([*options, PK, "/dev/stdin", "new.sig", TARGET], stdin=reader)
+            written = pool.submit(lambda: (fed.write(data), fed.close()))
+            process.wait(SECONDS)
+            rest = pipe.readall()
+            written.result()
+    directory.expect_end_of(process, REJECTED if count else OLDER)
+    expect(len(data) - len(rest) == count, f"it read {len(data) - len(rest)} bytes, expected {count}")
+    directory.expect_installed(OLD, b"5")
 
 
 # == Files that others change ==

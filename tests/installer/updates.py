@@ -1,30 +1,29 @@
 """Updates that are installed or rejected, over different version records and installed files. A case of JUDGED runs --check, an
-installation from a file and one from a pipe. Other cases are about endless input, dates of records, leftovers, and what
-is not a regular file.
+installation from a file and one from a pipe. Other cases are about endless input, roll-backs, leftovers, and what is not a
+regular file.
 """
 
 import base64
 import errno
+import hashlib
 import itertools
 import os
 import shutil
-import time
 from dataclasses import dataclass, field, fields
 
 from disturbed import mounted
 from installers import (AGAIN, ALREADY, CHECK, EXPIRED, FAILED, FIRST, LATER, LOCK, NEW, OLD, OLDER, ORDER, OTHER_SIGNED, PAST, PK, RECORD,
                         REJECTED, SAME_VERSION, TARGET, TEMPORARY, UNRECORDED, error)
 from permissions import INHERITED, list_of, make_older
-from running import SECONDS, Skip, expect, only_root
+from running import Skip, expect, only_root
 from runs import Cases, unfed_pipe
 
 update_cases = Cases()
 
-BY_VERSION = ("--numbering", "version")
+BY_VERSION, NEW_KEY, ROLL_BACK = ("--numbering", "version"), ("--new-key",), ("--roll-back",)
 LATEST, RECORD_PATH = "download the latest update", f"./{RECORD}"
 IS_OLDER = error("new", "the update is older than the recorded version", LATEST)
-EXPIRED_AT = error("new.sig", "the update has expired")
-HAS_EXPIRED, IS_LEGACY = EXPIRED_AT + f"hint: {LATEST}\n".encode(), error("new.sig", "Legacy signatures are not accepted")
+HAS_EXPIRED, IS_LEGACY = error("new.sig", "the update has expired", LATEST), error("new.sig", "Legacy signatures are not accepted")
 OTHER_COMMENT = error("new.sig", "Comment signature verification failed", AGAIN)
 OTHER_DATA = error(TARGET, "this version is already recorded, but the installed file is different", "use --again to install anyway")
 NO_RECORD = error(RECORD_PATH, "no version is recorded yet", "use --first for the first installation")
@@ -37,10 +36,8 @@ HOLDS_VERSION, HOLDS_TIMESTAMP = (
 TOO_LONG = ("the data is larger than the limit", "use --max-size BYTES to accept larger data")
 # The field of a trusted comment for an update that has not expired.
 SOON = "\texpires:99999999999"
-# The date of a record that is later than any real clock, and the message about such a record.
-WRITTEN = 4000000000
-CLOCK_BEHIND = EXPIRED_AT + error(RECORD_PATH, "written at 2096-10-02 07:06:40 UTC, which is later than the system clock",
-                                  "set the system clock")
+# A time that is later than that of any real clock.
+FAR = 4000000000
 BAD_EXPIRY = error("new.sig", "the trusted comment has an invalid or repeated field expires:")
 NO_EXPIRY = error("new.sig", "the trusted comment does not say when the update expires")
 NO_TIMESTAMP, NO_VERSION = (error("new.sig", "the trusted comment has no valid version number", hint) for hint in (
@@ -71,18 +68,16 @@ def recorded(data, number, label="timestamp", change=lambda record: record):
     return lambda directory: change(directory.kind.record(data, number, label))
 
 
-def recorded_under(name):
-    """Returns a function that makes a record of the greatest version number under this key of key_records."""
-    return lambda directory: f"timestamp:{2 ** 64 - 1}\n{key_records(directory)[name][10:].hex()}\n{'0' * 128}".encode()
+def recorded_under(name, label="timestamp", of=None):
+    """Returns a function that makes a record of the greatest version number under this key of key_records, for this data."""
+    digest = "0" * 128 if of is None else hashlib.blake2b(of).hexdigest()
+    return lambda directory: f"{label}:{2 ** 64 - 1}\n{key_records(directory)[name][10:].hex()}\n{digest}".encode()
 
 
-def set_date(directory, written):
-    """Sets the modification time of the record."""
-    os.utime(directory.path_of(RECORD), (written, written))
-
-
-# The calls of a run that finds the update already installed. It makes no others, except that it reads.
-CALLS_OF_ALREADY = ["open .", f"open {LOCK}", f"lock {LOCK}", f"open {RECORD}", f"open {TARGET}", f"sync {TARGET}", "sync ."]
+# The calls of a run that finds the update already installed. It makes no others, except that it reads. A run with a pipe makes a
+# check first.
+CALLS_OF_ALREADY = [f"open {LOCK}", f"lock {LOCK}", f"open {RECORD}", f"open {TARGET}", f"sync {TARGET}", "sync ."]
+CALLS_OF_PIPE = [f"open {RECORD}", f"open {TARGET}", *CALLS_OF_ALREADY]
 LEFTOVER = TEMPORARY + "0" * 32
 
 
@@ -109,9 +104,12 @@ class Update:
     clock: object = None
     # The exit status of --check if the data decides, which --check does not read. Otherwise it is that of the installation.
     checked: object = None
+    # The record after the installation, as `record`, if it is not that of the update.
+    leaves: object = None
 
     def __post_init__(self):
         self.record = self.record(self.directory) if callable(self.record) else self.record
+        self.leaves = self.leaves and self.leaves(self.directory)
         self.checked = self.status if self.checked is None else self.checked
         self.words = [*self.options, *key_words(self.directory, self.keys)]
         self.environment = {} if self.clock is None else {"SHOWN_TIME": str(self.clock)}
@@ -121,7 +119,7 @@ class Update:
     def put_installed(self):
         self.directory.put_installed(self.installed, self.record)
         if self.written is not None:
-            set_date(self.directory, self.written)
+            os.utime(self.directory.path_of(RECORD), (self.written, self.written))
 
     def offer(self):
         """Offers the update without its data."""
@@ -160,20 +158,19 @@ class Update:
         expect((ran.status, ran.said) == (status, said), source, *options, ran, f"expected status {status} and {said}")
         expect(is_data_needed or directory.snapshot() == before, "something was changed")
         if status == ALREADY:
-            self.expect_only_synced(calls)
+            self.expect_only_synced(calls, CALLS_OF_ALREADY if source == "new" else CALLS_OF_PIPE)
         self.expect_temporary_files(calls, is_data_needed)
         if status == 0:
             directory.expect_mode(0o600 if self.installed is None else 0o751)
-            directory.expect_recorded(self.data, directory.kind.record(self.data, self.offered.get("number", 6),
-                                                                       self.offered.get("label", "timestamp")))
+            number, label = self.offered.get("number", 6), self.offered.get("label", "timestamp")
+            directory.expect_recorded(self.data, self.leaves or directory.kind.record(self.data, number, label))
         else:
             directory.expect_recorded(self.installed, self.record)
         return calls
 
-    def expect_only_synced(self, calls):
+    def expect_only_synced(self, calls, expected):
         """An installed update and its directory are synced, and a leftover is not removed."""
-        # (the record is read once more for a second key)
-        is_synced = [call for call, _ in itertools.groupby(call for call in calls if call in CALLS_OF_ALREADY)] == CALLS_OF_ALREADY
+        is_synced = [call for call in calls if call in expected] == expected
         kinds = {call.split(" ")[0] for call in calls}
         expect(is_synced and kinds <= {"open", "lock", "read-back", "sync"}, f"its calls were {calls}")
         os.remove(self.directory.path_of(LEFTOVER))
@@ -275,15 +272,13 @@ JUDGED = (
     ("two expiry dates, one of them past", REJECTED, BAD_EXPIRY, dict(more=PAST + SOON)),
     ("two expiry dates", REJECTED, BAD_EXPIRY, dict(more=SOON + SOON)),
     ("expiry date that is not a number", REJECTED, BAD_EXPIRY, dict(more="\texpires:soon")),
-    ("clock before 1970", EXPIRED, HAS_EXPIRED, dict(more=SOON, written=0, clock=-1)),
+    ("clock before 1970", EXPIRED, HAS_EXPIRED, dict(more=SOON, clock=-1)),
     ("clock before 1970, with --first", EXPIRED, HAS_EXPIRED, dict(options=FIRST, more=SOON, clock=-1)),
     ("clock before 1970, and no expiry date", 0, dict(clock=-1)),
     ("clock before 1970, and no expiry date, with --first", 0, dict(options=FIRST, clock=-1)),
-    ("clock before 1970 and behind the record", EXPIRED, CLOCK_BEHIND, dict(written=WRITTEN, clock=-1, more=SOON)),
-    ("clock behind the record", EXPIRED, CLOCK_BEHIND, dict(written=WRITTEN, clock=WRITTEN - 1, more=SOON)),
-    ("clock at the date of the record", 0, dict(written=WRITTEN, clock=WRITTEN, more=SOON)),
-    ("clock behind the record, and no expiry date", 0, dict(written=WRITTEN, clock=WRITTEN - 1)),
-    ("clock behind the record, with --first", 0, dict(written=WRITTEN, clock=WRITTEN - 1, more=SOON, options=FIRST)),
+    ("clock one second before the expiry date", 0, dict(more=f"\texpires:{FAR}", clock=FAR - 1)),
+    ("clock at the expiry date", EXPIRED, HAS_EXPIRED, dict(more=f"\texpires:{FAR}", clock=FAR)),
+    ("clock behind the date of the record", 0, dict(written=FAR, clock=FAR - 1, more=SOON)),
     *(row for what, more, *ended in (
         ("an expiry date", SOON, 0),
         ("no expiry date", "", REJECTED, NO_EXPIRY),
@@ -312,7 +307,7 @@ JUDGED = (
     *((f"older update with keys {' and '.join(keys)}", OLDER, IS_OLDER, dict(keys=keys, number=4)) for keys in (["own", "twin"], ["twin", "own"])),
     ("keys other", REJECTED, error("new.sig", "Signature key id is different from public key", "use the public key of the signer"),
      dict(keys=["other"])),
-    # The record of the greatest version under a key. With --first an update under another key is installed over it.
+    # The record of the greatest version under a key. With --first or --new-key an update under another key is installed over it.
     *(row for what, keys, record, *ended in (
         ("record of another key", [], recorded_under("other"), 0),
         ("record of the same key", [], recorded_under("own"), OLDER, IS_OLDER),
@@ -320,7 +315,30 @@ JUDGED = (
         ("record of the first of two keys of the same key ID", ["twin", "own"], recorded_under("twin"), OLDER, IS_OLDER),
         ("record without a key", [], b"timestamp:7", OLDER, IS_OLDER))
       for row in ((what, OLDER, IS_OLDER, dict(keys=keys, record=record)),
-                  (f"{what}, with --first", *ended, dict(options=FIRST, keys=keys, record=record)))),
+                  (f"{what}, with --first", *ended, dict(options=FIRST, keys=keys, record=record)),
+                  (f"{what}, with --new-key", *ended, dict(options=NEW_KEY, keys=keys, record=record)))),
+    ("newer update with --new-key", 0, dict(options=NEW_KEY)),
+    ("no version record, with --new-key", UNRECORDED, NO_RECORD, dict(options=NEW_KEY, record=None)),
+    ("damaged record, with --new-key", UNRECORDED, DAMAGED_RECORD, dict(options=NEW_KEY, record=b"five")),
+    ("record of a version under another key, with --new-key", UNRECORDED, HOLDS_VERSION,
+     dict(options=NEW_KEY, record=recorded_under("other", "version"))),
+    # The record keeps version and key of the newer update.
+    *((f"{what}, with --roll-back", *ended, dict(before, options=(*options, *ROLL_BACK))) for what, options, before, *ended in (
+        ("older update", (), dict(record=recorded(OLD, 7), leaves=recorded(NEW, 7)), 0),
+        ("older version", BY_VERSION, dict(record=recorded(OLD, 7, "version"), label="version", leaves=recorded(NEW, 7, "version")), 0),
+        ("older update, over a record of a number only", (), dict(record=b"7", leaves=recorded(NEW, 7)), 0),
+        ("older update, and no installed file", (), dict(record=recorded(OLD, 7), installed=None, leaves=recorded(NEW, 7)), 0),
+        ("older update, over a record of another key", (), dict(record=recorded_under("other"), leaves=recorded_under("other", of=NEW)), 0),
+        ("older update, over a record of another key, with --new-key", NEW_KEY, dict(record=recorded_under("other")), 0),
+        ("older update that is installed already", (), dict(record=recorded(NEW, 7), installed=NEW), ALREADY),
+        ("older update, after a run that was cut off", (), dict(record=recorded(NEW, 7), leaves=recorded(NEW, 7)), 0),
+        ("newer update", (), {}, 0),
+        ("same update", (), HAS_NEW, ALREADY),
+        ("other data under the recorded version", (), dict(record=b"6"), SAME_VERSION, OTHER_DATA),
+        ("expired and older update", (), dict(record=recorded(OLD, 7), more=PAST), EXPIRED, HAS_EXPIRED),
+        ("no version record", (), dict(record=None), UNRECORDED, NO_RECORD),
+        ("damaged record", (), dict(record=b"five"), UNRECORDED, DAMAGED_RECORD),
+        ("older data that the signature is not for", (), dict(record=recorded(OLD, 7), signed=LATER, checked=0), REJECTED, OTHER_SIGNED))),
     # Damaged records.
     ("record file that is too long", FAILED,
      error(RECORD_PATH, "this file is too long for a version record", "remove it and use --first to install anyway"),
@@ -392,39 +410,27 @@ def reports_unreadable_target(directory):
     expect(directory.snapshot() == before, "something was changed")
 
 
-# == The date of the record ==
+# == Roll-backs ==
 
-def expect_date(directory, first, last=None):
-    """Raises a `Failure` if the record was not written between two times, in seconds since 1970."""
-    found = int(os.stat(directory.path_of(RECORD)).st_mtime)
-    expect(first <= found <= (last or first), f"the record has the date {found}, expected {first} to {last or first}")
-
-
-@update_cases.table("never dates the record back")
-def keeps_date(directory):
-    """A run keeps the date of the record if the clock is behind it, or if the update is already installed."""
-    set_date(directory, WRITTEN)
+@update_cases.table("keeps an older update until a newer one comes")
+def keeps_rolled_back_update(directory):
+    """After a roll-back the bad update is not installed again, unless --again is given. A newer one is."""
+    for name, data, number in (("bad", LATER, 7), ("next", OLD, 8)):
+        directory.offer(name, data, number)
+    directory.expect_install("bad", 0)
+    directory.expect_install("new", OLDER, said=IS_OLDER)
     for status in (0, ALREADY):
-        directory.expect_install("new", status)
-        expect_date(directory, WRITTEN)
-    directory.offer(number=7)
-    began = int(time.time()) - 1
-    directory.expect_install("new", 0, "--first")
-    expect_date(directory, began, began + SECONDS)
-    set_date(directory, began - 1000)
-    directory.expect_install("new", ALREADY)
-    expect_date(directory, began - 1000)
-
-
-@update_cases.table("keeps the date of a record that root rewrites")
-def keeps_date_for_new_owner(directory):
-    """A run by root rewrites the record for a new owner, under the date of the old record."""
-    directory.put(RECORD, b"timestamp:7")
-    directory.give_away(TARGET)
-    set_date(directory, WRITTEN)
-    directory.expect_install("new", OLDER)
-    expect_date(directory, WRITTEN)
-    expect(os.stat(directory.path_of(RECORD)).st_uid != 0, "the record belongs to root")
+        directory.expect_install("new", status, *ROLL_BACK)
+        directory.expect_recorded(NEW, directory.kind.record(NEW, 7))
+    for words in ((), ROLL_BACK):
+        directory.expect_install("bad", SAME_VERSION, *words, said=OTHER_DATA)
+        directory.expect_recorded(NEW, directory.kind.record(NEW, 7))
+    directory.expect_install("new", OLDER, said=IS_OLDER)
+    directory.expect_install("bad", 0, "--again")
+    directory.expect_recorded(LATER, directory.kind.record(LATER, 7))
+    directory.expect_install("new", 0, *ROLL_BACK)
+    directory.expect_install("next", 0)
+    directory.expect_recorded(OLD, directory.kind.record(OLD, 8))
 
 
 # == Other files beside the target ==

@@ -47,9 +47,13 @@ REPORTS = (
     *(misuse(f"the unknown option {option}", [option, *value, *PATHS], option, "unknown option")
       for option, *value in (("--frist",), ("--num", "version"), ("-h",), ("-f",), ("--name=app",), ("--First",), ("--help",))),
     *(misuse(f"{words[0]} twice", [*words, *PATHS, *words], words[0], GIVEN)
-      for words in (FIRST, ("--name", "a"), ("--check",), ("--must-expire",))),
+      for words in (FIRST, ("--name", "a"), ("--check",), ("--must-expire",), ("--new-key",), ("--roll-back",))),
     *(misuse(f"--check with {' '.join(words)}", [*words, "--check", PK, "new.sig", TARGET], words[0], UNPAIRED)
       for words in (("--mode", "755"), ("--wait", "1"), ("--max-size", "1M"), ("--most", "1M"))),
+    *(misuse(f"--first with {option}", ["--first", *PATHS, option], option, "this option cannot be combined with --first")
+      for option in ("--new-key", "--roll-back")),
+    misuse("--check and --first with --roll-back", ["--first", "--roll-back", *CHECK], "--roll-back",
+           "this option cannot be combined with --first"),
     misuse("--most with --max-size", ["--most", "1M", "--max-size", "1M", *PATHS], "--max-size", GIVEN),
     misuse("an empty command line", [], None, MISSING + "PK DATA SIG TARGET"),
     misuse("three paths", PATHS[:3], None, MISSING + "PK DATA SIG TARGET"),

@@ -39,6 +39,7 @@ RUN_BY = {
     "README.md": {"sh": COMMANDS, "c": "tests/c/installed.py"},
     "docs/GUIDE.md": {"sh": "tests/tool/guide_commands.py", "rust": "tests/library/new_repository.py"},
     "docs/INSTALLING.md": {"sh": COMMANDS},
+    "docs/LISTS.md": {"sh": COMMANDS},
     "docs/QUESTIONS.md": {"sh": COMMANDS},
     "examples/README.md": {"sh": COMMANDS},
     "examples/rattle/README.md": {"sh": "tests/bindings/rattle.py"},
@@ -50,7 +51,8 @@ RUN_BY = {
 }
 # The first lines of the paragraphs that are indented and not fenced: the usage, the output of a check, and the files of
 # examples/updater, which tests/installer/checking.py compares with the document.
-INDENTED = {"docs/INSTALLING.md": ["minisign-install [OPTION ..] PK DATA SIG TARGET", "2",
+INDENTED = {"docs/LISTS.md": ["minisign-check -p PUBKEY [OPTION ..] LIST [FILE ..]"],
+            "docs/INSTALLING.md": ["minisign-install [OPTION ..] PK DATA SIG TARGET", "2",
                                     "[Unit]", "[Service]", "[Unit]", "[Timer]", "[Install]", "#!/bin/sh"]}
 IN_COMMANDS = re.compile(r"(?<![\w./-])(?:\.ci|bench|c|crates|docs|examples|tests|tools)/[\w./*-]+")
 QUOTED = re.compile(r"`([^`]+)`")

@@ -94,7 +94,8 @@ def check_pages(directory, libraries):
     """Proves the callers in the CALLING.md of the libraries, as modules of one crate."""
     callers = {f"of_{library}": caller_of(library) for library in libraries}
     text, modules = "".join(callers.values()), "".join(f"pub mod {name};\n" for name in callers)
-    named = [crate for crate in proved.crates() if crate in libraries or re.search(rf"\b{crate}(?:::|\.)", text)]
+    of_kit = {name for crate in proved.crates().values() for name in crate.of_kit} - {"std"}
+    named = [crate for crate in (*proved.crates(), *sorted(of_kit)) if crate in libraries or re.search(rf"\b{crate}(?:::|\.)", text)]
     os.makedirs(f"{directory}/src")
     for name, source in {"lib": f"{TACTIC}\n{modules}", **callers}.items():
         write(directory, f"src/{name}.rt", f"//! Callers.\n\n{source}".encode())

@@ -35,7 +35,7 @@ from firefox import Firefox
 from minisign_cases import Minisign
 
 # The modules with tests, in the order in which they run. Those of IN_CHROMIUM need Chromium's DevTools protocol.
-IN_BOTH = ("verdicts", "keys", "views", "random_actions", "replaced_inputs", "project_page", "releases", "saved_page", "next_steps", "help_texts", "hostile", "robustness")
+IN_BOTH = ("verdicts", "keys", "views", "random_actions", "replaced_inputs", "project_page", "releases", "saved_page", "signed_lists", "next_steps", "help_texts", "hostile", "robustness")
 IN_CHROMIUM = ("environment", "flags")
 
 

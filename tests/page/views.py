@@ -113,7 +113,7 @@ def check_focus(person):
             focused = person.tab(held=person.SHIFT)
             # (a browser may scroll a moment after it has moved the focus)
             with contextlib.suppress(TimeoutError):
-                person.wait(lambda: not person.see("isFocusBehind"), seconds=2)
+                person.wait(lambda: not person.see("isFocusBehind"), seconds=10)
             seen = focused, person.see("isFocusBehind")
             person.same(seen, (name, False), f"Shift+Tab at {size}: the element with the focus, and if the band hides it")
 

@@ -1,30 +1,55 @@
 #!/usr/bin/env python3
-"""Checks that contracts reject two kinds of mutants: functions that reset a field of a struct, and functions that return success
+"""Checks that contracts reject generated mutants: functions that reset a field of a struct, and functions that return success
 instead of an error.
 
-    tests/proofs/field_mutants.py [--list | --unchanged] [CRATE[/FUNCTION]..]
+    tests/proofs/field_mutants.py [--list | --unchanged | --all] [CRATE[/FUNCTION]..]
 
 A field mutant resets one field of a struct behind a `&mut` parameter: numbers and bytes to 0, a bool to false, an Option to
-None. It resets the field when the function begins, at its end, or before one of its early returns. The fields of nested
-structs are reset one by one. A success mutant returns `Ok` in place of one `Err(..)`, or in place of the error that a `?` at
-the end of a statement passes on.
+None, an enum to its first variant, a Vec, String or slice to an empty one. It resets the field when the function begins, at its
+end, or before one of its early returns. The fields of nested structs are reset one by one. A success mutant returns `Ok` in
+place of one `Err(..)`, of the error that a `?` passes on, or of the error of its last expression. An exported function for C
+returns 0 in place of an error number. The value in `Ok` is made of zeros and empty lists. If a type has no such value, the
+mutant gets a value from its caller, as another parameter.
 
-The prover tries the mutants in groups, as wrong_bodies.py describes. A proved mutant is a failure, because the contract
-allows the wrong function. The exception is a mutant that changes nothing: the prover proves that in the unchanged function the
-field already has this value at that place. A rejection says nothing about the contract if the search gave up at a limit, or if
-only the function's written proof does not fit the mutant. These rejections are counted separately, and so are mutants that do
-not compile. Methods of traits and functions without `ensures` have no mutants, and functions whose successful result is a
-struct have no success mutants.
+A mutant is rejected in one of three ways:
+
+  * The contract allows only one value of what the mutant changes. The prover shows this with a function that calls the correct
+    one twice with equal arguments, and ensures that the results are equal. It knows only the contract, so each mutant that
+    behaves differently violates the contract. These mutants need not be tried one by one.
+  * The search for a proof of the mutant ends without one. The prover tries mutants in groups, as wrong_bodies.py describes.
+  * The search gave up at a limit, or only the function's written proof does not fit the mutant, which says nothing about the
+    contract. Then the reset is tried around a call of the correct function: the search has to find a proof for the call, and
+    to end without one for the call with the reset.
+
+A proved mutant is a failure, because the contract allows the wrong function. The exception is a mutant that changes nothing:
+the prover proves that in the unchanged function the field already has this value at that place. A rejection that still says
+nothing is a failure too, and so is a mutant that does not compile.
+
+No mutants are made of
+
+  * functions without `ensures`, which promise nothing (a method of a trait has the clauses of the trait);
+  * fields that the module of the function cannot set, because they are private to another module or crate;
+  * fields of a generic type, and enums of other crates or without a plain variant, for which there is no value;
+  * the end of a function that returns a reference into the struct, because the borrow checker rejects the reset;
+  * methods of traits if they return a struct without a value of zeros. Other methods of traits are changed in place, because
+    they cannot have a second name;
+  * functions that report a failure as `None` or `false`: these are results and not errors.
+
+tests/proofs/field_mutants.txt records each crate of which all mutants are rejected, with a digest of the crate, of those that it
+depends on, and of its mutants. Only crates whose digest differs are tried, or those that are named; --all tries all.
 
 --list only prints the mutants. --unchanged tries each mutant without its reset or success, but with the code around it. All of
 these have to be proved, which shows that the change itself is rejected and not the code around it. A run over all crates takes
-hours, so it is part of a release and not of CI. Needs Python 3.9 or later and the kit.
+hours, so it is part of a release and not of CI. The last line is `N passed, M failed`. Needs Python 3.9 or later and the kit.
 """
 
+import functools
 import os
 import re
+import shutil
 import sys
 import tempfile
+import threading
 from collections import Counter
 from concurrent.futures import ThreadPoolExecutor
 
@@ -32,39 +57,119 @@ HERE = os.path.dirname(os.path.realpath(__file__))
 sys.path += [HERE, os.path.join(HERE, "..", "shared"), os.path.join(HERE, "..", "..", "tools")]
 
 import proved
-from sources import NAME, ROOT, Reader, files_below
+import tried_mutants
+from running import write
+from sources import NAME, ROOT, Reader, files_below, read, read_source
 from wrong_bodies import APART, FAILED, GAVE_UP, REJECTED, WELL, Places, Trial, Verdict, WrongBody, assume, functions_in
 
 # The outcomes of a trial besides those of wrong_bodies.py.
 PROVED, SAME, UNFIT = "PROVED", "the same function", "does not compile"
+AROUND = "rejected as a change around a call"
+# The contract allows only one value of what the mutant changes.
+ONE_VALUE = "rejected by a contract that allows one value"
+GOOD = (ONE_VALUE, REJECTED, AROUND, SAME)
+OUTCOMES = (*GOOD, GAVE_UP, APART, UNFIT, PROVED, FAILED)
+LIST = "tests/proofs/field_mutants.txt"
+HEAD = """# The outcomes of the mutants that tests/proofs/field_mutants.py generates. For each crate of which all are rejected: a digest
+# of everything that decides this, their numbers, and the mutants that change nothing.
+"""
 # The largest number of mutants that share a check.
 GROUP = 40
+# Stands for the suffix of a name until it is known.
+SUFFIX = "_@"
 INTEGER = re.compile(r"[iu](?:8|16|32|64|128|size)")
 FIELD = re.compile(r"(?m)^[ \t]*(?P<public>pub(?:\([^)]*\))?\s+)?(?P<name>\w+): (?P<type>[^\n]+?),?$")
-BORROWED = re.compile(r"(?:(?P<name>\w+): )?&(?:'\w+ )?mut (?P<type>\w+)")
-# The values of a successful result, by its type.
-VALUES = {"()": ["()"], "bool": ["true", "false"], "&str": ['""'], "&[u8]": ["&[]"]}
+# A type of parameters that can be passed twice.
+COPIED = re.compile(r"&(?!(?:'\w+ )?mut )|Option<&(?!mut )|(?:[iu]\d+|[iu]size|bool|Global|\[\w+; .*\])$")
+# A type that has no name for its lifetime, or none outside of its impl.
+UNNAMED = re.compile(r"&(?!')|'_|\bSelf\b")
+# The values that reset a field of a type.
+VALUES = {"()": "()", "bool": "false", "&str": '""', "&[u8]": "&[]"}
+# What an exported function for C returns for an error: its number.
+NUMBER = re.compile(r"\.number\(\)|\bnumber_of(?P<macro>!)?\(|(?<=[>{])\s+(?P<constant>[A-Z][A-Z0-9_]{3,})(?=\s*[,}])")
 # An error of the sources, as the prover reports it.
 AT = re.compile(r"(?m)^(?:\./)?(src/[\w/]+\.rt):(\d+)(?::\d+)?: error")
 
 
 class Mutant(WrongBody):
-    """A mutant of one function: the pieces of text that change it, and a description of the change."""
+    """A mutant of one function: the pieces of text that change it, and a description of the change. A method of a trait is changed
+    in place. All others are changed in a copy."""
 
-    def __init__(self, crate, path, item, function, places, does, field=""):
-        self.crate, self.path, self.copied, self.function, self.places = crate, path, item, function, places
-        self.label, self.suffix = f"{crate}/{function}: {does}", ""
+    def __init__(self, crate, path, item, function, places, does, field="", around="", call="", changes="", outputs=frozenset()):
+        self.crate, self.path, self.item, self.function, self.places = crate, path, item, function, places
+        self.copied = None if item.trait else item
+        self.does, self.label, self.suffix = does, f"{crate}/{function}: {does}", ""
         # A clause of a contract: where the mutant resets the field, it has the reset value.
         self.field = field
+        # A body that calls the unchanged function and then changes what it did in the same way.
+        self.around = around
+        self.call = call
         self.clause = self.named = self.by = self.why_not = ""
-        self.is_for_kit = self.is_unchanged = False
+        self.is_for_kit = self.is_unchanged = self.is_around = False
+        # The output that is different from that of the function, if it is a single one, and all outputs of the function.
+        self.changes, self.outputs = changes, outputs
 
-    def probe(self):
-        """Returns the unchanged function with one clause: the field has the value that the mutant gives it."""
+    def probe(self, is_call):
+        """Returns the unchanged function, or a call of it, with one clause: the field has the value that the mutant gives it."""
+        body = self.item.body
         clause = f"ensures probe {{ {self.field} }}\n"
-        probe = Mutant(self.crate, self.path, self.copied, self.function, [(self.copied.body, self.copied.body, clause)], "probe")
+        probe = self.with_body(f"{clause}{{ {self.call} }}") if is_call else self.with_places([(body, body, clause)])
         probe.clause = "probe"
         return probe
+
+    def with_places(self, places):
+        return Mutant(self.crate, self.path, self.item, self.function, places, self.does)
+
+    def with_body(self, body):
+        """Returns the function with another body, for which no written proof is needed."""
+        other = self.with_places([(self.item.body, self.item.end, body)])
+        other.is_around = True
+        return other
+
+    def copy_proof(self, directory):
+        if not self.is_around:
+            super().copy_proof(directory)
+
+    def is_settled(self, determined):
+        """Returns true if what this mutant changes is among the outputs that the contract determines, which Twice describes."""
+        return self.changes in determined or self.changes.partition(".")[0] in determined or determined >= self.outputs > set()
+
+    def text(self):
+        """Returns the pieces as a text, for a digest."""
+        return f"{self.label} {[new for _, _, new in self.places]}\n"
+
+
+class Twice(Mutant):
+    """A function that calls the unchanged function twice, with equal arguments, and ensures that the outputs of both calls are equal:
+    the result and what is behind each `&mut` parameter. The prover knows only the contract of the function, so a clause that it
+    proves shows that the contract allows only one value of this output. Then every mutant with another value violates the contract."""
+
+    def __init__(self, generator, fields=()):
+        super().__init__(generator.structs.crate, generator.path, generator.item, generator.function, [], "two calls")
+        self.added, self.ensured = generator.twice(fields)
+        # The outputs that the contract determines, once the prover has said so.
+        self.determined = frozenset()
+
+    def pieces(self, text):
+        return [(self.item.end, self.item.end, self.added.replace(SUFFIX, self.suffix))]
+
+    def copy_proof(self, directory):
+        pass
+
+    def take(self, output):
+        """Reads from the output of a check which clauses are proved."""
+        line = re.search(rf"(?m)^fn {re.escape(f'{self.crate}::{self.checked}')}: (.*)$", output)
+        unproved = re.search(r"`search` did not prove ((?:`[^`]+`(?:, )?)+)", line[1]) if line else None
+        goals = {f"returns-clause-{name}": what for name, what in self.ensured.items()}
+        goals["returns-clause-determined_again"] = self.ensured["determined_0"]
+        missing = re.findall(r"`([^`]+)`", unproved[1]) if unproved else []
+        if line and (line[1].startswith(WELL) or unproved and all(goal in goals for goal in missing)):
+            self.determined = frozenset({*goals.values()} - {goals[goal] for goal in missing})
+
+
+@functools.lru_cache(maxsize=None)
+def structs_of(crate):
+    return Structs(crate)
 
 
 class Structs:
@@ -83,22 +188,84 @@ class Structs:
                     if item.what in ("struct", "enum"):
                         self.by_name.setdefault(item.name, (each, module_of(path), item))
 
-    def fields(self, name, module, before=""):
-        """Yields the fields of a struct that a module may set, including nested ones: the path, the expression that resets the field,
-        and its type."""
+    def declared(self, name, module):
+        """Yields the fields of a struct that a module may set, as name and type."""
         crate, home, item = self.by_name.get(name, ("", "", None))
-        if not item or item.what != "struct" or "{" not in item.text or before.count(".") > 3:
+        if not item or item.what != "struct":
             return
-        for declared in FIELD.finditer(item.text[item.text.index("{"):]):
-            public = (declared["public"] or "").strip()
-            if public != "pub" and crate != self.crate or not public and f"{module}::".find(f"{home}::") != 0 and home:
-                continue
-            field, kind = f"{before}.{declared['name']}", declared["type"]
-            value = reset_value(kind)
+        tuple_ = re.search(r"struct \w+(?:<[^(]*>)?\((.*)\)", item.header + item.text, re.S) if "{" not in item.text else None
+        if tuple_:
+            declared = [re.fullmatch(r"(pub(?:\([^)]*\))?\s+)?(.*)", each.strip(), re.S).groups() for each in in_parts(tuple_[1])]
+            declared = [(public, str(number), kind) for number, (public, kind) in enumerate(declared)]
+        else:
+            body = item.text[item.text.find("{"):] if "{" in item.text else ""
+            declared = [(each["public"], each["name"], each["type"]) for each in FIELD.finditer(body)]
+        for public, field, kind in declared:
+            public = (public or "").strip()
+            if public == "pub" or crate == self.crate and (public or f"{module}::".startswith(f"{home}::") or not home):
+                yield field, kind
+
+    def fields(self, name, module, before=""):
+        """Yields the fields of a struct that a module may set, including nested ones: the path, the statement that resets the field
+        with the name of the parameter left out, and its type."""
+        for name, kind in self.declared(name, module) if before.count(".") < 4 else ():
+            field = f"{before}.{name}"
+            value = self.reset_value(kind)
             if value:
-                yield field, value, kind
+                yield field, f"{field} = {value}", kind
+            elif re.match(r"(?:Vec<|String$)", kind):
+                yield field, f"{field}.clear()", kind
             else:
                 yield from self.fields(NAME.match(kind)[0] if NAME.match(kind) else "", module, field)
+
+    def reset_value(self, kind):
+        """Returns the value that resets a field of this type, or an empty string if the type has none or is a struct, whose
+        fields are reset one by one."""
+        array = re.fullmatch(r"\[(\w+); (.+)\]", kind)
+        if INTEGER.fullmatch(kind):
+            return "0"
+        if array and INTEGER.fullmatch(array[1]):
+            return f"[0; {array[2]}]"
+        if kind.startswith("Option<"):
+            return "None"
+        crate, home, item = self.by_name.get(kind, ("", "", None))
+        if item and item.what == "enum" and crate == self.crate:
+            # The first variant without fields.
+            unit = re.search(r"(?m)^    (\w+)(?: = [^,\n]+)?,$", item.text)
+            return "::".join(filter(None, ("crate", home, kind, unit[1]))) if unit else ""
+        return VALUES.get(re.sub(r"&'\w+ ", "&", kind), "")
+
+    def value(self, kind, module, is_at_hand, depth=0):
+        """Returns a value of a type, or an empty string if this script knows none. `is_at_hand` says if a parameter `alloc` is."""
+        kind = re.sub(r"&'\w+ ", "&", kind)
+        if kind.startswith("("):
+            values = [self.value(each, module, is_at_hand, depth + 1) for each in in_parts(kind[1:-1])]
+            return f"({', '.join(values)})" if all(values) else "()" if kind == "()" else ""
+        simple = self.reset_value(kind)
+        if simple:
+            return simple
+        if re.match(r"(?:Vec<|String$)", kind):
+            return f"{kind.partition('<')[0]}::new(alloc)" if is_at_hand else ""
+        crate, home, item = self.by_name.get(kind, ("", "", None))
+        fields = list(self.declared(kind, module)) if crate == self.crate and depth < 4 else []
+        values = [(field, self.value(each, module, is_at_hand, depth + 1)) for field, each in fields]
+        # A struct with an invariant, or with a field that the module may not set, cannot be made of these.
+        is_plain = values and "{" in item.text and "ghost " not in item.text and len(FIELD.findall(item.text)) == len(fields)
+        if not is_plain or not all(value for _, value in values):
+            return ""
+        path = "::".join(filter(None, ("crate", home, kind)))
+        return f"{path} {{ {', '.join(f'{field}: {value}' for field, value in values)} }}"
+
+
+def in_parts(text):
+    """Returns the parts of a list with commas."""
+    parts, depth, begin = [], 0, 0
+    for at, sign in enumerate(text):
+        depth += (sign in "<([{") - (sign in ")]}" or sign == ">" and text[at - 1:at] not in ("-", "="))
+        if sign == "," and depth == 0:
+            parts.append(text[begin:at].strip())
+            begin = at + 1
+    return [part for part in (*parts, text[begin:].strip()) if part]
 
 
 def module_of(path):
@@ -107,83 +274,142 @@ def module_of(path):
         "main", "", path == "src/main.rt")
 
 
-def reset_value(kind):
-    """Returns the value that resets a field of this type, or an empty string if the type has none or is a struct, whose
-    fields are reset one by one."""
-    array = re.fullmatch(r"\[(\w+); (.+)\]", kind)
-    if INTEGER.fullmatch(kind):
-        return "0"
-    if array and INTEGER.fullmatch(array[1]):
-        return f"[0; {array[2]}]"
-    return {"bool": "false"}.get(kind, "None" if kind.startswith("Option<") else "")
-
-
 def result_of(header):
     """Returns the result type of a function."""
     return header.rpartition(") -> ")[2].partition(" where ")[0] if ") -> " in header else "()"
 
 
-def success_values(kind):
-    """Returns expressions for the `Ok` value of a `Result` type, or an empty list if this script knows no value of its type."""
+def success_of(kind):
+    """Returns the type of the `Ok` value of a `Result` type, or an empty string for other types."""
     result = re.fullmatch(r"(?:std::result::|io::)?Result<(.+)>", kind)
-    if not result:
-        return []
-    depth, value = 0, result[1]
-    for at, sign in enumerate(result[1]):
-        depth += (sign in "<([") - (sign in ">)]")
-        if sign == "," and depth == 0:
-            value = result[1][:at]
-            break
-    value = re.sub(r"&'\w+ ", "&", value)
-    return VALUES.get(value) or [each for each in [reset_value(value)] if each]
+    return in_parts(result[1])[0] if result else ""
 
 
 class Generator:
     """Makes the mutants of one function."""
 
-    def __init__(self, structs, path, item, is_unchanged):
+    def __init__(self, structs, path, item, is_unchanged, names=()):
         self.structs, self.path, self.item, self.is_unchanged = structs, path, item, is_unchanged
         self.reader, _ = structs.files[path]
         self.module, self.result = module_of(path), result_of(item.header)
         owner = structs.by_name.get(item.owner)
         home = owner[1] if item.owner and owner and owner[0] == structs.crate else self.module
         self.function = "::".join(filter(None, (home, item.owner, item.name)))
+        if names and self.function not in names or item.trait:
+            # In the prover's name of a method of a trait, the name of the trait follows that of the type, without a separator. The
+            # name of a generic type may have arguments, each after a plus sign.
+            wanted = rf"(?:\w+::)*{item.owner}[\w+]*{item.trait}\w*::{item.name}"
+            self.function = next((name for name in names if re.fullmatch(wanted, name)), "" if item.trait else self.function)
         self.bare = self.reader.bare
+        self.opened = {closed - 1: begin for begin, closed in self.reader.closed.items()}
+        self.parameters = self.read_parameters()
 
-    def mutant(self, places, does, field=""):
-        return Mutant(self.structs.crate, self.path, self.item, self.function, places, does, field)
+    def read_parameters(self):
+        """Returns the parameters as name and type, and sets the offset behind the last one."""
+        at, depth = self.item.named, 0
+        while self.bare[at] != "(" or depth:
+            depth += (self.bare[at] == "<") - (self.bare[at] == ">" and self.bare[at - 1] != "-")
+            at += 1
+        self.after_parameters = self.reader.closed[at] - 1
+        parameters = []
+        for each in in_parts(re.sub(r"\s+", " ", re.sub(r"//[^\n]*", "", self.reader.text[at + 1:self.after_parameters]))):
+            name, _, kind = each.partition(": ")
+            is_self = re.fullmatch(r"(&(?:'\w+ )?)?(mut )?self", each)
+            parameters.append(("self", f"{is_self[1] or ''}{is_self[2] or ''}{self.item.owner}") if is_self
+                              else (name.removeprefix("mut "), kind))
+        return parameters
+
+    def would_have_mutants(self):
+        """Returns true if the function would have mutants if the prover's name of it were known."""
+        self.function = self.function or self.item.name
+        return any(True for _ in self.all())
+
+    def mutant(self, places, does, changes, field="", around=""):
+        around = "" if self.item.trait else around
+        return Mutant(self.structs.crate, self.path, self.item, self.function, places, does, field, around, self.call(), changes,
+                      self.outputs())
 
     def all(self):
         """Yields all mutants of the function."""
-        if self.item.trait or not any(clause.kind == "ensures" for clause in self.item.clauses):
+        is_promised = self.item.trait or any(clause.kind == "ensures" for clause in self.item.clauses)
+        if not self.function or not is_promised:
             return
-        for parameter in BORROWED.finditer(self.item.header[self.item.header.index("("):]):
-            is_self = parameter["type"] == "self"
-            name = "self" if is_self else parameter["name"]
-            kind = self.item.owner if is_self or parameter["type"] == "Self" else parameter["type"]
-            for field, value, type_ in self.structs.fields(kind, self.module) if name else ():
-                yield from self.resets(name, field, value, type_)
+        for name, kind in self.parameters:
+            borrowed = re.fullmatch(r"&(?:'\w+ )?mut (\w+)(?:<.*>)?", kind)
+            kind = borrowed and (self.item.owner if borrowed[1] == "Self" else borrowed[1])
+            for field, reset, type_ in self.structs.fields(kind, self.module) if kind else ():
+                yield from self.resets(name, field, reset, type_)
         yield from self.successes()
+        if 'extern "C"' in self.reader.text[self.item.begin:self.item.body] and INTEGER.fullmatch(self.result):
+            yield from self.zeros()
 
-    def resets(self, name, field, value, kind):
+    def call(self):
+        """Returns a call of the function with its own parameters."""
+        given = ", ".join(name for name, _ in self.parameters if name != "self")
+        before = "self." if self.parameters and self.parameters[0][0] == "self" else "Self::" if self.item.owner else ""
+        return f"{before}{self.item.name}({given})"
+
+    def outputs(self):
+        """Returns the names of the function's outputs: those of the `&mut` parameters, and `result`."""
+        names = [name for name, kind in self.parameters if re.match(r"&(?:'\w+ )?mut ", kind)]
+        return frozenset([*names, *(["result"] if self.result != "()" else [])])
+
+    def twice(self, fields):
+        """Returns the text of a function that calls this one twice, and the output that each of its clauses is about. `fields` are
+        the outputs to compare, for example `self.mark`; without them, all outputs are compared."""
+        item, words, requires, again = self.item, [], [], {}
+        for name, kind in self.parameters:
+            again[name] = name if COPIED.match(kind) else f"{name}_again"
+            if again[name] != name:
+                words.append(f"{again[name]}: {kind}")
+                old = ".old" if kind.startswith("&") else ""
+                requires.append(f"{name}{old} ≡ {again[name]}{old}")
+        call = self.call()
+        other = re.sub(r"^self\b", again.get("self", "self"), call)
+        other = f"{other[:other.rindex('(')]}({', '.join(again[name] for name, _ in self.parameters if name != 'self')})"
+        ensured, clauses = {}, []
+        for number, what in enumerate(sorted(fields or self.outputs())):
+            name, dot, field = what.partition(".")
+            sides = ("result.0", "result.1") if what == "result" else (f"{name}.new{dot}{field}", f"{again[name]}.new{dot}{field}")
+            ensured[f"determined_{number}"] = what
+            clauses.append(f"ensures determined_{number} {{ {' ≡ '.join(sides)} }}")
+        # The prover names a clause only if there is another one.
+        clauses.append(clauses[0].replace("determined_0", "determined_again"))
+        required = [f"requires {clause.name or 'given'} {{ {clause.text} }}" for clause in item.clauses if clause.kind == "requires"]
+        required += [f"requires same_{number} {{ {each} }}" for number, each in enumerate(requires)]
+        begin = self.reader.text.rindex("fn ", item.begin, item.named)
+        declared = self.reader.text[item.named:self.after_parameters].rstrip()
+        comma = "" if declared[-1] in "(," else ", "
+        where = re.search(r" where (.*)$", item.header)
+        result = f" -> ({self.result}, {self.result})" if self.result != "()" else ""
+        body = f"let one_call = {call}; let other_call = {other}; (one_call, other_call)" if result else f"{call}; {other};"
+        head = f"{self.reader.text[begin:item.named]}{SUFFIX}{declared}{comma}{', '.join(words)}){result}{where[0] if where else ''}"
+        return "\n\n" + "\n    ".join([head, *required, *clauses]) + f"\n{{ {body} }}\n", ensured
+
+    def resets(self, name, field, reset, kind):
         """Yields the mutants that reset one field."""
-        body, end, does = self.item.body + 1, self.item.end - 1, f"{name}{field} = {value}"
+        body, end, does = self.item.body + 1, self.item.end - 1, f"{name}{reset}"
         sets = "" if self.is_unchanged else f"{does};"
-        in_clause = {"0": "0", "false": "false", "None": "None"}.get(value) or f"replicate {kind[1:-1].rpartition('; ')[2]} 0"
+        value = reset.rpartition(" = ")[2]
+        in_clause = {"0": "0", "false": "false", "None": "None"}.get(value, "")
+        if value.startswith("[0; "):
+            in_clause = f"replicate {kind[1:-1].rpartition('; ')[2]} 0"
+        is_clause = lambda when: f"{name}.{when}{field} ≡ {in_clause}" if in_clause else ""
         if not self.sets_first(name, field):
-            yield self.mutant([(body, body, f" {sets}")], f"{does} at entry", f"{name}.old{field} ≡ {in_clause}")
-        after = f"{name}.new{field} ≡ {in_clause}"
+            yield self.mutant([(body, body, f" {sets}")], f"{does} at entry", "", is_clause("old"), f"{{ {sets} {self.call()} }}")
         if self.result == "()":
             last = self.bare[body:end].rstrip()[-1:]
             between = "" if last in ("", ";", "}", "{") else ";"
-            yield self.mutant([(end, end, f"{between} {sets}")], f"{does} at the end", after)
-        elif "&" not in self.result:
+            around = f"{{ {self.call()}; {sets} }}"
+            yield self.mutant([(end, end, f"{between} {sets}")], f"{does} at the end", f"{name}{field}", is_clause("new"), around)
+        elif not re.search(r"&(?!')|'_", self.result):
             wrapped = [(body, body, f" let returned: {self.result} = {{"), (end, end, f"}}; {sets} returned")]
-            yield self.mutant(wrapped, f"{does} at the end", after)
+            around = f"{{ let returned: {self.result} = {self.call()}; {sets} returned }}"
+            yield self.mutant(wrapped, f"{does} at the end", f"{name}{field}", is_clause("new"), around)
         for number, (begin, stop) in enumerate(self.returns(), 1):
             value = self.reader.text[begin + len("return"):stop].strip()
             early = (f"{{ let returned: {self.result} = {value}; {sets} return returned }}" if value else f"{{ {sets} return }}")
-            yield self.mutant([(begin, stop, early)], f"{does} before early return {number}", after)
+            yield self.mutant([(begin, stop, early)], f"{does} before early return {number}", f"{name}{field}", is_clause("new"))
 
     def sets_first(self, name, field):
         """Returns true if the first use of the parameter assigns this field or the whole struct, so that a reset at entry has no effect."""
@@ -206,38 +432,104 @@ class Generator:
 
     def successes(self):
         """Yields the mutants that return success instead of one error."""
-        for value in success_values(self.result):
-            body, end = self.item.body, self.item.end
-            for number, match in enumerate(re.finditer(r"\bErr\(", self.bare[body:end]), 1):
-                begin, stop = body + match.start(), self.reader.closed[body + match.end() - 1]
-                # An `Err(..)` that is followed by one of these is a pattern.
-                if not re.match(r"\s*(?:=|\||if\b)", self.bare[stop:stop + 80]):
-                    result = self.reader.text[begin:stop] if self.is_unchanged else f"Ok({value})"
-                    yield self.mutant([(begin, stop, result)], f"Ok({value}) instead of Err {number}")
-            for number, match in enumerate(re.finditer(r"\?;", self.bare[body:end]), 1):
-                stop = body + match.start()
-                begin = self.statement(stop)
-                let = re.match(r"\s*(let [^=]+= )?", self.reader.text[begin:stop])
-                begin += let.end()
-                tried = self.reader.text[begin:stop]
-                changed = f"{tried}?" if self.is_unchanged else f"match {tried} {{ Ok(given) => given, Err(_) => return Ok({value}) }}"
-                yield self.mutant([(begin, stop + 1, changed)], f"Ok({value}) instead of the error of ? {number}")
+        kind = success_of(self.result)
+        if not kind:
+            return
+        value = self.structs.value(kind, self.module, ("alloc", "Global") in self.parameters)
+        more = []
+        if not value:
+            # The value is another parameter of the mutant.
+            if self.item.trait or UNNAMED.search(kind):
+                return
+            value, at = "given", self.after_parameters
+            comma = "" if self.bare[:at].rstrip()[-1] in "(," else ", "
+            more = [(at, at, f"{comma}given: {kind}")]
+        body, end = self.item.body, self.item.end
+        shown, changes = value if len(value) < 40 else "..", []
+        for match in re.finditer(r"\bErr\(", self.bare[body:end]):
+            begin, stop = body + match.start(), self.reader.closed[body + match.end() - 1]
+            # An `Err(..)` that is followed by one of these is a pattern.
+            if not re.match(r"\s*(?:=|\||if\b)", self.bare[stop:stop + 80]):
+                changes.append((begin, stop, f"Ok({value})", f"Err {len(changes) + 1}"))
+        for number, match in enumerate(re.finditer(r"\?", self.bare[body:end]), 1):
+            stop = body + match.start()
+            begin = self.operand(stop)
+            tried = self.reader.text[begin:stop]
+            changes.append((begin, stop + 1, f"(match {tried} {{ Ok(passed) => passed, Err(_) => return Ok({value}) }})",
+                            f"the error of ? {number}"))
+        for begin, stop, new, error in changes:
+            new = self.reader.text[begin:stop] if self.is_unchanged else new
+            yield self.mutant([*more, (begin, stop, new)], f"Ok({shown}) instead of {error}", "result")
+        last = self.bare[body + 1:end - 1]
+        if not re.match(r"(?:Ok|Err)\(|loop\b|'\w+: loop\b", last[self.last_statement(last):].lstrip()):
+            ends = "" if self.is_unchanged else f"Err(_) => Ok({value}), "
+            wrapped = [(body + 1, body + 1, f" let returned: {self.result} = {{"),
+                       (end - 1, end - 1, f"}}; match returned {{ {ends}returned => returned }}")]
+            yield self.mutant([*more, *wrapped], f"Ok({shown}) instead of an error at the end", "result")
 
-    def statement(self, stop):
-        """Returns the offset at which the statement around this offset begins."""
-        depth, at = 0, stop - 1
-        while at > self.item.body:
-            sign = self.bare[at]
-            depth += (sign in ")]}") - (sign in "([{")
-            if depth < 0 or depth == 0 and sign == ";" or depth == 0 and sign == "{" or depth == 1 and sign == "}" and (
-                    "\n" in self.bare[at + 1:stop].split("=")[0].split(".")[0]):
-                return at + 1
-            at -= 1
-        return at + 1
+    def zeros(self):
+        """Yields the mutants of an exported function that return 0 instead of one error number."""
+        changes = []
+        for match in NUMBER.finditer(self.bare, self.item.body, self.item.end):
+            begin, stop, new = match.start(), match.end(), "0"
+            if match["constant"]:
+                begin = match.start("constant")
+            elif match[0].startswith("number_of"):
+                stop = self.reader.closed[stop - 1]
+                if match["macro"]:
+                    new = f"(match {self.reader.text[match.end():stop - 1]} {{ Ok(()) => 0, Err(_) => 0 }})"
+            else:
+                begin = self.operand(begin)
+            changes.append((begin, stop, new))
+        for number, (begin, stop, new) in enumerate(changes, 1):
+            new = self.reader.text[begin:stop] if self.is_unchanged else new
+            yield self.mutant([(begin, stop, new)], f"0 instead of error number {number}", "result")
+
+    def last_statement(self, text):
+        """Returns the offset of what follows the last statement that ends in a semicolon, outside of brackets."""
+        depth, last = 0, 0
+        for at, sign in enumerate(text):
+            depth += (sign in "([{") - (sign in ")]}")
+            if sign == ";" and depth == 0:
+                last = at + 1
+        return last
+
+    def operand(self, stop):
+        """Returns the offset at which the expression begins that ends at this offset: names, calls and indexes, joined by dots."""
+        at = stop
+        while True:
+            before = at
+            while self.bare[before - 1].isspace():
+                before -= 1
+            # A line may begin with the dot of the next call.
+            if before < at and self.bare[at] != ".":
+                return at
+            sign = self.bare[before - 1]
+            if sign in ")]":
+                at = self.opened[before - 1]
+            elif sign.isalnum() or sign in "_.:?!":
+                at = before - 1
+            elif sign == ">" and "::<" in self.bare[self.item.body:before]:
+                at = self.bare.rindex("::<", 0, before)
+            else:
+                return at
 
 
 class FieldTrial(Trial):
     """Tries the mutants of a crate, in copies of the crate."""
+
+    def __init__(self, crate, places=None):
+        super().__init__(crate, places)
+        # The results of the checks of each thread, so that each check only checks what is new.
+        self.results = threading.local()
+
+    def check(self, directory, functions):
+        words = [word for function in sorted(functions) for word in ("--only", function)]
+        if not hasattr(self.results, "directory"):
+            self.results.directory = tempfile.TemporaryDirectory(prefix="field-mutants-results-")
+        with self.places.place():
+            words += ["--allow-holes", "--incremental", self.results.directory.name]
+            return proved.rattle("check", self.crate, directory, *words).stdout
 
     def try_mutants(self, group):
         """Tries a group, and returns the verdicts. Mutants that do not compile are taken out of the group. Those that call functions not
@@ -258,9 +550,28 @@ class FieldTrial(Trial):
             group = again
         return settled
 
+    def try_twices(self, group):
+        """Checks a group of `Twice`, which take what is proved. Those that do not compile are taken out. Returns the group."""
+        left = list(group)
+        while left:
+            known, (text, lines) = len(self.proved), self.run(left)
+            if "\nonly=" in f"\n{text}" and len(self.proved) == known:
+                for body in left:
+                    body.take(text)
+                break
+            if "\nonly=" not in f"\n{text}":
+                unfit = {body for path, line in AT.findall(text) for body in lines(path, int(line))}
+                left = [body for body in left if body not in unfit] if unfit else []
+        return group
+
     def try_once(self, group):
         """Checks a copy of the crate with a group. Returns the output, the verdicts, and a function that gives the mutants at a line of a
         file."""
+        text, lines = self.run(group)
+        return text, [self.verdict(body, text) for body in group], lines
+
+    def run(self, group):
+        """Checks a copy of the crate with a group. Returns the output, and a function that gives the mutants at a line of a file."""
         checked = {body.checked for body in group}
         with tempfile.TemporaryDirectory(prefix="field-mutants-") as room:
             self.copy_into(room, group)
@@ -272,7 +583,17 @@ class FieldTrial(Trial):
         self.learn(text)
         lines = lambda path, line: [body for body in group for name, first, last in spans.get(path, ())
                                     if body.path == path and name.endswith(body.suffix) and first <= line <= last]
-        return text, [self.verdict(body, text) for body in group], lines
+        return text, lines
+
+    def copy_into(self, directory, group):
+        super().copy_into(directory, group)
+        for path in {body.path for body in group}:
+            imports = read_source(f"crates/{self.crate}/{path}").imports
+            needed = [name for name in ("◌≡◌", "replicate", "None", "false") if name not in imports]
+            text = read(f"{directory}/{path}")
+            at = re.search(r"(?m)^(?!//!|$)", text).start()
+            if needed:
+                write(directory, path, f"{text[:at]}ghost use Rattle.std.specs.Prelude.{{{', '.join(needed)}}};\n{text[at:]}".encode())
 
     def learn(self, text):
         """Adds the functions that mutants call to those that are assumed as proved. In the unchanged crate they are proved."""
@@ -290,72 +611,176 @@ def copies_in(file):
     return [(item.name, item.line, reader.text.count("\n", 0, item.end) + 1) for item in functions_in(reader.read())]
 
 
-def mutants_of(crate, is_unchanged=False):
-    """Returns the mutants of a crate, or their unchanged forms."""
-    structs, mutants = Structs(crate), []
-    for path, (_, source) in structs.files.items():
-        for item in functions_in(source):
-            mutants += Generator(structs, path, item, is_unchanged).all()
-    return mutants
+@functools.lru_cache(maxsize=None)
+def names_of(crate):
+    """Returns the prover's names of the functions in those modules that have methods of traits to mutate, from a check in which all
+    bodies are endless loops."""
+    structs = structs_of(crate)
+    items = [(path, item) for path, (_, source) in structs.files.items() for item in functions_in(source) if item.trait]
+    modules = {module_of(path) for path, item in items if Generator(structs, path, item, False).would_have_mutants()}
+    if not modules:
+        return ()
+    with tempfile.TemporaryDirectory(prefix="field-mutants-names-") as room:
+        FieldTrial(crate).copy_into(room, [])
+        shutil.rmtree(f"{room}/proofs", ignore_errors=True)
+        words = [word for module in sorted(modules) for word in ("--only", module)]
+        output = proved.rattle("check", crate, room, *(words if all(modules) else ()), "--allow-holes").stdout
+    names = re.findall(rf"(?m)^fn {crate}::(.+?): ", output)
+    if not names:
+        raise SystemExit(f"{crate}: the prover names no function: {proved.first_of(output)}")
+    return tuple(names)
 
 
-def try_crate(crate, mutants, places, pool, is_unchanged):
-    """Tries the mutants of a crate, and yields their verdicts."""
-    trial = FieldTrial(crate, places)
-    why = proved.supply(proved.crates()[crate].below) or trial.lacks_proof(mutants)
+def generators_of(crate, is_unchanged=False, names=()):
+    """Returns the generators of a crate's functions. Methods of traits have mutants if their names are given."""
+    structs = structs_of(crate)
+    items = [(path, item) for path, (_, source) in structs.files.items() for item in functions_in(source)]
+    return [Generator(structs, path, item, is_unchanged, names) for path, item in items]
+
+
+def determined(trial, generators, mutants, pool):
+    """Returns for each function the outputs that its contract determines, as far as mutants change them."""
+    changed = {}
+    for body in mutants:
+        changed.setdefault(body.function, set()).add(body.changes)
+    known = {}
+    for is_by_field in (False, True):
+        twices = []
+        for generator in generators:
+            fields = {what for what in changed.get(generator.function, ()) if what} - {"result"}
+            missing = {what for what in fields if what.partition(".")[0] not in known.get(generator.function, ())}
+            if generator.function in changed and not generator.item.trait and (missing or not is_by_field):
+                twices.append(Twice(generator, missing if is_by_field else ()))
+        for number, body in enumerate(twices):
+            body.suffix = f"_with_call_{number}"
+        for group in pool.map(trial.try_twices, in_slices(twices)):
+            for body in group:
+                known[body.function] = known.get(body.function, frozenset()) | body.determined
+    return known
+
+
+def try_crate(crate, generators, mutants, places, pool, is_unchanged):
+    """Tries the mutants of a crate, and returns their verdicts."""
+    trial, unnamed = FieldTrial(crate, places), []
+    why = trial.lacks_proof(mutants)
     while unknown := re.search(r"has no function `([^`]+)`", why):
         # The prover uses other names for functions of generic types.
-        yield from (Verdict(body, UNFIT, why) for body in mutants if body.function == unknown[1])
+        unnamed += [Verdict(body, UNFIT, why) for body in mutants if body.function == unknown[1]]
         mutants = [body for body in mutants if body.function != unknown[1]]
         why = trial.lacks_proof(mutants)
     if why:
-        yield from (Verdict(body, FAILED, f"not tried: {why}") for body in mutants)
-        return
-    verdicts = in_groups(trial, mutants, pool)
-    doubtful = [verdict for verdict in verdicts if verdict.outcome == PROVED and verdict.body.field and not is_unchanged]
-    probes = {verdict.body: verdict.body.probe() for verdict in doubtful}
-    same = {verdict.body for verdict in in_groups(trial, [*probes.values()], pool) if verdict.outcome == PROVED}
+        return unnamed + [Verdict(body, FAILED, f"not tried: {why}") for body in mutants]
+    if is_unchanged:
+        return unnamed + in_groups(trial, mutants, pool)
+    known = determined(trial, generators, mutants, pool)
+    settled = [body for body in mutants if body.is_settled(known.get(body.function, frozenset()))]
+    others = in_groups(trial, [body for body in mutants if body not in settled], pool)
+    return unnamed + [Verdict(body, ONE_VALUE, "") for body in settled] + looked_at_again(trial, others, pool)
+
+
+def looked_at_again(trial, verdicts, pool):
+    """Tries in another way the mutants that are proved, and those whose rejection says nothing yet. Returns the verdicts."""
+    unclear = [verdict.body for verdict in verdicts if verdict.outcome in (APART, GAVE_UP) and verdict.body.around]
+    calls = {body.function: body.with_body(f"{{ {body.call} }}") for body in unclear}
+    called = {verdict.body.function for verdict in in_groups(trial, [*calls.values()], pool) if verdict.outcome == PROVED}
+    around = {body: body.with_body(body.around) for body in unclear if body.function in called}
+    found = {verdict.body: verdict for verdict in in_groups(trial, [*around.values()], pool)}
+    settled = []
     for verdict in verdicts:
-        if probes.get(verdict.body) in same:
-            verdict = Verdict(verdict.body, SAME, "the field has this value there in the unchanged function")
-        yield verdict
+        other = found.get(around.get(verdict.body))
+        if other and other.outcome in (REJECTED, PROVED):
+            verdict = Verdict(verdict.body, AROUND if other.outcome == REJECTED else PROVED, other.why)
+        settled.append(verdict)
+    probes = {verdict.body: verdict.body.probe(verdict.body in around) for verdict in settled
+              if verdict.outcome == PROVED and verdict.body.field and verdict.body.copied}
+    same = {verdict.body for verdict in in_groups(trial, [*probes.values()], pool) if verdict.outcome == PROVED}
+    return [Verdict(verdict.body, SAME, "the field has this value there in the unchanged function")
+            if probes.get(verdict.body) in same else verdict for verdict in settled]
 
 
 def in_groups(trial, bodies, pool):
-    """Tries mutants in groups, several groups at once, and returns the verdicts."""
+    """Tries mutants in groups, several groups at once, and returns the verdicts. A group changes no function in place twice."""
     for number, body in enumerate(bodies):
         body.suffix = f"_with_mutant_{number}"
-    groups = [bodies[at::-(-len(bodies) // GROUP)] for at in range(-(-len(bodies) // GROUP))]
-    return [verdict for verdicts in pool.map(trial.try_mutants, groups) for verdict in verdicts]
+    return [verdict for verdicts in pool.map(trial.try_mutants, in_slices(bodies)) for verdict in verdicts]
+
+
+def in_slices(bodies):
+    """Splits bodies into groups of about the same size."""
+    in_order = sorted(bodies, key=lambda body: body.function)
+    most = max(Counter(body.function for body in in_order if not body.copied).values(), default=0)
+    number = max(most, -(-len(in_order) // GROUP))
+    return [in_order[at::number] for at in range(number)]
+
+
+# ---- The record of earlier runs ----
+
+
+def digest_of(crate, mutants):
+    """Returns a digest of everything that decides the outcomes of these mutants."""
+    text = "".join(body.text() for body in mutants)
+    return tried_mutants.digest(crate, proved.crates(), ROOT, f"{tried_mutants.kit()}\n{text}", own="")
+
+
+def recorded():
+    """Returns the recorded digest and text of each crate."""
+    text = read(LIST) if os.path.exists(LIST) else ""
+    return {found[1]: (found[2], found[0]) for found in re.finditer(r"(?m)^(\w+): ([0-9a-f]{64})\n(?:    .*\n)*", text)}
+
+
+def record(crate, digest, verdicts):
+    """Writes the outcomes for a crate into the record: their numbers, and the mutants that change nothing."""
+    outcomes = Counter(verdict.outcome for verdict in verdicts)
+    lines = [f"{crate}: {digest}\n    {counted(outcomes)}\n"]
+    lines += [f"    {verdict.body.label.partition('/')[2]}: {verdict.outcome}\n" for verdict in verdicts
+              if verdict.outcome not in (ONE_VALUE, REJECTED, AROUND)]
+    texts = {**{name: text for name, (_, text) in recorded().items()}, crate: "".join(lines)}
+    write(ROOT, LIST, (HEAD + "".join(texts[name] for name in proved.crates() if name in texts)).encode())
+
+
+def counted(outcomes):
+    return ", ".join([f"{sum(outcomes.values())} mutants", *(f"{outcomes[kind]} {kind}" for kind in OUTCOMES if outcomes[kind])])
 
 
 def main(words):
     names, flags = [word for word in words if not word.startswith("--")], {word for word in words if word.startswith("--")}
-    if not any(flags <= each for each in ({"--list"}, {"--unchanged"})):
+    if not any(flags <= each for each in ({"--list"}, {"--unchanged"}, {"--all"})):
         raise SystemExit(__doc__)
     is_list, is_unchanged = "--list" in flags, "--unchanged" in flags
-    wanted, bad = (PROVED, REJECTED) if is_unchanged else (REJECTED, PROVED)
+    good = {PROVED} if is_unchanged else {*GOOD}
     os.chdir(ROOT)
     crates = [crate for crate in proved.crates() if not names or any(name.partition("/")[0] == crate for name in names)]
-    places, total = Places(), Counter()
+    places, total, skipped = Places(), Counter(), 0
     with ThreadPoolExecutor(places.most) as pool:
         for crate in crates:
-            mutants = [body for body in mutants_of(crate, is_unchanged)
-                       if not names or crate in names or f"{crate}/{body.function}" in names]
+            why = proved.supply(proved.crates()[crate].below)
+            if why:
+                raise SystemExit(f"the crates below {crate} are not proved: {why}")
+            generators = generators_of(crate, is_unchanged, names_of(crate))
+            every = [body for generator in generators for body in generator.all()]
+            mutants = [body for body in every if not names or crate in names or f"{crate}/{body.function}" in names]
+            digest = digest_of(crate, every)
             if is_list:
                 print("".join(f"{body.label}\n" for body in mutants), end="")
                 continue
-            outcomes = Counter()
-            for verdict in try_crate(crate, mutants, places, pool, is_unchanged) if mutants else ():
-                outcomes[verdict.outcome] += 1
-                if verdict.outcome != wanted:
-                    print(f"{verdict.body.label}: {verdict.outcome}: {verdict.text.rpartition(f'{verdict.outcome}: ')[2]}", flush=True)
-            print(f"{crate}: {len(mutants)} mutants: " + ", ".join(f"{number} {kind}" for kind, number in outcomes.items()), flush=True)
+            if not mutants or not names and not flags and recorded().get(crate, ("",))[0] == digest:
+                print(f"{crate}: {'not tried, because nothing has changed since the last run' if mutants else 'no mutants'}")
+                skipped += bool(mutants)
+                continue
+            verdicts = try_crate(crate, generators, mutants, places, pool, is_unchanged)
+            for verdict in verdicts:
+                if verdict.outcome not in good:
+                    print(f"{verdict.body.label}: {verdict.outcome}: {verdict.why}", flush=True)
+            outcomes = Counter(verdict.outcome for verdict in verdicts)
+            print(f"{crate}: {counted(outcomes)}", flush=True)
+            if len(mutants) == len(every) and not is_unchanged and {*outcomes} <= good:
+                record(crate, digest, verdicts)
             total += outcomes
-    failed = total[bad] + total[FAILED]
+    passed = sum(total[kind] for kind in good)
+    failed = sum(total.values()) - passed
     if not is_list:
-        print(f"{total[wanted]} passed, {failed} failed")
-    return 1 if failed or not is_list and not total[wanted] else 0
+        print(f"{passed + skipped} passed, {failed} failed")
+    return 1 if failed or not is_list and not passed + skipped else 0
 
 
 if __name__ == "__main__":

@@ -42,12 +42,12 @@ def kit():
     return re.search(r"logic \S+", version)[0]
 
 
-def digest(crate, crates, top, kit_line):
-    """Returns a digest of everything that decides whether the mutants of a crate are rejected."""
+def digest(crate, crates, top, kit_line, own=MUTANTS):
+    """Returns a digest of everything that decides whether the mutants of a crate, in its directory `own`, are rejected."""
     sha256 = hashlib.sha256(kit_line.encode())
     for each in (*crates[crate].below, crate):
         sha256.update(f"\0{each} {crates[each].near} {crates[each].of_kit}".encode())
-        for part in (*PARTS, *([MUTANTS] if each == crate else [])):
+        for part in (*PARTS, *([own] if own and each == crate else [])):
             directory = os.path.join(top, "crates", each, part)
             paths = sorted(os.path.relpath(os.path.join(at, name), directory) for at, _, names in os.walk(directory) for name in names)
             for path in paths:
@@ -114,6 +114,9 @@ def check_digests(checks, room):
     os.rename(os.path.join(room, "crates/low/src/new.rt"), os.path.join(room, "crates/low/src/other.rt"))
     checks.check(not {*all_digests().values()} & {*before.values()}, "a renamed file did not change the digest of each crate")
     checks.check(not {*all_digests("another kit").values()} & {*all_digests().values()}, "another kit did not change each digest")
+    without = digest("low", crates, room, "the kit", own="")
+    put("low/wrong-bodies/one.edit", b"again")
+    checks.same(digest("low", crates, room, "the kit", own=""), without, "the digest without mutants after a change of a mutant")
     record({"low": "1", "high": "2"}, crates, "record", room)
     record({"high": "3"}, crates, "record", room)
     checks.same((recorded("record", room), recorded("none", room)), ({"low": "1", "high": "3"}, {}), "the record")

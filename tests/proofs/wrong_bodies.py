@@ -168,10 +168,10 @@ class Verdict:
     body is rejected as the edit's line `by:` says. `is_unclear` is true if it is worth another try, because a search gave up."""
 
     def __init__(self, body, outcome, why):
-        self.body, self.outcome = body, outcome
+        self.body, self.outcome, self.why = body, outcome, why[:240]
         self.is_well = outcome in (REJECTED, PROVED, f"rejected by {body.by}")
         self.is_unclear = outcome == GAVE_UP and not self.is_well
-        self.text = f"wrong body {body.label}: {outcome}: {why[:240]}"
+        self.text = f"wrong body {body.label}: {outcome}: {self.why}"
 
 
 def bodies_of(crate, is_unchanged):

@@ -10,7 +10,8 @@
 
    Breaking a call:
      BREAK_CALLS     The names of the calls that count, separated by spaces. Without it, all calls count except those that only
-                     inspect, getrandom, `memory` (allocations) and `sodium_init` (libsodium's), which count only if they are named.
+                     inspect, getrandom, chdir, lseek, pthread_create, `memory` (allocations) and `sodium_init` (libsodium's), which
+                     count only if they are named.
                      `write` counts only for regular files that the program has opened itself.
      BREAK_AT=N      Break the call with this number, counted from 1: kill the program before the call, unless one of the next three
                      variables is set.
@@ -32,6 +33,7 @@
 #include "preload.h"
 
 #include <dirent.h>
+#include <pthread.h>
 #include <signal.h>
 #include <sys/file.h>
 #include <sys/random.h>
@@ -88,7 +90,8 @@ static int is_broken(const char *name)
     if (says && REAL(write)(atoi(says), "x", 1) != 1)
         return 0;
     if (!number && !getenv("BREAK_SHORT")) {
-        kill(getpid(), getenv("BREAK_SIGNAL") ? atoi(getenv("BREAK_SIGNAL")) : SIGKILL);
+        /* raise() signals the calling thread, so SIGSTOP stops this thread before the call, whatever other threads do. */
+        raise(getenv("BREAK_SIGNAL") ? atoi(getenv("BREAK_SIGNAL")) : SIGKILL);
         if (getenv("BREAK_GOES_ON"))
             return 0;
         pause();
@@ -423,6 +426,9 @@ BREAKS(int, linkat, (int from_directory, const char *from, int to_directory, con
 BREAKS(ssize_t, getdents64, (int fd, void *bytes, size_t length), (fd, bytes, length))
 BREAKS(ssize_t, readlink, (const char *path, char *bytes, size_t length), (path, bytes, length))
 BREAKS(int, statx, (int fd, const char *path, int flags, unsigned mask, struct statx *found), (fd, path, flags, mask, found))
+BREAKS_IF_NAMED(int, chdir, (const char *path), (path))
+BREAKS_IF_NAMED(off_t, lseek, (int fd, off_t at, int from), (fd, at, from))
+BREAKS_IF_NAMED(int, pthread_create, (pthread_t *thread, const pthread_attr_t *attributes, void *(*run)(void *), void *given), (thread, attributes, run, given))
 BREAKS_IF_NAMED(int, fstat, (int fd, struct stat *found), (fd, found))
 BREAKS_IF_NAMED(int, fstatat, (int directory, const char *path, struct stat *found, int flags), (directory, path, found, flags))
 BREAKS_IF_NAMED(ssize_t, getrandom, (void *bytes, size_t length, unsigned flags), (bytes, length, flags))

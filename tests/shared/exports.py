@@ -1,4 +1,4 @@
-"""Compares `minisign.h` and `minisign_install.h` with the exports of the crate `minisign_c`: each function that a header
+"""Compares `minisign.h`, `minisign_install.h` and `minisign_list.h` with the exports of the crate `minisign_c`: each function that a header
 declares has to be an export with the same name and types, and each export has to be declared. It also writes assertions
 that the structs have the layout of the crates, in a file that is only compiled, as C or as C++.
 
@@ -18,15 +18,16 @@ import sources
 from running import write
 
 # The C type for each number and struct type of Rattle.
-KINDS = {"u32": "uint32_t", "u64": "uint64_t", "usize": "size_t", "State": "minisign_state",
+KINDS = {"u32": "uint32_t", "u64": "uint64_t", "i64": "int64_t", "usize": "size_t", "State": "minisign_state",
          "PublicKeyValue": "minisign_public_key", "SignatureValue": "minisign_signature", "Questions": "minisign_questions",
          "UnopenedKeyValue": "minisign_unopened_key", "SecretKeyValue": "minisign_secret_key", "Sealing": "minisign_sealing",
-         "NewKey": "minisign_new_key", "Installation": "minisign_installation", "InstallOptions": "minisign_install_options"}
+         "NewKey": "minisign_new_key", "Installation": "minisign_installation", "Choices": "minisign_install_options",
+         "ListValue": "minisign_list", "EntryValue": "minisign_list_entry", "FileValue": "minisign_list_file"}
 # The opaque structs, whose fields are private to the library.
-CLOSED = ("minisign_state", "minisign_installation")
+CLOSED = ("minisign_state", "minisign_installation", "minisign_list_file")
 NUMBERS = {"u8": ctypes.c_uint8, "u32": ctypes.c_uint32, "u64": ctypes.c_uint64}
 
-EXPORT = re.compile(r'^pub extern "C" fn (minisign_\w+)\((.*?)\)(?: -> (\w+))?\s*$', re.M | re.S)
+EXPORT = re.compile(r'^pub extern "C" fn (minisign_\w+)\((.*?)\)(?: -> (\w+))?(?: \{)?\s*$', re.M | re.S)
 FIELD = re.compile(r"^    (?:pub(?:\(crate\))? )?(\w+): ([^;,]+(?:; \w+\])?),$", re.M)
 HEAD = """\
 #include <assert.h>
@@ -34,6 +35,7 @@ HEAD = """\
 #include <stddef.h>
 
 #include "minisign_install.h"
+#include "minisign_list.h"
 
 /* (some processors of 32 bits, as i386, align numbers of 64 bits to less) */
 #define IS_ALIGNED(type, alignment) (alignof(type) == (alignment) || (sizeof(void *) < 8 && alignof(type) < (alignment)))
@@ -52,7 +54,10 @@ def kinds_in_c(kind):
     const, slice_of = "" if is_mut else "const ", re.fullmatch(r"\[u(8|32)(; \d+)?\]", to)
     if lent and slice_of:
         return [f"{const}uint{slice_of[1]}_t *", *([] if slice_of[2] else ["size_t"])]
-    known = KINDS.get(to, f"{to}, which this script does not know")
+    structs_of = re.fullmatch(r"\[(\w+)\]", to)
+    known = KINDS.get(structs_of[1] if structs_of else to, f"{to}, which this script does not know")
+    if lent and structs_of:
+        return [f"{const}{known} *", "size_t"]
     return [f"{const}{known} *" if lent else known]
 
 
@@ -61,17 +66,18 @@ def parameters_of(parameters):
     return [parameter for parameter in re.split(r",\s*(?![^\[]*\])", parameters.strip().rstrip(",")) if parameter]
 
 
-def exported(crate):
-    """Returns the C types of the parameters and of the result of each export of the crate, by name."""
+def exported():
+    """Returns the C types of the parameters and of the result of each export of `minisign_c`, by name."""
+    texts = map(sources.read, ("crates/minisign_c/src/lib.rt", "crates/minisign_c/src/installing.rt"))
     return {name: ([kind for parameter in parameters_of(parameters) for kind in kinds_in_c(parameter.partition(":")[2].strip())],
                    kinds_in_c(result)[0] if result else "void")
-            for name, parameters, result in EXPORT.findall(crate)}
+            for text in texts for name, parameters, result in EXPORT.findall(text)}
 
 
 def unfit_declarations():
     """Returns a line for each function whose declaration and export differ, or of which one is missing."""
-    exports = exported(sources.read("crates/minisign_c/src/lib.rt"))
-    headers = c_header.both()
+    exports = exported()
+    headers = c_header.every()
     declared = {call.name: ([boundary.plain_parameter(parameter) for parameter in headers.taken(call)], boundary.plain(call.answer))
                 for call in boundary.proved_calls(headers)}
     return [f"{name}: the header declares {declared.get(name)}, and minisign_c exports {exports.get(name)}"
@@ -92,7 +98,7 @@ def laid_out(kind, structs, lengths):
 
 def write_layout(room):
     """Writes a C file with assertions about the layout of each struct of the headers into a directory, and returns its path."""
-    structs, lengths, lines, headers = {}, {}, [HEAD], c_header.both()
+    structs, lengths, lines, headers = {}, {}, [HEAD], c_header.every()
     for file in sources.files_below(os.path.join(sources.ROOT, "crates"), ".rt"):
         text = sources.read(file)
         lengths.update(re.findall(r"const (\w+): usize = (\d+);", text))

@@ -3,6 +3,9 @@ package main
 
 import (
 	"bytes"
+	"crypto/sha256"
+	"errors"
+	"fmt"
 	"os"
 	"strings"
 	"testing"
@@ -31,6 +34,33 @@ func TestExamples(t *testing.T) {
 		t.Fatal(keyErr, signatureErr, err, seen.String())
 	}
 	if err = verifyStream(key, signature, strings.NewReader("version 4"), &seen); err != minisign.ErrSignatureRefused {
+		t.Fatal(err)
+	}
+	signList(t, "version 3")
+	if err = verifyFiles(key, "."); err != nil {
+		t.Fatal(err)
+	}
+	signList(t, "version 4")
+	if err = verifyFiles(key, "."); !errors.Is(err, minisign.ErrDigestMismatch) {
+		t.Fatal(err)
+	}
+}
+
+// signList writes a signed list with the digest of this content for app-3.
+func signList(t *testing.T, content string) {
+	key, err := minisign.NewSecretKeyFromFile("new.key", []byte("pass word"), minisign.Work{})
+	if err != nil {
+		t.Fatal(err)
+	}
+	list := []byte(fmt.Sprintf("%x  app-3\n", sha256.Sum256([]byte(content))))
+	signature, err := key.SignBytes(list, "file:SHA256SUMS", "by a test")
+	if err == nil {
+		err = os.WriteFile("SHA256SUMS", list, 0o644)
+	}
+	if err == nil {
+		err = os.WriteFile("SHA256SUMS.minisig", []byte(signature.Encode()), 0o644)
+	}
+	if err != nil {
 		t.Fatal(err)
 	}
 }

@@ -1,7 +1,7 @@
 // A test program that uses the package in a browser, in a page and in a worker. index.html runs it in both, with the cases of asked.json.
 
 import {
-  clearSecretKey, generateSecretKey, MinisignError, readSecretKey, sign, verify, writePublicKey, writeSecretKey,
+  clearSecretKey, generateSecretKey, MinisignError, readSecretKey, sign, verify, verifyList, writePublicKey, writeSecretKey,
 } from "./minisign-proved/index.js";
 
 const bytesOf = digits => Uint8Array.from(digits.match(/../g) ?? [], pair => parseInt(pair, 16));
@@ -84,11 +84,29 @@ async function commentOfFile() {
   return trustedComment.replace(/\d+/, "TIME");
 }
 
-async function answersOf({cases, pieces, vectors, sealed}) {
+// Verifies the file of a list with both hashes. Returns all results if they differ.
+async function answerOfList([key, text, signature, listName, long, name, data]) {
+  const results = new Set();
+  for (const [verified, way] of [["verifyListed", new Blob([data])], ["verifyListed", data], ["verifyListedTrustingWebCrypto", new Blob([data])]]) {
+    try {
+      const longDigest = new TextDecoder().decode(long);
+      const list = await verifyList(text, signature, key, listName.length === 0 ? null : listName, {longDigest});
+      results.add(`accepted ${hexOf(list.trustedComment)} ${(await list[verified](way, name)).line}`);
+    } catch (why) {
+      results.add(why instanceof MinisignError ? `rejected ${why.code} ${why.line}` : String(why));
+    }
+  }
+  return [...results].join(" and ");
+}
+
+async function answersOf({cases, pieces, vectors, lists, sealed}) {
   const answers = {
     legacy: [], strict: [], pieces: [], vectors: [], cancelled: await isCancelled(), aborted: await isAborted(), comment: await commentOfFile(),
-    signs: await signs(sealed), pair: await pair(),
+    signs: await signs(sealed), pair: await pair(), lists: [],
   };
+  for (const parts of lists) {
+    answers.lists.push(await answerOfList(parts.map(bytesOf)));
+  }
   for (const [key, data, signature] of cases.map(parts => parts.map(bytesOf))) {
     answers.legacy.push(await answerOf(data, signature, key, {allowLegacy: true}));
     answers.strict.push(await answerOf(data, signature, key));

@@ -2,10 +2,10 @@
 
 import {
   clearSecretKey, createSigner, createVerifier, ERRORS, generateSecretKey, MinisignError, parseTrustedComment, readPublicKey, readSecretKey, readSignature, sign, verify,
-  writePublicKey, writeSecretKey,
+  verifyList, writePublicKey, writeSecretKey,
 } from "minisign-proved";
-import type { CommentFields, Data, ErrorCode, SecretKey, Verified } from "minisign-proved";
-import { saveVerified, writeNew } from "minisign-proved/node";
+import type { CommentFields, Data, ErrorCode, ListEntry, SecretKey, SignedList, Verified } from "minisign-proved";
+import { saveVerified, verifyListedFile, verifyListFile, writeNew } from "minisign-proved/node";
 
 async function* pieces(): AsyncGenerator<Uint8Array> {
   yield new Uint8Array(1);
@@ -38,6 +38,22 @@ export async function all(text: string): Promise<Verified> {
   // @ts-expect-error: an unknown option
   await saveVerified(forms[0], words, signature, key, { umask: 0 });
   return verifier.end();
+}
+
+export async function listed(text: string): Promise<ListEntry> {
+  const list: SignedList = await verifyList(text, text, text, null, { longDigest: "blake2b" });
+  const entry: ListEntry = list.find(list.entries()[0].name);
+  const words: string = `${list.trustedComment} ${list.fields.version} ${list.keyId} ${entry.hash} ${entry.isEscaped}`;
+  await list.verifyListed([entry.digest], words, { progress: (bytes: number) => bytes + entry.line });
+  await list.verifyListedTrustingWebCrypto(entry.digest, new Uint8Array(1));
+  const other: SignedList = await verifyListFile("SHA256SUMS", text, { longDigest: "none" });
+  // @ts-expect-error: a stream cannot be hashed by WebCrypto
+  await other.verifyListedTrustingWebCrypto(pieces(), words);
+  // @ts-expect-error: not a meaning of 128 digits
+  await verifyList(text, text, text, "SHA256SUMS", { longDigest: "sha256" });
+  // @ts-expect-error: the name of the list must be given
+  await verifyList(text, text, text);
+  return verifyListedFile("app", list, { name: "app" });
 }
 
 export async function signed(data: Data): Promise<string> {

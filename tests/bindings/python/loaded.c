@@ -31,7 +31,7 @@ int main(int argc, char **argv)
 {
     void *library = argc == 2 ? LOAD(argv[1]) : NULL;
     uint32_t (*version)(void);
-    void (*init)(minisign_state *), *begin_installing;
+    void (*init)(minisign_state *), *install_file;
     enum minisign_error (*update)(minisign_state *, const uint8_t *, size_t), (*finish)(minisign_state *, uint8_t *);
     uint8_t data[1000], digest[64];
     minisign_state state;
@@ -44,7 +44,7 @@ int main(int argc, char **argv)
     find(library, "minisign_init", &init);
     find(library, "minisign_update", &update);
     find(library, "minisign_digest", &finish);
-    find(library, "begin_installing", &begin_installing);
+    find(library, "minisign_install_file", &install_file);
     memset(data, 7, sizeof data);
     init(&state);
     if (update(&state, data, sizeof data) != MINISIGN_OK || finish(&state, digest) != MINISIGN_OK) {
@@ -54,6 +54,6 @@ int main(int argc, char **argv)
     for (size_t i = 0; i < sizeof digest; i++) {
         printf("%02x", digest[i]);
     }
-    puts(begin_installing == NULL ? " without installer" : " with installer");
+    puts(install_file == NULL ? " without installer" : " with installer");
     return 0;
 }

@@ -305,6 +305,17 @@ fn types() {
     pair("Ok(())", verifier.finalize());
     pair("Some(InvalidEncoding(RECORD_TOO_SHORT))", minisign_verify::BareSignature::from_record(&[0; 73]).err());
     pair("Some(UnsupportedAlgorithm)", minisign_verify::BareSignature::from_record(&[0; 74]).err());
+    let secret = key.to_record().unwrap()[62..126].try_into().unwrap();
+    let legacy = [b"Ed", &key.key_id()[..], &Sodium.sign(b"some data", &secret).unwrap()].concat();
+    let legacy = minisign_verify::BareSignature::from_record(&legacy).unwrap();
+    pair(true, legacy.is_legacy() && !bare.is_legacy());
+    pair("Ok(())", public.verify_bare_with(&Sodium, b"some data", &legacy, true));
+    pair("Err(InvalidSignature(SIGNATURE_REFUSED))", public.verify_bare_with(&Sodium, b"Some data", &legacy, true));
+    pair("Err(UnexpectedAlgorithm)", public.verify_bare_with(&Sodium, b"some data", &legacy, false));
+    pair("Some(UnsupportedLegacyMode)", public.verify_bare_stream_with(&Sodium, &legacy).err());
+    let mut password = String::from("pass word").into_bytes();
+    minisign_verify::clear(&mut password);
+    pair("[0, 0, 0, 0, 0, 0, 0, 0, 0]", password);
     // Records and comments.
     pair(true, PublicKey::from_record(&public.to_record()).unwrap() == public && PublicKey::from_base64(&public.to_base64()).unwrap() == public);
     pair("Some(InvalidEncoding(RECORD_TOO_SHORT))", PublicKey::from_record(&[0; 41]).err());
@@ -327,7 +338,10 @@ fn types() {
     pair("Some(Rejected(EMPTY_PASSWORD))", key.encode(&Sodium, Some(""), &limits).err());
     let empty = key.encode(&Sodium, Some(""), &limits.allow_empty_password(true)).unwrap();
     pair(true, SecretKey::decode(&empty, Some(""), &Work::USUAL).unwrap().key_id() == public.key_id());
-    pair("[Verify, Io, Kdf, Misuse, None]", [Reason::SIGNATURE_REFUSED, Reason::MISSING_SIGNATURE, Reason::WORK_TOO_HIGH, Reason::BAD_COMMENT, Reason::OK].map(Reason::kind));
+    let reasons = [Reason::SIGNATURE_REFUSED, Reason::MISSING_SIGNATURE, Reason::WORK_TOO_HIGH, Reason::BAD_COMMENT, Reason::OK];
+    pair("[Verify, Io, Kdf, Misuse, None]", reasons.map(Reason::kind));
+    let reasons = [Reason::NOT_UTF8, Reason::SECRET_KEY_NOT_BASE64, Reason::RANDOM_SOURCE_FAILED, Reason::OUT_OF_MEMORY, Reason::from_code(99)];
+    pair("[Io, Encoding, Rng, OutOfMemory, None]", reasons.map(Reason::kind));
     let _: Kind = Reason::OK.kind();
 }
 

@@ -1,0 +1,279 @@
+/*
+ * The common part of minisign_checksums.c, minisign_install_checksums.c and minisign_list_checksums.c, one program for each
+ * header. A program makes random calls of all functions of its header, and prints a checksum of every byte that they
+ * return. Two libraries behave the same if the output is the same, also on processors with another byte order or size of
+ * pointers.
+ *
+ *     PROGRAM SEED CALLS
+ *
+ * The first lines are the checksum after each thousand of the calls. The others say how often each function returned each
+ * result: `FUNCTION RESULT COUNT`. Functions that return no error number have the result 0.
+ *
+ * The order in which a compiler evaluates arguments and operands must not matter. So random numbers are stored in variables
+ * first: no argument contains a call that generates one, and no expression has two such calls as operands.
+ */
+#ifndef CALL_CHECKSUMS_H
+#define CALL_CHECKSUMS_H
+
+#include <stdlib.h>
+
+#include "texts_for_tests.h"
+
+/* The number of objects of each kind, and the size of a buffer. */
+enum { COPIES = 4, SIZE = 4096 };
+enum { MAX_FUNCTIONS = 64, MAX_RESULTS = 256, STEP = 1000 };
+
+/* ---- Random numbers ---- */
+
+static uint64_t seed;
+
+static uint64_t random_number(void)
+{
+    uint64_t mixed = seed += UINT64_C(0x9e3779b97f4a7c15);
+
+    mixed = (mixed ^ mixed >> 30) * UINT64_C(0xbf58476d1ce4e5b9);
+    mixed = (mixed ^ mixed >> 27) * UINT64_C(0x94d049bb133111eb);
+    return mixed ^ mixed >> 31;
+}
+
+static uint32_t random_below(uint32_t limit)
+{
+    return (uint32_t) ((random_number() >> 20) % limit);
+}
+
+/* Returns true once in `times` calls on average. */
+static int one_in(uint32_t times)
+{
+    return random_below(times) == 0;
+}
+
+static int any_copy(void)
+{
+    return (int) random_below(COPIES);
+}
+
+static void fill(uint8_t *bytes, size_t len)
+{
+    for (size_t i = 0; i < len; i++) {
+        bytes[i] = (uint8_t) random_number();
+    }
+}
+
+/* Returns a number at which something changes, one beside it, or any number. */
+static uint64_t edge_number(void)
+{
+    static const uint64_t edges[] = { 0, 1, 5, 16, 256, 32768, 65536, 524288, 1048576, 16777216, 33554432, UINT64_C(1) << 30,
+                                      UINT64_C(1) << 31, UINT64_C(1) << 32, UINT64_C(1) << 40, UINT64_C(1) << 63 };
+    uint64_t edge = edges[random_below(LENGTH(edges))], beside = edge + random_below(3) - 1;
+    uint64_t any = random_number();
+
+    return one_in(4) ? any >> random_below(64) : beside;
+}
+
+/* Returns a result of Ed25519, mostly yes, and sometimes a number that is none. */
+static enum minisign_answer any_answer(void)
+{
+    uint32_t number = one_in(2) ? random_below(9) : (uint32_t) edge_number();
+
+    return !one_in(5) ? MINISIGN_ANSWER_YES : !one_in(3) ? MINISIGN_ANSWER_NO : (enum minisign_answer) number;
+}
+
+/* ---- Results ---- */
+
+static uint64_t checksum = UINT64_C(14695981039346656037);
+
+/* As FNV-1a does, but for eight bytes at a time. Every step can be undone, so one difference is never lost. */
+static void add_number(uint64_t number)
+{
+    checksum = (checksum ^ number) * UINT64_C(1099511628211);
+    checksum ^= checksum >> 32;
+}
+
+static void add_bytes(const void *bytes, size_t len)
+{
+    const uint8_t *at = bytes;
+
+    for (; len >= 8; len -= 8, at += 8) {
+        add_number((uint64_t) at[0] | (uint64_t) at[1] << 8 | (uint64_t) at[2] << 16 | (uint64_t) at[3] << 24
+                   | (uint64_t) at[4] << 32 | (uint64_t) at[5] << 40 | (uint64_t) at[6] << 48 | (uint64_t) at[7] << 56);
+    }
+    for (; len > 0; len--) {
+        add_number(*at++);
+    }
+}
+
+static inline void add_questions(const minisign_questions *questions)
+{
+    add_bytes(questions->public_key, sizeof questions->public_key);
+    add_bytes(questions->digest, sizeof questions->digest);
+    add_bytes(questions->signature, sizeof questions->signature);
+    add_bytes(questions->comment_signature, sizeof questions->comment_signature);
+    add_number(questions->message_len);
+    add_number(questions->comment_offset);
+    add_number(questions->comment_len);
+    add_number(questions->legacy);
+    add_number(questions->reserved);
+}
+
+/* The result of the last call of a function. */
+static uint32_t last_result;
+
+/* The functions that were called, and how often each returned each result. */
+static struct function {
+    const char *name;
+    unsigned counts[MAX_RESULTS];
+} functions[MAX_FUNCTIONS];
+
+/* Adds the result of a function to the checksum, and returns it. */
+static uint32_t add_result(const char *name, uint32_t result)
+{
+    struct function *function = functions;
+
+    while (function->name != NULL && strcmp(function->name, name) != 0) {
+        if (++function == functions + MAX_FUNCTIONS) {
+            puts("MAX_FUNCTIONS is too small");
+            exit(2);
+        }
+    }
+    function->name = name;
+    function->counts[result < MAX_RESULTS ? result : MAX_RESULTS - 1]++;
+    add_number(result);
+    return last_result = result;
+}
+
+/* Calls a function that returns an error number, or another small number. */
+#define CALL(function, ...) add_result(#function, (uint32_t) function(__VA_ARGS__))
+/* Records the call of a function that returns nothing, or a result that is added to the checksum separately. */
+#define CALLED(function) add_result(#function, 0)
+
+/* ---- Texts ---- */
+
+struct text {
+    uint8_t bytes[SIZE];
+    size_t len;
+};
+
+static void set_text(struct text *text, const void *bytes, size_t len)
+{
+    if (len <= SIZE) {
+        memcpy(text->bytes, bytes, len);
+        text->len = len;
+    }
+}
+
+/* Replaces the last characters of the last line by padding of base64. */
+static void pad_last_line(struct text *text)
+{
+    size_t end = text->len - (text->bytes[text->len - 1] == '\n');
+
+    for (size_t i = 0, count = 1 + random_below(4); i < count && i < end; i++) {
+        text->bytes[end - 1 - i] = i < 2 ? '=' : 'A';
+    }
+}
+
+/* Returns one of the texts, mostly as it is, and sometimes with CR LF or with a damaged, missing or additional byte. */
+static struct text any_text(const struct text texts[COPIES])
+{
+    struct text text = texts[random_below(COPIES)];
+    size_t at = random_below((uint32_t) text.len + 1), end = 0;
+
+    if (one_in(8)) {
+        struct text copy = text;
+
+        for (size_t i = 0; i < copy.len && end + 2 < SIZE; i++) {
+            if (copy.bytes[i] == '\n') {
+                text.bytes[end++] = '\r';
+            }
+            text.bytes[end++] = copy.bytes[i];
+        }
+        text.len = end;
+    }
+    if (!one_in(3) || at >= text.len || text.len + 1 >= SIZE) {
+        return text;
+    }
+    switch (random_below(7)) {
+    case 0: text.bytes[at] ^= (uint8_t) (1 << random_below(8)); break;
+    case 1: text.bytes[at] = (uint8_t) random_number(); break;
+    case 2: text.len = at; break;
+    case 3: memmove(text.bytes + at, text.bytes + at + 1, --text.len - at); break;
+    case 4:
+        memmove(text.bytes + at + 1, text.bytes + at, text.len++ - at);
+        text.bytes[at] = one_in(3) ? '\n' : (uint8_t) random_number();
+        break;
+    case 5: text.bytes[text.len++] = (uint8_t) random_number(); break;
+    default: pad_last_line(&text); break;
+    }
+    return text;
+}
+
+/* Returns the pointer that is passed for a text, which may be NULL if the length is 0. */
+static const uint8_t *bytes_or_null(const struct text *text)
+{
+    return text->len == 0 ? NULL : text->bytes;
+}
+
+/* Returns a comment, which is mostly one that a signature file may have. */
+static struct text any_comment(void)
+{
+    static const char *const parts[] = { "timestamp:", "version:", "file:", "expires:", "size:", "\t", "\t", "12", "7", "0", "5",
+                                         "18446744073709551615", "18446744073709551616", "app", "hashed", "abc", " ", "Expires:",
+                                         "\xc3\xa9", "\xf0\x9f\x94\x92", "\xe2\x80\x83", "x" };
+    static const char *const rare[] = { "\n", "\r", "\0", "\xff", "\xed\xa0\x80", "\xc0\x80" };
+    struct text comment = { .len = 0 };
+    int count = (int) random_below(9);
+
+    if (one_in(4)) {
+        set_text(&comment, "version:7\tfile:app", 18);
+    }
+    while (count-- > 0) {
+        const char *part = parts[random_below(LENGTH(parts))];
+
+        memcpy(comment.bytes + comment.len, part, strlen(part));
+        comment.len += strlen(part);
+    }
+    if (one_in(30)) {
+        const char *part = rare[random_below(LENGTH(rare))];
+        size_t len = *part == 0 ? 1 : strlen(part);
+
+        memcpy(comment.bytes + comment.len, part, len);
+        comment.len += len;
+    }
+    if (one_in(60)) {
+        size_t more = 900 + random_below(200);
+
+        memset(comment.bytes + comment.len, 'y', more);
+        comment.len += more;
+    }
+    return comment;
+}
+
+/* ---- Running ---- */
+
+/* Makes the calls by `make_calls`, and prints the output. */
+static int run(int argc, char **argv, void (*begin)(void), void (*make_calls)(void))
+{
+    unsigned long calls = argc == 3 ? strtoul(argv[2], NULL, 10) : 0;
+
+    if (calls == 0) {
+        puts("usage: PROGRAM SEED CALLS");
+        return 2;
+    }
+    seed = strtoul(argv[1], NULL, 10);
+    begin();
+    for (unsigned long i = 1; i <= calls; i++) {
+        make_calls();
+        if (i % STEP == 0) {
+            printf("%08lx%08lx\n", (unsigned long) (checksum >> 32), (unsigned long) (checksum & 0xffffffff));
+        }
+    }
+    for (struct function *function = functions; function < functions + MAX_FUNCTIONS && function->name != NULL; function++) {
+        for (int result = 0; result < MAX_RESULTS; result++) {
+            if (function->counts[result] != 0) {
+                printf("%s %d %u\n", function->name, result, function->counts[result]);
+            }
+        }
+    }
+    return 0;
+}
+
+#endif

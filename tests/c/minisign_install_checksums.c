@@ -1,0 +1,352 @@
+/* Makes random calls of all functions of minisign_install.h, and prints a checksum of every byte that they return: see
+ * call_checksums.h. Most runs are lawful: the call that is due comes next, and what it says is mostly good. */
+#include "call_checksums.h"
+
+#include "minisign_install.h"
+
+static minisign_installation installations[COPIES];
+/* The first and the third have the same key ID. The second is the published one. The last one was not read. */
+static minisign_public_key keys[COPIES];
+/* The signature file of each installation, and records. */
+static struct text signature_files[COPIES], records[COPIES];
+static uint8_t data[300], output[SIZE];
+
+static size_t any_room(size_t most)
+{
+    memset(output, 0x5a, sizeof output);
+    return one_in(9) ? random_below(200) : most;
+}
+
+/* Returns a room for a message: mostly enough, and sometimes exactly as much as is needed, or about that. */
+static size_t any_message_room(void)
+{
+    size_t near_needed = 64 + random_below(60);
+
+    memset(output, 0x5a, sizeof output);
+    return one_in(20) ? 0 : one_in(9) ? near_needed : sizeof output;
+}
+
+static uint32_t any_flag(uint32_t times)
+{
+    uint32_t rare = (uint32_t) edge_number();
+
+    return one_in(60) ? rare : (uint32_t) one_in(times);
+}
+
+static struct text any_name(void)
+{
+    static const char *const rare[] = { "", "abc", "ap", "\xff" };
+    struct text name = { .len = 0 };
+    const char *other = rare[random_below(LENGTH(rare))], *chosen = one_in(20) ? other : "app";
+
+    set_text(&name, chosen, strlen(chosen));
+    return name;
+}
+
+static uint64_t any_time(void)
+{
+    uint64_t rare = edge_number();
+
+    return one_in(8) ? rare : 5;
+}
+
+/* Returns a time of a clock, which may be before 1970. */
+static int64_t any_clock(void)
+{
+    uint64_t time = any_time();
+
+    return time <= INT64_MAX ? (int64_t) time : -1 - (int64_t) (UINT64_MAX - time);
+}
+
+static void add_installation(const minisign_installation *installation)
+{
+    uint64_t size = 0x5a5a;
+
+    add_bytes(installation, sizeof *installation);
+    CALL(minisign_install_due, installation);
+    CALL(minisign_install_error, installation);
+    CALL(minisign_install_is_signed, installation);
+    CALL(minisign_install_size, installation, &size);
+    add_number(size);
+    add_number(minisign_install_version(installation));
+    CALLED(minisign_install_version);
+}
+
+/* ---- Calls ---- */
+
+/* Returns a trusted comment that is good, or rejected for one reason, or any comment. */
+static struct text any_update(void)
+{
+    static const char *const good[] = { "version:7\ttimestamp:7\tfile:app", "version:8\tfile:app\tsize:12\ttimestamp:8",
+                                        "file:app\tversion:7\ttimestamp:6\texpires:7", "file:app\tversion:9\ttimestamp:9\thashed",
+                                        "timestamp:18446744073709551615\tversion:1234567890123\tfile:app" };
+    static const char *const bad[] = { "version:7\ttimestamp:7\tfile:app\tExpires:7", "version:7\ttimestamp:7\tfile:app\texpires: 7",
+                                       "version:7\ttimestamp:7\tfile:app\texpires:7\texpires:7", "version:7\ttimestamp:7\tfile:app\texpires:4",
+                                       "version:7\ttimestamp:7\tfile:app\tsize:", "version:7\ttimestamp:7\tfile:app\tsize:12\tsize:12",
+                                       "version:7\ttimestamp:7\tfile:app\tsize:18446744073709551616", "version:x\ttimestamp:-1\tfile:app",
+                                       "file:app", "version:7\ttimestamp:7\tfile:ap", "version:7\ttimestamp:7" };
+    struct text comment = any_comment();
+    const char *usual = good[random_below(LENGTH(good))], *rare = bad[random_below(LENGTH(bad))];
+
+    if (!one_in(12)) {
+        const char *chosen = one_in(6) ? rare : usual;
+
+        set_text(&comment, chosen, strlen(chosen));
+    }
+    return comment;
+}
+
+static void make_file(const minisign_public_key *key, struct text *file)
+{
+    static const char *const others[] = { LEGACY_SIGNATURE, OTHER_SIGNATURE };
+    struct text comment = any_update();
+    const char *other = others[random_below(LENGTH(others))];
+    minisign_signed_parts parts = { .trusted_comment = comment.bytes, .trusted_comment_len = comment.len };
+    size_t len = 0;
+
+    fill(parts.signature, sizeof parts.signature);
+    fill(parts.comment_signature, sizeof parts.comment_signature);
+    if (one_in(30)) {
+        set_text(file, other, strlen(other));
+    } else if (minisign_signed_text(key, &parts, output, sizeof output, &len) == MINISIGN_OK) {
+        set_text(file, output, len);
+    }
+}
+
+/* Half of the pairs of keys are one key twice, or the two with the same key ID. The signature is mostly of the first key. */
+static void call_init(void)
+{
+    int i = any_copy(), first = (int) random_below(3), second = one_in(2) ? 2 - first : any_copy();
+    const minisign_public_key *key = one_in(40) ? &keys[COPIES - 1] : &keys[first], *signer = one_in(8) ? &keys[any_copy()] : &keys[first];
+    minisign_install_options options;
+
+    make_file(signer, &signature_files[i]);
+    options.numbering = !one_in(60) ? !one_in(5) : any_flag(2);
+    options.is_first = any_flag(4);
+    options.again = any_flag(4);
+    options.is_check = any_flag(6);
+    options.must_expire = any_flag(8);
+    options.new_key = any_flag(8);
+    options.roll_back = any_flag(8);
+    CALL(minisign_install_init, &installations[i], key, &keys[second], &options);
+}
+
+/* Keeps the new record, with which another run may begin. */
+static void call_record_text(const minisign_installation *installation)
+{
+    size_t room = any_room(MINISIGN_RECORD_TEXT_BYTES), len = minisign_install_record_text(installation, output, room);
+
+    CALLED(minisign_install_record_text);
+    add_number(len);
+    add_bytes(output, sizeof output);
+    if (len > 0) {
+        set_text(&records[any_copy()], output, len);
+    }
+}
+
+static void call_signature(minisign_installation *installation)
+{
+    struct text file = one_in(12) ? any_text(signature_files) : signature_files[installation - installations], name = any_name();
+    int64_t now = any_clock();
+    size_t room = any_message_room(), len = 0x5a;
+
+    CALL(minisign_install_signature, installation, bytes_or_null(&file), file.len, bytes_or_null(&name), name.len, now,
+         room == 0 ? NULL : output, room, &len);
+    add_number(len);
+    add_bytes(output, sizeof output);
+}
+
+static void call_question(const minisign_installation *installation)
+{
+    memset(output, 0x5a, 160);
+    CALL(minisign_install_question, installation, output, output + 32, output + 96);
+    add_bytes(output, 160);
+}
+
+static void call_answer(minisign_installation *installation)
+{
+    enum minisign_answer answer = any_answer();
+
+    CALL(minisign_install_answer, installation, answer);
+}
+
+/* Replaces a record by another one. Otherwise more and more records would have late versions. */
+static void renew_record(void)
+{
+    static const char *const texts[] = { "version:7", "7\n", "timestamp:6\n", "version:6", "version:18446744073709551616", "timestamp:7\n", "version:1",
+                                         "timestamp:18446744073709551615", "0", "version:3\n", "" };
+    const char *text = texts[random_below(LENGTH(texts))];
+
+    set_text(&records[any_copy()], text, strlen(text));
+}
+
+static void call_record(minisign_installation *installation)
+{
+    struct text record = one_in(6) ? any_text(records) : records[any_copy()];
+
+    if (one_in(8)) {
+        CALL(minisign_install_no_record, installation);
+    } else {
+        CALL(minisign_install_record, installation, bytes_or_null(&record), record.len);
+    }
+    if (one_in(4)) {
+        renew_record();
+    }
+}
+
+static void call_piece(minisign_installation *installation)
+{
+    size_t len = one_in(2) ? 0 : random_below(sizeof data), at = random_below((uint32_t) (sizeof data - len));
+
+    CALL(minisign_install_piece, installation, len == 0 ? NULL : data + at, len);
+}
+
+static void call_copied(minisign_installation *installation)
+{
+    static const size_t lens[] = { 0, 5, 7, 12, 12, 100, 0xffffffff };
+    size_t len = lens[random_below(LENGTH(lens))];
+
+    CALL(minisign_install_copied, installation, len);
+}
+
+static void call_failed(minisign_installation *installation)
+{
+    static const enum minisign_error usual[] = { MINISIGN_OUT_OF_MEMORY, MINISIGN_READING_FAILED, MINISIGN_WRITING_FAILED,
+                                                 MINISIGN_RANDOM_SOURCE_FAILED, MINISIGN_TARGET_IN_USE };
+    uint32_t rare = random_below(100);
+    enum minisign_error often = usual[random_below(LENGTH(usual))], why = one_in(4) ? (enum minisign_error) rare : often;
+
+    CALL(minisign_install_failed, installation, why);
+}
+
+static void call_judge_comment(void)
+{
+    struct text comment = any_update(), name = any_name();
+    uint32_t numbering = any_flag(2);
+    uint64_t now = any_time(), kept = one_in(2) ? 0 : edge_number(), number = 0x5a;
+
+    CALL(minisign_judge_comment, bytes_or_null(&comment), comment.len, bytes_or_null(&name), name.len, numbering, now, kept, &number);
+    add_number(number);
+}
+
+static void call_done(minisign_installation *installation)
+{
+    CALL(minisign_install_done, installation);
+}
+
+static void call_no_target(minisign_installation *installation)
+{
+    CALL(minisign_install_no_target, installation);
+}
+
+/* Makes a call that is mostly not due. */
+static void call_anything(minisign_installation *installation)
+{
+    switch (random_below(10)) {
+    case 0: call_record_text(installation); break;
+    case 1: call_signature(installation); break;
+    case 2: call_question(installation); break;
+    case 3: call_answer(installation); break;
+    case 4: call_record(installation); break;
+    case 5: call_piece(installation); break;
+    case 6: call_copied(installation); break;
+    case 7: call_no_target(installation); break;
+    case 8: call_done(installation); break;
+    default: call_failed(installation); break;
+    }
+}
+
+/* Copies the data: mostly as many bytes as the size that one of the comments has, and in several pieces. */
+static void call_copy(minisign_installation *installation)
+{
+    size_t first = random_below(13);
+
+    if (one_in(5)) {
+        call_copied(installation);
+    } else {
+        CALL(minisign_install_copied, installation, first);
+        CALL(minisign_install_copied, installation, 12 - first);
+    }
+    if (!one_in(4)) {
+        call_done(installation);
+    }
+}
+
+/* Makes a call that reports the operation that is due. */
+static void call_due(minisign_installation *installation)
+{
+    if (one_in(30)) {
+        call_failed(installation);
+        return;
+    }
+    switch (minisign_install_due(installation)) {
+    case MINISIGN_DUE_READ_RECORD: call_record(installation); break;
+    case MINISIGN_DUE_READ_SIGNATURE: call_signature(installation); break;
+    case MINISIGN_DUE_CHECK_COMMENT:
+    case MINISIGN_DUE_CHECK_RECORD:
+    case MINISIGN_DUE_CHECK_TARGET:
+    case MINISIGN_DUE_CHECK_DATA:
+        call_question(installation);
+        call_answer(installation);
+        break;
+    case MINISIGN_DUE_READ_TARGET:
+        if (one_in(6)) {
+            call_no_target(installation);
+        } else {
+            call_piece(installation);
+        }
+        break;
+    case MINISIGN_DUE_READ_BACK: call_piece(installation); break;
+    case MINISIGN_DUE_COPY_DATA: call_copy(installation); break;
+    case MINISIGN_DUE_WRITE_RECORD:
+        call_record_text(installation);
+        call_done(installation);
+        break;
+    default: call_done(installation); break;
+    }
+}
+
+static void make_calls(void)
+{
+    minisign_installation *installation = &installations[any_copy()];
+    uint32_t due = minisign_install_due(installation);
+
+    if (one_in(200)) {
+        minisign_clear(installation, sizeof *installation);
+    } else if (one_in(15)) {
+        call_judge_comment();
+    } else if (one_in(25)) {
+        call_anything(installation);
+    } else if (one_in(100) || ((due == MINISIGN_DUE_NOTHING || due >= MINISIGN_DUE_INSTALLED) && !one_in(6))) {
+        call_init();
+    } else {
+        call_due(installation);
+    }
+    add_installation(installation);
+}
+
+/* ---- Running ---- */
+
+static void begin(void)
+{
+    fill(data, sizeof data);
+    for (int i = 0; i < COPIES - 1; i++) {
+        minisign_new_key new_key;
+        minisign_secret_key secret;
+
+        fill(new_key.secret, sizeof new_key.secret);
+        memset(new_key.key_id, i % 2, sizeof new_key.key_id);
+        minisign_take_secret_key(&new_key, &secret);
+        CHECK(minisign_public_key_of(&secret, &keys[i]) == MINISIGN_OK);
+    }
+    keys[1] = key_of(KEY);
+    for (int i = 0; i < COPIES; i++) {
+        set_text(&signature_files[i], SIGNATURE, strlen(SIGNATURE));
+        set_text(&records[i], "7\n", 2);
+    }
+}
+
+int main(int argc, char **argv)
+{
+    return run(argc, argv, begin, make_calls);
+}

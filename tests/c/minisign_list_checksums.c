@@ -1,0 +1,428 @@
+/* Makes random calls of all functions of minisign_list.h, and prints a checksum of every byte that they return: see
+ * call_checksums.h. Most lists are well-formed, and most are verified before they are used. */
+#include "call_checksums.h"
+
+#include "minisign_list.h"
+
+/* The digests in lists: SHA-256, SHA-512 and BLAKE2b of no data, of `abc`, and of the letter a 200 times. */
+static const char *const digests[][3] = {
+    { "e3b0c44298fc1c149afbf4c8996fb92427ae41e4649b934ca495991b7852b855",
+      "cf83e1357eefb8bdf1542850d66d8007d620e4050b5715dc83f4a921d36ce9ce47d0d13c5d85f2b0ff8318d2877eec2f63b931bd47417a81a538327af927da3e",
+      "786a02f742015903c6c6fd852552d272912f4740e15847618a86e217f71f5419d25e1031afee585313896444934eb04b903a685b1448b755d56f701afe9be2ce" },
+    { "ba7816bf8f01cfea414140de5dae2223b00361a396177a9cb410ff61f20015ad",
+      "ddaf35a193617abacc417349ae20413112e6fa4e89a97ea20a9eeee64b55d39a2192992a274fc1a836ba3c23a3feebbd454d4423643ce80e2a9ac94fa54ca49f",
+      HEX_OF_ABC },
+    { "c2a908d98f5df987ade41b5fce213067efbcc21ef2240212a41e54b5e7c28ae5",
+      "4b11459c33f52a22ee8236782714c150a3b2c60994e9acee17fe68947a3e6789f31e7668394592da7bef827cddca88c4e6f86e4df7ed1ae6cba71f3e98faee9f",
+      "932355851d75f09c18646a9da87c25e055bc57f113121ad1ec63d45e7a1d62ab9133f8b7d1d7de9e0afa784eb6a8a11d78683013d0a672611f17668d9577d209" },
+};
+/* The data with these digests. NULL is the letter a 200 times. */
+static const char *const contents[] = { "", "abc", NULL };
+static const char *const hash_names[] = { "SHA256", "SHA512", "BLAKE2b" };
+
+enum { ENTRIES = MINISIGN_LIST_ENTRIES(SIZE) };
+
+/* ---- What the calls work on ---- */
+
+/* The first is the published one. The last one was not read. */
+static minisign_public_key keys[COPIES];
+static minisign_signature signatures[COPIES];
+static struct text signature_files[COPIES];
+static minisign_list lists[COPIES];
+/* The text that each list was asked about, and texts that are written line by line. */
+static struct text list_texts[COPIES], written_texts[COPIES];
+static minisign_questions questions;
+static minisign_list_entry found[COPIES], entries[ENTRIES];
+static minisign_list_file files[COPIES];
+static uint8_t many_letters[200], data[5000], output[SIZE];
+
+/* ---- Adding structs to the checksum ---- */
+
+static void add_list(const minisign_list *list)
+{
+    add_number(list->mark);
+    add_bytes(list->text_digest, sizeof list->text_digest);
+    add_bytes(list->key_id, sizeof list->key_id);
+    add_number(list->whole);
+    add_number(list->is_named);
+}
+
+static void add_entry(const minisign_list_entry *entry)
+{
+    add_number(entry->mark);
+    add_number(entry->line);
+    add_number(entry->name_offset);
+    add_number(entry->name_len);
+    add_bytes(entry->digest, sizeof entry->digest);
+    add_number(entry->hash);
+    add_number(entry->is_escaped);
+}
+
+static void add_file(const minisign_list_file *file)
+{
+    add_bytes(file, sizeof *file);
+}
+
+/* ---- Random arguments ---- */
+
+static void append(struct text *text, const void *bytes, size_t len)
+{
+    if (text->len + len <= SIZE) {
+        memcpy(text->bytes + text->len, bytes, len);
+        text->len += len;
+    }
+}
+
+static void append_string(struct text *text, const char *string)
+{
+    append(text, string, strlen(string));
+}
+
+/* Returns one of few names, mostly one that a list may contain. */
+static const char *any_name(void)
+{
+    static const char *const good[] = { "a", "b", "./a", "d/e", "x) = y", " c", "*c", "\xc3\xa9", "a b", "..a", "f" };
+    static const char *const bad[] = { "", "/a", "d/../a", "././a", "a\\b", "d//e", "d/", ".", "\xff", "a\tb", "\xc0\x80", "a\nb", "\xc2\x85" };
+    const char *usual = good[random_below(LENGTH(good))], *rare = bad[random_below(LENGTH(bad))];
+
+    return one_in(12) ? rare : usual;
+}
+
+static const char *any_list_name(void)
+{
+    static const char *const names[] = { "SHA256SUMS", "SHA256SUM", "", "\xff" };
+    const char *rare = names[random_below(LENGTH(names))];
+
+    return one_in(6) ? rare : names[0];
+}
+
+static enum minisign_hash any_hash(uint32_t first)
+{
+    uint32_t rare = one_in(2) ? random_below(6) : (uint32_t) edge_number(), usual = first + random_below(4 - first);
+
+    return one_in(20) ? (enum minisign_hash) rare : (enum minisign_hash) usual;
+}
+
+/* Appends the digits of a digest, sometimes partly in upper case. */
+static void append_digits(struct text *text, int hash)
+{
+    const char *digits = digests[random_below(LENGTH(digests))][hash];
+    int is_upper = one_in(6);
+
+    for (; *digits != 0; digits++) {
+        char upper = *digits >= 'a' ? (char) (*digits - 32) : *digits;
+
+        append(text, is_upper && one_in(2) ? &upper : digits, 1);
+    }
+}
+
+/* Appends a line, rarely a malformed one. */
+static void append_line(struct text *list, int is_good)
+{
+    static const char *const without[] = { "", "# a comment", "#", "# \xc3\xa9" };
+    static const char *const bad[] = { "x", " ", "MD5 (a) = 00", "SHA256 (a) = 00", "SHA256 (a) =", "\t", "SHA384 (a) = ", "# a\tb", "\\", "\xff" };
+    int hash = (int) random_below(3), form = (int) random_below(8);
+    const char *name = any_name(), *comment = without[random_below(LENGTH(without))], *rare = bad[random_below(LENGTH(bad))];
+
+    if (is_good && (*name == '/' || strpbrk(name, "\\\t\n\xff\xc0\xc2") != NULL || strstr(name, "//") != NULL || *name == 0)) {
+        name = "g";
+    }
+    if (form == 0) {
+        append_string(list, comment);
+    } else if (!is_good && one_in(12)) {
+        append_string(list, rare);
+    } else if (form < 4) {
+        append_string(list, hash_names[hash]);
+        append_string(list, " (");
+        append_string(list, name);
+        append_string(list, ") = ");
+        append_digits(list, hash);
+    } else {
+        int is_escaped = one_in(10);
+
+        append_string(list, is_escaped ? "\\" : "");
+        append_digits(list, hash);
+        append_string(list, form < 6 ? "  " : " *");
+        append_string(list, is_escaped ? "q\\nr" : name);
+    }
+    append_string(list, one_in(6) ? "\r\n" : "\n");
+}
+
+/* Returns a list: a written one, one of random lines, or a damaged one. */
+static struct text any_list(void)
+{
+    struct text list = { .len = 0 };
+    int lines = (int) random_below(9), is_good = !one_in(4);
+
+    if (one_in(3)) {
+        list = any_text(written_texts);
+    } else {
+        while (lines-- > 0) {
+            append_line(&list, is_good);
+        }
+        if (one_in(5) && list.len > 0) {
+            list.len--;
+        }
+    }
+    return list;
+}
+
+/* ---- Verifying a list ---- */
+
+static void call_read_signature(void)
+{
+    static const char *const published[] = { LEGACY_SIGNATURE, OTHER_SIGNATURE, SIGNATURE };
+    static const char *const comments[] = { "timestamp:1\tfile:SHA256SUMS\thashed", "file:SHA256SUMS", "file:SHA256SUM\tfile:SHA256SUMS", "file:" };
+    int i = any_copy();
+    const minisign_public_key *key = &keys[random_below(COPIES - 1)];
+    const char *other = published[random_below(LENGTH(published))];
+    struct text comment = any_comment();
+    minisign_signed_parts parts = { .trusted_comment = comment.bytes };
+    size_t len = 0;
+
+    if (!one_in(5)) {
+        const char *rare = comments[random_below(LENGTH(comments))], *text = one_in(3) ? rare : comments[0];
+
+        set_text(&comment, text, strlen(text));
+    }
+    parts.trusted_comment_len = comment.len;
+    fill(parts.signature, sizeof parts.signature);
+    fill(parts.comment_signature, sizeof parts.comment_signature);
+    if (!one_in(16)) {
+        parts.signature[63] &= 0x0f;
+        parts.comment_signature[63] &= 0x0f;
+    }
+    if (one_in(10)) {
+        set_text(&signature_files[i], other, strlen(other));
+    } else if (minisign_signed_text(key, &parts, output, sizeof output, &len) == MINISIGN_OK) {
+        set_text(&signature_files[i], output, len);
+        if (one_in(12)) {
+            /* The last line is shorter: some bytes of the signature of the comment are missing. */
+            signature_files[i].len -= 9;
+        }
+    }
+    if (minisign_read_signature(signature_files[i].bytes, signature_files[i].len, &signatures[i]) != MINISIGN_OK || one_in(20)) {
+        memset(&signatures[i], 0, sizeof signatures[i]);
+    }
+}
+
+static void call_ask(void)
+{
+    int i = any_copy(), at = any_copy(), is_any = one_in(3);
+    const minisign_public_key *other = &keys[any_copy()], *key = other;
+    struct text file = one_in(12) ? any_text(signature_files) : signature_files[at], list = any_list();
+    const char *name = any_list_name();
+    size_t near_needed = 64 + random_below(60), room = one_in(12) ? near_needed : one_in(20) ? 0 : sizeof output;
+    uint8_t *message = room == 0 ? NULL : output;
+
+    for (int n = 0, is_same = !one_in(10); is_same && n < COPIES; n++) {
+        key = memcmp(keys[n].key_id, signatures[at].key_id, sizeof keys[n].key_id) == 0 ? &keys[n] : key;
+    }
+    memset(output, 0x5a, sizeof output);
+    if (is_any) {
+        CALL(minisign_list_ask_any, &lists[i], key, &signatures[at], bytes_or_null(&file), file.len, bytes_or_null(&list), list.len,
+             &questions, message, room);
+    } else {
+        CALL(minisign_list_ask, &lists[i], key, &signatures[at], bytes_or_null(&file), file.len, *name == 0 ? NULL : bytes_of(name),
+             strlen(name), bytes_or_null(&list), list.len, &questions, message, room);
+    }
+    if (last_result == MINISIGN_OK) {
+        list_texts[i] = list;
+    }
+    add_list(&lists[i]);
+    add_questions(&questions);
+    add_bytes(output, sizeof output);
+    if (last_result == MINISIGN_OK && !one_in(5)) {
+        CALL(minisign_list_verdict, &lists[i], MINISIGN_ANSWER_YES, MINISIGN_ANSWER_YES);
+        add_list(&lists[i]);
+    }
+}
+
+static void call_verdict(void)
+{
+    minisign_list *list = &lists[any_copy()];
+    enum minisign_answer first = any_answer(), second = any_answer();
+
+    CALL(minisign_list_verdict, list, first, second);
+    add_list(list);
+}
+
+/* Clears, copies or damages an object. */
+static void call_nothing(void)
+{
+    int i = any_copy(), other = any_copy();
+
+    switch (random_below(8)) {
+    case 0: memset(&lists[i], 0, sizeof lists[i]); break;
+    case 1: lists[i].mark ^= UINT64_C(1) << random_below(64); break;
+    case 2: found[i].mark ^= UINT64_C(1) << random_below(64); break;
+    case 3: memset(&files[i], 0, sizeof files[i]); break;
+    case 4: written_texts[i].len = 0; break;
+    case 5: files[i] = files[other]; break;
+    case 6: list_texts[i] = list_texts[other]; break;
+    default: found[i] = found[other]; break;
+    }
+}
+
+/* ---- Entries ---- */
+
+static void call_find(void)
+{
+    int i = any_copy();
+    const struct text text = one_in(16) ? any_text(list_texts) : list_texts[i];
+    enum minisign_hash hash = any_hash(1) == MINISIGN_HASH_SHA256 && !one_in(12) ? MINISIGN_HASH_NONE : any_hash(2);
+    const char *name = any_name();
+    minisign_list_entry *entry = &found[any_copy()];
+    uint64_t line = 0x5a;
+
+    CALL(minisign_list_find, &lists[i], bytes_or_null(&text), text.len, hash, *name == 0 ? NULL : bytes_of(name), strlen(name), entry, &line);
+    add_number(line);
+    add_entry(entry);
+}
+
+static void call_entries(void)
+{
+    int i = any_copy();
+    const struct text text = one_in(16) ? any_text(list_texts) : list_texts[i];
+    enum minisign_hash hash = any_hash(1) == MINISIGN_HASH_SHA256 && !one_in(12) ? MINISIGN_HASH_NONE : any_hash(2);
+    size_t few = random_below(6), room = one_in(6) ? few : ENTRIES, count = 0x5a;
+    uint64_t line = 0x5a;
+
+    memset(entries, 0x5a, sizeof entries);
+    CALL(minisign_list_entries, &lists[i], bytes_or_null(&text), text.len, hash, room == 0 ? NULL : entries, room, &count, &line);
+    add_number(count);
+    add_number(line);
+    for (size_t n = 0; n < ENTRIES; n++) {
+        add_entry(&entries[n]);
+    }
+    if (last_result == MINISIGN_OK && count > 0) {
+        found[i] = entries[random_below((uint32_t) count)];
+    }
+}
+
+/* ---- Checking a file ---- */
+
+static void call_begin(void)
+{
+    const minisign_list_entry *entry = &found[any_copy()];
+    minisign_list_file *file = &files[any_copy()];
+
+    CALL(minisign_list_begin, entry, file);
+    add_file(file);
+}
+
+static void call_update(void)
+{
+    minisign_list_file *file = &files[any_copy()];
+    size_t len = one_in(20) ? random_below(sizeof data) : one_in(9) ? 0 : random_below(300), at = random_below((uint32_t) (sizeof data - len));
+
+    CALL(minisign_list_update, file, len == 0 ? NULL : data + at, len);
+    add_file(file);
+}
+
+static void call_finish(void)
+{
+    minisign_list_file *file = &files[any_copy()];
+
+    CALL(minisign_list_finish, file);
+    add_file(file);
+}
+
+/* Checks data that some entries are of, in two pieces. */
+static void call_whole_file(void)
+{
+    const minisign_list_entry *entry = &found[any_copy()];
+    minisign_list_file *file = &files[any_copy()];
+    const char *content = contents[random_below(LENGTH(contents))];
+    const uint8_t *bytes = content == NULL ? many_letters : bytes_of(content);
+    size_t len = content == NULL ? sizeof many_letters : strlen(content), first = random_below((uint32_t) len + 1);
+
+    CALL(minisign_list_begin, entry, file);
+    CALL(minisign_list_update, file, bytes, first);
+    add_file(file);
+    CALL(minisign_list_update, file, bytes + first, len - first);
+    add_file(file);
+    CALL(minisign_list_finish, file);
+    add_file(file);
+}
+
+static void call_compare(void)
+{
+    const minisign_list_entry *entry = &found[any_copy()];
+    uint8_t digest[64];
+    enum minisign_hash other = any_hash(0), hash = one_in(8) ? other : (enum minisign_hash) entry->hash;
+    size_t len = hash == MINISIGN_HASH_SHA256 ? 32 : 64, other_len = random_below(sizeof digest + 1), at = random_below(sizeof digest);
+
+    memcpy(digest, entry->digest, sizeof digest);
+    if (one_in(3)) {
+        digest[at] ^= (uint8_t) (1 << random_below(8));
+    }
+    if (one_in(8)) {
+        len = other_len;
+    }
+    CALL(minisign_list_compare_trusting_your_hash, entry, hash, len == 0 ? NULL : digest, len);
+}
+
+/* ---- Writing a list ---- */
+
+static void call_append(void)
+{
+    struct text *list = &written_texts[any_copy()];
+    struct text text = one_in(16) ? any_list() : one_in(16) ? any_text(written_texts) : *list;
+    enum minisign_hash hash = any_hash(1);
+    uint8_t digest[64];
+    const char *name = any_name();
+    size_t usual = hash == MINISIGN_HASH_SHA256 ? 32 : 64, other = random_below(sizeof digest + 1), digest_len = one_in(16) ? other : usual;
+    size_t near_needed = text.len + 60 + random_below(120), room = one_in(12) ? near_needed : one_in(20) ? random_below(200) : SIZE;
+    size_t len = text.len;
+
+    fill(digest, sizeof digest);
+    room = room < SIZE ? room : SIZE;
+    memset(output, 0x5a, sizeof output);
+    memcpy(output, text.bytes, text.len);
+    CALL(minisign_list_append, hash, digest_len == 0 ? NULL : digest, digest_len, *name == 0 ? NULL : bytes_of(name), strlen(name),
+         room == 0 ? NULL : output, room, &len);
+    add_number(len);
+    add_bytes(output, sizeof output);
+    if (last_result == MINISIGN_OK) {
+        set_text(list, output, len);
+    } else if (last_result == MINISIGN_LISTED_TWICE && one_in(3)) {
+        list->len = 0;
+    }
+}
+
+/* ---- Running ---- */
+
+static void make_calls(void)
+{
+    static void (*const all[])(void) = {
+        call_nothing, call_read_signature, call_ask, call_ask, call_verdict, call_find, call_find, call_find, call_entries,
+        call_begin, call_begin, call_update, call_update, call_finish, call_whole_file, call_whole_file, call_compare, call_append, call_append,
+    };
+
+    all[random_below(LENGTH(all))]();
+}
+
+static void begin(void)
+{
+    fill(data, sizeof data);
+    memset(many_letters, 'a', sizeof many_letters);
+    for (int i = 0; i < COPIES - 1; i++) {
+        minisign_new_key new_key;
+        minisign_secret_key secret;
+
+        fill(new_key.secret, sizeof new_key.secret);
+        memset(new_key.key_id, i, sizeof new_key.key_id);
+        minisign_take_secret_key(&new_key, &secret);
+        CHECK(minisign_public_key_of(&secret, &keys[i]) == MINISIGN_OK);
+    }
+    keys[0] = key_of(KEY);
+    for (int i = 0; i < 3 * COPIES; i++) {
+        call_read_signature();
+    }
+}
+
+int main(int argc, char **argv)
+{
+    return run(argc, argv, begin, make_calls);
+}

@@ -1,0 +1,349 @@
+"""The cases of `minisign-check` in which system calls and allocations fail, others own or change files, the output
+cannot be written, or the program is at a terminal."""
+
+import concurrent.futures
+import errno
+import os
+import resource
+import signal
+import subprocess
+import time
+
+from at_terminal import AtTerminal
+from check_running import (A, B, C, DIFFERS, DOWNLOAD, LIST, MISMATCH, MISSING, NAME, NOT_REGULAR, OK, PIPE, PUBLIC, UNUSABLE, comment_of,
+                           entries, entry, errors, shown_comment)
+from running import AS_NOBODY, NOBODY, SECONDS, Link, expect, only_root, read, write
+
+KEY, FILES = ("-p", PUBLIC), {"a": A, "b": B}
+BOTH = entries(a=A, b=B)
+ALL, COPY = [*KEY, LIST], [*KEY, "-o", LIST, "a"]
+COMMENT = shown_comment(comment_of())
+# The length of data that is read in many pieces, of which the last one is not full.
+LARGE = 5_000_001
+DENIED = "Permission denied"
+CHANGED = b"error: a: the file changed between verification and output\nhint: do not use the output\n"
+
+
+# ---- Failures ----
+
+
+def fails_in_turn(checking, arguments, calls, number, output, minimum):
+    """Each of these calls fails in turn. The run then prints an error, and never a result that is not true: it exits with status 0
+    only if its output is complete."""
+    complete = set()
+
+    def prepare(directory):
+        checking.put(directory, {LIST: BOTH, PUBLIC: checking.public_text, **FILES})
+        checking.sign(directory)
+        return arguments
+
+    def judge(ran, _):
+        if ran.status == OK:
+            expect(ran.output == output, ran, f"expected {output}")
+            complete.add(ran.reached)
+        else:
+            expect(ran.reached and ran.status in (UNUSABLE, MISSING) and b"error: " in ran.said, ran)
+            expect(all(line in output or line.endswith(b": FAILED\n") for line in ran.output.splitlines(True)), ran)
+
+    made = checking.break_each(prepare, judge, CALLS=calls, ERRNO=number)
+    expect(made >= minimum and False in complete, f"the program made {made} calls, expected at least {minimum}")
+
+
+def reads_in_small_pieces(checking):
+    """A read that returns few bytes, or is interrupted, changes nothing."""
+    for how in ({"SHORT": 1, "REST": 1}, {"ERRNO": errno.EINTR}):
+        for arguments, output in ((ALL, b"a: OK\nb: OK\n"), (COPY, A)):
+            directory = checking.signed(BOTH, FILES)
+            ran = checking.run_broken(directory, arguments, {"AT": 1, "CALLS": "read", **how})
+            expect(ran.reached and (ran.status, ran.output) == (OK, output), how, ran)
+
+
+def reports_failing_read(checking):
+    """If a file cannot be read, it is not compared, and the other files are."""
+    directory = checking.signed(BOTH, FILES)
+    calls = []
+    for number in range(1, 20):
+        ran = checking.run_broken(directory, ALL, {"AT": number, "CALLS": "read", "ERRNO": errno.EIO})
+        calls.append(ran)
+        if not ran.reached:
+            break
+    said = COMMENT + errors(("a", "Input/output error"))
+    expect(any((ran.status, ran.output, ran.said) == (UNUSABLE, b"a: FAILED\nb: OK\n", said) for ran in calls), *calls)
+
+
+def works_without_threads(checking):
+    directory = checking.signed(BOTH, FILES)
+    ran = checking.run_broken(directory, ALL, {"AT": 1, "REST": 1, "CALLS": "pthread_create", "ERRNO": errno.EAGAIN})
+    expect(ran.reached and (ran.status, ran.output) == (OK, b"a: OK\nb: OK\n"), ran)
+    ran = checking.run_broken(directory, ALL, {"AT": 2, "REST": 1, "CALLS": "pthread_create", "ERRNO": errno.EAGAIN})
+    expect(ran.reached and (ran.status, ran.output) == (OK, b"a: OK\nb: OK\n"), ran)
+
+
+def reports_failing_directory(checking):
+    """A directory that cannot be read to its end is an error of --nothing-else."""
+    directory = checking.signed(BOTH, FILES)
+    ran = checking.run_broken(directory, [*ALL, "--nothing-else"], {"AT": 3, "CALLS": "readdir", "ERRNO": errno.EIO})
+    expect(ran.reached and ran.status == UNUSABLE and ran.said.endswith(errors((".", "Input/output error"))), ran)
+
+
+def reports_failing_libsodium(checking):
+    directory = checking.signed(BOTH, FILES)
+    ran = checking.run_broken(directory, ALL, {"AT": 1, "CALLS": "sodium_init", "ERRNO": errno.EIO})
+    expect((ran.status, ran.output, ran.said) == (UNUSABLE, b"", b"error: libsodium could not be initialized\n"), ran)
+
+
+def reports_memory_limit(checking):
+    """A list that does not fit into memory is an error of that list."""
+    directory, bound = checking.signed(BOTH, FILES), (200 << 20,) * 2
+    with open(f"{directory}/large", "wb") as file:
+        file.truncate(1 << 30)
+    ran = checking.run(directory, [*KEY, "-x", f"{LIST}.minisig", "large"], preexec_fn=lambda: resource.setrlimit(resource.RLIMIT_AS, bound))
+    expect((ran.status, ran.output, ran.said) == (UNUSABLE, b"", errors(("large", "out of memory"))), ran)
+
+
+# ---- Output ----
+
+
+def reports_full_output(checking, arguments):
+    """A result that cannot be written is an error."""
+    directory = checking.signed(BOTH, FILES)
+    with open("/dev/full", "wb") as full:
+        ran = checking.run(directory, arguments, stdout=full)
+    expect(ran.status == UNUSABLE and ran.said.endswith(errors(("standard output", "No space left on device"))), ran)
+
+
+def keeps_status_of_full_output(checking):
+    """An output that cannot be written does not hide that content differs."""
+    directory = checking.signed(BOTH, {"a": B, "b": B})
+    with open("/dev/full", "wb") as full:
+        expect(checking.run(directory, ALL, stdout=full).status == DIFFERS, "expected the status of other content")
+
+
+def works_with_closed_streams(checking):
+    """A closed standard output is not replaced by a file that the program opens."""
+    directory = checking.signed(BOTH, FILES)
+    for closed in (0, 1, 2):
+        ran = checking.run(directory, ALL, preexec_fn=lambda closed=closed: os.close(closed))
+        status, output = (UNUSABLE, b"") if closed == 1 else (OK, b"a: OK\nb: OK\n")
+        expect((ran.status, ran.output) == (status, output), f"without stream {closed}", ran)
+
+
+# ---- Other users ----
+
+
+def by_nobody(checking, directory, arguments):
+    """Runs the program as an ordinary user in a directory."""
+    return checking.run(directory, arguments, **AS_NOBODY)
+
+
+def reports_unreadable_files(checking):
+    """A file that the user may not read is an error of that file, and not a missing one."""
+    only_root("make files of other users")
+    directory = checking.signed(entries(a=A, b=B) + entry("d/c", C), {**FILES, "d/c": C})
+    os.chmod(f"{directory}/a", 0o600)
+    os.chmod(f"{directory}/d", 0o700)
+    ran = by_nobody(checking, directory, ALL)
+    expect((ran.status, ran.output) == (UNUSABLE, b"a: FAILED\nb: OK\nd/c: FAILED\n"), ran)
+    expect(ran.said == COMMENT + errors(("a", DENIED), ("d/c", DENIED)), ran)
+    ran = by_nobody(checking, directory, [*KEY, "--listed", LIST])
+    expect((ran.status, ran.output) == (UNUSABLE, b"a: FAILED\nb: OK\nd/c: FAILED\n"), ran)
+
+
+def reports_unreadable_directory(checking):
+    """A directory that the user may not search through is an error of --nothing-else, or of --in."""
+    only_root("make directories of other users")
+    directory = checking.signed(BOTH, {"d/a": A, "d/b": B})
+    os.chmod(f"{directory}/d", 0o711)
+    ran = by_nobody(checking, directory, ["--in", "d", *ALL])
+    expect((ran.status, ran.output, ran.said) == (OK, b"a: OK\nb: OK\n", COMMENT), ran)
+    ran = by_nobody(checking, directory, ["--in", "d", "--nothing-else", *ALL])
+    expect((ran.status, ran.output) == (UNUSABLE, b"a: OK\nb: OK\n") and ran.said == COMMENT + errors((".", DENIED)), ran)
+    os.chmod(f"{directory}/d", 0o700)
+    ran = by_nobody(checking, directory, ["--in", "d", *ALL])
+    expect((ran.status, ran.output, ran.said) == (UNUSABLE, b"", COMMENT + errors(("d", DENIED))), ran)
+
+
+def opens_no_pipe_of_others(checking):
+    """In a directory that others can write to, a user puts a named pipe in place of a file. Nobody writes to it. The program does not
+    wait, and does not open it."""
+    only_root("make files of other users")
+    directory = checking.signed(BOTH, {"b": B, "a": PIPE})
+    os.chmod(directory, 0o1777)
+    os.chown(f"{directory}/a", NOBODY, NOBODY)
+    os.chmod(f"{directory}/a", 0o666)
+    reader = os.open(f"{directory}/a", os.O_RDONLY | os.O_NONBLOCK)
+    ran = checking.run(directory, ALL, seconds=10)
+    os.close(reader)
+    expect((ran.status, ran.output, ran.said) == (UNUSABLE, b"a: FAILED\nb: OK\n", COMMENT + errors(("a", NOT_REGULAR))), ran)
+
+
+def follows_links_of_others(checking):
+    """A link of another user is followed to a file with the right content, as sha256sum follows it. The content decides."""
+    only_root("make links of other users")
+    directory = checking.signed(BOTH, {"b": B, "other/a": A, "a": Link("other/a")})
+    os.lchown(f"{directory}/a", NOBODY, NOBODY)
+    checking.expect(directory, ALL, OK, b"a: OK\nb: OK\n", b"")
+    write(directory, "other/a", B)
+    checking.expect(directory, ALL, DIFFERS, b"a: FAILED\nb: OK\n", errors(("a", MISMATCH), DOWNLOAD))
+
+
+def notices_pipe_between_calls(checking):
+    """Another user replaces a file by a named pipe that nobody writes to, after the program has inspected the file. The program neither
+    waits for the pipe nor reads from it."""
+    directory = checking.signed(entries(a=A), {"a": A})
+
+    def swap():
+        os.remove(f"{directory}/a")
+        os.mkfifo(f"{directory}/a")
+
+    for number in range(1, 20):
+        ran = checking.run_stopped(directory, ALL, swap, AT=number, CALLS="open openat")
+        expect(ran.status in (OK, UNUSABLE), f"at call {number}", ran)
+        os.remove(f"{directory}/a")
+        write(directory, "a", A)
+        if not ran.reached:
+            return
+    expect(False, "the program made 20 calls or more")
+
+
+# ---- Files that change ----
+
+
+def block(number):
+    return bytes([number % 251]) * 1000
+
+
+def copies_what_was_verified(checking, at, written, length=LARGE):
+    """After the file was verified, `written` is written at an offset, or the file is cut there. -o prints the beginning of the verified
+    data, and the run fails."""
+    data = b"".join(map(block, range(length // 1000 + 1)))[:length]
+    directory = checking.signed(entries(a=data), {"a": data})
+
+    def change():
+        with open(f"{directory}/a", "r+b") as file:
+            file.seek(at)
+            file.write(written)
+            if not written:
+                file.truncate()
+
+    output = write(checking.room, "copied", b"")
+    with open(output, "wb") as file:
+        stopping = checking.breaking(SIGNAL=int(signal.SIGSTOP), GOES_ON=1, AT=1, CALLS="lseek")
+        process = subprocess.Popen([checking.program, *COPY], cwd=directory, env=stopping, stdin=subprocess.DEVNULL, stdout=file,
+                                   stderr=subprocess.PIPE)
+        came = os.waitid(os.P_PID, process.pid, os.WSTOPPED | os.WEXITED | os.WNOWAIT).si_code == os.CLD_STOPPED
+        expect(came, "the program did not stop between the two reads")
+        change()
+        process.send_signal(signal.SIGCONT)
+        said = process.communicate(timeout=SECONDS)[1]
+    copied = read(output)
+    expect(process.returncode == DIFFERS and said == COMMENT + b"a: OK\n" + CHANGED, process.returncode, said)
+    expect(data.startswith(copied) and len(copied) < len(data), f"it copied {len(copied)} bytes, of which some were not verified")
+
+
+def copies_large_files(checking, length):
+    data = b"".join(map(block, range(length // 1000 + 1)))[:length]
+    directory = checking.signed(entries(a=data), {"a": data})
+    checking.expect(directory, COPY, OK, data, b"a: OK\n")
+
+
+def writes_nothing_before_verdict(checking):
+    """A long file whose last byte is wrong: -o prints nothing of it."""
+    data = bytes(LARGE)
+    directory = checking.signed(entries(a=data), {"a": data[:-1] + b"x"})
+    checking.expect(directory, COPY, DIFFERS, b"", b"a: FAILED\n" + errors(("a", MISMATCH), DOWNLOAD))
+
+
+# ---- Memory and terminals ----
+
+
+def takes_little_memory(checking):
+    """The memory does not depend on the size of a file."""
+    directory = checking.signed(BOTH, FILES)
+    with open(f"{directory}/a", "wb") as file:
+        file.truncate(1 << 26)
+    ran = checking.run(directory, ALL, preexec_fn=lambda: resource.setrlimit(resource.RLIMIT_DATA, (48 << 20,) * 2))
+    expect((ran.status, ran.output) == (DIFFERS, b"a: FAILED\nb: OK\n"), ran)
+
+
+def shows_progress(checking):
+    """At a terminal the run shows how much was checked, and erases this. The file is slow, because the program is stopped meanwhile."""
+    directory = checking.signed(entries(a=A), {})
+    with open(f"{directory}/a", "wb") as file:
+        file.truncate(3 << 30)
+    terminal = AtTerminal([NAME, *ALL], checking.program, directory, {})
+    found = terminal.expect(rb"\rchecked [0-9]+ of 3072 MiB")
+    with open(f"{directory}/a", "wb") as file:
+        file.truncate(0)
+    status = terminal.finish()
+    expect(found and status == DIFFERS and terminal.shown.count(b"\r\x1b[K") >= 1, f"it exited with status {status} and showed {terminal.shown!r}")
+    expect(terminal.shown.split(b"\x1b[K")[-1].startswith(b"a: FAILED\r\n"), f"it showed {terminal.shown!r}")
+
+
+def shows_no_control_sequence(checking):
+    """Names are escaped at a terminal too, and a short run shows no progress."""
+    directory = checking.signed(entry("a\u202e", A), {"a\u202e": A})
+    terminal = AtTerminal([NAME, *ALL], checking.program, directory, {})
+    status = terminal.finish()
+    expect(status == OK and b"\x1b" not in terminal.shown and b"a\\u{202e}: OK\r\n" in terminal.shown, f"it showed {terminal.shown!r}")
+
+
+def shows_results_as_they_come(checking):
+    """The result of a file is printed when it and all files before it have been checked, not at the end."""
+    directory = checking.signed(entries(a=A, b=B), {"a": A})
+    with open(f"{directory}/b", "wb") as file:
+        file.truncate(3 << 30)
+    terminal = AtTerminal([NAME, *ALL], checking.program, directory, {})
+    begun = time.monotonic()
+    found = terminal.expect(rb"a: OK\r\n")
+    came = time.monotonic() - begun
+    with open(f"{directory}/b", "wb") as file:
+        file.truncate(0)
+    status = terminal.finish()
+    expect(found and status == DIFFERS and came < 60, f"it exited with status {status}, after {came} s, and showed {terminal.shown!r}")
+    expect(b"checked" not in terminal.shown.split(b"a: OK")[0], f"it showed {terminal.shown!r}")
+
+
+def runs_at_once(checking):
+    """Several runs on the same files do not disturb each other."""
+    directory = checking.signed(BOTH, FILES)
+    with concurrent.futures.ThreadPoolExecutor(8) as pool:
+        for ran in pool.map(lambda _: checking.run(directory, ALL), range(16)):
+            expect((ran.status, ran.output) == (OK, b"a: OK\nb: OK\n"), ran)
+
+
+def disturbed_cases(checking):
+    """Yields the names of the cases, with their functions and arguments."""
+    done = b"a: OK\nb: OK\n"
+    for arguments, output, mode in ((ALL, done, "all files"), ([*ALL, "b", "a"], done, "given files"), (COPY, A, "-o")):
+        for calls, number, minimum in (("open openat", errno.EMFILE, 4), ("read", errno.EIO, 5), ("fstat", errno.EIO, 4),
+                                       ("memory", errno.ENOMEM, 8)):
+            yield f"fails in turn: {calls}, {mode}", fails_in_turn, checking, arguments, calls, number, output, minimum
+    yield "fails in turn: lseek, -o", fails_in_turn, checking, COPY, "lseek", errno.EIO, A, 1
+    yield "fails in turn: chdir, --in", fails_in_turn, checking, ["--in", ".", *ALL], "chdir", errno.EIO, done, 1
+    yield "accepts short and interrupted reads", reads_in_small_pieces, checking
+    yield "reports a file that cannot be read, and checks the others", reports_failing_read, checking
+    yield "works if threads cannot be created", works_without_threads, checking
+    yield "reports a directory that cannot be read to its end", reports_failing_directory, checking
+    yield "reports that libsodium cannot be initialized", reports_failing_libsodium, checking
+    yield "reports a list that does not fit into memory", reports_memory_limit, checking
+    yield "reports a full output", reports_full_output, checking, ALL
+    yield "reports a full output with -o", reports_full_output, checking, COPY
+    yield "reports other content if the output is full", keeps_status_of_full_output, checking
+    yield "works if a standard stream is closed", works_with_closed_streams, checking
+    yield "reports files that the user may not read", reports_unreadable_files, checking
+    yield "reports directories that the user may not read", reports_unreadable_directory, checking
+    yield "opens no named pipe of another user", opens_no_pipe_of_others, checking
+    yield "follows a link of another user", follows_links_of_others, checking
+    yield "does not wait for a pipe that replaces a file", notices_pipe_between_calls, checking
+    for name, at, written in (("changed", 1_000_000, b"changed"), ("changed at its end", LARGE - 1, b"\xff"), ("longer", LARGE, b"\0"),
+                              ("cut", 1_000_000, b""), ("cut by one byte", LARGE - 1, b""), ("emptied", 0, b"")):
+        yield f"-o notices a file that is {name} before it is copied", copies_what_was_verified, checking, at, written
+    for length in (131071, 131072, 131073, LARGE):
+        yield f"-o copies {length} bytes", copies_large_files, checking, length
+    yield "-o prints nothing before the verdict", writes_nothing_before_verdict, checking
+    yield "takes little memory for a large file", takes_little_memory, checking
+    yield "shows progress at a terminal, and erases it", shows_progress, checking
+    yield "shows no control sequence at a terminal", shows_no_control_sequence, checking
+    yield "prints each result as soon as possible", shows_results_as_they_come, checking
+    yield "works in several runs at once", runs_at_once, checking

@@ -1,0 +1,59 @@
+#!/usr/bin/env python3
+"""Checks that `minisign-check` accepts exactly the files that a signed list has.
+
+    tests/check/check_program.py [PROGRAM] [WORD ..]
+
+PROGRAM is a build of minisign-check; by default it is built. WORD selects the cases whose name contains it. Keys and
+signatures are made by Minisign's own program.
+
+- check_words.py: command lines, and keys, signatures and lists that are rejected;
+- check_results.py: the results of each mode, option and kind of file;
+- check_disturbed.py: failures of each system call and allocation, files that others own or change, and terminals;
+- check_compared.py: lists written by other programs, and random lists, compared with the rules, with `sha256sum -c` and
+with `signify -C`.
+
+Prints a line for each failure; the last line is `N passed, M failed`.
+
+Needs Python 3.9 or later, make, binutils, a C compiler, libsodium with its header, minisign 0.11, openssl, shasum and
+signify-openbsd. It installs what is missing if it may.
+"""
+
+import os
+import sys
+import tempfile
+
+HERE = os.path.dirname(os.path.realpath(__file__))
+sys.path += [os.path.join(HERE, "..", name) for name in ("shared", "lists")]
+
+import ending
+import needs
+import selected
+import static_library
+from check_compared import compared_cases
+from check_disturbed import disturbed_cases
+from check_results import result_cases
+from check_running import NAME, Checking
+from check_words import word_cases
+from running import run_cases
+
+
+def cases_of(checking):
+    """Yields the names of all cases, with their functions and arguments."""
+    for cases in (word_cases, result_cases, disturbed_cases, compared_cases):
+        yield from cases(checking)
+
+
+def run_all(room):
+    """Runs all cases. Returns the failures and the number of cases."""
+    os.chmod(room, 0o711)
+    program = selected.file() or os.path.join(room, "out", NAME)
+    if not selected.file():
+        needs.libsodium()
+        static_library.run_make(f"OUT={room}/out", program)
+    checking = Checking(program, tempfile.mkdtemp(dir=room))
+    with checking.directories:
+        return run_cases(cases_of(checking))
+
+
+if __name__ == "__main__":
+    sys.exit(ending.main("check-program", run_all))

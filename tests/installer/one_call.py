@@ -1,0 +1,386 @@
+#!/usr/bin/env python3
+"""Checks `minisign_install_file` of minisign_installing.h by itself: its results, its messages, and the functions that its
+caller passes.
+
+    tests/installer/one_call.py [WORD ..]
+
+WORD selects the cases whose name contains it. `real_installing.py` tests the same code through `minisign-install`, and
+tests/bindings/python.py tests it through the package for Python. The program of the cases is one_call.c, which is linked
+with the static libraries. The mutants in one_call_mutants break the code between the caller and the machine; for each,
+one case has to fail. Prints a line for each failure; the last line is `N passed, M failed`.
+
+Needs Python 3.9 or later, make, a C compiler, libsodium with its header, minisign and git.
+"""
+
+import base64
+import concurrent.futures
+import os
+import re
+import sys
+import tempfile
+from functools import partial
+
+HERE = os.path.dirname(os.path.realpath(__file__))
+sys.path += [os.path.join(HERE, "..", "shared"), os.path.join(HERE, "..", "tool")]
+
+import ending
+import mutants
+import needs
+import proved
+import static_library
+from installers import LATER, LOCK, NEW, OLD, PAST, PK, RECORD, TARGET, TEMPORARY, RealInstaller
+from running import Failure, expect, read, run_cases, run_one
+from runs import Cases, Installing
+from updates import OTHER_KEY, SIZED, SOON
+
+one_call_cases = Cases()
+
+ERRORS = {name: int(number) for name, number in re.findall(r"MINISIGN_(\w+) = (\d+)", read(proved.ROOT, "include", "minisign.h").decode())}
+(INSTALLED, FAILED, MISUSE, REJECTED, OLDER, IN_USE, NOT_SYNCED, UNRECORDED, SAME_VERSION, EXPIRED, ALREADY, TOO_LARGE,
+ STOPPED) = range(13)
+WAITING, RECEIVING, COMPARING, COPYING, VERIFYING, RENAMING = range(1, 7)
+FROM_FILE, FROM_FUNCTION = (COPYING, VERIFYING, RENAMING), (RECEIVING, COPYING, VERIFYING, RENAMING)
+ERROR, CAUSE, HINT, WARNING = range(1, 5)
+# The signature file and the target, as the messages name them: the program passes no name of the signature file.
+SIGNATURE, DATA = "NULL", "new"
+
+
+def lines_of(ran):
+    return ran.output.decode(errors="replace").splitlines()
+
+
+def call(directory, words, result, error="OK", phases=(), messages=(), shown="", **how):
+    """Calls the function with these words, and checks all that the program prints. `shown` is the number of the update whose trusted
+    comment is passed."""
+    arguments = [*words, PK, "new.sig", TARGET]
+    ran = directory.run(arguments, **how)
+    comment = [line for line in [directory.content("new.sig").split(b"\n")[2].decode()] if shown]
+    expected = [f"comment {shown} {line.removeprefix('trusted comment: ')}" for line in comment]
+    expected += [f"message {kind}, {file}, {text}, {number}" for kind, file, text, number in messages]
+    expected.append(f"result {result}, error {ERRORS[error]}, phases:{''.join(f' {phase}' for phase in phases)}")
+    expect(ran.status == 0 and lines_of(ran) == expected, ran, f"expected {expected}")
+
+
+def expect_new(directory, data=NEW, number=b"6"):
+    directory.expect_installed(data, number)
+
+
+def expect_old(directory):
+    directory.expect_installed(OLD, b"5")
+
+
+@one_call_cases.table(
+    ("installs from a path", ["data=new"], FROM_FILE),
+    ("installs from a descriptor", ["fd=new"], FROM_FILE),
+    ("installs from a function", ["read=new"], FROM_FUNCTION),
+    ("prefers a path to a function", ["data=new", "read=fails"], FROM_FILE),
+    ("prefers a function to a descriptor", ["fd=key.pub", "read=new"], FROM_FUNCTION),
+    ("takes the results of a function with a context", ["data=new", "verify=none", "answer=libsodium"], FROM_FILE),
+    ("takes the time of a function", ["data=new", "now=99999999998"], FROM_FILE, dict(more=SOON)),
+    ("installs data that is as large as allowed", ["data=new", f"max={len(NEW)}"], FROM_FILE),
+    ("installs received data that is as large as allowed", ["read=new", f"max={len(NEW)}"], FROM_FUNCTION),
+    ("takes a wait of a day", ["data=new", "wait=86400"], FROM_FILE),
+)
+def installs(directory, words, phases, **offered):
+    directory.offer(**offered)
+    call(directory, words, INSTALLED, phases=phases, shown=6)
+    expect_new(directory)
+    directory.expect_mode(0o751)
+
+
+@one_call_cases.table("installs without functions that show anything")
+def installs_silently(directory):
+    call(directory, ["data=new", "silent"], INSTALLED)
+    expect_new(directory)
+
+
+@one_call_cases.table("sets the mode, and warns if it cannot")
+def sets_mode(directory):
+    call(directory, ["data=new", "mode=0640"], INSTALLED, phases=FROM_FILE, shown=6)
+    directory.expect_mode(0o640)
+    call(directory, ["data=new", "mode=0640"], ALREADY, phases=[COMPARING], shown=6)
+    call(directory, ["data=new", "mode=0755"], ALREADY, phases=[COMPARING], shown=6, messages=[
+        (WARNING, TARGET, "already installed, so its permissions are unchanged", 0), (HINT, "NULL", "use chmod to change them", 0)])
+    call(directory, ["check", "mode=0755"], ALREADY, phases=[COMPARING], shown=6)
+    directory.expect_mode(0o640)
+
+
+@one_call_cases.table("checks without data")
+def checks(directory):
+    before = directory.snapshot()
+    call(directory, ["check"], INSTALLED, shown=6)
+    call(directory, ["check", "read=fails", "data=none"], INSTALLED, shown=6)
+    directory.offer(number=4)
+    call(directory, ["check"], OLDER, "OLDER_UPDATE", shown=4)
+    expect(directory.snapshot()[1].keys() == before[1].keys(), f"a check left {os.listdir(directory.path)}")
+
+
+@one_call_cases.table(
+    ("rejects a signature that the function does not accept", ["data=new", "verify=none"], "COMMENT_SIGNATURE_REFUSED", SIGNATURE,
+     "Comment signature verification failed", ""),
+    ("rejects a signature that the function with a context does not accept", ["data=new", "answer=none"], "COMMENT_SIGNATURE_REFUSED",
+     SIGNATURE, "Comment signature verification failed", ""),
+    ("rejects other data", ["data=other"], "SIGNATURE_REFUSED", "other", "Signature verification failed", 6),
+    ("rejects other data that was received", ["read=other"], "SIGNATURE_REFUSED", "NULL", "Signature verification failed", 6),
+)
+def rejects(directory, words, error, file, text, shown):
+    directory.put("other", LATER)
+    phases = () if not shown else (RECEIVING, COPYING, VERIFYING) if words[0].startswith("read") else (COPYING, VERIFYING)
+    call(directory, words, REJECTED, error, phases, [(ERROR, file, text, 0)], shown)
+    expect_old(directory)
+
+
+@one_call_cases.table(
+    ("reports an expired update", ["data=new"], EXPIRED, "EXPIRED", SIGNATURE, "the update has expired", dict(more=PAST)),
+    ("reports an update that expires now", ["data=new", "now=99999999999"], EXPIRED, "EXPIRED", SIGNATURE, "the update has expired",
+     dict(more=SOON)),
+    ("reports that there is no time", ["data=new", "now=none"], EXPIRED, "EXPIRED", SIGNATURE, "the update has expired", dict(more=SOON)),
+    ("reports an older update", ["data=new"], OLDER, "OLDER_UPDATE", DATA, "the update is older than the recorded version", dict(number=4)),
+    ("reports other data of the recorded version", ["data=new"], SAME_VERSION, "SAME_NUMBER", TARGET,
+     "this version is already recorded, but the installed file is different", dict(number=5)),
+    ("reports another numbering", ["data=new", "numbering=1"], UNRECORDED, "KEPT_BY_TIMESTAMP", f"./{RECORD}",
+     "the version record holds a timestamp, not a version", dict(record=b"timestamp:5")),
+)
+def reports(directory, words, result, error, file, text, record=b"5", **offered):
+    directory.offer(**offered)
+    directory.put(RECORD, record)
+    is_read = result in (EXPIRED, OLDER, SAME_VERSION)
+    call(directory, words, result, error, [COMPARING] * (result == SAME_VERSION), [(ERROR, file, text, 0)],
+         offered.get("number", 6) if is_read else "")
+    directory.expect_installed(OLD, record if record == b"5" else record)
+
+
+@one_call_cases.table("rolls back")
+def rolls_back(directory):
+    directory.offer(number=4)
+    call(directory, ["data=new", "roll-back"], INSTALLED, phases=FROM_FILE, shown=4)
+    expect_new(directory, number=b"5")
+
+
+@one_call_cases.table("reports a held lock, and waits for it")
+def reports_lock(directory):
+    with directory.locked():
+        held = [(ERROR, TARGET, "another installation of this file is running", 0)]
+        call(directory, ["data=new"], IN_USE, "TARGET_IN_USE", messages=held)
+        call(directory, ["data=new", "wait=1"], IN_USE, "TARGET_IN_USE", [WAITING], held)
+        call(directory, ["data=new", "wait=20", f"stop={WAITING}"], STOPPED, phases=[WAITING])
+    call(directory, ["data=new"], INSTALLED, phases=FROM_FILE, shown=6)
+
+
+@one_call_cases.table(
+    *((f"stops in phase {phase}", word, phase, phases[:phases.index(phase) + 1]) for word, phases in (("data", FROM_FILE), ("read", FROM_FUNCTION))
+      for phase in phases if word == "data" or phase == RECEIVING))
+def stops(directory, word, phase, phases):
+    """The run removes its temporary files, and target and record are unchanged. The next run installs the update."""
+    call(directory, [f"{word}=new", f"stop={phase}"], STOPPED, phases=phases, shown=6)
+    expect_old(directory)
+    call(directory, ["data=new"], INSTALLED, phases=FROM_FILE, shown=6)
+    expect_new(directory)
+
+
+@one_call_cases.table("stops while it compares")
+def stops_comparing(directory):
+    directory.put_installed(NEW, b"6")
+    call(directory, ["data=new", f"stop={COMPARING}"], STOPPED, phases=[COMPARING], shown=6)
+    directory.expect_installed(NEW, b"6")
+
+
+@one_call_cases.table(
+    ("reports that a function cannot read", "fails", "Network is down", 100),
+    ("fails if a function writes no length", "nothing", "Input/output error", 5),
+    ("fails if a function reads too much", "too-long", "Input/output error", 5),
+)
+def reports_reading(directory, word, text, number):
+    call(directory, [f"read={word}"], FAILED, "READING_FAILED", messages=[(CAUSE, "NULL", text, number)], shown=6)
+    expect_old(directory)
+
+
+@one_call_cases.table("reads no more of a function than was signed")
+def reads_signed_size(directory):
+    directory.offer(more=SIZED)
+    directory.put("new", NEW + b"more")
+    message = [(ERROR, "NULL", "the data does not have the signed size", 0)]
+    call(directory, ["read=new"], REJECTED, "OTHER_SIZE", [RECEIVING], message, 6)
+    expect_old(directory)
+
+
+@one_call_cases.table("reads nothing if the update is installed")
+def reads_nothing(directory):
+    call(directory, ["data=new"], INSTALLED, phases=FROM_FILE, shown=6)
+    call(directory, ["read=fails"], ALREADY, phases=[COMPARING], shown=6)
+    directory.offer(number=5)
+    call(directory, ["read=fails"], OLDER, "OLDER_UPDATE", messages=[(ERROR, "NULL", "the update is older than the recorded version", 0)], shown=5)
+    expect_new(directory)
+
+
+@one_call_cases.table(("rejects data above the limit", "data"), ("rejects received data above the limit", "read"))
+def rejects_large(directory, word):
+    call(directory, [f"{word}=new", "max=999"], TOO_LARGE, "READING_FAILED", (), [
+         (CAUSE, DATA if word == "data" else "NULL", "the data is larger than the limit", 0)], 6)
+    expect_old(directory)
+
+
+@one_call_cases.table("reports files that cannot be used")
+def reports_files(directory):
+    missing = [(CAUSE, "none", "No such file or directory", 2)]
+    call(directory, ["data=none"], FAILED, "READING_FAILED", messages=missing)
+    call(directory, ["fd=none"], FAILED, "READING_FAILED", messages=[(CAUSE, "NULL", "Bad file descriptor", 9)])
+    os.mkdir(directory.path_of(LOCK))
+    wrong = [(CAUSE, f"./{LOCK}", "this is a directory", 0), (HINT, "NULL", "remove it or move it away", 0)]
+    call(directory, ["data=new"], FAILED, "READING_FAILED", messages=wrong)
+    call(directory, ["check"], FAILED, "READING_FAILED", messages=wrong)
+    expect_old(directory)
+
+
+@one_call_cases.table("reports an update that cannot be synced, with the cause")
+def reports_unsynced(directory):
+    directory.put_installed(NEW, directory.kind.record(NEW, 6))
+    broken = directory.disturbing(BREAK_CALLS="fsync", BREAK_AT="1", BREAK_ERRNO="5")
+    call(directory, ["data=new"], NOT_SYNCED, "DIRECTORY_NOT_SYNCED", [COMPARING], [
+        (ERROR, TARGET, "the update is installed, but the directory could not be synced to disk", 0),
+        (CAUSE, TARGET, "Input/output error", 5)], 6, environment=broken)
+
+
+@one_call_cases.table(
+    *((f"fails if the function with a context writes no answer{more}", word) for more, word in (("", "nothing"), (", for a pipe", "pipe"))))
+def needs_answer(directory, word):
+    source = "data=new" if word == "nothing" else "read=new"
+    call(directory, [source, "answer=nothing"], FAILED, "READING_FAILED", messages=[(ERROR, TARGET, "reading failed", 0)])
+    expect_old(directory)
+
+
+@one_call_cases.table(*((f"rejects {what}, with {accepting}", line, accepting) for what, line in (
+    ("a weak signature of the comment", 3), ("a weak public key", None)) for accepting in ("verify=all", "answer=all")))
+def rejects_weak(directory, line, accepting):
+    """A key and a signature of small order would be valid for every file."""
+    weak = b"\1" + bytes(31)
+    if line is None:
+        key = base64.b64decode(directory.content(PK).split(b"\n")[1])
+        directory.put(PK, b"untrusted comment: weak\n" + base64.b64encode(key[:10] + weak) + b"\n")
+    else:
+        lines = directory.content("new.sig").split(b"\n")
+        lines[line] = base64.b64encode(weak + bytes(32))
+        directory.put("new.sig", b"\n".join(lines))
+    call(directory, ["data=new", accepting], REJECTED, "COMMENT_SIGNATURE_REFUSED",
+         messages=[(ERROR, SIGNATURE, "Comment signature verification failed", 0)])
+    expect_old(directory)
+
+
+@one_call_cases.table("rejects a weak signature of the data, with verify=all")
+def rejects_weak_data(directory):
+    lines = directory.content("new.sig").split(b"\n")
+    record = base64.b64decode(lines[1])
+    lines[1] = base64.b64encode(record[:10] + b"\1" + bytes(63))
+    directory.put("new.sig", b"\n".join(lines))
+    call(directory, ["data=new", "verify=all"], REJECTED, "SIGNATURE_REFUSED", (COPYING, VERIFYING),
+         [(ERROR, DATA, "Signature verification failed", 0)], 6)
+    expect_old(directory)
+
+
+@one_call_cases.table("finishes both renames after a signal")
+def finishes_renames(directory):
+    """A signal whose handler returns does not disturb a run, in any phase."""
+    for phase in FROM_FILE:
+        directory.reset()
+        call(directory, ["data=new", f"SIGTERM={phase}"], INSTALLED, phases=FROM_FILE, shown=6)
+        expect_new(directory)
+
+
+NO_NAME = "this path does not end with a file name"
+
+
+@one_call_cases.table(*((f"rejects {what}", words, text, error) for what, words, text, *error in (
+    ("options without a target", ["without=target"], "the options have no target"),
+    ("options without a signature", ["without=signature"], "the options have no signature file"),
+    ("options without a key", ["without=key"], "the options have no public key"),
+    ("options without a function that verifies", ["without=verify"], "the options have no function that verifies"),
+    ("a mode above 0777", ["mode=1000"], "the mode in the options is above 0777"),
+    ("a wait of more than a day", ["wait=86401"], "the wait in the options is longer than a day"),
+    ("an empty name", ["name="], "the name in the options is empty"),
+    ("first with roll-back", ["first", "roll-back"], None, "BAD_OPTION"),
+    ("a choice that is neither 0 nor 1", ["is_check=2"], None, "BAD_OPTION"),
+    ("such a choice with data from a function", ["read=new", "is_check=2"], None, "BAD_OPTION"),
+    ("an unknown numbering", ["numbering=2"], None, "BAD_NUMBERING"))))
+def rejects_misuse(directory, words, text, error):
+    before = directory.snapshot()
+    ran = directory.run(["data=new", *words, PK, "new.sig", TARGET])
+    lines = lines_of(ran)
+    last = f"result {MISUSE}, error {ERRORS[error[0] if error else 'BAD_OPTION']}, phases:"
+    is_said = len(lines) == 2 and lines[0].startswith(f"message {ERROR}, NULL, {text or ''}") and lines[0].endswith(", 0")
+    expect(is_said and lines[1] == last, ran, f"expected {text} and {last}")
+    expect(directory.snapshot() == before, "something was changed")
+
+
+@one_call_cases.table("rejects a target without a name, and a key that was not read")
+def rejects_target(directory):
+    for path in (f"{TARGET}/", ".", "..", ""):
+        ran = directory.run(["data=new", PK, "new.sig", path])
+        lines = lines_of(ran)
+        expected = [f"message {ERROR}, {path}, {NO_NAME}, 0", f"result {MISUSE}, error {ERRORS['BAD_OPTION']}, phases:"]
+        expect(lines == expected, ran, f"expected {expected}")
+    directory.put(PK, b"no key")
+    ran = directory.run(["data=new", PK, "new.sig", TARGET])
+    expect(lines_of(ran)[-1] == f"result {MISUSE}, error {ERRORS['PUBLIC_KEY_NOT_READ']}, phases:", ran)
+    expect_old(directory)
+
+
+@one_call_cases.table("accepts either of two keys, and no other")
+def accepts_two_keys(directory):
+    directory.put("other.pub", b"untrusted comment: other\n" + base64.b64encode(b"Ed" + bytes(8) + OTHER_KEY) + b"\n")
+    for words, key, is_accepted in (([], "other.pub", False), (["other=other.pub"], "other.pub", False), (["other=other.pub"], PK, True),
+                                    ([f"other={PK}"], "other.pub", True)):
+        directory.put_installed()
+        ran = directory.run(["data=new", *words, key, "new.sig", TARGET])
+        result, error = (INSTALLED, "OK") if is_accepted else (REJECTED, "DIFFERENT_KEY_IDS")
+        expect(f"result {result}, error {ERRORS[error]}," in "\n".join(lines_of(ran)), words, key, ran)
+        (expect_new if is_accepted else expect_old)(directory)
+
+
+def build(room, directory, *words):
+    """Builds the program over the library of a copy of the sources, or of the sources themselves."""
+    program, out = os.path.join(room, "one_call"), os.path.join(room, "out")
+    libraries = [f"{out}/libminisign-installing.a", f"{out}/libminisign.a"]
+    static_library.run_make(f"OUT={out}", *words, *libraries)
+    static_library.hold([needs.libsodium(), "-std=c99", "-Wall", "-Wextra", "-Werror", f"-I{proved.ROOT}/include", "-o", program,
+                         f"{HERE}/one_call.c", *libraries, "-lsodium"], directory)
+    return program
+
+
+def cases_of(installing):
+    for name, case, *given in one_call_cases:
+        yield name, installing.run_case, case, *given
+
+
+def failure_of(room, preload, mutant):
+    """Returns why a mutant is a failure of this script, or "" if its case fails."""
+    copy, own = mutants.copy_sources(room, "c", "include"), tempfile.mkdtemp(dir=room)
+    mutants.apply(mutant, copy)
+    program = os.path.join(own, "one_call")
+    sources = [f"{copy}/c/install/{name}.c" for name in ("installing", "endings", "directory")]
+    sources += [f"{copy}/c/shared/{name}.c" for name in ("handles", "permissions", "stages", "streams")]
+    static_library.hold([needs.libsodium(), "-std=c11", "-pthread", f"-I{copy}/c", f"-I{copy}/include", "-o", program, f"{HERE}/one_call.c",
+                         *sources, f"{room}/out/libminisign.a", "-lsodium"])
+    installing = Installing(program, RealInstaller(own), own)
+    installing.preload = preload
+    try:
+        run_one(cases_of(installing), mutant.case)
+    except Failure:
+        return ""
+    return f"the case `{mutant.case}` does not notice the mutant {mutant.name}"
+
+
+def run_all(room):
+    os.chmod(room, 0o711)
+    installing = Installing(build(room, None), RealInstaller(room), tempfile.mkdtemp(dir=room))
+    failures, count = run_cases(cases_of(installing))
+    if len(sys.argv) < 2:
+        found = mutants.mutants_of("installer", "one_call_mutants")
+        # Each mutant has its own process, because cases may act as other users.
+        with concurrent.futures.ProcessPoolExecutor(os.cpu_count() or 1) as pool:
+            failures += filter(None, pool.map(partial(failure_of, room, installing.preload), found))
+        count += len(found)
+    return failures, count
+
+
+if __name__ == "__main__":
+    sys.exit(ending.main("one-call", run_all))

@@ -1,0 +1,178 @@
+"""Checks that the page verifies files with a signed list, such as SHA256SUMS: on the general page, on the page of a release, and on a saved
+page. A renamed file is found by its digest, and the page says which file of the list it is.
+"""
+
+import hashlib
+
+from minisign_cases import pattern
+from project_page import Release
+from running import read
+from saved_page import fill, save_page
+
+LIST = "SHA256SUMS"
+COMMENT = f"timestamp:1700000000\tfile:{LIST}"
+NEW, OLD, OTHER, LARGE, EMPTY = "app-2.0.zip", "app-1.0.zip", "docs/manual \u00e9.txt", "large.bin", "empty"
+FILES = {NEW: b"version 2", OLD: b"version 1", OTHER: b"manual", LARGE: pattern(5_000_003), EMPTY: b""}
+TWICE = "twice.txt"
+
+
+def line_of(name, data, kind="sha256"):
+    """Returns an entry: in the form of sha256sum, or with the name of the hash function."""
+    digest = getattr(hashlib, kind)(data).hexdigest()
+    return f"{digest}  {name}\n" if kind == "sha256" else f"{kind.upper().replace('BLAKE2B', 'BLAKE2b')} ({name}) = {digest}\n"
+
+
+# The entries have all hash functions. One name is listed twice.
+TEXT = "# a release\n" + "".join(line_of(name, data, kind) for (name, data), kind in zip(FILES.items(), (
+    "sha256", "sha512", "blake2b", "sha256", "sha512"))) + 2 * line_of(TWICE, b"twice")
+# Files that are dropped, without signatures, and the verdict, the error number and words of the row of each.
+ROWS = (
+    (NEW, FILES[NEW], "good", 0, [f"the list {LIST} has as {NEW}", "signed on 2023-11-14"]),
+    ("app-1.0 (1).zip", FILES[OLD], "good", 0, [f"has as {OLD}"]),
+    (OTHER.rpartition("/")[2], FILES[OTHER], "good", 0, [f"has as {OTHER}"]),
+    (LARGE, FILES[LARGE], "good", 0, [f"has as {LARGE}"]),
+    (EMPTY, b"", "good", 0, [f"has as {EMPTY}"]),
+    # An old file under the name of a new one, and a file with another name.
+    (NEW, FILES[OLD], "renamed", 0, [f"has as {OLD}", "is not the one that its name says", "may be an older version"]),
+    ("download", FILES[LARGE], "renamed", 0, [f"has as {LARGE}"]),
+    ("APP-2.0.ZIP", FILES[NEW], "renamed", 0, [f"has as {NEW}"]),
+    (NEW, FILES[NEW] + b"x", "bad", 94, [f"The list is {LIST}.", "not the one that the signed list has under this name"]),
+    (LARGE, FILES[LARGE][:-1], "bad", 94, [f"The list is {LIST}."]),
+    ("other.zip", b"other", "bad", 92, ["neither this file's name nor its content"]),
+    (TWICE, b"twice", "bad", 93, ["has this file's name twice", f"The list is {LIST}, line 8."]),
+    (TWICE, b"2", "bad", 93, ["has this file's name twice"]),
+)
+
+
+def put_list(person, text=TEXT, name=LIST, comment=COMMENT, key="first"):
+    """Writes a list and its signature into a new directory, and returns their paths."""
+    data = text.encode()
+    return person.pair(name, data, person.sign(data, key, trusted=comment))
+
+
+def check_listed_files(person):
+    """Each file is verified by the list, and neither the name alone nor the content alone is enough."""
+    paths = put_list(person)
+    person.begin(person.first.line, *paths)
+    person.named(LIST, "a list", verdict="good", number=0, cautions=[], has=["This is a list of 7 files."])
+    for name, data, verdict, number, words in ROWS:
+        person.drop("downloads", person.put(name, data))
+        row = person.named(name, f"{name} of {len(data)} bytes", verdict=verdict, number=number, has=words)
+        person.same(row.comment, COMMENT if number == 0 else None, f"{name}: the trusted comment of the list")
+        person.same(len(row.cautions), int(verdict == "renamed"), f"{name}: warnings: {row.cautions}")
+
+
+def check_order_of_files(person):
+    """The order in which the list and the files come makes no difference. Without the list, or under another key, nothing is verified."""
+    data, (list_path, signature) = person.put(NEW, FILES[NEW]), put_list(person)
+    person.begin(person.first.line, data)
+    person.only("a file before its list", verdict="waiting", has=["Its signature is missing."])
+    person.drop("downloads", list_path, signature)
+    person.expect_each("verdict", {NEW: "good", LIST: "good"}, "a list after its file")
+    person.drop("downloads", *put_list(person, line_of(NEW, b"other")))
+    person.expect_each("verdict", {NEW: "bad", LIST: "good"}, "another list in its place")
+    person.drop("downloads", *put_list(person, TEXT))
+    person.expect_each("verdict", {NEW: "good", LIST: "good"}, "the list again")
+    person.type_key(person.second.line)
+    person.expect_each("verdict", {NEW: "waiting", LIST: "bad"}, "another key")
+    person.type_key(person.first.line)
+    person.expect_each("verdict", {NEW: "good", LIST: "good"}, "the right key again")
+    person.drop("downloads", person.put(LIST, TEXT.encode() + b"\n"))
+    person.expect_each("verdict", {NEW: "waiting", LIST: "bad"}, "a list that was changed")
+    person.begin(person.first.line, data, list_path, signature)
+    person.expect_each("verdict", {NEW: "good", LIST: "good"}, "all at once")
+    # A file with its own signature is verified by that.
+    person.begin(person.first.line, list_path, signature, *person.signed("own.zip", b"own", trusted="file:own.zip"))
+    person.expect_each("verdict", {"own.zip": "good", LIST: "good"}, "a file with its own signature")
+    person.begin("", data, list_path, signature, person.put("minisign.pub", person.first.text))
+    person.expect_each("verdict", {NEW: "unchecked", LIST: "unchecked"}, "a key that came with the list")
+
+
+def check_lists_that_are_not_used(person):
+    """A file that is signed but is not a list under its name verifies no other file, and the page says why."""
+    data = person.put(NEW, FILES[NEW])
+    for what, how, words in (
+            ("a malformed line", {"text": TEXT + "MD5 (b) = 00\n"}, ["Line 9: ", "It is not a line of a list."]),
+            ("a comment that does not name the list", {"comment": "version:2"}, ["does not name it as a list"]),
+            ("a list of another name", {"comment": "file:OTHER", "name": LIST}, [])):
+        person.begin(person.first.line, data, *put_list(person, **how))
+        person.wait_seen("work")
+        verdict, more = ("good", ["looks like a list"]) if words else ("renamed", [])
+        person.expect(person.row(LIST), what, verdict=verdict, has=[*more, *words])
+        person.expect(person.row(NEW), what, verdict="waiting")
+    person.begin(person.first.line, data, *person.signed("notes.txt", b"no list", trusted="file:notes.txt"))
+    person.expect_each("verdict", {NEW: "waiting", "notes.txt": "good"}, "a text that is not a list")
+
+
+def built(person, release, *words, text=TEXT, comment=COMMENT):
+    """Builds a page with a list, and returns its address."""
+    path, _ = put_list(person, text, comment=comment)
+    person.same(release.build("--from", person.page, "--key", person.first.line, "--list", path, *words), (0, ""), f"build.py --list {words}")
+    return f"file://{release.out}", path
+
+
+def check_release_with_list(person):
+    """The page of a release with a list asks only for the downloads, and marks each file of the list."""
+    release, names = Release(person), [*FILES, TWICE, TWICE]
+    address, _ = built(person, release, "--name", "Example", "--version", "2", "--link", f"{NEW}=dl/{NEW}")
+    person.open(address)
+    person.same(person.is_shown("signature-text"), False, "a page with a list asks for a signature")
+    head, files = person.see("releaseList")
+    person.same((head, [(name, verdict, link) for name, verdict, _, link in files]),
+                ("Files of Example 2", [(name, "waiting", f"dl/{NEW}" if name == NEW else None) for name in names]), "before any download")
+    for name, data, verdict, number, words in ROWS:
+        person.drop("downloads", person.put(name, data))
+        person.named(name, f"the page of a release, {name} of {len(data)} bytes", verdict=verdict, number=number, has=words)
+        person.click("clear")
+    person.drop("downloads", person.put(NEW, FILES[NEW]), person.put("download", FILES[LARGE]), person.put(OLD, b"x"))
+    person.expect_each("verdict", {NEW: "good", "download": "renamed", OLD: "bad"}, "several files of a release")
+    states = {name: verdict for name, verdict, *_ in person.see("releaseList")[1]}
+    person.same(states, {**dict.fromkeys(names, "waiting"), NEW: "good", OLD: "bad"}, "several files of a release: the states")
+    person.click("clear")
+    # Neither a file with its own signature nor one of an older list is part of the release.
+    person.drop("downloads", *person.signed("own.zip", b"own", trusted="file:own.zip"))
+    person.only("a file with its own signature", verdict="unlisted")
+    person.drop("downloads", *put_list(person, line_of("older.zip", b"older"), name="OLDSUMS", comment="file:OLDSUMS"), person.put("older.zip", b"older"))
+    person.expect_each("verdict", {"own.zip": "unlisted", "OLDSUMS": "unlisted", "older.zip": "bad"}, "an older list")
+
+
+def check_invalid_built_in_lists(person):
+    """A page with a list that is not valid verifies no file of it, and says so. build.py rejects what it can see to be wrong."""
+    release = Release(person)
+    path, signature = put_list(person)
+    changed = person.put(LIST, TEXT.replace("version", "x").encode() + line_of("more", b"").encode())
+    person.put(f"{LIST}.minisig", read(signature), changed)
+    person.same(release.build("--from", person.page, "--key", person.first.line, "--list", changed), (0, ""), "build.py with a changed list")
+    person.open(f"file://{release.out}")
+    person.says("files-said", "a changed list", "The list that is built into this page is not valid")
+    person.drop("downloads", person.put(NEW, FILES[NEW]))
+    person.only("a file of a changed list", verdict="waiting")
+    unnamed, _ = put_list(person, comment="version:2")
+    for words, why in ((["--list", path + "x"], "cannot be read"), (["--list", unnamed], "does not name the list"),
+                       (["--list", path, "--signature", *release.paths], "either --signature or --list"),
+                       (["--list", put_list(person, "# none\n")[0]], "has no entries"), (["--list", put_list(person, "x\n")[0]], "line 1"),
+                       (["--list", path, "--link", "other=x"], "does not have this file"),
+                       (["--list", put_list(person, key="second")[0]], "made with another key")):
+        status, said = release.build("--from", person.page, "--key", person.first.line, *words)
+        person.check(status == 1 and why in said, f"build.py {words}: {status} {said}, expected {why}")
+    status, said = release.build("--from", person.page, "--list", path)
+    person.check(status == 1 and "needs --key" in said, f"build.py --list without --key: {status} {said}")
+
+
+def check_saved_list(person):
+    """A page that is saved with a list has the bytes of build.py. A list that is not valid is not saved."""
+    release = Release(person)
+    _, path = built(person, release, "--name", "Example", "--link", f"{NEW}=dl/{NEW}", f"{OTHER}=x")
+    signature = f"{path}.minisig"
+    fill(person, release, signatures=[signature, path], name="Example", links=[f"{OTHER} x", f"{NEW} dl/{NEW}"])
+    page = save_page(person)
+    person.check(page == read(release.out), f"the saved page with a list has {len(page)} bytes, which differ from those of build.py")
+    changed = person.put(LIST, TEXT.encode() + b"\n")
+    for files, words in (([path], "is not a signature file"), ([path, signature, *release.paths], "is not a signature file"),
+                         ([changed, signature], "cannot be used as a list. This file is not the one that was signed"),
+                         ([*put_list(person, comment="version:2")], "does not name it as a list"),
+                         ([*put_list(person, TEXT + "x\n")], "Line 9: ")):
+        fill(person, release, signatures=files)
+        person.click("own-save")
+        person.wait(lambda: person.text_of("own-said") != "")
+        person.says("own-said", f"{words}", words, begins="No page was saved. ")
