@@ -9,9 +9,11 @@ import re
 from person import MAX_NAMED, HEADINGS, proc_file
 
 FEW, MANY = 500, 10_000
-# The most processor time per file of many files, as a multiple of that of a few files. (Processor time of the processes that show the
-# page depends less on the load of the machine than the clock does. Polling the page takes processor time too, so it is polled rarely.)
-MOST_TIMES = 2
+# The most processor time per file of many files, as a multiple of that of a few files. It is far below MANY / FEW, the multiple of a page
+# that does work for all files whenever one is verified. It is well above 1, because the browser lays out all rows whenever some are drawn,
+# and a slow or busy machine draws more often. (Processor time of the processes that show the page depends less on the load of the machine
+# than the clock does. Polling the page takes processor time too, so it is polled rarely.)
+MOST_TIMES = 6
 LONG_BYTES, BIG_BYTES = 300_000_000, 2_000_000_000
 # How much the memory of the page may grow, in MiB, while a file of BIG_BYTES is read.
 GROWTH = 32
