@@ -1,15 +1,26 @@
-//! Makes the calls of whole installations, for tests. Reads one run from each line of standard input, and
-//! prints what is due then, with the number of the error, the question and the new record, if there are
-//! any.
+//! Makes the calls of installations, for tests. Each line of standard input describes one installation:
 //!
 //!     NAME;OPTIONS;RECORD;COMMENT;CALLS
 //!
-//! OPTIONS are letters: F `--first`, A `--again`, C `--check`, X `--must-expire`, K `--new-key`, B
-//! `--roll-back`, T if the version is the field `timestamp:`; 2 if the second key has the same key ID, 1 if
-//! one key is passed twice, and o if no key has the key ID of the signature; l for a legacy signature, and
-//! s for a short comment signature; and - for a time before 1970. The time is 100 otherwise. RECORD is
-//! `own` or `other`, a record of version 2 of the first key or of a key that is not passed, or `old`, one
-//! of version 0.2, or the record itself. COMMENT is the trusted comment, and CALLS are separated by spaces.
+//! The program makes the calls in CALLS, and prints the operation that is due after the last one and the
+//! error number, and then, if there are any, the question for Ed25519 and the new record. It stops at a call
+//! that is not due.
+//!
+//! OPTIONS is a string of these letters:
+//!
+//! - `F`: `--first`, `A`: `--again`, `C`: `--check`, `X`: `--must-expire`, `K`: `--new-key`, `B`: `--roll-back`
+//! - `T`: the version number is in the field `timestamp:`, otherwise it is in `version:`
+//! - `1`: the same key is passed twice
+//! - `2`: the second key has the key ID of the signature
+//! - `o`: the first key does not have the key ID of the signature
+//! - `l`: the signature is a legacy one
+//! - `s`: the comment signature has 63 bytes and not 64
+//! - `-`: the time is before 1970, otherwise it is 100
+//!
+//! RECORD is `own`, a record of version 2 that names the first key; `other`, one that names a key that is not
+//! passed; `old`, version 2 in the format of minisign-install 0.2; or else the record itself.
+//!
+//! COMMENT is the trusted comment. CALLS are the names that the function `call` lists, separated by spaces.
 
 #![tactic(auto)]
 
@@ -23,18 +34,22 @@ use std::alloc::{AllocError, Global};
 use std::io::{self, BufRead, BufReader, BufWriter, Write};
 use std::process::ExitCode;
 
+// A record of version 2 that names the first key.
 const OWN: &str =
     "version:2\n0000000000000000000000000000000000000000000000000000000000000001\n22222222222222222222222222222222222222222222222222222222222222222222222222222222222222222222222222222222222222222222222222222222";
 
+// A record of version 2 that names a key that is not passed.
 const OTHER: &str =
     "version:2\n9999999999999999999999999999999999999999999999999999999999999999\n22222222222222222222222222222222222222222222222222222222222222222222222222222222222222222222222222222222222222222222222222222222";
 
+// The signature lines of a prehashed and of a legacy signature.
 const PREHASHED: &str =
     "RUQBAgMEBQYHCAUFBQUFBQUFBQUFBQUFBQUFBQUFBQUFBQUFBQUFBQUFBQUFBQUFBQUFBQUFBQUFBQUFBQUFBQUFBQUFBQUFBQU=";
 
 const LEGACY: &str =
     "RWQBAgMEBQYHCAUFBQUFBQUFBQUFBQUFBQUFBQUFBQUFBQUFBQUFBQUFBQUFBQUFBQUFBQUFBQUFBQUFBQUFBQUFBQUFBQUFBQU=";
 
+// A comment signature of 64 bytes, and one of 63.
 const SECOND: &str =
     "BgYGBgYGBgYGBgYGBgYGBgYGBgYGBgYGBgYGBgYGBgYGBgYGBgYGBgYGBgYGBgYGBgYGBgYGBgYGBgYGBgYGBg==";
 
@@ -51,7 +66,7 @@ fn main(rt: HostRuntime) -> io::Result<ExitCode> {
     Ok(ExitCode::SUCCESS)
 }
 
-// Returns the field of a line with this index, or an empty one.
+// Returns the field with this index, or an empty text if the line has fewer fields.
 fn field(line: &str, index: usize) -> &str {
     match line.split(';').nth(index) {
         Some(field) => field,
@@ -59,6 +74,7 @@ fn field(line: &str, index: usize) -> &str {
     }
 }
 
+// Returns 1 if the option is given, otherwise 0.
 fn has(options: &str, option: char) -> u32 {
     if options.contains(option) { 1 } else { 0 }
 }
@@ -75,6 +91,7 @@ fn choices(options: &str) -> Choices {
     }
 }
 
+// Returns the two keys that are passed to the installation.
 fn keys(options: &str) -> (PublicKeyValue, PublicKeyValue) {
     let id = [1, 2, 3, 4, 5, 6, 7, 8];
     let mut bytes = [0u8; 32];
@@ -119,11 +136,13 @@ fn signature_file(alloc: Global, options: &str, comment: &str) -> Result<String,
     format!(in alloc; "untrusted comment: u\n{first}\ntrusted comment: {comment}\n{second}\n")
 }
 
+// Returns true unless the call failed with API misuse.
 fn was_due<T: Drop>(result_of_call: Result<T, Refusal<InstallFault>>) -> bool {
     !matches!(result_of_call, Err(Refusal::WrongUse(_)))
 }
 
-// Makes a call, and returns true if it was due.
+// Makes the call with this name. Returns false if it is not due or no call has this name. `text` is the
+// signature file.
 fn call(installation: &mut Installation, name: &str, line: &str, text: &str) -> bool {
     let time = if has(field(line, 1), '-') == 1 {
         None
@@ -148,7 +167,7 @@ fn call(installation: &mut Installation, name: &str, line: &str, text: &str) -> 
     }
 }
 
-// Makes the calls of a run, and writes where it ends.
+// Makes the calls of a run until one is not due, and writes the state of the installation.
 fn write_run<W: Write>(alloc: Global, line: &str, answers: &mut W) -> io::Result<()> {
     let (key, other) = keys(field(line, 1));
     let text = signature_file(alloc, field(line, 1), field(line, 3))?;

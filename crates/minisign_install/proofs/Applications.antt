@@ -1,62 +1,65 @@
--- What is proved of runs of events holds for lawful applications.
+-- The laws about runs of events hold for lawful applications.
 use Rattle.std.specs.Prelude.{◌≡◌, ◌≤◌, ◌+◌, ◌*◌, ℕ, List, [], ◌∷◌, length, map, true}
 use Rattle.std.proofs.Common.{refl, suc, sym, ap}
-use Rattle.minisign_install.specs.Applications.{Applies, Call, Moment}
+use Rattle.minisign_install.specs.Applications.{Applies, Call, Snapshot}
 use Rattle.minisign_install.specs.Applications.{Others, Performs}
 use Rattle.minisign_install.specs.Decisions.{Options}
 use Rattle.minisign_install.specs.Faults.{InstallFault}
-use Rattle.minisign_install.specs.StepRuns.{IsReason, total}
+use Rattle.minisign_install.specs.StepRuns.{IsAtOneOf, IsReason, total}
 use Rattle.minisign_install.specs.Step.{after}
-use Rattle.std.specs.Prelude.{⊤, Err, is_some}
+use Rattle.std.specs.Prelude.{⊤, Bool, Err, Option, is_some}
 use Rattle.minisign_external.specs.declared.state.Refusal.TheVariants.{Refused}
-use Rattle.minisign_install.specs.Histories.{EachEvent}
+use Rattle.minisign_install.specs.Histories.{AllEvents}
 use Rattle.minisign_install.specs.Step.{Event, Installed, State, begin, has_ended, step}
-use Rattle.minisign_install.specs.StepRuns.{IsEnd, IsFine, IsGoodUpdate, IsRun, IsTrue, World, count}
+use Rattle.minisign_install.specs.StepRuns.{IsEnd, IsAcceptable, IsGoodUpdate, IsRun, EventIsTrue, World}
+use Rattle.minisign_install.specs.StepRuns.{count}
 use Rattle.minisign_install.proofs.SafeCalls.{Invariant, next, true_event, true_run}
 use Rattle.minisign_install.proofs.SafeCalls as safe_calls
 use Rattle.minisign_install.proofs.StepArrivals.{good_update_gets_installed}
 use Rattle.minisign_install.proofs.StepEnds.{run_ends}
 use Rattle.minisign_install.proofs.StepReasons.{ends_are_true, errors_are_true}
 
-abbrev event_of : Call → Event
+abbrev pub event_of : Call → Event
 event_of c = c.event
 
 both : (w : World) (P : Event → Type 0) (n : ℕ) (s : State) (calls : List Call) (t : State)
-    → IsRun (IsTrue w) n s (map event_of calls) t → EachEvent P calls
-    → IsRun (λ n s e. IsTrue w n s e × P e) n s (map event_of calls) t
+    → IsRun (EventIsTrue w) n s (map event_of calls) t → AllEvents P calls
+    → IsRun (λ n s e. EventIsTrue w n s e × P e) n s (map event_of calls) t
 both w P n s [] t run each = run
 both w P n s (c ∷ more) t (is, run) (holds, each) =
     ((is, holds), both w P (count n c.event) (step s c.event).1 more t run each)
 
 -- If no operation fails, and the update is good, a run that has ended has installed it.
-pub good_update_is_installed : (w : World) (o : Options) (g : IsGoodUpdate w o) (m : Moment)
-    (calls : List Call) (t : State) (end : Moment) → Applies w (begin o) m calls t end
-    → EachEvent (IsFine g) calls → has_ended t.due ≡ true → t.due ≡ Installed
+pub good_update_is_installed : (w : World) (o : Options) (g : IsGoodUpdate w o) (m : Snapshot)
+    (calls : List Call) (t : State) (end : Snapshot) → Applies w (begin o) m calls t end
+    → AllEvents (IsAcceptable g) calls → has_ended t.due ≡ true → t.due ≡ Installed
 good_update_is_installed w o g m calls t end run fine ended =
     good_update_gets_installed w o g (map event_of calls) t
-    (both w (IsFine g) 0 (begin o) calls t (true_run w o m calls t end run) fine) ended
+    (both w (IsAcceptable g) 0 (begin o) calls t (true_run w o m calls t end run) fine) ended
 
 -- An end that is reported is true.
-pub reported_ends_are_true : (w : World) (o : Options) (m : Moment) (calls : List Call) (t : State)
-    (end : Moment) → Applies w (begin o) m calls t end → IsEnd w o t.due
-reported_ends_are_true w o m calls t end run =
-    ends_are_true w o (map event_of calls) t (true_run w o m calls t end run)
+pub reported_ends_are_true : (w : World) (o : Options) (times : Option ℕ → Bool) (m : Snapshot)
+    (calls : List Call) (t : State) (end : Snapshot) → Applies w (begin o) m calls t end
+    → AllEvents (IsAtOneOf times) calls → IsEnd w o times t.due
+reported_ends_are_true w o times m calls t end run timed =
+    ends_are_true w o times (map event_of calls) t
+    (both w (IsAtOneOf times) 0 (begin o) calls t (true_run w o m calls t end run) timed)
 
 length_map : (calls : List Call) → length (map event_of calls) ≡ length calls
 length_map [] = refl
 length_map (c ∷ more) = ap suc (length_map more)
 
 -- A run ends.
-pub application_ends : (w : World) (o : Options) (m : Moment) (calls : List Call) (t : State)
-    (end : Moment) → Applies w (begin o) m calls t end
+pub application_ends : (w : World) (o : Options) (m : Snapshot) (calls : List Call) (t : State)
+    (end : Snapshot) → Applies w (begin o) m calls t end
     → length calls ≤ 23 + length o.keys + w.most + 2 * length w.update
 application_ends w o m calls t end run =
     rw (sym (length_map calls)) (run_ends w o (map event_of calls) t (true_run w o m calls t end run))
 
-last_true : (w : World) (o : Options) (n : ℕ) (s : State) (m : Moment) (calls : List Call) (t : State)
-    (end : Moment) (c : Call) → Invariant w o ⊤ ⊥ n s m → Applies w s m calls t end → Others end c.before
+last_true : (w : World) (o : Options) (n : ℕ) (s : State) (m : Snapshot) (calls : List Call) (t : State)
+    (end : Snapshot) (c : Call) → Invariant w o ⊤ ⊥ n s m → Applies w s m calls t end → Others end c.before
     → is_some (after t.due c.event t) ≡ true → Performs w t t.due c.event c.before c.after
-    → IsTrue w (total n (map event_of calls)) t c.event
+    → EventIsTrue w (total n (map event_of calls)) t c.event
 last_true w o n s m [] t end c known (is, same) others fits done =
     true_event w o ⊤ ⊥ n t end c (rw (is, same) known) others (λ q. absurd q) fits done
 last_true w o n s m (d ∷ more) t end c known (others, fits, is, run) later fit done =
@@ -64,11 +67,13 @@ last_true w o n s m (d ∷ more) t end c known (others, fits, is, run) later fit
     (next w o ⊤ ⊥ n s m d known others (λ q. absurd q) fits is (λ found. tt)) run later fit done
 
 -- An error that is returned is true.
-pub reported_errors_are_true : (w : World) (o : Options) (m : Moment) (calls : List Call) (s : State)
-    (end : Moment) (c : Call) (fault : InstallFault) → Applies w (begin o) m calls s end
+pub reported_errors_are_true : (w : World) (o : Options) (times : Option ℕ → Bool) (m : Snapshot)
+    (calls : List Call) (s : State) (end : Snapshot) (c : Call) (fault : InstallFault)
+    → Applies w (begin o) m calls s end → AllEvents (IsAtOneOf times) calls → IsAtOneOf times c.event
     → Others end c.before → is_some (after s.due c.event s) ≡ true
     → Performs w s s.due c.event c.before c.after → (step s c.event).0 ≡ Err (Refused fault)
-    → IsReason w o s c.event fault
-reported_errors_are_true w o m calls s end c fault run others fits is refuses =
-    errors_are_true w o (map event_of calls) s c.event fault (true_run w o m calls s end run)
-    (last_true w o 0 (begin o) m calls s end c (safe_calls.begins w o ⊤ ⊥ m) run others fits is) refuses
+    → IsReason w o times s c.event fault
+reported_errors_are_true w o times m calls s end c fault run timed now others fits is refuses =
+    errors_are_true w o times (map event_of calls) s c.event fault
+    (both w (IsAtOneOf times) 0 (begin o) calls s (true_run w o m calls s end run) timed)
+    (last_true w o 0 (begin o) m calls s end c (safe_calls.begins w o ⊤ ⊥ m) run others fits is) now refuses

@@ -1,11 +1,11 @@
--- What a run of a lawful application finds on the way: each event is true, the temporary files hold what
+-- Invariants of a run of a lawful application: each event is true, the temporary files hold what
 -- they should, and the record is on the disk before the update gets to the target.
 use Rattle.std.specs.Prelude.{◌≡◌, ◌≤◌, ◌&&◌, ◌||◌, ◌==◌, ◌+◌, ◌++◌, ⊤, ℕ, Bool, true, false, List, [], ◌∷◌}
 use Rattle.std.specs.Prelude.{Option, Some, None, Result, Ok, Err, IfSome, is_some, if◌then◌else◌, length}
 use Rattle.std.specs.Prelude.{nat_le, not, ◌⊎◌}
 use Rattle.std.proofs.Common.{eq-eqb, refl, inl, inr, sym, ap, ◌∙◌, arith, length-append, true≢false}
 use Rattle.minisign_external.specs.declared.public_keys.PublicKeyValue.{PublicKeyValue}
-use Rattle.minisign_install.specs.Applications.{File, Moment, Others, Performs, bytes_of}
+use Rattle.minisign_install.specs.Applications.{File, Snapshot, Others, Performs, bytes_of}
 use Rattle.minisign_install.specs.Applications.{content, grown, permitted, synced, synced_if, written}
 use Rattle.minisign_install.specs.Histories.{LeavesTarget}
 use Rattle.minisign_install.specs.Decisions.{Options, Recorded, judge_record, judge_text}
@@ -36,31 +36,31 @@ IsComplete place bytes =
 
 module _ (w : World) (F Q : Type 0) where
   -- A check holds no lock.
-  abbrev IsHeld : State → Moment → Type 0
+  abbrev IsHeld : State → Snapshot → Type 0
   IsHeld s m = (s.options.check ≡ true) ⊎ (m.locked ≡ true)
 
   -- The record was read, and n bytes were copied.
-  abbrev pub IsEarly : ℕ → State → Moment → Type 0
+  abbrev pub IsEarly : ℕ → State → Snapshot → Type 0
   IsEarly n s m = (n ≡ 0) × IsHeld s m × F
 
-  abbrev pub IsKept : Moment → Type 0
-  IsKept m = (m.locked ≡ true) × F
+  abbrev pub IsLocked : Snapshot → Type 0
+  IsLocked m = (m.locked ≡ true) × F
 
   -- And leftovers of killed runs were removed.
-  abbrev pub IsClear : Moment → Type 0
+  abbrev pub IsClear : Snapshot → Type 0
   IsClear m = (m.locked ≡ true) × F × (m.leftovers ≡ false)
 
   -- The installed file was read, and opened is its number.
-  abbrev pub IsOpened : State → Moment → Type 0
+  abbrev pub IsOpened : State → Snapshot → Type 0
   IsOpened s m =
       (file : File) × (m.target ≡ Some file) × (file.bytes ≡ s.read) × (m.opened ≡ Some file.number)
 
-  -- What was read is the update.
+  -- The bytes that were read are the update.
   abbrev pub IsSigned : State → Type 0
   IsSigned s = asks w (data_question due.CheckTarget s) ≡ true
 
-  -- What there is at each operation. F is what is known of the record that was read.
-  abbrev pub Has : ℕ → Operation → State → Moment → Type 0
+  -- The files at each operation. F is what is known of the record that was read.
+  abbrev pub Has : ℕ → Operation → State → Snapshot → Type 0
   Has n due.Lock s m = (n ≡ 0) × (s.options.check ≡ false)
   Has n due.ReadRecord s m = (n ≡ 0) × IsHeld s m
   Has n due.ReadSignature s m = IsEarly n s m
@@ -72,7 +72,7 @@ module _ (w : World) (F Q : Type 0) where
   Has n due.SyncTargetName s m = IsSigned s × (Q → IsOnDisk m.target s.read)
   Has n due.AlreadyInstalled s m =
       IsSigned s × ((s.options.check ≡ true) ⊎ (Q → IsOnDisk m.target s.read × (m.target_left ≡ [])))
-  Has n due.RemoveLeftovers s m = (n ≡ 0) × IsKept m
+  Has n due.RemoveLeftovers s m = (n ≡ 0) × IsLocked m
   Has n due.CreateFile s m = (n ≡ 0) × IsClear m
   Has n due.CopyData s m =
       IsClear m × ((file : File) × (m.data_file ≡ Some file) × (length file.bytes ≡ n))
@@ -102,35 +102,41 @@ module _ (w : World) (F Q : Type 0) where
   Has n op s m = ⊤
 
   -- Others leave it so. Q says that they leave the target alone.
-  pub stays : (n : ℕ) (op : Operation) (s : State) (old new : Moment) → Others old new
+  pub stays : (n : ℕ) (op : Operation) (s : State) (old new : Snapshot) → Others old new
       → (Q → LeavesTarget old new) → Has n op s old → Has n op s new
-  stays n due.SyncRecordName s old new others target (kept, whole, recorded) =
-      rw (others.data_stays, others.lock_stays, others.leftovers_stay kept.0, others.recorded_stays kept.0)
-      (kept, whole, recorded)
-  stays n due.RenameFile s old new others target (kept, whole, recorded, left) =
+  stays n due.SyncRecordName s old new others target (lock_held, whole, recorded) =
       rw (
         others.data_stays,
         others.lock_stays,
-        others.leftovers_stay kept.0,
-        others.recorded_stays kept.0,
-        others.left_stays kept.0,
-      ) (kept, whole, recorded, left)
-  stays n due.SyncFileName s old new others target (kept, recorded, left, complete) =
+        others.leftovers_stay lock_held.0,
+        others.recorded_stays
+            lock_held.0,
+      )
+      (lock_held, whole, recorded)
+  stays n due.RenameFile s old new others target (lock_held, whole, recorded, left) =
+      rw (
+        others.data_stays,
+        others.lock_stays,
+        others.leftovers_stay lock_held.0,
+        others.recorded_stays lock_held.0,
+        others.left_stays lock_held.0,
+      ) (lock_held, whole, recorded, left)
+  stays n due.SyncFileName s old new others target (lock_held, recorded, left, complete) =
       rw (
         others.lock_stays,
-        others.leftovers_stay kept.0,
-        others.recorded_stays kept.0,
-        others.left_stays kept.0,
+        others.leftovers_stay lock_held.0,
+        others.recorded_stays lock_held.0,
+        others.left_stays lock_held.0,
       )
-      (kept, recorded, left, λ q. rw (target q).0 (complete q))
-  stays n due.Installed s old new others target (kept, recorded, left, complete) =
+      (lock_held, recorded, left, λ q. rw (target q).0 (complete q))
+  stays n due.Installed s old new others target (lock_held, recorded, left, complete) =
       rw (
         others.lock_stays,
-        others.leftovers_stay kept.0,
-        others.recorded_stays kept.0,
-        others.left_stays kept.0,
+        others.leftovers_stay lock_held.0,
+        others.recorded_stays lock_held.0,
+        others.left_stays lock_held.0,
       )
-      (kept, recorded, left, λ q. rw ((target q).0, (target q).1) (complete q))
+      (lock_held, recorded, left, λ q. rw ((target q).0, (target q).1) (complete q))
   stays n due.Lock s old new others target has = has
   stays n due.ReadRecord s old new others target has = rw others.lock_stays has
   stays n due.ReadSignature s old new others target has = rw others.lock_stays has
@@ -187,7 +193,7 @@ module _ (w : World) (F Q : Type 0) where
         some,
       )
 
-  pub is_true : (n : ℕ) (op : Operation) (e : Event) (s : State) (old new : Moment) → Has n op s old
+  pub is_true : (n : ℕ) (op : Operation) (e : Event) (s : State) (old new : Snapshot) → Has n op s old
       → Performs w s op e old new → IsTrueEvent w n s op e
   is_true n due.ReadRecord (RecordRead found) s old new has is = is.0
   is_true n op (RecordRead found) s old new has is = absurd is
@@ -195,109 +201,111 @@ module _ (w : World) (F Q : Type 0) where
   is_true n op (SignatureRead text time) s old new has is = absurd is
   is_true n op (Answered accepted) s old new has is = is.0
   is_true n due.ReadTarget (PieceRead bytes) s old new has is = (is.0, is.1)
-  is_true n due.ReadBack (PieceRead bytes) s old new (kept, (file, at, holds)) (some, (rest, is), same) =
+  is_true n due.ReadBack (PieceRead bytes) s old new (lock_held, (file, at, holds)) (some, (rest, is), same) =
       (some, (rest, is ∙ ap bytes_of at ∙ holds))
-  is_true n due.CopyData (PieceCopied k) s old new (kept, (file, at, long))
+  is_true n due.CopyData (PieceCopied k) s old new (lock_held, (file, at, long))
       (some, (piece, rest, is, whole, same)) =
       (some, piece_fits k n file old.data_file piece rest at long is whole)
   is_true n op (PieceCopied k) s old new has is = absurd is
-  is_true n due.CopyData Done s old new (kept, (file, at, long)) is =
+  is_true n due.CopyData Done s old new (lock_held, (file, at, long)) is =
       sym long ∙ ap length (sym (ap bytes_of at) ∙ is.0)
-  is_true n due.ReadBack Done s old new (kept, (file, at, holds)) is = is.0 ∙ ap bytes_of at ∙ holds
+  is_true n due.ReadBack Done s old new (lock_held, (file, at, holds)) is = is.0 ∙ ap bytes_of at ∙ holds
   is_true n op e s old new has is = tt
 
   -- == What an event leads to ==
 
-  removal : (n : ℕ) (is : Bool) (s : State) (m : Moment)
+  removal : (n : ℕ) (is : Bool) (s : State) (m : Snapshot)
       → Has n (if is then due.RemoveFiles else due.Rejected) s m
   removal n true s m = tt
   removal n false s m = tt
 
-  abbrev Holds : ℕ → Moment → State → Type 0
+  abbrev Holds : ℕ → Snapshot → State → Type 0
   Holds n m s = Has n s.due s m
 
-  reject : (n : ℕ) (fault : InstallFault) (s : State) (m : Moment) → Holds n m (due.reject fault s)
+  reject : (n : ℕ) (fault : InstallFault) (s : State) (m : Snapshot) → Holds n m (due.reject fault s)
   reject n fault s m = removal n (has_files s.due) (due.reject fault s) m
 
-  either : (n : ℕ) (is : Bool) (x y : State) (m : Moment) → Holds n m x → Holds n m y
+  either : (n : ℕ) (is : Bool) (x y : State) (m : Snapshot) → Holds n m x → Holds n m y
       → Holds n m (if is then x else y)
   either n true x y m one other = one
   either n false x y m one other = other
 
-  to_install : (n : ℕ) (check : Bool) (s : State) (m : Moment) → s.options.check ≡ check → IsEarly n s m
+  to_install : (n : ℕ) (check : Bool) (s : State) (m : Snapshot) → s.options.check ≡ check → IsEarly n s m
       → Has n (if check then due.WouldInstall else due.RemoveLeftovers) (due.install s) m
   to_install n true s m is has = tt
   to_install n false s m is (none, inl check, found) = absurd (true≢false (sym check ∙ is))
   to_install n false s m is (none, inr locked, found) = (none, (locked, found))
 
-  install : (n : ℕ) (s : State) (m : Moment) → IsEarly n s m → Holds n m (due.install s)
+  install : (n : ℕ) (s : State) (m : Snapshot) → IsEarly n s m → Holds n m (due.install s)
   install n s m has = to_install n s.options.check s m refl has
 
-  compare : (n : ℕ) (s : State) (m : Moment) → IsEarly n s m → Holds n m (due.compare s)
+  compare : (n : ℕ) (s : State) (m : Snapshot) → IsEarly n s m → Holds n m (due.compare s)
   compare n s m has =
       either n (due.is_newer s) _ _ m (install n s m has)
       (either n (is_some s.recorded.digest) _ _ m has
       (either n (due.is_rolling_back s) _ _ m (install n s m has) has))
 
-  after_record : (n : ℕ) (s : State) (r : Result Recorded InstallFault) (m : Moment) → IsEarly n s m
+  after_record : (n : ℕ) (s : State) (r : Result Recorded InstallFault) (m : Snapshot) → IsEarly n s m
       → Holds n m (due.after_record r s)
   after_record n s (Ok recorded) m has = has
   after_record n s (Err fault) m has = reject n fault s m
 
-  after_signature : (n : ℕ) (s : State) (r : Passed) (time : Option ℕ) (m : Moment) → IsEarly n s m
+  after_signature : (n : ℕ) (s : State) (r : Passed) (time : Option ℕ) (m : Snapshot) → IsEarly n s m
       → Holds n m (due.after_signature r time s)
   after_signature n s (Ok (t, signers)) time m has = has
   after_signature n s (Err fault) time m has = reject n _ s m
 
-  after_comment : (n : ℕ) (s : State) (fault : Option InstallFault) (m : Moment) → IsEarly n s m
+  after_comment : (n : ℕ) (s : State) (fault : Option InstallFault) (m : Snapshot) → IsEarly n s m
       → Holds n m (due.after_comment fault (record s { is_signed = true }))
   after_comment n s None m has = compare n (record s { is_signed = true }) m has
   after_comment n s (Some fault) m has = reject n fault (record s { is_signed = true }) m
 
-  next_key : (n : ℕ) (s : State) (signers : List PublicKeyValue) (m : Moment) → s.due ≡ due.CheckComment
+  next_key : (n : ℕ) (s : State) (signers : List PublicKeyValue) (m : Snapshot) → s.due ≡ due.CheckComment
       → IsEarly n s m → Holds n m (due.next_key signers s)
   next_key n s [] m at has = reject n _ s m
   next_key n s (v ∷ []) m at has = reject n _ s m
   next_key n s (v ∷ u ∷ more) m at has = rw at has
 
-  after_digest : (n : ℕ) (s : State) (accepted : Bool) (m : Moment) → IsEarly n s m
+  after_digest : (n : ℕ) (s : State) (accepted : Bool) (m : Snapshot) → IsEarly n s m
       → Holds n m (due.after_digest accepted s)
   after_digest n s accepted m has =
       either n (not accepted && due.is_rolling_back s) _ _ m (install n s m has) has
 
-  stands : (n : ℕ) (check : Bool) (s : State) (m : Moment) → s.options.check ≡ check → IsSigned s
+  target_is_update : (n : ℕ) (check : Bool) (s : State) (m : Snapshot) → s.options.check ≡ check → IsSigned s
       → (Q → IsOpened s m) → Has n (if check then due.AlreadyInstalled else due.SyncTarget) s m
-  stands n true s m is signed opened = (signed, inl is)
-  stands n false s m is signed opened = (signed, opened)
+  target_is_update n true s m is signed opened = (signed, inl is)
+  target_is_update n false s m is signed opened = (signed, opened)
 
-  after_target : (n : ℕ) (s : State) (accepted : Bool) (m : Moment) → IsEarly n s m
+  after_target : (n : ℕ) (s : State) (accepted : Bool) (m : Snapshot) → IsEarly n s m
       → accepted ≡ asks w (data_question due.CheckTarget s) → (Q → IsOpened s m)
       → Holds n m (due.after_target accepted s)
   after_target n s true m has is opened =
-      stands n s.options.check (due.after_target true s) m refl (sym is) opened
+      target_is_update n s.options.check (due.after_target true s) m refl (sym is) opened
   after_target n s false m has is opened =
       either n (s.is_recorded || s.options.again) _ _ m (install n s m has) (reject n SameNumber s m)
 
-  after_piece : (n k : ℕ) (s : State) (left : Option ℕ) (m : Moment) → s.due ≡ due.CopyData
+  after_piece : (n k : ℕ) (s : State) (left : Option ℕ) (m : Snapshot) → s.due ≡ due.CopyData
       → Has n due.CopyData s m → Holds n m (due.after_piece k left s)
   after_piece n k s None m at has = rw at has
   after_piece n k s (Some left) m at has = either n (nat_le k left) _ _ m (rw at has) (reject n OtherSize s m)
 
-  after_copy : (n : ℕ) (s : State) (left : Option ℕ) (m : Moment) → IsClear m → HasBytes m.data_file w.update
+  after_copy : (n : ℕ) (s : State) (left : Option ℕ) (m : Snapshot) → IsClear m
+      → HasBytes m.data_file w.update
       → Holds n m (due.after_copy left s)
-  after_copy n s None m kept has = (kept, has)
-  after_copy n s (Some left) m kept has = either n (left == 0) _ _ m (kept, has) (reject n OtherSize s m)
+  after_copy n s None m lock_held has = (lock_held, has)
+  after_copy n s (Some left) m lock_held has = either n (left == 0) _ _ m (lock_held, has)
+      (reject n OtherSize s m)
 
-  maybe : (n : ℕ) (is : Bool) (t : State) (m : Moment) → Holds n m t
+  maybe : (n : ℕ) (is : Bool) (t : State) (m : Snapshot) → Holds n m t
       → IfSome (if is then Some t else None) (Holds n m)
   maybe n true t m holds = holds
   maybe n false t m holds = tt
 
-  piece_copied : (n k : ℕ) (s : State) (old new : Moment) → Has n due.CopyData s old
+  piece_copied : (n k : ℕ) (s : State) (old new : Snapshot) → Has n due.CopyData s old
       → Performs w s due.CopyData (PieceCopied k) old new → Has (n + k) due.CopyData s new
-  piece_copied n k s old new (kept, (file, at, long)) (some, (piece, rest, is, whole, same)) =
+  piece_copied n k s old new (lock_held, (file, at, long)) (some, (piece, rest, is, whole, same)) =
       rw same (
-        kept,
+        lock_held,
         (
           record file { bytes = file.bytes ++ piece; synced = false },
           ap (grown piece) at,
@@ -306,13 +314,13 @@ module _ (w : World) (F Q : Type 0) where
       )
 
   -- The file that was opened is the installed one.
-  opened_synced : (s : State) (m : Moment) → IsOpened s m → IsOnDisk (synced_if m.opened m.target) s.read
-  opened_synced s m (file, there, holds, opened) =
-      rw (opened, there, eq-eqb file.number file.number refl)
+  opened_synced : (s : State) (m : Snapshot) → IsOpened s m → IsOnDisk (synced_if m.opened m.target) s.read
+  opened_synced s m (file, present, holds, opened) =
+      rw (opened, present, eq-eqb file.number file.number refl)
       (record file { synced = true }, refl, holds, refl)
 
-  pub keeps : (n : ℕ) (op : Operation) (e : Event) (s : State) (old new : Moment) → s.due ≡ op
-      → (content old.recorded ≡ w.found → F) → Has n op s old → Performs w s op e old new
+  pub keeps : (n : ℕ) (op : Operation) (e : Event) (s : State) (old new : Snapshot) → s.due ≡ op
+      → (content old.recorded ≡ w.found_record → F) → Has n op s old → Performs w s op e old new
       → IfSome (after op e s) (Holds (count n e) new)
   keeps n due.Nothing (Failed f) s old new at reads has is = tt
   keeps n due.Installed (Failed f) s old new at reads has is = tt
@@ -338,53 +346,61 @@ module _ (w : World) (F Q : Type 0) where
   keeps n due.CheckRecord (Answered accepted) s old new at reads has is =
       after_digest n s accepted new (rw is.1 has)
   keeps n due.ReadTarget (PieceRead bytes) s old new at reads has is = rw (at, is.2) has
-  keeps n due.ReadTarget Done s old new at reads has (file, there, holds, is) =
-      rw is (has, λ q. (file, there, holds, refl))
+  keeps n due.ReadTarget Done s old new at reads has (file, present, holds, is) =
+      rw is (has, λ q. (file, present, holds, refl))
   keeps n due.ReadTarget TargetMissing s old new at reads has is = install n s new (rw is.1 has)
   keeps n due.CheckTarget (Answered accepted) s old new at reads has is =
       after_target n s accepted new (rw is.1 has.0) is.0 (λ q. rw is.1 (has.1 q))
   keeps n due.RemoveLeftovers Done s old new at reads (none, (locked, known)) is =
       rw is (none, (locked, known, refl))
-  keeps n due.CreateFile Done s old new at reads (none, kept) (number, is) =
+  keeps n due.CreateFile Done s old new at reads (none, lock_held) (number, is) =
       rw is (
-        kept,
+        lock_held,
         (record { number = number; bytes = []; synced = false; permissions = false }, refl, sym none),
       )
   keeps n due.CopyData (PieceCopied k) s old new at reads has is =
       after_piece (n + k) k s s.left new at (piece_copied n k s old new has is)
-  keeps n due.CopyData Done s old new at reads (kept, (file, there, long)) is =
-      after_copy n s s.left new (rw is.1 kept)
-      (rw is.1 (file, there, sym (ap bytes_of there) ∙ is.0))
+  keeps n due.CopyData Done s old new at reads (lock_held, (file, present, long)) is =
+      after_copy n s s.left new (rw is.1 lock_held)
+      (rw is.1 (file, present, sym (ap bytes_of present) ∙ is.0))
   keeps n due.ReadBack (PieceRead bytes) s old new at reads has is = rw (at, is.2) has
-  keeps n due.ReadBack Done s old new at reads (kept, (file, there, holds)) is =
-      rw is.1 (kept, (file, there, sym (ap bytes_of there) ∙ sym is.0))
+  keeps n due.ReadBack Done s old new at reads (lock_held, (file, present, holds)) is =
+      rw is.1 (lock_held, (file, present, sym (ap bytes_of present) ∙ sym is.0))
   keeps n due.CheckData (Answered true) s old new at reads has is = rw is.1 has
   keeps n due.CheckData (Answered false) s old new at reads has is = reject n _ s new
-  keeps n due.SetPermissions Done s old new at reads (kept, (file, there, holds)) is =
-      rw is (kept, (record file { permissions = true; synced = false }, ap permitted there, holds, refl))
-  keeps n due.SyncFile Done s old new at reads (kept, (file, there, holds, same_permissions)) is =
-      rw is (kept, (record file { synced = true }, ap synced there, holds, same_permissions, refl))
-  keeps n due.CreateRecord Done s old new at reads (kept, whole) (number, is) =
+  keeps n due.SetPermissions Done s old new at reads (lock_held, (file, present, holds)) is =
       rw is (
-        kept,
+        lock_held,
+        (
+          record file { permissions = true; synced = false },
+          ap permitted present,
+          holds,
+          refl,
+        ),
+      )
+  keeps n due.SyncFile Done s old new at reads (lock_held, (file, present, holds, same_permissions)) is =
+      rw is (lock_held, (record file { synced = true }, ap synced present, holds, same_permissions, refl))
+  keeps n due.CreateRecord Done s old new at reads (lock_held, whole) (number, is) =
+      rw is (
+        lock_held,
         whole,
         (record { number = number; bytes = []; synced = false; permissions = false }, refl),
       )
-  keeps n due.WriteRecord Done s old new at reads (kept, whole, (file, there)) is =
+  keeps n due.WriteRecord Done s old new at reads (lock_held, whole, (file, present)) is =
       rw is (
-        kept,
+        lock_held,
         whole,
-        (record file { bytes = new_record s; synced = false }, ap (written (new_record s)) there, refl),
+        (record file { bytes = new_record s; synced = false }, ap (written (new_record s)) present, refl),
       )
-  keeps n due.SyncRecord Done s old new at reads (kept, whole, (file, there, holds)) is =
-      rw is (kept, whole, (record file { synced = true }, ap synced there, holds, refl))
+  keeps n due.SyncRecord Done s old new at reads (lock_held, whole, (file, present, holds)) is =
+      rw is (lock_held, whole, (record file { synced = true }, ap synced present, holds, refl))
   keeps n due.RenameRecord Done s old new at reads has is = rw is has
-  keeps n due.SyncRecordName Done s old new at reads (kept, whole, recorded) is =
-      rw is (kept, whole, recorded, refl)
-  keeps n due.RenameFile Done s old new at reads (kept, whole, recorded, left) is =
-      rw is (kept, recorded, left, λ q. whole)
-  keeps n due.SyncFileName Done s old new at reads (kept, recorded, left, complete) is =
-      rw is (kept, recorded, refl, λ q. (complete q, refl))
+  keeps n due.SyncRecordName Done s old new at reads (lock_held, whole, recorded) is =
+      rw is (lock_held, whole, recorded, refl)
+  keeps n due.RenameFile Done s old new at reads (lock_held, whole, recorded, left) is =
+      rw is (lock_held, recorded, left, λ q. whole)
+  keeps n due.SyncFileName Done s old new at reads (lock_held, recorded, left, complete) is =
+      rw is (lock_held, recorded, refl, λ q. (complete q, refl))
   keeps n due.SyncTarget Done s old new at reads (signed, opened) is =
       rw is (signed, λ q. opened_synced s old (opened q))
   keeps n due.SyncTargetName Done s old new at reads (signed, holds) is =
@@ -393,12 +409,12 @@ module _ (w : World) (F Q : Type 0) where
   keeps n op Done s old new at reads has is = absurd is
   keeps n op e s old new at reads has is = tt
 
-  pub moves : (n : ℕ) (s : State) (next : Option State) (m : Moment) → is_some next ≡ true
+  pub moves : (n : ℕ) (s : State) (next : Option State) (m : Snapshot) → is_some next ≡ true
       → IfSome next (Holds n m) → Holds n m (answer s next).1
   moves n s (Some t) m fits holds = holds
   moves n s None m fits holds = absurd (true≢false (sym fits))
 
-  pub begins : (check : Bool) (o : Options) (m : Moment) → o.check ≡ check
+  pub begins : (check : Bool) (o : Options) (m : Snapshot) → o.check ≡ check
       → Has 0 (if check then due.ReadRecord else due.Lock) (begin o) m
   begins true o m is = (refl, inl is)
   begins false o m is = (refl, is)

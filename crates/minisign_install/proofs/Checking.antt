@@ -3,10 +3,10 @@ use Rattle.std.specs.Prelude.{◌≡◌, ◌&&◌, ◌||◌, ℕ, Bool, true, fa
 use Rattle.std.specs.Prelude.{Result, Ok, Err, IfSome, is_some, if◌then◌else◌, not}
 use Rattle.std.proofs.Common.{refl, sym, true≢false}
 use Rattle.minisign_external.specs.declared.public_keys.PublicKeyValue.{PublicKeyValue}
-use Rattle.minisign_install.specs.Applications.{Applies, Call, LeavesAll, Moment, Performs}
+use Rattle.minisign_install.specs.Applications.{Applies, Call, LeavesAll, Snapshot, Performs}
 use Rattle.minisign_install.specs.Decisions.{Options, Recorded, judge_record, judge_text}
 use Rattle.minisign_install.specs.Faults.{InstallFault, SameNumber}
-use Rattle.minisign_install.specs.Histories.{EachCall}
+use Rattle.minisign_install.specs.Histories.{AllCalls}
 use Rattle.minisign_install.specs.Step.{Event, Done, InUse, Failed, RecordRead, SignatureRead, Operation}
 use Rattle.minisign_install.specs.Step.{Answered, PieceRead, TargetMissing, State, after, answer, begin}
 use Rattle.minisign_install.specs.Step.{step}
@@ -125,7 +125,7 @@ moves : (s : State) (next : Option State) → is_some next ≡ true → IfSome n
 moves s (Some t) fits holds = holds
 moves s None fits holds = absurd (true≢false (sym fits))
 
-leaves : (w : World) (op : Operation) (e : Event) (s : State) (old new : Moment) → Reads op s
+leaves : (w : World) (op : Operation) (e : Event) (s : State) (old new : Snapshot) → Reads op s
     → Performs w s op e old new → LeavesAll old new
 leaves w due.ReadRecord (RecordRead found) s old new reads is = rw is.2 refl
 leaves w due.ReadSignature (SignatureRead text time) s old new reads is = rw is.1 refl
@@ -161,8 +161,8 @@ leaves w due.WouldInstall e s old new reads is = absurd is
 leaves w due.Rejected e s old new reads is = absurd is
 leaves w op e s old new reads is = absurd reads
 
-all_left : (w : World) (s : State) (m : Moment) (calls : List Call) (t : State) (end : Moment) → Holds s
-    → Applies w s m calls t end → EachCall LeavesAll calls
+all_left : (w : World) (s : State) (m : Snapshot) (calls : List Call) (t : State) (end : Snapshot) → Holds s
+    → Applies w s m calls t end → AllCalls LeavesAll calls
 all_left w s m [] t end holds run = tt
 all_left w s m (c ∷ more) t end holds (others, fits, is, run) = (
   leaves w s.due c.event s c.before c.after holds is,
@@ -174,7 +174,7 @@ begins : (o : Options) → o.check ≡ true → Holds (begin o)
 begins o is = rw is refl
 
 -- A check changes neither files nor names, and takes no lock.
-pub check_changes_nothing : (w : World) (o : Options) (m : Moment) (calls : List Call) (t : State)
-    (end : Moment) → o.check ≡ true → Applies w (begin o) m calls t end → EachCall LeavesAll calls
+pub check_changes_nothing : (w : World) (o : Options) (m : Snapshot) (calls : List Call) (t : State)
+    (end : Snapshot) → o.check ≡ true → Applies w (begin o) m calls t end → AllCalls LeavesAll calls
 check_changes_nothing w o m calls t end check run =
     all_left w (begin o) m calls t end (begins o check) run

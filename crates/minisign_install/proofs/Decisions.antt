@@ -78,8 +78,8 @@ pub reads_version : (numbering : Numbering) (comment : List ℕ) (n : ℕ)
     → version_in numbering comment ≡ Some n
     → HasNumber comment numbering n
 reads_version numbering comment n is =
-    let (value, there, number) = value_read (value_of (number_label numbering) comment) n is in
-    record { value = value; numbered = there; number = number }
+    let (value, present, number) = value_read (value_of (number_label numbering) comment) n is in
+    record { value = value; numbered = present; number = number }
 
 pub version_reads : (numbering : Numbering) (comment : List ℕ) (n : ℕ) → HasNumber comment numbering n
     → version_in numbering comment ≡ Some n
@@ -117,10 +117,10 @@ unexpired true time comment [] until are is none = absurd (none-some NoExpiry (s
 unexpired false time comment [] until are is none = inl (refl, are)
 unexpired must time comment (field ∷ []) None are is none = absurd (none-some BadExpiry (sym none))
 unexpired must time comment (field ∷ []) (Some until) are is none =
-    let (value, there, number) = value_read (value_of expiry_label comment) until is in
+    let (value, present, number) = value_read (value_of expiry_label comment) until is in
     inr (
       until,
-      record { value = value; once = ap length are; labelled = there; number = number },
+      record { value = value; once = ap length are; labelled = present; number = number },
       before time until (holds_if _ _ none),
     )
 unexpired must time comment (field ∷ other ∷ more) until are is none = absurd (none-some BadExpiry
@@ -213,13 +213,13 @@ expiry_refused must time comment (field ∷ []) None e are is some =
           absurd (none-some u (sym is ∙ rw expires.labelled (number_reads expires.value u expires.number))),
     ))
 expiry_refused must time comment (field ∷ []) (Some until) e are is some =
-    let (value, there, number) = value_read (value_of expiry_label comment) until is in
+    let (value, present, number) = value_read (value_of expiry_label comment) until is in
     let (late, fault) = fails_if (is_below time (Some until)) Expired e some in
     inl (
       fault,
       (
         until,
-        record { value = value; once = ap length are; labelled = there; number = number },
+        record { value = value; once = ap length are; labelled = present; number = number },
         past time until number.bound late,
       ),
     )
@@ -306,8 +306,8 @@ comment_refused o recorded time comment e some = elim (some_first _ _ e some) [
                     ≡ Some e = last_first _ e rest in
                     let (not, fault) = fails_if _ _ e old in
                     let says = says_of o time comment file number expiry size in
-                    let (k, there, below) = older o recorded says.0 (was_false _ (rw says.1 at not)) in
-                    inr (inr (inr (inr (fault, (says.0, k, says.2, there, below)))))
+                    let (k, present, below) = older o recorded says.0 (was_false _ (rw says.1 at not)) in
+                    inr (inr (inr (inr (fault, (says.0, k, says.2, present, below)))))
               ]
         ]
   ]

@@ -1,4 +1,4 @@
--- The fields of a comment, and what stands behind a label.
+-- The fields of a comment, and the values after their labels.
 use Rattle.std.specs.Prelude.{is_some, filter_map, MatchOption}
 use Rattle.std.proofs.Common.{Bool, true, false, ◌≡◌, ◌≢◌, ◌<◌, ◌==◌, ℕ, List, [], ◌∷◌, ◌++◌, Some, None}
 use Rattle.std.proofs.Common.{length, ap, sym, ◌∙◌, refl, cond, arith, drop, Bor, Option, option_map, inl}

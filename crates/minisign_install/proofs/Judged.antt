@@ -1,10 +1,10 @@
--- What the functions of the code find in a trusted comment.
+-- The functions of the code find the fields of a trusted comment.
 use Rattle.std.specs.Prelude.{◌≡◌, ℕ, List, [], ◌∷◌, Option, Some, None, Err, MatchOption}
 use Rattle.std.specs.Str.{IsUtf8}
 use Rattle.std.proofs.Common.{refl, sym, ap, ◌∙◌}
 use Rattle.std.proofs.lemmas.Str.{is_utf8-from_IsUtf8}
 use Rattle.minisign_install.specs.Comments.{IsNumberText, Numbering}
-use Rattle.minisign_install.specs.Decisions.{first_of, judge_alone, judge_comment, number_in}
+use Rattle.minisign_install.specs.Decisions.{first_of, judge_comment_only, judge_comment, number_in}
 use Rattle.minisign_install.specs.Faults.{InstallFault, Library, Named, NotUtf8}
 use Rattle.minisign_install.proofs.Decisions.{number_reads, reads_number}
 use Rattle.minisign_install.proofs.SignatureFiles.{not_utf8}
@@ -40,7 +40,7 @@ last o r is = only r ∙ ap (λ (x : Option InstallFault). first_of (x ∷ [])) 
 
 pub both_utf8 : (numbering : Numbering) (time least : ℕ) (file comment name text : List ℕ) → text ≡ comment
     → IsUtf8 comment → name ≡ file → IsUtf8 file
-    → judge_alone name numbering time least text ≡ judge_comment file numbering time least comment
+    → judge_comment_only name numbering time least text ≡ judge_comment file numbering time least comment
 both_utf8 numbering time least file comment name text same utf8 named name_utf8 =
     rw (same, named, is_utf8-from_IsUtf8 comment utf8, is_utf8-from_IsUtf8 file name_utf8) refl
 

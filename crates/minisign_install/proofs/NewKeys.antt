@@ -1,4 +1,4 @@
--- What --new-key and --roll-back do to the record.
+-- The effects of --new-key and --roll-back on the record.
 use Rattle.std.specs.Prelude.{◌≡◌, ◌<◌, ◌||◌, ℕ, true, false, List, Some, None, Ok, Err}
 use Rattle.std.proofs.Common.{refl, lt-ltb}
 use Rattle.minisign_install.specs.Decisions.{Options, judge_record, names_other_key}
@@ -12,11 +12,11 @@ pub other_key_is_ignored : (o : Options) (bytes : List ℕ) (n : ℕ) → (o.fir
     → judge_record o (Some bytes) ≡ Ok nothing_recorded
 other_key_is_ignored o bytes n ignores other is = rw (is, ignores, other) refl
 
-pub record_counts : (o : Options) (bytes : List ℕ) (n : ℕ) → (o.first || o.new_key) ≡ false
+pub applies_to_record : (o : Options) (bytes : List ℕ) (n : ℕ) → (o.first || o.new_key) ≡ false
     → recorded_version o.numbering bytes ≡ Some n
     → judge_record o (Some bytes)
     ≡ Ok (record { version = Some n; key = record_key bytes; digest = record_digest bytes })
-record_counts o bytes n counts is = rw (is, counts) refl
+applies_to_record o bytes n record_applies is = rw (is, record_applies) refl
 
 pub missing_stops : (o : Options) → o.first ≡ false → judge_record o None ≡ Err NoRecord
 missing_stops o later = rw later refl

@@ -98,7 +98,7 @@ module _ (numbering : Numbering) (n : ℕ) (bound : n < 2 ^ 64) (key digest : Li
     digest_whole,
   )
 
-  -- behind the first line stands a line feed
+  -- a line feed follows the first line
   ends : slice_index (line ++ mark_text key digest) (length (line ++ mark_text key digest) - 194) ≡ 10
   ends =
       let at : length (line ++ mark_text key digest) - 194 - length line ≡ 0 = omega (arith, len) in

@@ -15,8 +15,8 @@ use Rattle.minisign_install.specs.Step.{Event, Done, InUse, Failed, RecordRead, 
 use Rattle.minisign_install.specs.Step.{PieceRead, PieceCopied, State, begin, step, Operation, after}
 use Rattle.minisign_install.specs.Step.{answer, has_ended, key_of}
 use Rattle.minisign_install.specs.Step as due
-use Rattle.minisign_install.specs.Applications.{Applies, Call, Moment}
-use Rattle.minisign_install.specs.Histories.{EachEvent, IsFineFor, IsOwnUpdate, IsThere}
+use Rattle.minisign_install.specs.Applications.{Applies, Call, Snapshot}
+use Rattle.minisign_install.specs.Histories.{AllEvents, IsAcceptableFor, IsOwnUpdate, IsInstalled}
 use Rattle.minisign_install.specs.StepRuns.{IsTrueEvent, World, count}
 use Rattle.minisign_install.specs.StepRuns.{first_signer}
 use Rattle.minisign_install.proofs.SafeCalls.{Invariant, next, true_event}
@@ -29,22 +29,22 @@ module _ (w : World) (o : Options) (g : IsOwnUpdate w o) where
   Left n (Some left) = left + n ≡ length w.update
 
   -- The signature and the key of the update are known.
-  abbrev Knows : State → Type 0
-  Knows s = (s.signature ≡ g.text.signature.signature) × (key_of s.signers ≡ g.key)
+  abbrev StateKnows : State → Type 0
+  StateKnows s = (s.signature ≡ g.text.signature.signature) × (key_of s.signers ≡ g.key)
 
   -- The data can be copied.
   abbrev IsReady : ℕ → State → Type 0
-  IsReady n s = Knows s × Left n s.left × (s.read ≡ []) × (n ≤ length w.update)
+  IsReady n s = StateKnows s × Left n s.left × (s.read ≡ []) × (n ≤ length w.update)
 
   -- The update can be installed.
   abbrev CanInstall : ℕ → State → Type 0
-  CanInstall n s = Knows s × Left n s.left × (n ≡ 0) × (s.options.check ≡ false)
+  CanInstall n s = StateKnows s × Left n s.left × (n ≡ 0) × (s.options.check ≡ false)
 
   -- The installed file is compared with the update.
   abbrev Compares : ℕ → State → Type 0
   Compares n s = CanInstall n s × (s.is_recorded ≡ true)
 
-  -- What is so if the run is on its way to the installation of the update.
+  -- Invariant of a run on its way to the installation of the update.
   abbrev OnTrack : ℕ → Operation → State → Type 0
   OnTrack n due.Lock s = (s.options ≡ o) × (n ≡ 0)
   OnTrack n due.ReadRecord s = (s.options ≡ o) × (n ≡ 0)
@@ -66,8 +66,8 @@ module _ (w : World) (o : Options) (g : IsOwnUpdate w o) where
   OnTrack n due.RemoveLeftovers s = IsReady n s
   OnTrack n due.CreateFile s = IsReady n s
   OnTrack n due.CopyData s = IsReady n s
-  OnTrack n due.ReadBack s = Knows s × ((rest : List ℕ) × (s.read ++ rest ≡ w.update))
-  OnTrack n due.CheckData s = Knows s × (s.read ≡ w.update)
+  OnTrack n due.ReadBack s = StateKnows s × ((rest : List ℕ) × (s.read ++ rest ≡ w.update))
+  OnTrack n due.CheckData s = StateKnows s × (s.read ≡ w.update)
   OnTrack n due.SetPermissions s = ⊤
   OnTrack n due.SyncFile s = ⊤
   OnTrack n due.CreateRecord s = ⊤
@@ -128,12 +128,13 @@ module _ (w : World) (o : Options) (g : IsOwnUpdate w o) where
   key_found [] accepted is = absurd (none-some g.key is)
   key_found (v ∷ more) accepted is = same_Some v.key g.key (rw (sym accepted) at is)
 
-  after_record : (n : ℕ) (s : State) (found : Option (List ℕ)) → (s.options ≡ o) × (n ≡ 0) → found ≡ w.found
+  after_record : (n : ℕ) (s : State) (found : Option (List ℕ)) → (s.options ≡ o) × (n ≡ 0)
+      → found ≡ w.found_record
       → Stays n due.ReadRecord (RecordRead found) s
-  after_record n s found (is_o, none) is = rw (is_o, is, g.counts) (refl, none, refl)
+  after_record n s found (is_o, none) is = rw (is_o, is, g.record_applies) (refl, none, refl)
 
   after_signature : (n : ℕ) (s : State) (text : Result SignatureTextRecord Fault) (time : Option ℕ)
-      → OnTrack n due.ReadSignature s → IsFineFor g (SignatureRead text time) → text ≡ w.text
+      → OnTrack n due.ReadSignature s → IsAcceptableFor g (SignatureRead text time) → text ≡ w.text
       → Stays n due.ReadSignature (SignatureRead text time) s
   after_signature n s text time (is_o, none, recorded) fine is =
       rw (is_o, is ∙ g.parsed, g.passed, recorded)
@@ -149,7 +150,7 @@ module _ (w : World) (o : Options) (g : IsOwnUpdate w o) where
       let installs : s.options.check ≡ false = ap (λ (x : Options). x.check) is_o ∙ g.installs in
       let ready : Left n s.left = rw left (left_at n (size_in g.text.comments.trusted) none g.sized) in
       let signed : State = record s { is_signed = true } in
-      let knows : Knows signed = (signature, key_found s.signers accepts signer) in
+      let knows : StateKnows signed = (signature, key_found s.signers accepts signer) in
       let can : CanInstall n signed = (knows, ready, none, installs) in
       let on : OnTrack n (due.compare signed).due (due.compare signed) =
       ⊎_elim
@@ -183,21 +184,21 @@ module _ (w : World) (o : Options) (g : IsOwnUpdate w o) where
       let found = rw (sym rejected) at signer in
       rw at (is_o, none, recorded, fault, version, signature, also, left, found)
 
-  after_piece : (n k : ℕ) (s : State) (left : Option ℕ) → s.due ≡ due.CopyData → Knows s → Left n left
+  after_piece : (n k : ℕ) (s : State) (left : Option ℕ) → s.due ≡ due.CopyData → StateKnows s → Left n left
       → s.left ≡ left → s.read ≡ [] → n + k ≤ length w.update
       → OnTrack (n + k) (due.after_piece k left s).due (due.after_piece k left s)
   after_piece n k s None at knows is none read more = rw (at, none) (knows, tt, read, more)
   after_piece n k s (Some left) at knows is none read more =
       rw (le-leb k left (omega (arith, is, more)), at) (knows, omega (arith, is, more), read, more)
 
-  after_copy : (n : ℕ) (s : State) (left : Option ℕ) → Knows s → Left n left → s.read ≡ []
+  after_copy : (n : ℕ) (s : State) (left : Option ℕ) → StateKnows s → Left n left → s.read ≡ []
       → n ≡ length w.update
       → OnTrack n (due.after_copy left s).due (due.after_copy left s)
   after_copy n s None knows is read all = (knows, (w.update, rw read refl))
   after_copy n s (Some left) knows is read all =
       rw (eq-eqb left 0 (omega (arith, is, all))) (knows, (w.update, rw read refl))
 
-  check_data : {P : Type 0} (s : State) → Knows s × (s.read ≡ w.update)
+  check_data : {P : Type 0} (s : State) → StateKnows s × (s.read ≡ w.update)
       → false ≡ w.accepts (blake2b_digest 64 s.read) (key_of s.signers) s.signature → P
   check_data s ((signature, key), read) rejected =
       absurd (true≢false (sym g.signed_data ∙ sym (rw (read, key, signature) at rejected)))
@@ -218,7 +219,7 @@ module _ (w : World) (o : Options) (g : IsOwnUpdate w o) where
       first n (s.is_recorded || s.options.again) (due.install s) _ (ap (λ b. b || s.options.again) own)
       (install n s can)
 
-  keeps : (n : ℕ) (op : Operation) (e : Event) (s : State) → s.due ≡ op → OnTrack n op s → IsFineFor g e
+  keeps : (n : ℕ) (op : Operation) (e : Event) (s : State) → s.due ≡ op → OnTrack n op s → IsAcceptableFor g e
       → IsTrueEvent w n s op e → Stays n op e s
   keeps n op (Failed f) s at on fine is = absurd fine
   keeps n op InUse s at on fine is = absurd fine
@@ -263,9 +264,9 @@ module _ (w : World) (o : Options) (g : IsOwnUpdate w o) where
   begins false = (refl, refl)
 
   -- In a run of an application.
-  stays_on : (n : ℕ) (s : State) (m : Moment) (calls : List Call) (t : State) (end : Moment)
+  stays_on : (n : ℕ) (s : State) (m : Snapshot) (calls : List Call) (t : State) (end : Snapshot)
       → OnTrack n s.due s → Invariant w o ⊤ ⊥ n s m → Applies w s m calls t end
-      → EachEvent (IsFineFor g) calls → (k : ℕ) × OnTrack k t.due t
+      → AllEvents (IsAcceptableFor g) calls → (k : ℕ) × OnTrack k t.due t
   stays_on n s m [] t end on known (is, same) fine = (n, rw is on)
   stays_on n s m (c ∷ more) t end on known (others, fits, is, run) (fine, rest) =
       stays_on (count n c.event) (step s c.event).1 c.after more t end
@@ -274,19 +275,20 @@ module _ (w : World) (o : Options) (g : IsOwnUpdate w o) where
       (true_event w o ⊤ ⊥ n s m c known others (λ q. absurd q) fits is).1))
       (next w o ⊤ ⊥ n s m c known others (λ q. absurd q) fits is (λ found. tt)) run rest
 
-  there : (n : ℕ) (op : Operation) (s : State) → OnTrack n op s → has_ended op ≡ true → IsThere op
-  there n due.Installed s on ended = inl refl
-  there n due.AlreadyInstalled s on ended = inr refl
-  there n due.WouldInstall s on ended = absurd on
-  there n due.Rejected s on ended = absurd on
-  there n op s on ended = absurd (true≢false (sym ended))
+  installed_at_end : (n : ℕ) (op : Operation) (s : State) → OnTrack n op s → has_ended op ≡ true
+      → IsInstalled op
+  installed_at_end n due.Installed s on ended = inl refl
+  installed_at_end n due.AlreadyInstalled s on ended = inr refl
+  installed_at_end n due.WouldInstall s on ended = absurd on
+  installed_at_end n due.Rejected s on ended = absurd on
+  installed_at_end n op s on ended = absurd (true≢false (sym ended))
 
 -- If nothing fails, and the record was written for this update or the update is older, a run that has ended
 -- has installed it, or it was installed before.
-pub interrupted_run_is_finished : (w : World) (o : Options) (g : IsOwnUpdate w o) (m : Moment)
-    (calls : List Call) (t : State) (end : Moment) → Applies w (begin o) m calls t end
-    → EachEvent (IsFineFor g) calls → has_ended t.due ≡ true → IsThere t.due
+pub interrupted_run_is_finished : (w : World) (o : Options) (g : IsOwnUpdate w o) (m : Snapshot)
+    (calls : List Call) (t : State) (end : Snapshot) → Applies w (begin o) m calls t end
+    → AllEvents (IsAcceptableFor g) calls → has_ended t.due ≡ true → IsInstalled t.due
 interrupted_run_is_finished w o g m calls t end run fine ended =
     let (n, on) = stays_on w o g 0 (begin o) m calls t end (begins w o g o.check)
     (safe_calls.begins w o ⊤ ⊥ m) run fine in
-    there w o g n t.due t on ended
+    installed_at_end w o g n t.due t on ended

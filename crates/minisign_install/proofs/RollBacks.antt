@@ -6,7 +6,7 @@ use Rattle.std.proofs.Common.{refl, sym, ap, ◌∙◌, arith, true≢false}
 use Rattle.std.proofs.lemmas.Grind.{common_steps}
 use Rattle.minisign_external.specs.declared.public_keys.PublicKeyValue.{PublicKeyValue}
 use Rattle.minisign_hash.specs.Blake2b.{blake2b_digest}
-use Rattle.minisign_install.specs.Applications.{Applies, Call, Moment, Performs}
+use Rattle.minisign_install.specs.Applications.{Applies, Call, Snapshot, Performs}
 use Rattle.minisign_install.specs.Decisions.{Options, Recorded, judge_record, judge_text}
 use Rattle.minisign_install.specs.Faults.{InstallFault, SameNumber}
 use Rattle.minisign_install.specs.Histories.{AcceptsWholeKeys, IsLaterRun, IsOtherUpdate, OthersLeaveTarget}
@@ -20,40 +20,40 @@ use Rattle.minisign_install.proofs.SafeCalls.{Invariant, begins, knows, next}
 use Rattle.minisign_install.proofs.StepSafety.{IsAccepted, IsJudged, Known, Passed}
 use Rattle.minisign_install.proofs.Versions.{later_record}
 
-abbrev ok : Recorded → Result Recorded InstallFault
+abbrev pub ok : Recorded → Result Recorded InstallFault
 ok r = Ok r
 
-same_ok : (r u : Recorded) → ok r ≡ ok u → r ≡ u
+pub same_ok : (r u : Recorded) → ok r ≡ ok u → r ≡ u
 same_ok r u is = cc is
 
 not_less : (k : ℕ) → nat_lt k k ≡ false
 not_less k = grind (arith, common_steps)
 
 module _ (v : World) (p : Options) (k : ℕ) (digest : List ℕ) (r : Recorded)
-    (counts : judge_record p v.found ≡ Ok r) (version : r.version ≡ Some k)
+    (record_applies : judge_record p v.found_record ≡ Ok r) (version : r.version ≡ Some k)
     (written : r.digest ≡ Some digest) (whole : AcceptsWholeKeys v.accepts)
     (update : IsOtherUpdate v p k digest) (once : p.again ≡ false) where
   -- == What is known ==
 
   recorded_is : (s : State) → IsJudged v p s → s.recorded ≡ r
-  recorded_is s judged = same_ok s.recorded r (sym judged.5 ∙ counts)
+  recorded_is s judged = same_ok s.recorded r (sym judged.5 ∙ record_applies)
 
   version_is : (s : State) → IsJudged v p s → s.version ≡ k
   version_is s judged = judged.10 ∙ ap (λ (x : Option ℕ). unwrap_or x 0) (update.numbered judged.0 judged.6)
 
-  not_newer : (s : State) → IsJudged v p s → due.is_newer s ≡ false
+  pub not_newer : (s : State) → IsJudged v p s → due.is_newer s ≡ false
   not_newer s judged =
       rw (recorded_is s judged, version, version_is s judged, not_less k) refl
 
-  not_older : (s : State) → IsJudged v p s → due.is_rolling_back s ≡ false
+  pub not_older : (s : State) → IsJudged v p s → due.is_rolling_back s ≡ false
   not_older s judged =
       rw (recorded_is s judged, version, version_is s judged, not_less k) refl
 
-  has_digest : (s : State) → IsJudged v p s → s.recorded.digest ≡ Some digest
+  pub has_digest : (s : State) → IsJudged v p s → s.recorded.digest ≡ Some digest
   has_digest s judged = ap (λ (x : Recorded). x.digest) (recorded_is s judged) ∙ written
 
   -- No key has signed the data of the recorded digest.
-  not_signed : (s : State) (signers : List PublicKeyValue) → s.signers ≡ signers → IsAccepted v p s
+  pub not_signed : (s : State) (signers : List PublicKeyValue) → s.signers ≡ signers → IsAccepted v p s
       → v.accepts digest (due.key_of signers) s.signature ≡ false
   not_signed s [] none (judged, fine, comment) =
       absurd (omega (arith, whole _ _ _ (rw none at comment)))
@@ -63,16 +63,16 @@ module _ (v : World) (p : Options) (k : ℕ) (digest : List ℕ) (r : Recorded)
 
   -- == From one operation to the next ==
 
-  abbrev IsThere : Moment → Type 0
-  IsThere m = is_some m.target ≡ true
+  abbrev HasTarget : Snapshot → Type 0
+  HasTarget m = is_some m.target ≡ true
 
-  abbrev Past : Operation → State → Moment → Type 0
-  Past due.Lock s m = IsThere m
-  Past due.ReadRecord s m = IsThere m
-  Past due.ReadSignature s m = IsThere m
-  Past due.CheckComment s m = IsThere m
-  Past due.CheckRecord s m = IsThere m
-  Past due.ReadTarget s m = IsThere m × (s.is_recorded ≡ false)
+  abbrev Past : Operation → State → Snapshot → Type 0
+  Past due.Lock s m = HasTarget m
+  Past due.ReadRecord s m = HasTarget m
+  Past due.ReadSignature s m = HasTarget m
+  Past due.CheckComment s m = HasTarget m
+  Past due.CheckRecord s m = HasTarget m
+  Past due.ReadTarget s m = HasTarget m × (s.is_recorded ≡ false)
   Past due.CheckTarget s m = s.is_recorded ≡ false
   Past due.SyncTarget s m = ⊤
   Past due.SyncTargetName s m = ⊤
@@ -82,10 +82,10 @@ module _ (v : World) (p : Options) (k : ℕ) (digest : List ℕ) (r : Recorded)
   Past due.Nothing s m = ⊤
   Past op s m = ⊥
 
-  abbrev Holds : Moment → State → Type 0
+  abbrev Holds : Snapshot → State → Type 0
   Holds m s = Past s.due s m
 
-  ended : (op : Operation) (s : State) (m : Moment) → Past op s m → leads_to_install op ≡ false
+  ended : (op : Operation) (s : State) (m : Snapshot) → Past op s m → leads_to_install op ≡ false
   ended due.Lock s m is = refl
   ended due.ReadRecord s m is = refl
   ended due.ReadSignature s m is = refl
@@ -101,72 +101,74 @@ module _ (v : World) (p : Options) (k : ℕ) (digest : List ℕ) (r : Recorded)
   ended due.Nothing s m is = refl
   ended op s m is = absurd is
 
-  rejected : (is : Bool) (fault : InstallFault) (s : State) (m : Moment)
+  rejected : (is : Bool) (fault : InstallFault) (s : State) (m : Snapshot)
       → Holds m (record s { due = if is then due.RemoveFiles else due.Rejected; error = Some fault })
   rejected true fault s m = tt
   rejected false fault s m = tt
 
-  reject : (fault : InstallFault) (s : State) (m : Moment) → Holds m (due.reject fault s)
+  reject : (fault : InstallFault) (s : State) (m : Snapshot) → Holds m (due.reject fault s)
   reject fault s m = rejected (due.has_files s.due) fault s m
 
-  compare : (s : State) (m : Moment) → IsJudged v p s → IsThere m → Holds m (due.compare s)
-  compare s m judged there = rw (not_newer s judged, has_digest s judged) there
+  compare : (s : State) (m : Snapshot) → IsJudged v p s → HasTarget m → Holds m (due.compare s)
+  compare s m judged has_target = rw (not_newer s judged, has_digest s judged) has_target
 
-  after_record : (found : Result Recorded InstallFault) (s : State) (m : Moment) → IsThere m
+  after_record : (found : Result Recorded InstallFault) (s : State) (m : Snapshot) → HasTarget m
       → Holds m (due.after_record found s)
-  after_record (Ok recorded) s m there = there
-  after_record (Err fault) s m there = reject fault s m
+  after_record (Ok recorded) s m has_target = has_target
+  after_record (Err fault) s m has_target = reject fault s m
 
-  after_signature : (found : Passed) (time : Option ℕ) (s : State) (m : Moment) → IsThere m
+  after_signature : (found : Passed) (time : Option ℕ) (s : State) (m : Snapshot) → HasTarget m
       → Holds m (due.after_signature found time s)
-  after_signature (Ok (t, keys)) time s m there = there
-  after_signature (Err fault) time s m there = reject _ s m
+  after_signature (Ok (t, keys)) time s m has_target = has_target
+  after_signature (Err fault) time s m has_target = reject _ s m
 
-  after_comment : (fault : Option InstallFault) (s : State) (m : Moment) → IsJudged v p s → IsThere m
+  after_comment : (fault : Option InstallFault) (s : State) (m : Snapshot) → IsJudged v p s → HasTarget m
       → Holds m (due.after_comment fault (record s { is_signed = true }))
-  after_comment None s m judged there = compare (record s { is_signed = true }) m judged there
-  after_comment (Some fault) s m judged there = reject fault (record s { is_signed = true }) m
+  after_comment None s m judged has_target = compare (record s { is_signed = true }) m judged has_target
+  after_comment (Some fault) s m judged has_target = reject fault (record s { is_signed = true }) m
 
-  next_key : (signers : List PublicKeyValue) (s : State) (m : Moment) → s.due ≡ due.CheckComment → IsThere m
+  next_key : (signers : List PublicKeyValue) (s : State) (m : Snapshot) → s.due ≡ due.CheckComment
+      → HasTarget m
       → Holds m (due.next_key signers s)
-  next_key [] s m at there = reject _ s m
-  next_key (x ∷ []) s m at there = reject _ s m
-  next_key (x ∷ y ∷ more) s m at there = rw at there
+  next_key [] s m at has_target = reject _ s m
+  next_key (x ∷ []) s m at has_target = reject _ s m
+  next_key (x ∷ y ∷ more) s m at has_target = rw at has_target
 
-  after_digest : (accepted : Bool) (s : State) (m : Moment) → accepted ≡ false → IsJudged v p s → IsThere m
+  after_digest : (accepted : Bool) (s : State) (m : Snapshot) → accepted ≡ false → IsJudged v p s
+      → HasTarget m
       → Holds m (due.after_digest accepted s)
-  after_digest true s m is judged there = absurd (true≢false is)
-  after_digest false s m is judged there = rw (not_older s judged) (there, refl)
+  after_digest true s m is judged has_target = absurd (true≢false is)
+  after_digest false s m is judged has_target = rw (not_older s judged) (has_target, refl)
 
-  stands : (check : Bool) (s : State) (m : Moment)
+  target_is_update : (check : Bool) (s : State) (m : Snapshot)
       → Holds m (due.go (if check then due.AlreadyInstalled else due.SyncTarget) s)
-  stands true s m = tt
-  stands false s m = tt
+  target_is_update true s m = tt
+  target_is_update false s m = tt
 
-  otherwise : (recorded again : Bool) (s : State) (m : Moment) → recorded ≡ false → again ≡ false
+  otherwise : (recorded again : Bool) (s : State) (m : Snapshot) → recorded ≡ false → again ≡ false
       → Holds m (if recorded || again then due.install s else due.reject SameNumber s)
   otherwise true again s m none not = absurd (true≢false none)
   otherwise false true s m none not = absurd (true≢false not)
   otherwise false false s m none not = reject SameNumber s m
 
-  after_target : (accepted : Bool) (s : State) (m : Moment) → s.is_recorded ≡ false → s.options ≡ p
+  after_target : (accepted : Bool) (s : State) (m : Snapshot) → s.is_recorded ≡ false → s.options ≡ p
       → Holds m (due.after_target accepted s)
-  after_target true s m is same = stands s.options.check s m
+  after_target true s m is same = target_is_update s.options.check s m
   after_target false s m is same =
       otherwise s.is_recorded s.options.again s m is (ap (λ (x : Options). x.again) same ∙ once)
 
-  maybe : (is : Bool) (t : State) (m : Moment) → Holds m t → IfSome (if is then Some t else None) (Holds m)
+  maybe : (is : Bool) (t : State) (m : Snapshot) → Holds m t → IfSome (if is then Some t else None) (Holds m)
   maybe true t m holds = holds
   maybe false t m holds = tt
 
-  failed : (s : State) (fault : InstallFault) (is : Bool) (m : Moment)
+  failed : (s : State) (fault : InstallFault) (is : Bool) (m : Snapshot)
       → IfSome (if is then Some (due.reject fault s) else None) (Holds m)
   failed s fault is m = maybe is (due.reject fault s) m (reject fault s m)
 
-  same_there : (old new : Moment) → new ≡ old → IsThere old → IsThere new
-  same_there old new is there = rw is there
+  same_target : (old new : Snapshot) → new ≡ old → HasTarget old → HasTarget new
+  same_target old new is has_target = rw is has_target
 
-  keeps : (op : Operation) (e : Event) (s : State) (old new : Moment) → s.due ≡ op → Known v p op s
+  keeps : (op : Operation) (e : Event) (s : State) (old new : Snapshot) → s.due ≡ op → Known v p op s
       → Past op s old → Performs v s op e old new → IfSome (after op e s) (Holds new)
   keeps due.Lock (due.Failed f) s old new at known past is = failed s _ (due.is_failure f) new
   keeps due.ReadRecord (due.Failed f) s old new at known past is = failed s _ (due.is_failure f) new
@@ -185,18 +187,18 @@ module _ (v : World) (p : Options) (k : ℕ) (digest : List ℕ) (r : Recorded)
   keeps due.Lock due.Done s old new at known past is = rw is.1 past
   keeps due.Lock due.InUse s old new at known past is = reject _ s new
   keeps due.ReadRecord (due.RecordRead found) s old new at known past is =
-      after_record (judge_record s.options found) s new (same_there old new is.2 past)
+      after_record (judge_record s.options found) s new (same_target old new is.2 past)
   keeps due.ReadSignature (due.SignatureRead text time) s old new at known past is =
-      after_signature (judge_text s.options text) time s new (same_there old new is.1 past)
+      after_signature (judge_text s.options text) time s new (same_target old new is.1 past)
   keeps due.CheckComment (due.Answered true) s old new at known past is =
-      after_comment s.fault s new known (same_there old new is.1 past)
+      after_comment s.fault s new known (same_target old new is.1 past)
   keeps due.CheckComment (due.Answered false) s old new at known past is =
-      next_key s.signers s new at (same_there old new is.1 past)
+      next_key s.signers s new at (same_target old new is.1 past)
   keeps due.CheckRecord (due.Answered accepted) s old new at known past is =
       let none = is.0 ∙ rw (has_digest s known.0) (not_signed s s.signers refl known) in
-      after_digest accepted s new none known.0 (same_there old new is.1 past)
+      after_digest accepted s new none known.0 (same_target old new is.1 past)
   keeps due.ReadTarget (due.PieceRead bytes) s old new at known past is =
-      rw at (same_there old new is.2 past.0, past.1)
+      rw at (same_target old new is.2 past.0, past.1)
   keeps due.ReadTarget due.Done s old new at known past is = past.1
   keeps due.ReadTarget due.TargetMissing s old new at known past is =
       absurd (true≢false (sym past.0 ∙ ap is_some is.0))
@@ -220,12 +222,13 @@ module _ (v : World) (p : Options) (k : ℕ) (digest : List ℕ) (r : Recorded)
   keeps due.Nothing e s old new at known past is = tt
   keeps op e s old new at known past is = absurd past
 
-  moved : (s : State) (next : Option State) (m : Moment) → is_some next ≡ true → IfSome next (Holds m)
+  moved : (s : State) (next : Option State) (m : Snapshot) → is_some next ≡ true → IfSome next (Holds m)
       → Holds m (answer s next).1
   moved s (Some t) m is holds = holds
   moved s None m is holds = absurd (true≢false (sym is))
 
-  stays : (op : Operation) (s : State) (m new : Moment) → new.target ≡ m.target → Past op s m → Past op s new
+  stays : (op : Operation) (s : State) (m new : Snapshot) → new.target ≡ m.target → Past op s m
+      → Past op s new
   stays due.Lock s m new is past = rw is past
   stays due.ReadRecord s m new is past = rw is past
   stays due.ReadSignature s m new is past = rw is past
@@ -241,7 +244,7 @@ module _ (v : World) (p : Options) (k : ℕ) (digest : List ℕ) (r : Recorded)
   stays due.Nothing s m new is past = tt
   stays op s m new is past = absurd past
 
-  past_from : (n : ℕ) (s : State) (m : Moment) (calls : List Call) (t : State) (end : Moment)
+  past_from : (n : ℕ) (s : State) (m : Snapshot) (calls : List Call) (t : State) (end : Snapshot)
       → Invariant v p ⊤ ⊥ n s m → Holds m s → Applies v s m calls t end → OthersLeaveTarget m calls
       → Holds end t
   past_from n s m [] t end known past (is, same) leaves = rw (is, same) past
@@ -252,22 +255,22 @@ module _ (v : World) (p : Options) (k : ℕ) (digest : List ℕ) (r : Recorded)
       (moved s (after s.due c.event s) c.after fits
       (keeps s.due c.event s c.before c.after refl (knows v p ⊤ ⊥ n s m known) before is)) run rest
 
-  starts : (check : Bool) (m : Moment) → IsThere m
+  starts : (check : Bool) (m : Snapshot) → HasTarget m
       → Past (if check then due.ReadRecord else due.Lock) (begin p) m
-  starts true m there = there
-  starts false m there = there
+  starts true m has_target = has_target
+  starts false m has_target = has_target
 
-  past : (m : Moment) (calls : List Call) (t : State) (end : Moment) → Applies v (begin p) m calls t end
-      → OthersLeaveTarget m calls → IsThere m → leads_to_install t.due ≡ false
-  past m calls t end run leaves there =
+  past : (m : Snapshot) (calls : List Call) (t : State) (end : Snapshot) → Applies v (begin p) m calls t end
+      → OthersLeaveTarget m calls → HasTarget m → leads_to_install t.due ≡ false
+  past m calls t end run leaves has_target =
       ended t.due t end
-      (past_from 0 (begin p) m calls t end (begins v p ⊤ ⊥ m) (starts p.check m there) run leaves)
+      (past_from 0 (begin p) m calls t end (begins v p ⊤ ⊥ m) (starts p.check m has_target) run leaves)
 
 -- A later run reads the version again.
 pub version_reads_back : (w : World) (o : Options) → AcceptsWholeKeys w.accepts → (s : State)
     → IsUpdate w o s → (k : ℕ) → s.recorded.version ≡ Some k → s.version < k → (v : World) (p : Options)
     → IsLaterRun v p o.numbering s
-    → judge_record p v.found ≡ Ok (record {
+    → judge_record p v.found_record ≡ Ok (record {
       version = Some k;
       key = record_key (new_record s);
       digest = Some (blake2b_digest 64 s.read);
@@ -285,9 +288,9 @@ version_reads_back w o whole s update k is less v p later =
 pub roll_back_stays : (w : World) (o : Options) → AcceptsWholeKeys w.accepts → (s : State) → IsUpdate w o s
     → (k : ℕ) → s.recorded.version ≡ Some k → s.version < k → (v : World) (p : Options)
     → AcceptsWholeKeys v.accepts → IsLaterRun v p o.numbering s
-    → IsOtherUpdate v p k (blake2b_digest 64 s.read) → (m : Moment) (calls : List Call) (t : State)
-    (end : Moment) → Applies v (begin p) m calls t end → OthersLeaveTarget m calls
+    → IsOtherUpdate v p k (blake2b_digest 64 s.read) → (m : Snapshot) (calls : List Call) (t : State)
+    (end : Snapshot) → Applies v (begin p) m calls t end → OthersLeaveTarget m calls
     → is_some m.target ≡ true → leads_to_install t.due ≡ false
-roll_back_stays w o whole s update k is less v p whole_later later other m calls t end run leaves there =
+roll_back_stays w o whole s update k is less v p whole_later later other m calls t end run leaves has_target =
     past v p k (blake2b_digest 64 s.read) _ (version_reads_back w o whole s update k is less v p later) refl
-    refl whole_later other later.once m calls t end run leaves there
+    refl whole_later other later.once m calls t end run leaves has_target

@@ -3,25 +3,26 @@ use Rattle.std.specs.Prelude.{◌≡◌, ◌==◌, ◌⊎◌, ⊤, ℕ, Bool, tr
 use Rattle.std.specs.Prelude.{is_some, map, if◌then◌else◌}
 use Rattle.std.proofs.Common.{refl, inl, inr, ap, ◌∙◌}
 use Rattle.std.proofs.lemmas.Option.{same_Some}
-use Rattle.minisign_install.specs.Applications.{Applies, Call, File, MayFindRecord, MayFindTarget, MayRemain}
-use Rattle.minisign_install.specs.Applications.{MayRemainOf, Moment, Others, Performs, content, data_renamed}
+use Rattle.minisign_install.specs.Applications.{Applies, Call, File, RecordMayBe, TargetMayBe, CrashMayLeave}
+use Rattle.minisign_install.specs.Applications.{CrashMayLeaveOneOf, Snapshot, Others, Performs, content}
+use Rattle.minisign_install.specs.Applications.{data_renamed}
 use Rattle.minisign_install.specs.Applications.{names_synced, record_renamed, synced_if}
 use Rattle.minisign_install.specs.Decisions.{Options}
 use Rattle.minisign_install.specs.Histories.{EndLasts, IsLasting, LeavesTarget, OthersLeaveTarget}
-use Rattle.minisign_install.specs.Histories.{EachCall, IsRecordedUpdate, IsSafeCall, IsUpdateRecord}
+use Rattle.minisign_install.specs.Histories.{AllCalls, IsRecordedUpdate, IsSafeCall, IsUpdateRecord}
 use Rattle.minisign_install.specs.Step.{Done, Event, Failed, Operation, State, after, begin, new_record, step}
 use Rattle.minisign_install.specs.Step as due
-use Rattle.minisign_install.specs.StepRuns.{Changes, Disk, IsTrue, IsUpdate, IsRun, World, count}
+use Rattle.minisign_install.specs.StepRuns.{Changes, Disk, EventIsTrue, IsUpdate, IsRun, World, count}
 use Rattle.minisign_install.proofs.Applying.{Has, IsOnDisk, is_true, stays}
-use Rattle.minisign_install.proofs.Applying as there
+use Rattle.minisign_install.proofs.Applying as applying
 use Rattle.minisign_install.proofs.StepSafety.{Known, update_of}
 use Rattle.minisign_install.proofs.StepSafety as known
 
 -- == What can be found ==
 
--- Of a file on the disk nothing else remains.
+-- A file that is on disk keeps its bytes after a crash.
 remains_whole : (place : Option File) (bytes : List ℕ) (found : Option (List ℕ)) → IsOnDisk place bytes
-    → MayRemain place found → found ≡ Some bytes
+    → CrashMayLeave place found → found ≡ Some bytes
 remains_whole (Some file) bytes found (other, at, holds, synced) (left, is, same) =
     let one : file ≡ other = same_Some file other at in
     is ∙ ap (λ x. Some x) (same (ap (λ (f : File). f.synced) one ∙ synced)
@@ -30,72 +31,73 @@ remains_whole None bytes found (other, at, holds, synced) remains = cc at
 
 -- Syncing leaves no more.
 if_synced : (is : Bool) (file : File) (found : Option (List ℕ))
-    → MayRemain (if is then Some (record file { synced = true }) else Some file) found
-    → MayRemain (Some file) found
+    → CrashMayLeave (if is then Some (record file { synced = true }) else Some file) found
+    → CrashMayLeave (Some file) found
 if_synced true file found (bytes, is, same) = (bytes, is, λ on_disk. same refl)
 if_synced false file found remains = remains
 
 less_remains : (opened : Option ℕ) (place : Option File) (found : Option (List ℕ))
-    → MayRemain (synced_if opened place) found → MayRemain place found
+    → CrashMayLeave (synced_if opened place) found → CrashMayLeave place found
 less_remains (Some n) (Some file) found remains = if_synced (file.number == n) file found remains
 less_remains (Some n) None found remains = remains
 less_remains None place found remains = remains
 
 only_one : (place : Option File) (found : Option (List ℕ)) (more : List (Option File))
-    → MayRemainOf (place ∷ []) found → MayRemainOf (place ∷ more) found
+    → CrashMayLeaveOneOf (place ∷ []) found → CrashMayLeaveOneOf (place ∷ more) found
 only_one place found more (inl is) = inl is
 only_one place found more (inr none) = absurd none
 
 -- All that can be found at the record is this.
 only_this : (place : Option File) (left : List (Option File)) (bytes : List ℕ) (other : Option (List ℕ))
-    → IsOnDisk place bytes → left ≡ [] → MayRemainOf (place ∷ left) other → other ≡ Some bytes
+    → IsOnDisk place bytes → left ≡ [] → CrashMayLeaveOneOf (place ∷ left) other → other ≡ Some bytes
 only_this place [] bytes other is none (inl remains) = remains_whole place bytes other is remains
 only_this place [] bytes other is none (inr remains) = absurd remains
 only_this place (x ∷ more) bytes other is none remains = cc none
 
 module _ (w : World) (o : Options) (F Q : Type 0) where
-  -- What an operation may add to what can be found at the record, with what is known of the one read.
+  -- A record that an operation may write, given the record that was read.
   abbrev pub IsNewRecord : Option (List ℕ) → Type 0
   IsNewRecord found = F × IsUpdateRecord w o found
 
-  abbrev pub Safe : Moment → Moment → Type 0
+  abbrev pub Safe : Snapshot → Snapshot → Type 0
   Safe old new =
-      ((found : Option (List ℕ)) → MayFindTarget new found
-      → MayFindTarget old found ⊎ IsRecordedUpdate w o new found)
-      × ((found : Option (List ℕ)) → MayFindRecord new found → MayFindRecord old found ⊎ IsNewRecord found)
+      ((found : Option (List ℕ)) → TargetMayBe new found
+      → TargetMayBe old found ⊎ IsRecordedUpdate w o new found)
+      × ((found : Option (List ℕ)) → RecordMayBe new found → RecordMayBe old found ⊎ IsNewRecord found)
 
-  names : (old : Moment) → Safe old (names_synced old)
+  names : (old : Snapshot) → Safe old (names_synced old)
   names old = (
     λ found is. inl (only_one old.target found old.target_left is),
     λ found is. inl (only_one old.recorded found old.recorded_left is),
   )
 
   target_kept : (opened : Option ℕ) (place : Option File) (left : List (Option File))
-      (found : Option (List ℕ)) → MayRemainOf (synced_if opened place ∷ left) found
-      → MayRemainOf (place ∷ left) found
+      (found : Option (List ℕ)) → CrashMayLeaveOneOf (synced_if opened place ∷ left) found
+      → CrashMayLeaveOneOf (place ∷ left) found
   target_kept opened place left found (inl is) = inl (less_remains opened place found is)
   target_kept opened place left found (inr is) = inr is
 
   new_found : (s : State) (place : Option File) (rest : List (Option File)) (found : Option (List ℕ)) → F
-      → IsUpdate w o s → IsOnDisk place (new_record s) → MayRemainOf (place ∷ rest) found
-      → MayRemainOf rest found ⊎ IsNewRecord found
+      → IsUpdate w o s → IsOnDisk place (new_record s) → CrashMayLeaveOneOf (place ∷ rest) found
+      → CrashMayLeaveOneOf rest found ⊎ IsNewRecord found
   new_found s place rest found known update is (inl remains) =
       inr (known, (s, update, remains_whole place (new_record s) found is remains))
   new_found s place rest found known update is (inr remains) = inl remains
 
-  renames_record : (n : ℕ) (s : State) (old : Moment) → Known w o due.RenameRecord s
+  renames_record : (n : ℕ) (s : State) (old : Snapshot) → Known w o due.RenameRecord s
       → Has w F Q n due.RenameRecord s old → Safe old (record_renamed old)
-  renames_record n s old knows (kept, whole, is) = (
+  renames_record n s old knows (state_held, whole, is) = (
     λ found is. inl is,
     λ found remains.
-        new_found s old.record_file (old.recorded ∷ old.recorded_left) found kept.1 (update_of w o s knows) is
+        new_found s old.record_file (old.recorded ∷ old.recorded_left) found state_held.1
+        (update_of w o s knows) is
         remains,
   )
 
-  new_target : (s : State) (place : Option File) (rest : List (Option File)) (m : Moment)
+  new_target : (s : State) (place : Option File) (rest : List (Option File)) (m : Snapshot)
       (found : Option (List ℕ)) → IsUpdate w o s → IsOnDisk place s.read → IsOnDisk m.recorded (new_record s)
-      → m.recorded_left ≡ [] → MayRemainOf (place ∷ rest) found
-      → MayRemainOf rest found ⊎ IsRecordedUpdate w o m found
+      → m.recorded_left ≡ [] → CrashMayLeaveOneOf (place ∷ rest) found
+      → CrashMayLeaveOneOf rest found ⊎ IsRecordedUpdate w o m found
   new_target s place rest m found update is recorded left (inl remains) =
       inr (
         s,
@@ -105,16 +107,16 @@ module _ (w : World) (o : Options) (F Q : Type 0) where
       )
   new_target s place rest m found update is recorded left (inr remains) = inl remains
 
-  renames_data : (n : ℕ) (s : State) (old : Moment) → Known w o due.RenameFile s
+  renames_data : (n : ℕ) (s : State) (old : Snapshot) → Known w o due.RenameFile s
       → Has w F Q n due.RenameFile s old → Safe old (data_renamed old)
-  renames_data n s old knows (kept, (file, at, holds, permitted, synced), recorded, left) = (
+  renames_data n s old knows (state_held, (file, at, holds, permitted, synced), recorded, left) = (
     λ found remains.
         new_target s old.data_file (old.target ∷ old.target_left) (data_renamed old) found
         (update_of w o s knows) (file, at, holds, synced) recorded left remains,
     λ found is. inl is,
   )
 
-  pub safe_at : (n : ℕ) (op : Operation) (e : Event) (s : State) (old new : Moment) → Known w o op s
+  pub safe_at : (n : ℕ) (op : Operation) (e : Event) (s : State) (old new : Snapshot) → Known w o op s
       → Has w F Q n op s old → Performs w s op e old new → Safe old new
   safe_at n due.RenameRecord Done s old new knows has is = rw is (renames_record n s old knows has)
   safe_at n due.RenameRecord (Failed f) s old new knows has (inl is) =
@@ -189,28 +191,28 @@ module _ (w : World) (o : Options) (F Q : Type 0) where
   abbrev nothing : Disk
   nothing = record { target = None; record_bytes = None }
 
-  -- What is known at each operation.
-  abbrev pub Invariant : ℕ → State → Moment → Type 0
+  -- The invariant at each operation.
+  abbrev pub Invariant : ℕ → State → Snapshot → Type 0
   Invariant n s m = ((d : Disk) × known.Holds w o nothing s.due s d) × Has w F Q n s.due s m
 
-  pub begins : (m : Moment) → Invariant 0 (begin o) m
-  begins m = ((nothing, known.begins w o nothing o.check), there.begins w F Q o.check o m refl)
+  pub begins : (m : Snapshot) → Invariant 0 (begin o) m
+  begins m = ((nothing, known.begins w o nothing o.check), applying.begins w F Q o.check o m refl)
 
-  pub knows : (n : ℕ) (s : State) (m : Moment) → Invariant n s m → Known w o s.due s
+  pub knows : (n : ℕ) (s : State) (m : Snapshot) → Invariant n s m → Known w o s.due s
   knows n s m ((d, holds), has) = holds.0
 
-  pub true_event : (n : ℕ) (s : State) (m : Moment) (c : Call) → Invariant n s m → Others m c.before
+  pub true_event : (n : ℕ) (s : State) (m : Snapshot) (c : Call) → Invariant n s m → Others m c.before
       → (Q → LeavesTarget m c.before)
       → is_some (after s.due c.event s) ≡ true → Performs w s s.due c.event c.before c.after
-      → IsTrue w n s c.event
+      → EventIsTrue w n s c.event
   true_event n s m c (holds, has) others leaves fits is =
       let before = stays w F Q n s.due s m c.before others leaves has in
       (fits, is_true w F Q n s.due c.event s c.before c.after before is)
 
-  pub next : (n : ℕ) (s : State) (m : Moment) (c : Call) → Invariant n s m → Others m c.before
+  pub next : (n : ℕ) (s : State) (m : Snapshot) (c : Call) → Invariant n s m → Others m c.before
       → (Q → LeavesTarget m c.before)
       → is_some (after s.due c.event s) ≡ true → Performs w s s.due c.event c.before c.after
-      → (content c.before.recorded ≡ w.found → F)
+      → (content c.before.recorded ≡ w.found_record → F)
       → Invariant (count n c.event) (step s c.event).1 c.after
   next n s m c ((d, holds), has) others leaves fits is reads =
       let before = stays w F Q n s.due s m c.before others leaves has in
@@ -221,11 +223,11 @@ module _ (w : World) (o : Options) (F Q : Type 0) where
               (known.keeps w o nothing n s.due c.event s d (changed s.due c.event s d) refl holds
               (changes s.due c.event s d) true),
         ),
-        there.moves w F Q (count n c.event) s (after s.due c.event s) c.after fits
-            (there.keeps w F Q n s.due c.event s c.before c.after refl reads before is),
+        applying.moves w F Q (count n c.event) s (after s.due c.event s) c.after fits
+            (applying.keeps w F Q n s.due c.event s c.before c.after refl reads before is),
       )
 
-  pub safe_now : (n : ℕ) (s : State) (m : Moment) (c : Call) → Invariant n s m → Others m c.before
+  pub safe_now : (n : ℕ) (s : State) (m : Snapshot) (c : Call) → Invariant n s m → Others m c.before
       → (Q → LeavesTarget m c.before)
       → Performs w s s.due c.event c.before c.after → Safe c.before c.after
   safe_now n s m c (holds, has) others leaves is =
@@ -234,17 +236,17 @@ module _ (w : World) (o : Options) (F Q : Type 0) where
 
 -- == Whole runs ==
 
-without : (old : Moment) (w : World) (o : Options) (found : Option (List ℕ))
-    → MayFindRecord old found ⊎ IsNewRecord w o ⊤ ⊥ found → MayFindRecord old found ⊎ IsUpdateRecord w o found
+without : (old : Snapshot) (w : World) (o : Options) (found : Option (List ℕ))
+    → RecordMayBe old found ⊎ IsNewRecord w o ⊤ ⊥ found → RecordMayBe old found ⊎ IsUpdateRecord w o found
 without old w o found (inl is) = inl is
 without old w o found (inr is) = inr is.1
 
-safe_call : (w : World) (o : Options) (old new : Moment) → Safe w o ⊤ ⊥ old new → IsSafeCall w o old new
+safe_call : (w : World) (o : Options) (old new : Snapshot) → Safe w o ⊤ ⊥ old new → IsSafeCall w o old new
 safe_call w o old new (target, recorded) =
     record { target_is = target; record_is = λ found is. without old w o found (recorded found is) }
 
-safe_from : (w : World) (o : Options) (n : ℕ) (s : State) (m : Moment) (calls : List Call) (t : State)
-    (end : Moment) → Invariant w o ⊤ ⊥ n s m → Applies w s m calls t end → EachCall (IsSafeCall w o) calls
+safe_from : (w : World) (o : Options) (n : ℕ) (s : State) (m : Snapshot) (calls : List Call) (t : State)
+    (end : Snapshot) → Invariant w o ⊤ ⊥ n s m → Applies w s m calls t end → AllCalls (IsSafeCall w o) calls
 safe_from w o n s m [] t end known run = tt
 safe_from w o n s m (c ∷ more) t end known (others, fits, is, run) = (
   safe_call w o c.before c.after (safe_now w o ⊤ ⊥ n s m c known others (λ q. absurd q) is),
@@ -254,13 +256,13 @@ safe_from w o n s m (c ∷ more) t end known (others, fits, is, run) = (
 
 -- Whatever any operation of a run leaves at the target or at the record, now or after a crash, was there
 -- before, or is an update that a given key has signed and its record, and the record is on the disk first.
-pub safe_calls : (w : World) (o : Options) (m : Moment) (calls : List Call) (t : State) (end : Moment)
-    → Applies w (begin o) m calls t end → EachCall (IsSafeCall w o) calls
+pub safe_calls : (w : World) (o : Options) (m : Snapshot) (calls : List Call) (t : State) (end : Snapshot)
+    → Applies w (begin o) m calls t end → AllCalls (IsSafeCall w o) calls
 safe_calls w o m calls t end run = safe_from w o 0 (begin o) m calls t end (begins w o ⊤ ⊥ m) run
 
-true_from : (w : World) (o : Options) (n : ℕ) (s : State) (m : Moment) (calls : List Call) (t : State)
-    (end : Moment) → Invariant w o ⊤ ⊥ n s m → Applies w s m calls t end
-    → IsRun (IsTrue w) n s (map (λ (c : Call). c.event) calls) t
+true_from : (w : World) (o : Options) (n : ℕ) (s : State) (m : Snapshot) (calls : List Call) (t : State)
+    (end : Snapshot) → Invariant w o ⊤ ⊥ n s m → Applies w s m calls t end
+    → IsRun (EventIsTrue w) n s (map (λ (c : Call). c.event) calls) t
 true_from w o n s m [] t end known run = run.0
 true_from w o n s m (c ∷ more) t end known (others, fits, is, run) = (
   true_event w o ⊤ ⊥ n s m c known others (λ q. absurd q) fits is,
@@ -269,13 +271,13 @@ true_from w o n s m (c ∷ more) t end known (others, fits, is, run) = (
 )
 
 -- The events of a lawful application are those of a run in this world. So all laws on such runs hold.
-pub true_run : (w : World) (o : Options) (m : Moment) (calls : List Call) (t : State) (end : Moment)
+pub true_run : (w : World) (o : Options) (m : Snapshot) (calls : List Call) (t : State) (end : Snapshot)
     → Applies w (begin o) m calls t end
-    → IsRun (IsTrue w) 0 (begin o) (map (λ (c : Call). c.event) calls) t
+    → IsRun (EventIsTrue w) 0 (begin o) (map (λ (c : Call). c.event) calls) t
 true_run w o m calls t end run = true_from w o 0 (begin o) m calls t end (begins w o ⊤ ⊥ m) run
 
-last_from : (w : World) (o : Options) (n : ℕ) (s : State) (m : Moment) (calls : List Call) (t : State)
-    (end : Moment) → Invariant w o ⊤ ⊤ n s m → Applies w s m calls t end → OthersLeaveTarget m calls
+last_from : (w : World) (o : Options) (n : ℕ) (s : State) (m : Snapshot) (calls : List Call) (t : State)
+    (end : Snapshot) → Invariant w o ⊤ ⊤ n s m → Applies w s m calls t end → OthersLeaveTarget m calls
     → (k : ℕ) × Invariant w o ⊤ ⊤ k t end
 last_from w o n s m [] t end known (is, same) leaves = (n, rw (is, same) known)
 last_from w o n s m (c ∷ more) t end known (others, fits, is, run) (leaves, rest) =
@@ -284,24 +286,24 @@ last_from w o n s m (c ∷ more) t end known (others, fits, is, run) (leaves, re
 
 on_disk : {place : Option File} {left : List (Option File)} {bytes : List ℕ} → IsOnDisk place bytes
     → left ≡ [] → IsLasting place left bytes
-on_disk (file, there, holds, synced) none = (file, there, holds, synced, none)
+on_disk (file, present, holds, synced) none = (file, present, holds, synced, none)
 
-lasts : (w : World) (o : Options) (n : ℕ) (op : Operation) (s : State) (m : Moment) → Known w o op s
+lasts : (w : World) (o : Options) (n : ℕ) (op : Operation) (s : State) (m : Snapshot) → Known w o op s
     → Has w ⊤ ⊤ n op s m → EndLasts w o op s m
-lasts w o n due.Installed s m knows (kept, recorded, left, complete) =
-    let (there, target_left) = complete tt in (
+lasts w o n due.Installed s m knows (state_held, recorded, left, complete) =
+    let (present, target_left) = complete tt in (
       update_of w o s knows,
       on_disk recorded left,
-      (there.0, there.1, there.2, there.3, there.4, target_left),
-      kept.2,
+      (present.0, present.1, present.2, present.3, present.4, target_left),
+      state_held.2,
     )
 lasts w o n due.AlreadyInstalled s m knows (signed, inl check) = (signed, inl check)
 lasts w o n due.AlreadyInstalled s m knows (signed, inr holds) =
-    let (there, left) = holds tt in (signed, inr (on_disk there left))
+    let (present, left) = holds tt in (signed, inr (on_disk present left))
 lasts w o n op s m knows has = tt
 
 -- A run that has ended with Installed or AlreadyInstalled has put the update on the disk.
-pub ends_last : (w : World) (o : Options) (m : Moment) (calls : List Call) (t : State) (end : Moment)
+pub ends_last : (w : World) (o : Options) (m : Snapshot) (calls : List Call) (t : State) (end : Snapshot)
     → Applies w (begin o) m calls t end → OthersLeaveTarget m calls → EndLasts w o t.due t end
 ends_last w o m calls t end run leaves =
     let (n, (known, has)) = last_from w o 0 (begin o) m calls t end (begins w o ⊤ ⊤ m) run leaves in

@@ -18,7 +18,8 @@ use Rattle.minisign_external.specs.declared.state.Refusal.TheVariants.{Refused, 
 use Rattle.minisign_install.specs.Decisions.{Options, comment_fault, judge_keys, judge_text, size_in}
 use Rattle.minisign_install.specs.Decisions.{version_in}
 use Rattle.minisign_install.specs.Faults.{Fault, InstallFault, Library, Named}
-use Rattle.minisign_install.specs.Installations.{HasMessage, IsJudgedAs, IsKept, IsReadAs, IsStored, Leads}
+use Rattle.minisign_install.specs.Installations.{HasMessage, IsJudgedAs, HoldsState, IsReadAs, IsStored}
+use Rattle.minisign_install.specs.Installations.{RunLeadsTo}
 use Rattle.minisign_install.specs.Installations.{SignatureLeads, SignatureSteps, begun_mark}
 use Rattle.minisign_install.specs.Installations.{IsStoredIf, first_key, given, is_reading_signature}
 use Rattle.minisign_install.specs.Installations.{judge_form}
@@ -31,7 +32,7 @@ use Rattle.minisign_install.specs.declared.installation.Installation.{Installati
 use Rattle.minisign_install.specs.declared.installation.progress.Chosen.{Chosen}
 use Rattle.minisign_install.specs.declared.installation.progress.Judged.{Judged}
 use Rattle.minisign_install.specs.declared.installation.progress.Progress.{Progress}
-use Rattle.minisign_install.proofs.Kept.{due_is, fits, unbegun_steps}
+use Rattle.minisign_install.proofs.HeldStates.{due_is, fits, unbegun_steps}
 
 -- == Texts ==
 
@@ -143,48 +144,48 @@ same_text s signers first second fault version size = λ i.
     with_text s (signers i) (first i) (second i) (fault i) (version i) (size i)
 
 pub with_signature : (p : Progress) (s : State) (t : SignatureTextRecord) (second : List ℕ) (j : Judged)
-    (recorded time : Option ℕ) (by_key by_other : ℕ) (kept : IsKept p s)
+    (recorded time : Option ℕ) (by_key by_other_key : ℕ) (state_held : HoldsState p s)
     → recorded ≡ (recorded_of p.recorded).version
-    → IsReadAs j (options_of p.chosen kept.file) t second recorded time
+    → IsReadAs j (options_of p.chosen state_held.file) t second recorded time
     → second ≡ take 64 t.comments.signature
     → (by_key == 1) ≡ bytes_eq t.signature.keynum p.chosen.key.key_id
-    → (by_other == 1) ≡ bytes_eq t.signature.keynum p.chosen.other.key_id
-    → IsKept (record p {
+    → (by_other_key == 1) ≡ bytes_eq t.signature.keynum p.chosen.other.key_id
+    → HoldsState (record p {
       judged = j;
       left = j.size;
       has_left = j.has_size;
       by_key = by_key;
-      by_other = by_other;
+      by_other_key = by_other_key;
     }) (with_text s (given p.chosen t) t.signature.signature (take 64 t.comments.signature)
     (comment_fault s.options s.recorded.version time t.comments.trusted)
     (unwrap_or (version_in s.options.numbering t.comments.trusted) 0) (size_in t.comments.trusted))
-with_signature p s t second j recorded time by_key by_other kept version is whole one other =
-    let o : Options = options_of p.chosen kept.file in
+with_signature p s t second j recorded time by_key by_other_key state_held version is whole one other =
+    let o : Options = options_of p.chosen state_held.file in
     record {
-      file = kept.file;
-      read = kept.read;
+      file = state_held.file;
+      read = state_held.read;
       fault = comment_fault o recorded time t.comments.trusted;
-      error = kept.error;
+      error = state_held.error;
       state = ap (λ (x : State).
           with_text x (given p.chosen t) t.signature.signature (take 64 t.comments.signature)
           (comment_fault x.options x.recorded.version time t.comments.trusted)
           (unwrap_or (version_in x.options.numbering t.comments.trusted) 0) (size_in t.comments.trusted))
-          kept.state
-          ∙ same_text (state_of p kept.file kept.read kept.fault kept.error)
-          (signers_same t p.chosen.key p.chosen.other (by_key == 1) (by_other == 1) one other)
+          state_held.state
+          ∙ same_text (state_of p state_held.file state_held.read state_held.fault state_held.error)
+          (signers_same t p.chosen.key p.chosen.other (by_key == 1) (by_other_key == 1) one other)
           (if_judged j.is_judged t.signature.signature j.signature is.judged is.signature)
           (if_judged j.is_judged (take 64 t.comments.signature) j.comment_signature is.judged
           (is.comment_signature ∙ whole))
           (ap (λ (r : Option ℕ). comment_fault o r time t.comments.trusted) (sym version)) (sym is.version)
           (sym is.size);
       fault_number = is.fault;
-      error_number = kept.error_number;
-      fed = kept.fed;
+      error_number = state_held.error_number;
+      fed = state_held.fed;
     }
 
-pub file_is : (p : Progress) (s : State) (kept : IsKept p s) (file : List ℕ) → s.options.file ≡ file
-    → file ≡ kept.file
-file_is p s kept file is = sym is ∙ ap (λ (x : State). x.options.file) kept.state
+pub file_is : (p : Progress) (s : State) (state_held : HoldsState p s) (file : List ℕ) → s.options.file ≡ file
+    → file ≡ state_held.file
+file_is p s state_held file is = sym is ∙ ap (λ (x : State). x.options.file) state_held.state
 
 -- == The call ==
 
@@ -202,7 +203,8 @@ not_short (Err e) fault is short =
     absurd (cc (sym same ∙ is))
 
 pub refused : (fault : Fault) (time : Option ℕ) (s : State) (r : Result ℕ (Refusal InstallFault))
-    (new : Progress) (m : List ℕ) → Leads s (reject (Library fault) s) (plain r) new → IfOk r (λ n. n ≡ 0)
+    (new : Progress) (m : List ℕ) → RunLeadsTo s (reject (Library fault) s) (plain r) new
+    → IfOk r (λ n. n ≡ 0)
     → IfErr r (λ x. x ≡ Refused (Library fault)) → SignatureLeads (Err fault) time s r new m m
 refused fault time s r new m leads none is = record {
   leads = λ no_short. leads;
@@ -221,28 +223,31 @@ signature_at due.ReadSignature text time s is = refl
 signature_at _ text time s is = absurd (true≢false (sym is))
 
 pub signature_steps : (p q : Progress) (s : State) (text : List ℕ) (time : Option ℕ)
-    (r : Result ℕ (Refusal InstallFault)) (before after : List ℕ) → IsKept p s
+    (r : Result ℕ (Refusal InstallFault)) (before after : List ℕ) → HoldsState p s
     → is_reading_signature (operation_of p.due) ≡ true
     → SignatureLeads (reads_into s text) time s r q before after
-    → SignatureSteps text time s r (IsKept q) before after
-signature_steps p q s text time r before after kept is leads = record {
+    → SignatureSteps text time s r (HoldsState q) before after
+signature_steps p q s text time r before after state_held is leads = record {
   steps = λ no_short.
-      fits s _ (signature_read text time) p q (plain r) kept
+      fits s _ (signature_read text time) p q (plain r) state_held
       (signature_at (operation_of p.due) (read_utf8 read_signature text) time s is) (leads.leads no_short);
   message = leads.message;
-  room = λ short. (due_is p s kept ∙ reading_is (operation_of p.due) is, leads.room short);
+  room = λ short. (due_is p s state_held ∙ reading_is (operation_of p.due) is, leads.room short);
 }
 
 -- == An installation ==
 
 pub begun_signature : (i : Installation) (p : Progress) (s : State) (text : List ℕ) (time : Option ℕ)
     (r : Result ℕ (Refusal InstallFault)) (before after : List ℕ) → (i.mark == begun_mark) ≡ true
-    → SignatureSteps text time s r (IsKept p) before after
+    → SignatureSteps text time s r (HoldsState p) before after
     → SignatureSteps text time s r (IsStored (record i { progress = p })) before after
 begun_signature i p s text time r before after is steps = record {
   steps = λ no_short.
-      let (kept, result) = steps.steps no_short in
-      (subst (λ (b : Bool). IsStoredIf b p (step s (signature_read text time)).1) (sym is) kept, result);
+      let (state_held, result) = steps.steps no_short in (
+        subst (λ (b : Bool). IsStoredIf b p (step s (signature_read text time)).1)
+            (sym is) state_held,
+        result,
+      );
   message = steps.message;
   room = steps.room;
 }

@@ -14,7 +14,8 @@ use Rattle.minisign_install.specs.Step.{Event, Done, InUse, Failed, RecordRead, 
 use Rattle.minisign_install.specs.Step.{PieceRead, PieceCopied, State, begin, step, Operation, after}
 use Rattle.minisign_install.specs.Step.{answer, has_ended, key_of, comment_question, data_question}
 use Rattle.minisign_install.specs.Step as due
-use Rattle.minisign_install.specs.StepRuns.{IsFine, IsGoodUpdate, IsRun, IsTrue, IsTrueEvent, World, count}
+use Rattle.minisign_install.specs.StepRuns.{IsAcceptable, IsGoodUpdate, IsRun, EventIsTrue, IsTrueEvent}
+use Rattle.minisign_install.specs.StepRuns.{World, count}
 use Rattle.minisign_install.specs.StepRuns.{IsGoodRun, asks, first_signer}
 use Rattle.minisign_install.proofs.StepEnds.{left, step_less}
 
@@ -25,14 +26,14 @@ module _ (w : World) (o : Options) (g : IsGoodUpdate w o) where
   Left n (Some left) = left + n ≡ length w.update
 
   -- The signature and the key of the update are known.
-  abbrev Knows : State → Type 0
-  Knows s = (s.signature ≡ g.text.signature.signature) × (key_of s.signers ≡ g.key)
+  abbrev StateKnows : State → Type 0
+  StateKnows s = (s.signature ≡ g.text.signature.signature) × (key_of s.signers ≡ g.key)
 
   -- The data can be copied.
   abbrev IsReady : ℕ → State → Type 0
-  IsReady n s = Knows s × Left n s.left × (s.read ≡ []) × (n ≤ length w.update)
+  IsReady n s = StateKnows s × Left n s.left × (s.read ≡ []) × (n ≤ length w.update)
 
-  -- What is so if the run is on its way to the installation of the update.
+  -- Invariant of a run on its way to the installation of the update.
   abbrev OnTrack : ℕ → Operation → State → Type 0
   OnTrack n due.Lock s = (s.options ≡ o) × (n ≡ 0)
   OnTrack n due.ReadRecord s = (s.options ≡ o) × (n ≡ 0)
@@ -46,8 +47,8 @@ module _ (w : World) (o : Options) (g : IsGoodUpdate w o) where
   OnTrack n due.RemoveLeftovers s = IsReady n s
   OnTrack n due.CreateFile s = IsReady n s
   OnTrack n due.CopyData s = IsReady n s
-  OnTrack n due.ReadBack s = Knows s × ((rest : List ℕ) × (s.read ++ rest ≡ w.update))
-  OnTrack n due.CheckData s = Knows s × (s.read ≡ w.update)
+  OnTrack n due.ReadBack s = StateKnows s × ((rest : List ℕ) × (s.read ++ rest ≡ w.update))
+  OnTrack n due.CheckData s = StateKnows s × (s.read ≡ w.update)
   OnTrack n due.SetPermissions s = ⊤
   OnTrack n due.SyncFile s = ⊤
   OnTrack n due.CreateRecord s = ⊤
@@ -80,12 +81,13 @@ module _ (w : World) (o : Options) (g : IsGoodUpdate w o) where
   key_found [] accepted is = absurd (none-some g.key is)
   key_found (v ∷ more) accepted is = same_Some v.key g.key (rw (sym accepted) at is)
 
-  after_record : (n : ℕ) (s : State) (found : Option (List ℕ)) → (s.options ≡ o) × (n ≡ 0) → found ≡ w.found
+  after_record : (n : ℕ) (s : State) (found : Option (List ℕ)) → (s.options ≡ o) × (n ≡ 0)
+      → found ≡ w.found_record
       → Stays n due.ReadRecord (RecordRead found) s
-  after_record n s found (is_o, none) is = rw (is_o, is, g.counts) (refl, none, refl)
+  after_record n s found (is_o, none) is = rw (is_o, is, g.record_applies) (refl, none, refl)
 
   after_signature : (n : ℕ) (s : State) (text : Result SignatureTextRecord Fault) (time : Option ℕ)
-      → OnTrack n due.ReadSignature s → IsFine g (SignatureRead text time) → text ≡ w.text
+      → OnTrack n due.ReadSignature s → IsAcceptable g (SignatureRead text time) → text ≡ w.text
       → Stays n due.ReadSignature (SignatureRead text time) s
   after_signature n s text time (is_o, none, recorded) fine is =
       rw (is_o, is ∙ g.parsed, g.passed, recorded)
@@ -119,26 +121,26 @@ module _ (w : World) (o : Options) (g : IsGoodUpdate w o) where
       let found = rw (sym rejected) at signer in
       rw at (is_o, none, recorded, fault, version, signature, second, left, found)
 
-  after_piece : (n k : ℕ) (s : State) (left : Option ℕ) → s.due ≡ due.CopyData → Knows s → Left n left
+  after_piece : (n k : ℕ) (s : State) (left : Option ℕ) → s.due ≡ due.CopyData → StateKnows s → Left n left
       → s.left ≡ left → s.read ≡ [] → n + k ≤ length w.update
       → OnTrack (n + k) (due.after_piece k left s).due (due.after_piece k left s)
   after_piece n k s None at knows is none read more = rw (at, none) (knows, tt, read, more)
   after_piece n k s (Some left) at knows is none read more =
       rw (le-leb k left (omega (arith, is, more)), at) (knows, omega (arith, is, more), read, more)
 
-  after_copy : (n : ℕ) (s : State) (left : Option ℕ) → Knows s → Left n left → s.read ≡ []
+  after_copy : (n : ℕ) (s : State) (left : Option ℕ) → StateKnows s → Left n left → s.read ≡ []
       → n ≡ length w.update
       → OnTrack n (due.after_copy left s).due (due.after_copy left s)
   after_copy n s None knows is read all = (knows, (w.update, rw read refl))
   after_copy n s (Some left) knows is read all =
       rw (eq-eqb left 0 (omega (arith, is, all))) (knows, (w.update, rw read refl))
 
-  check_data : {P : Type 0} (s : State) → Knows s × (s.read ≡ w.update)
+  check_data : {P : Type 0} (s : State) → StateKnows s × (s.read ≡ w.update)
       → false ≡ w.accepts (blake2b_digest 64 s.read) (key_of s.signers) s.signature → P
   check_data s ((signature, key), read) rejected =
       absurd (true≢false (sym g.signed_data ∙ sym (rw (read, key, signature) at rejected)))
 
-  keeps : (n : ℕ) (op : Operation) (e : Event) (s : State) → s.due ≡ op → OnTrack n op s → IsFine g e
+  keeps : (n : ℕ) (op : Operation) (e : Event) (s : State) → s.due ≡ op → OnTrack n op s → IsAcceptable g e
       → IsTrueEvent w n s op e → Stays n op e s
   keeps n op (Failed f) s at on fine is = absurd fine
   keeps n op InUse s at on fine is = absurd fine
@@ -183,7 +185,7 @@ module _ (w : World) (o : Options) (g : IsGoodUpdate w o) where
   begins false = (refl, refl)
 
   stays_on : (n : ℕ) (s : State) (events : List Event) (t : State) → OnTrack n s.due s
-      → IsRun (λ n s e. IsTrue w n s e × IsFine g e) n s events t → (m : ℕ) × OnTrack m t.due t
+      → IsRun (λ n s e. EventIsTrue w n s e × IsAcceptable g e) n s events t → (m : ℕ) × OnTrack m t.due t
   stays_on n s [] t on is = (n, rw is on)
   stays_on n s (e ∷ more) t on (((fits, is), fine), rest) =
       stays_on (count n e) (step s e).1 more t
@@ -210,7 +212,7 @@ module _ (w : World) (o : Options) (g : IsGoodUpdate w o) where
   -- The application has an event to report at each operation.
   abbrev HasNext : ℕ → Operation → State → Type 0
   HasNext n op s =
-      (e : Event) × (is_some (after op e s) ≡ true) × IsTrueEvent w n s op e × IsFine g e
+      (e : Event) × (is_some (after op e s) ≡ true) × IsTrueEvent w n s op e × IsAcceptable g e
 
   next_piece : (n : ℕ) (s : State) → n ≤ length w.update → HasNext n due.CopyData s
   next_piece n s more = elim (eq-or-lt_of_le more) [
@@ -231,7 +233,7 @@ module _ (w : World) (o : Options) (g : IsGoodUpdate w o) where
     has_next : (n : ℕ) (op : Operation) (s : State) → OnTrack n op s
         → (op ≡ due.Installed) ⊎ HasNext n op s
     has_next n due.Lock s on = inr (Done, refl, tt, tt)
-    has_next n due.ReadRecord s on = inr (RecordRead w.found, refl, refl, tt)
+    has_next n due.ReadRecord s on = inr (RecordRead w.found_record, refl, refl, tt)
     has_next n due.ReadSignature s on = inr (SignatureRead w.text time, refl, refl, fresh)
     has_next n due.CheckComment s on =
         inr (
@@ -261,7 +263,7 @@ module _ (w : World) (o : Options) (g : IsGoodUpdate w o) where
     -- With this many steps left.
     arrives : (most n : ℕ) (s : State) → left w n s.due s ≤ most → OnTrack n s.due s
         → (events : List Event) × (t : State)
-        × IsRun (λ n s e. IsTrue w n s e × IsFine g e) n s events t × (t.due ≡ due.Installed)
+        × IsRun (λ n s e. EventIsTrue w n s e × IsAcceptable g e) n s events t × (t.due ≡ due.Installed)
     arrives zero n s few on = elim (has_next n s.due s on) [
       | inl done ↦ ([], s, refl, done)
       | inr (e, fits, is, fine) ↦ let less = step_less w n e s (fits, is) in absurd (omega

@@ -17,9 +17,9 @@ use Rattle.minisign_install.specs.Step.{Event, Done, InUse, Failed, RecordRead, 
 use Rattle.minisign_install.specs.Step.{Answered, PieceRead, TargetMissing, PieceCopied, State, after}
 use Rattle.minisign_install.specs.Step.{answer, begin, has_files, step}
 use Rattle.minisign_install.specs.Step as due
-use Rattle.minisign_install.specs.StepRuns.{IsRun, IsTrue, IsTrueEvent, World, count}
+use Rattle.minisign_install.specs.StepRuns.{IsRun, EventIsTrue, IsTrueEvent, World, count}
 
--- How many operations come at most after this one, and itself.
+-- The greatest number of operations from this one on.
 abbrev rank : Operation → ℕ
 rank due.Lock = 23
 rank due.ReadRecord = 22
@@ -47,7 +47,7 @@ rank due.SyncFileName = 3
 rank due.RemoveFiles = 1
 rank op = 0
 
--- What judge_text gives, and how many keys that are.
+-- The result of judge_text, and the number of its keys.
 abbrev Passed : Type 0
 Passed = Result (SignatureTextRecord × List PublicKeyValue) Fault
 
@@ -89,7 +89,7 @@ few_signers o (Ok t) =
     required (is_utf8 o.file) named.NotUtf8 (judge_keys o (filter id o.keys) t) _ few
 
 module _ (w : World) where
-  -- How many keys may still be asked.
+  -- The number of keys that may still be tried.
   abbrev keys_left : Operation → State → ℕ
   keys_left due.Lock s = length s.options.keys
   keys_left due.ReadRecord s = length s.options.keys
@@ -97,7 +97,7 @@ module _ (w : World) where
   keys_left due.CheckComment s = length s.signers
   keys_left op s = 0
 
-  -- How many bytes of the installed file may still be read.
+  -- The number of bytes of the installed file that may still be read.
   abbrev target_left : Operation → State → ℕ
   target_left due.Lock s = w.most
   target_left due.ReadRecord s = w.most
@@ -107,7 +107,7 @@ module _ (w : World) where
   target_left due.ReadTarget s = w.most - length s.read
   target_left op s = 0
 
-  -- How many bytes may still be copied, and read back.
+  -- The number of bytes that may still be copied, and read back.
   abbrev copy_left : ℕ → Operation → State → ℕ
   copy_left n due.CopyData s = (length w.update - n) + length w.update
   copy_left n due.ReadBack s = length w.update - length s.read
@@ -196,14 +196,14 @@ module _ (w : World) where
   after_digest n s accepted =
       either n _ (not accepted && due.is_rolling_back s) _ _ (install n _ s (omega arith)) (omega arith)
 
-  stands : (n : ℕ) (check : Bool) (s t : State)
+  target_is_update : (n : ℕ) (check : Bool) (s t : State)
       → left n (if check then due.AlreadyInstalled else due.SyncTarget) t < left n due.CheckTarget s
-  stands n true s t = omega arith
-  stands n false s t = omega arith
+  target_is_update n true s t = omega arith
+  target_is_update n false s t = omega arith
 
   after_target : (n : ℕ) (s : State) (accepted : Bool)
       → left n (due.after_target accepted s).due (due.after_target accepted s) < left n due.CheckTarget s
-  after_target n s true = stands n s.options.check s (due.after_target true s)
+  after_target n s true = target_is_update n s.options.check s (due.after_target true s)
   after_target n s false =
       either n _ (s.is_recorded || s.options.again) _ _ (install n _ s (omega arith))
       (reject n _ _ s (omega arith))
@@ -276,11 +276,11 @@ module _ (w : World) where
   moves n m e s (Some t) fits less = less
   moves n m e s None fits less = absurd (true≢false (sym fits))
 
-  pub step_less : (n : ℕ) (e : Event) (s : State) → IsTrue w n s e
+  pub step_less : (n : ℕ) (e : Event) (s : State) → EventIsTrue w n s e
       → left (count n e) (step s e).1.due (step s e).1 < left n s.due s
   step_less n e s (fits, is) = moves n _ e s (after s.due e s) fits (decreases n s.due e s refl is)
 
-  bounded : (n : ℕ) (s : State) (events : List Event) (t : State) → IsRun (IsTrue w) n s events t
+  bounded : (n : ℕ) (s : State) (events : List Event) (t : State) → IsRun (EventIsTrue w) n s events t
       → length events ≤ left n s.due s
   bounded n s [] t run = omega arith
   bounded n s (e ∷ more) t ((fits, is), run) =
@@ -293,8 +293,8 @@ module _ (w : World) where
   at_first true o = omega arith
   at_first false o = omega arith
 
--- A run ends. At most so many events fit.
+-- A run ends, because only a bounded number of events fit.
 pub run_ends : (w : World) (o : Options) (events : List Event) (t : State)
-    → IsRun (IsTrue w) 0 (begin o) events t
+    → IsRun (EventIsTrue w) 0 (begin o) events t
     → length events ≤ 23 + length o.keys + w.most + 2 * length w.update
 run_ends w o events t run = omega (arith, bounded w 0 (begin o) events t run, at_first w o.check o)

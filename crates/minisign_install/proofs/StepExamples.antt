@@ -48,7 +48,7 @@ recorded_2 = codes "version:2" ++ 10 ∷ replicate 64 48 ++ 10 ∷ replicate 128
 abbrev world : World
 world = record {
   accepts = λ message key signature. true;
-  found = Some recorded_2;
+  found_record = Some recorded_2;
   text = Ok signature_file;
   update = 7 ∷ [];
   most = 0;
@@ -70,7 +70,7 @@ good = record {
     key = record_key recorded_2;
     digest = record_digest recorded_2;
   };
-  counts = refl;
+  record_applies = refl;
   text = signature_file;
   parsed = refl;
   keys = key ∷ [];

@@ -309,7 +309,7 @@ changed_file_is_repaired : exits usual (begun (Some record_2) (signed version_2)
 unfolding is_utf8 chars encode decode_pairs
 changed_file_is_repaired = refl
 
--- What was read of the installed file is forgotten.
+-- The bytes that were read of the installed file are discarded.
 read_back_starts_anew : (after (begin usual) (begun (Some record_2) (signed version_2) (Some 5) ++ valid
     ∷ valid ∷ looked ++ invalid ∷ copied)).read ≡ codes "hello"
 unfolding is_utf8 chars encode decode_pairs

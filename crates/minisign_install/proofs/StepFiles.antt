@@ -10,14 +10,14 @@ use Rattle.minisign_install.specs.Step.{Event, Done, InUse, Failed, RecordRead, 
 use Rattle.minisign_install.specs.Step.{Answered, PieceRead, TargetMissing, PieceCopied, State, after}
 use Rattle.minisign_install.specs.Step.{answer, begin, has_ended, has_files, step}
 use Rattle.minisign_install.specs.Step as due
-use Rattle.minisign_install.specs.StepRuns.{Fits, IsRun, Owned, count, nothing_owned, owned_by, owns}
+use Rattle.minisign_install.specs.StepRuns.{EventFits, IsRun, Owned, count, nothing_owned, owned_by, owns}
 use Rattle.minisign_install.proofs.StepSafety.{Passed}
 
 -- The run owns no temporary file.
 abbrev OwnsNone : Owned → Type 0
 OwnsNone d = (d.data_file ≡ false) × (d.record_file ≡ false)
 
--- What it may own at each operation.
+-- The temporary files that a run may own at each operation.
 abbrev Owns : Operation → Owned → Type 0
 Owns due.CopyData d = d.record_file ≡ false
 Owns due.ReadBack d = d.record_file ≡ false
@@ -104,14 +104,14 @@ after_digest : (s : State) (accepted : Bool) (d : Owned) → OwnsNone d → Hold
 after_digest s accepted d is =
     either (not accepted && due.is_rolling_back s) _ _ d (install s d is) is
 
-stands : (check : Bool) (d : Owned) → OwnsNone d
+target_is_update : (check : Bool) (d : Owned) → OwnsNone d
     → Owns (if check then due.AlreadyInstalled else due.SyncTarget) d
-stands true d is = is
-stands false d is = is
+target_is_update true d is = is
+target_is_update false d is = is
 
 after_target : (s : State) (accepted : Bool) (d : Owned) → s.due ≡ due.CheckTarget → OwnsNone d
     → Holds d (due.after_target accepted s)
-after_target s true d at is = stands s.options.check d is
+after_target s true d at is = target_is_update s.options.check d is
 after_target s false d at is =
     either (s.is_recorded || s.options.again) _ _ d (install s d is)
     (reject due.CheckTarget SameNumber s d at (λ same. cc same) is)
@@ -187,7 +187,7 @@ moves s (Some t) d fits holds = holds
 moves s None d fits holds = absurd (true≢false (sym fits))
 
 run_owns : (n : ℕ) (s : State) (events : List Event) (t : State) (d : Owned) → Holds d s
-    → IsRun (λ n s e. Fits s e) n s events t → Holds (owned_by s events d) t
+    → IsRun (λ n s e. EventFits s e) n s events t → Holds (owned_by s events d) t
 run_owns n s [] t d holds is = rw is holds
 run_owns n s (e ∷ more) t d holds (fits, run) =
     run_owns (count n e) (step s e).1 more t (owns s.due e d)
@@ -210,7 +210,7 @@ none_left d one other = rw (one, other) refl
 
 -- For every list of events that fit, whatever they report.
 pub files_are_gone : (o : Options) (events : List Event) (t : State)
-    → IsRun (λ n s e. Fits s e) 0 (begin o) events t → has_ended t.due ≡ true
+    → IsRun (λ n s e. EventFits s e) 0 (begin o) events t → has_ended t.due ≡ true
     → owned_by (begin o) events nothing_owned ≡ nothing_owned
 files_are_gone o events t run over =
     let none = ended t.due _ (run_owns 0 (begin o) events t nothing_owned (begins o.check o) run) over in

@@ -17,7 +17,8 @@ use Rattle.minisign_install.specs.Step.{Event, Done, InUse, Failed, RecordRead, 
 use Rattle.minisign_install.specs.Step.{PieceRead, TargetMissing, PieceCopied, State, begin, step}
 use Rattle.minisign_install.specs.Step.{Operation, after, answer, has_files, key_of}
 use Rattle.minisign_install.specs.Step as due
-use Rattle.minisign_install.specs.StepRuns.{IsEnd, IsSameVersion, IsReason, IsRun, IsSigned, IsTrue}
+use Rattle.minisign_install.specs.StepRuns.{IsAtOneOf, TimeOf}
+use Rattle.minisign_install.specs.StepRuns.{IsEnd, IsSameVersion, IsReason, IsRun, IsSigned, EventIsTrue}
 use Rattle.minisign_install.specs.StepRuns.{IsTrueEvent, World, accepts_digest, count, first_signer, total}
 use Rattle.minisign_install.proofs.StepSafety.{Passed, no_pass, pass, required, text_parsed}
 
@@ -51,8 +52,8 @@ abbrev fault_of : Result Unit (Refusal InstallFault) → Option InstallFault
 fault_of (Err (Refused fault)) = Some fault
 fault_of result = None
 
-module _ (w : World) (o : Options) where
-  -- How much of the signed size is left after n bytes.
+module _ (w : World) (o : Options) (times : Option ℕ → Bool) where
+  -- The rest of the signed size after n bytes.
   abbrev Left : ℕ → Option ℕ → Option ℕ → Type 0
   Left n size None = ⊤
   Left n size (Some left) = size ≡ Some (left + n)
@@ -60,11 +61,11 @@ module _ (w : World) (o : Options) where
   -- The record and the comment were judged, and the keys before the signers have not signed it.
   abbrev IsJudged : ℕ → State → Type 0
   IsJudged n s =
-      (text : SignatureTextRecord) × (keys : List PublicKeyValue) × (time : Option ℕ) × (s.options ≡ o)
-      × (judge_record o w.found ≡ Ok s.recorded) × (w.text ≡ Ok text)
+      (text : SignatureTextRecord) × (keys : List PublicKeyValue) × (time : TimeOf times) × (s.options ≡ o)
+      × (judge_record o w.found_record ≡ Ok s.recorded) × (w.text ≡ Ok text)
       × (judge_text o w.text ≡ Ok (text, keys))
       × (first_signer w text keys ≡ first_signer w text s.signers)
-      × (s.fault ≡ comment_fault o s.recorded.version time text.comments.trusted)
+      × (s.fault ≡ comment_fault o s.recorded.version time.0 text.comments.trusted)
       × (s.version ≡ unwrap_or (version_in o.numbering text.comments.trusted) 0)
       × (s.signature ≡ text.signature.signature)
       × (s.comment_signature ≡ take 64 text.comments.signature)
@@ -74,8 +75,8 @@ module _ (w : World) (o : Options) where
   -- The comment is signed, and not rejected.
   abbrev IsAccepted : State → Type 0
   IsAccepted s =
-      (g : IsSigned w o) × (time : Option ℕ) × (s.options ≡ o) × (s.recorded ≡ g.recorded)
-      × (comment_fault o g.recorded.version time g.text.comments.trusted ≡ None)
+      (g : IsSigned w o) × (time : TimeOf times) × (s.options ≡ o) × (s.recorded ≡ g.recorded)
+      × (comment_fault o g.recorded.version time.0 g.text.comments.trusted ≡ None)
       × (s.version ≡ unwrap_or (version_in o.numbering g.text.comments.trusted) 0)
       × (s.signature ≡ g.text.signature.signature) × (key_of s.signers ≡ g.key)
 
@@ -89,11 +90,11 @@ module _ (w : World) (o : Options) where
       s.is_recorded ≡ false → (due.is_rolling_back s ≡ false)
       × ((digest : List ℕ) → s.recorded.digest ≡ Some digest → accepts_digest known.0 digest ≡ false)
 
-  -- What is known at each operation.
+  -- The invariant at each operation.
   abbrev Known : ℕ → Operation → State → Type 0
   Known n due.Lock s = (s.options ≡ o) × (n ≡ 0)
   Known n due.ReadRecord s = (s.options ≡ o) × (n ≡ 0)
-  Known n due.ReadSignature s = (s.options ≡ o) × (n ≡ 0) × (judge_record o w.found ≡ Ok s.recorded)
+  Known n due.ReadSignature s = (s.options ≡ o) × (n ≡ 0) × (judge_record o w.found_record ≡ Ok s.recorded)
   Known n due.CheckComment s = IsJudged n s
   Known n due.CheckRecord s =
       (known : IsAccepted s) × Left n (size_in known.0.text.comments.trusted) s.left × IsNotNewer s
@@ -129,7 +130,8 @@ module _ (w : World) (o : Options) where
 
   -- The event that set this error is a reason for it.
   abbrev Explains : State → Event → Option InstallFault → Type 0
-  Explains s e error = (fault : InstallFault) → s.error ≡ None → error ≡ Some fault → IsReason w o s e fault
+  Explains s e error =
+      (fault : InstallFault) → s.error ≡ None → error ≡ Some fault → IsReason w o times s e fault
 
   abbrev Holds : ℕ → State → Event → State → Type 0
   Holds n s e t = Known n t.due t × Explains s e t.error
@@ -142,11 +144,11 @@ module _ (w : World) (o : Options) where
   rejected n true t = tt
   rejected n false t = tt
 
-  reject : (n : ℕ) (fault : InstallFault) (s t : State) (e : Event) → IsReason w o s e fault
+  reject : (n : ℕ) (fault : InstallFault) (s t : State) (e : Event) → IsReason w o times s e fault
       → Holds n s e (due.reject fault t)
   reject n fault s t e why = (
     rejected n (has_files t.due) (due.reject fault t),
-    λ other none some. subst (IsReason w o s e) (same_Some fault other some) why,
+    λ other none some. subst (IsReason w o times s e) (same_Some fault other some) why,
   )
 
   either : (n : ℕ) (is : Bool) (s x y : State) (e : Event) → (is ≡ true → Holds n s e x)
@@ -194,22 +196,23 @@ module _ (w : World) (o : Options) where
       ))))
 
   after_record : (n : ℕ) (s : State) (found : Option (List ℕ)) (r : Result Recorded InstallFault)
-      → Known n due.ReadRecord s → judge_record o w.found ≡ r
+      → Known n due.ReadRecord s → judge_record o w.found_record ≡ r
       → Holds n s (RecordRead found) (due.after_record r s)
-  after_record n s found (Ok recorded) (same, none) counts =
-      ((same, none, counts), calm s (RecordRead found))
-  after_record n s found (Err fault) known counts = reject n fault s s (RecordRead found) (inl counts)
+  after_record n s found (Ok recorded) (same, none) record_applies =
+      ((same, none, record_applies), calm s (RecordRead found))
+  after_record n s found (Err fault) known record_applies = reject n fault s s (RecordRead found)
+      (inl record_applies)
 
   after_signature : (n : ℕ) (s : State) (text : Result SignatureTextRecord Fault) (r : Passed)
-      (time : Option ℕ) → Known n due.ReadSignature s → judge_text o w.text ≡ r
+      (time : Option ℕ) → times time ≡ true → Known n due.ReadSignature s → judge_text o w.text ≡ r
       → Holds n s (SignatureRead text time) (due.after_signature r time s)
-  after_signature n s text (Ok (t, keys)) time (same, none, counts) passed = (
+  after_signature n s text (Ok (t, keys)) time timed (same, none, record_applies) passed = (
     (
       t,
       keys,
-      time,
+      (time, timed),
       same,
-      counts,
+      record_applies,
       text_parsed w o w.text t keys passed,
       passed,
       refl,
@@ -223,7 +226,7 @@ module _ (w : World) (o : Options) where
     ),
     calm s (SignatureRead text time),
   )
-  after_signature n s text (Err f) time known passed =
+  after_signature n s text (Err f) time timed known passed =
       reject n (Library f) s s (SignatureRead text time) (inr (inl (f, refl, passed)))
 
   first_is : (t : SignatureTextRecord) (signers : List PublicKeyValue) → 0 < length signers
@@ -236,9 +239,9 @@ module _ (w : World) (o : Options) where
   left_at n size None is none = tt
   left_at n size (Some left) is none = sym is ∙ ap (λ (x : ℕ). Some x) (omega (arith, none))
 
-  by_fault : (n : ℕ) (s : State) (time : Option ℕ) (g : IsSigned w o) (fault : Option InstallFault)
+  by_fault : (n : ℕ) (s : State) (time : TimeOf times) (g : IsSigned w o) (fault : Option InstallFault)
       → s.options ≡ o → s.recorded ≡ g.recorded
-      → comment_fault o g.recorded.version time g.text.comments.trusted ≡ fault
+      → comment_fault o g.recorded.version time.0 g.text.comments.trusted ≡ fault
       → s.version ≡ unwrap_or (version_in o.numbering g.text.comments.trusted) 0
       → s.signature ≡ g.text.signature.signature → key_of s.signers ≡ g.key
       → Left n (size_in g.text.comments.trusted) s.left
@@ -259,7 +262,7 @@ module _ (w : World) (o : Options) where
     keys,
     time,
     same,
-    counts,
+    record_applies,
     parsed,
     passed,
     signers,
@@ -274,7 +277,7 @@ module _ (w : World) (o : Options) where
       is accepted =
       let g : IsSigned w o = record {
         recorded = s.recorded;
-        counts = counts;
+        record_applies = record_applies;
         text = text;
         keys = keys;
         passed = passed;
@@ -294,7 +297,7 @@ module _ (w : World) (o : Options) where
     keys,
     time,
     same,
-    counts,
+    record_applies,
     parsed,
     passed,
     first,
@@ -311,7 +314,7 @@ module _ (w : World) (o : Options) where
     keys,
     time,
     same,
-    counts,
+    record_applies,
     parsed,
     passed,
     first,
@@ -331,7 +334,7 @@ module _ (w : World) (o : Options) where
     keys,
     time,
     same,
-    counts,
+    record_applies,
     parsed,
     passed,
     first,
@@ -349,7 +352,7 @@ module _ (w : World) (o : Options) where
           keys,
           time,
           same,
-          counts,
+          record_applies,
           parsed,
           passed,
           rw (sym wrong_key) at first,
@@ -422,17 +425,17 @@ module _ (w : World) (o : Options) where
         calm s (Answered false),
       ))
 
-  stands : (n : ℕ) (check : Bool) (t : State) (known : IsAccepted t)
+  target_is_update : (n : ℕ) (check : Bool) (t : State) (known : IsAccepted t)
       → ((installed : List ℕ) × (accepts_digest known.0 (blake2b_digest 64 installed) ≡ true))
       → Known n (if check then due.AlreadyInstalled else due.SyncTarget) t
-  stands n true t known is = (known, is)
-  stands n false t known is = (known, is)
+  target_is_update n true t known is = (known, is)
+  target_is_update n false t known is = (known, is)
 
   after_target : (n : ℕ) (s : State) (accepted : Bool) → Known n due.CheckTarget s
       → accepted ≡ w.accepts (blake2b_digest 64 s.read) (key_of s.signers) s.signature
       → Holds n s (Answered accepted) (due.after_target accepted s)
   after_target n s true (known, sized, older, compared) is = (
-    stands n s.options.check (due.after_target true s) known (s.read, of_update s known _ true is),
+    target_is_update n s.options.check (due.after_target true s) known (s.read, of_update s known _ true is),
     calm s (Answered true),
   )
   after_target n s false (known, sized, older, compared) is =
@@ -470,37 +473,37 @@ module _ (w : World) (o : Options) where
   maybe n false s t e holds = tt
 
   keeps : (n : ℕ) (op : Operation) (e : Event) (s : State) → s.due ≡ op → Known n op s
-      → IsTrueEvent w n s op e → IfSome (after op e s) (Holds (count n e) s e)
-  keeps n due.Nothing (Failed f) s at known is = tt
-  keeps n due.Installed (Failed f) s at known is = tt
-  keeps n due.AlreadyInstalled (Failed f) s at known is = tt
-  keeps n due.WouldInstall (Failed f) s at known is = tt
-  keeps n due.Rejected (Failed f) s at known is = tt
-  keeps n due.RemoveFiles (Failed f) s at known is =
+      → IsTrueEvent w n s op e → IsAtOneOf times e → IfSome (after op e s) (Holds (count n e) s e)
+  keeps n due.Nothing (Failed f) s at known is timed = tt
+  keeps n due.Installed (Failed f) s at known is timed = tt
+  keeps n due.AlreadyInstalled (Failed f) s at known is timed = tt
+  keeps n due.WouldInstall (Failed f) s at known is timed = tt
+  keeps n due.Rejected (Failed f) s at known is timed = tt
+  keeps n due.RemoveFiles (Failed f) s at known is timed =
       maybe n (due.is_failure f) s (due.go due.Rejected s) (Failed f) (tt, calm s (Failed f))
-  keeps n op (Failed f) s at known is =
+  keeps n op (Failed f) s at known is timed =
       maybe n (due.is_failure f) s (due.reject (due.failure s.due f) s) (Failed f)
       (reject n (due.failure s.due f) s s (Failed f) refl)
-  keeps n due.Lock InUse s at known is = reject n _ s s InUse refl
-  keeps n due.ReadRecord (RecordRead found) s at known is =
+  keeps n due.Lock InUse s at known is timed = reject n _ s s InUse refl
+  keeps n due.ReadRecord (RecordRead found) s at known is timed =
       after_record n s found (judge_record s.options found) known (rw (known.0, is) refl)
-  keeps n due.ReadSignature (SignatureRead text time) s at known is =
-      after_signature n s text (judge_text s.options text) time known (rw (known.0, is) refl)
-  keeps n due.CheckComment (Answered true) s at known is = after_comment n s s.fault known refl
+  keeps n due.ReadSignature (SignatureRead text time) s at known is timed =
+      after_signature n s text (judge_text s.options text) time timed known (rw (known.0, is) refl)
+  keeps n due.CheckComment (Answered true) s at known is timed = after_comment n s s.fault known refl
       (is known.0 known.5)
-  keeps n due.CheckComment (Answered false) s at known is = next_key n s s.signers at known
+  keeps n due.CheckComment (Answered false) s at known is timed = next_key n s s.signers at known
       (is known.0 known.5)
-  keeps n due.CheckRecord (Answered accepted) s at known is = after_digest n s accepted known is
-  keeps n due.ReadTarget (PieceRead bytes) s at known is = (rw at known, calm s (PieceRead bytes))
-  keeps n due.ReadTarget TargetMissing s at (known, sized, older, compared) is =
+  keeps n due.CheckRecord (Answered accepted) s at known is timed = after_digest n s accepted known is
+  keeps n due.ReadTarget (PieceRead bytes) s at known is timed = (rw at known, calm s (PieceRead bytes))
+  keeps n due.ReadTarget TargetMissing s at (known, sized, older, compared) is timed =
       install n s s TargetMissing known sized refl
-  keeps n due.CheckTarget (Answered accepted) s at known is = after_target n s accepted known is
-  keeps n due.CopyData (PieceCopied k) s at (known, sized) is =
+  keeps n due.CheckTarget (Answered accepted) s at known is timed = after_target n s accepted known is
+  keeps n due.CopyData (PieceCopied k) s at (known, sized) is timed =
       after_piece n k s s.left at refl known sized is.1
-  keeps n due.CopyData Done s at (known, sized) is = after_copy n s s.left known sized is
-  keeps n due.ReadBack (PieceRead bytes) s at known is = (rw at known, calm s (PieceRead bytes))
-  keeps n due.ReadBack Done s at known is = ((known, is), calm s Done)
-  keeps n due.CheckData (Answered true) s at (known, whole) is = (
+  keeps n due.CopyData Done s at (known, sized) is timed = after_copy n s s.left known sized is
+  keeps n due.ReadBack (PieceRead bytes) s at known is timed = (rw at known, calm s (PieceRead bytes))
+  keeps n due.ReadBack Done s at known is timed = ((known, is), calm s Done)
+  keeps n due.CheckData (Answered true) s at (known, whole) is timed = (
     (
       known,
       ap (λ m. accepts_digest known.0 (blake2b_digest 64 m)) (sym whole)
@@ -508,7 +511,7 @@ module _ (w : World) (o : Options) where
     ),
     calm s (Answered true),
   )
-  keeps n due.CheckData (Answered false) s at (known, whole) is =
+  keeps n due.CheckData (Answered false) s at (known, whole) is timed =
       reject n _ s s (Answered false)
       (inr (inr (inr (inr (inr (inr (
         known.0,
@@ -516,20 +519,20 @@ module _ (w : World) (o : Options) where
         ap (λ m. accepts_digest known.0 (blake2b_digest 64 m)) (sym whole)
             ∙ of_update s known _ false is,
       )))))))
-  keeps n due.RemoveFiles Done s at known is = (tt, calm s Done)
-  keeps n due.Nothing Done s at known is = tt
-  keeps n due.Installed Done s at known is = tt
-  keeps n due.AlreadyInstalled Done s at known is = tt
-  keeps n due.WouldInstall Done s at known is = tt
-  keeps n due.Rejected Done s at known is = tt
-  keeps n due.ReadRecord Done s at known is = tt
-  keeps n due.ReadSignature Done s at known is = tt
-  keeps n due.CheckComment Done s at known is = tt
-  keeps n due.CheckRecord Done s at known is = tt
-  keeps n due.CheckTarget Done s at known is = tt
-  keeps n due.CheckData Done s at known is = tt
-  keeps n op Done s at known is = (known, calm s Done)
-  keeps n op e s at known is = tt
+  keeps n due.RemoveFiles Done s at known is timed = (tt, calm s Done)
+  keeps n due.Nothing Done s at known is timed = tt
+  keeps n due.Installed Done s at known is timed = tt
+  keeps n due.AlreadyInstalled Done s at known is timed = tt
+  keeps n due.WouldInstall Done s at known is timed = tt
+  keeps n due.Rejected Done s at known is timed = tt
+  keeps n due.ReadRecord Done s at known is timed = tt
+  keeps n due.ReadSignature Done s at known is timed = tt
+  keeps n due.CheckComment Done s at known is timed = tt
+  keeps n due.CheckRecord Done s at known is timed = tt
+  keeps n due.CheckTarget Done s at known is timed = tt
+  keeps n due.CheckData Done s at known is timed = tt
+  keeps n op Done s at known is timed = (known, calm s Done)
+  keeps n op e s at known is timed = tt
 
   moves : (n : ℕ) (e : Event) (s : State) (next : Option State) → is_some next ≡ true
       → IfSome next (Holds (count n e) s e) → Known (count n e) (answer s next).1.due (answer s next).1
@@ -537,21 +540,21 @@ module _ (w : World) (o : Options) where
   moves n e s None fits holds = absurd (true≢false (sym fits))
 
   known_at : (n : ℕ) (s : State) (events : List Event) (t : State) → Known n s.due s
-      → IsRun (IsTrue w) n s events t → Known (total n events) t.due t
+      → IsRun (λ n s e. EventIsTrue w n s e × IsAtOneOf times e) n s events t → Known (total n events) t.due t
   known_at n s [] t known is = rw is known
-  known_at n s (e ∷ more) t known ((fits, is), run) =
+  known_at n s (e ∷ more) t known (((fits, is), timed), run) =
       known_at (count n e) (step s e).1 more t
-      (moves n e s (after s.due e s) fits (keeps n s.due e s refl known is)) run
+      (moves n e s (after s.due e s) fits (keeps n s.due e s refl known is timed)) run
 
   begins : (check : Bool) → Known 0 (if check then due.ReadRecord else due.Lock) (begin o)
   begins true = (refl, refl)
   begins false = (refl, refl)
 
-  ends : (n : ℕ) (op : Operation) (s : State) → Known n op s → IsEnd w o op
+  ends : (n : ℕ) (op : Operation) (s : State) → Known n op s → IsEnd w o times op
   ends n due.Installed s ((g, time, same, recorded, none, version, signature, key), whole) =
       (g, time, none, whole)
-  ends n due.AlreadyInstalled s ((g, time, same, recorded, none, version, signature, key), there) =
-      (g, time, none, there)
+  ends n due.AlreadyInstalled s ((g, time, same, recorded, none, version, signature, key), present) =
+      (g, time, none, present)
   ends n due.WouldInstall s ((g, time, same, recorded, none, version, signature, key), check) =
       (check, (g, time, none))
   ends n op s known = tt
@@ -563,25 +566,29 @@ module _ (w : World) (o : Options) where
   refused (Some f) now fault is = absurd (none-some fault (ap fault_of is))
 
   explains : (n : ℕ) (s : State) (e : Event) (next : Option State) (fault : InstallFault)
-      → IfSome next (Holds n s e) → (answer s next).0 ≡ Err (Refused fault) → IsReason w o s e fault
+      → IfSome next (Holds n s e) → (answer s next).0 ≡ Err (Refused fault) → IsReason w o times s e fault
   explains n s e (Some t) fault holds is =
       let both = refused s.error t.error fault is in holds.1 fault both.0 both.1
   explains n s e None fault holds is = absurd (none-some fault (ap fault_of is))
 
-  run_knows : (events : List Event) (t : State) → IsRun (IsTrue w) 0 (begin o) events t
+  run_knows : (events : List Event) (t : State)
+      → IsRun (λ n s e. EventIsTrue w n s e × IsAtOneOf times e) 0 (begin o) events t
       → Known (total 0 events) t.due t
   run_knows events t run = known_at 0 (begin o) events t (begins o.check) run
 
 -- An error that a step returns is true of what the run found, or the operation failed, or the lock is in
 -- use.
-pub errors_are_true : (w : World) (o : Options) (events : List Event) (s : State) (e : Event)
-    (fault : InstallFault) → IsRun (IsTrue w) 0 (begin o) events s → IsTrue w (total 0 events) s e
-    → (step s e).0 ≡ Err (Refused fault) → IsReason w o s e fault
-errors_are_true w o events s e fault run (fits, is) refuses =
-    explains w o (count (total 0 events) e) s e (after s.due e s) fault
-    (keeps w o (total 0 events) s.due e s refl (run_knows w o events s run) is) refuses
+pub errors_are_true : (w : World) (o : Options) (times : Option ℕ → Bool) (events : List Event) (s : State)
+    (e : Event) (fault : InstallFault)
+    → IsRun (λ n s e. EventIsTrue w n s e × IsAtOneOf times e) 0 (begin o) events s
+    → EventIsTrue w (total 0 events) s e → IsAtOneOf times e → (step s e).0 ≡ Err (Refused fault)
+    → IsReason w o times s e fault
+errors_are_true w o times events s e fault run (fits, is) timed refuses =
+    explains w o times (count (total 0 events) e) s e (after s.due e s) fault
+    (keeps w o times (total 0 events) s.due e s refl (run_knows w o times events s run) is timed) refuses
 
 -- A run that ends well tells the truth.
-pub ends_are_true : (w : World) (o : Options) (events : List Event) (t : State)
-    → IsRun (IsTrue w) 0 (begin o) events t → IsEnd w o t.due
-ends_are_true w o events t run = ends w o (total 0 events) t.due t (run_knows w o events t run)
+pub ends_are_true : (w : World) (o : Options) (times : Option ℕ → Bool) (events : List Event) (t : State)
+    → IsRun (λ n s e. EventIsTrue w n s e × IsAtOneOf times e) 0 (begin o) events t → IsEnd w o times t.due
+ends_are_true w o times events t run =
+    ends w o times (total 0 events) t.due t (run_knows w o times events t run)

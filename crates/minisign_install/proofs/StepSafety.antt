@@ -27,7 +27,7 @@ pub required : {V : Type 0} (holds : Bool) (fault : NamedFault) (more : Result V
 required true fault more v is = is
 required false fault more v is = cc is
 
--- What judge_text gives.
+-- The result of judge_text.
 abbrev pub Passed : Type 0
 Passed = Result (SignatureTextRecord × List PublicKeyValue) Fault
 
@@ -64,12 +64,12 @@ first_given : (first : Bool) (e : InstallFault) (r : Recorded)
 first_given true e r is = refl
 first_given false e r is = cc is
 
-counts_or_not : (forgets : Bool) (n k : ℕ) (key digest : Option (List ℕ))
+applies_or_not : (forgets : Bool) (n k : ℕ) (key digest : Option (List ℕ))
     → version_of (if forgets then Ok nothing_recorded
     else Ok (record { version = Some n; key = key; digest = digest })) ≡ Some k
     → Some n ≡ Some k
-counts_or_not true n k key digest is = absurd (none-some k is)
-counts_or_not false n k key digest is = is
+applies_or_not true n k key digest is = absurd (none-some k is)
+applies_or_not false n k key digest is = is
 
 both_given : (given other : Bool) (n : ℕ) (key digest : Option (List ℕ))
     → version_of (if given && other then Ok nothing_recorded
@@ -96,7 +96,7 @@ module _ (w : World) (o : Options) where
       → judge_version o bytes version ≡ Ok r → r.version ≡ Some k → version ≡ Some k
   counted bytes None r k is some = absurd (none-some k (no_version o.first _ r is ∙ some))
   counted bytes (Some n) r k is some =
-      counts_or_not ((o.first || o.new_key) && names_other_key o bytes) n k _ _
+      applies_or_not ((o.first || o.new_key) && names_other_key o bytes) n k _ _
       (ap version_of is ∙ some)
 
   has_version : (found : Option (List ℕ)) (r : Recorded) (k : ℕ) → judge_record o found ≡ Ok r
@@ -120,7 +120,8 @@ module _ (w : World) (o : Options) where
   abbrev pub IsJudged : State → Type 0
   IsJudged s =
       (text : SignatureTextRecord) × (keys : List PublicKeyValue) × (others : List PublicKeyValue)
-      × (time : Option ℕ) × (s.options ≡ o) × (judge_record o w.found ≡ Ok s.recorded) × (w.text ≡ Ok text)
+      × (time : Option ℕ) × (s.options ≡ o) × (judge_record o w.found_record ≡ Ok s.recorded)
+      × (w.text ≡ Ok text)
       × (judge_text o (Ok text) ≡ Ok (text, keys)) × (others ++ s.signers ≡ keys)
       × (s.fault ≡ comment_fault o s.recorded.version time text.comments.trusted)
       × (s.version ≡ unwrap_or (version_in o.numbering text.comments.trusted) 0)
@@ -148,14 +149,28 @@ module _ (w : World) (o : Options) where
   pub update_of : (s : State) → IsWhole s → IsUpdate w o s
   update_of s (
     (
-      (text, keys, others, time, same, counts, parsed, passed, given, fault, version, signature, second),
+      (
+        text,
+        keys,
+        others,
+        time,
+        same,
+        record_applies,
+        parsed,
+        passed,
+        given,
+        fault,
+        version,
+        signature,
+        second,
+      ),
       none,
       comment,
     ),
     whole,
   ) = record {
     same = same;
-    counts = counts;
+    record_applies = record_applies;
     text = text;
     parsed = parsed;
     keys = keys;
@@ -163,25 +178,25 @@ module _ (w : World) (o : Options) where
     others = others;
     given = given;
     time = time;
-    wanted = sym fault ∙ none;
+    comment_accepted = sym fault ∙ none;
     version = version;
     signature = signature;
     comment_signature = second;
     signed_comment = comment;
     signed_data = whole;
     not_older = λ k is. (
-      has_version w.found s.recorded k counts is,
+      has_version w.found_record s.recorded k record_applies is,
       not_below s.recorded.version
           s.version k is,
     );
-    forgotten = forgotten w.found s.recorded counts;
+    forgotten = forgotten w.found_record s.recorded record_applies;
   }
 
-  -- What is known at each operation.
+  -- The invariant at each operation.
   abbrev pub Known : Operation → State → Type 0
   Known due.Lock s = s.options ≡ o
   Known due.ReadRecord s = s.options ≡ o
-  Known due.ReadSignature s = (s.options ≡ o) × (judge_record o w.found ≡ Ok s.recorded)
+  Known due.ReadSignature s = (s.options ≡ o) × (judge_record o w.found_record ≡ Ok s.recorded)
   Known due.CheckComment s = IsJudged s
   Known due.CheckRecord s = IsAccepted s
   Known due.ReadTarget s = IsAccepted s
@@ -201,7 +216,7 @@ module _ (w : World) (o : Options) where
   Known op s = IsWhole s
 
   module _ (old : Disk) where
-    -- What was changed by then.
+    -- The changes of the disk up to this operation.
     abbrev pub Changed : Operation → State → Disk → Type 0
     Changed due.SyncRecordName s new = (new.target ≡ old.target) × (new.record_bytes ≡ Some (new_record s))
     Changed due.RenameFile s new = (new.target ≡ old.target) × (new.record_bytes ≡ Some (new_record s))
@@ -254,17 +269,33 @@ module _ (w : World) (o : Options) where
     reject fault s new safe = rejected (has_files s.due) (due.reject fault s) new safe
 
     after_record : (s : State) (new : Disk) (r : Result Recorded InstallFault) → s.options ≡ o → new ≡ old
-        → judge_record o w.found ≡ r → Holds (due.after_record r s).due (due.after_record r s) new
-    after_record s new (Ok recorded) same is counts = ((same, counts), is)
-    after_record s new (Err fault) same is counts = reject fault s new (inl is)
+        → judge_record o w.found_record ≡ r → Holds (due.after_record r s).due (due.after_record r s) new
+    after_record s new (Ok recorded) same is record_applies = ((same, record_applies), is)
+    after_record s new (Err fault) same is record_applies = reject fault s new (inl is)
 
     after_signature : (s : State) (new : Disk) (r : Passed) (time : Option ℕ)
         → Known due.ReadSignature s → new ≡ old → judge_text o w.text ≡ r
         → Holds (due.after_signature r time s).due (due.after_signature r time s) new
-    after_signature s new (Ok (t, keys)) time (same, counts) is passed =
+    after_signature s new (Ok (t, keys)) time (same, record_applies) is passed =
         let parsed = text_parsed w.text t keys passed in
-        let again : judge_text o (Ok t) ≡ Ok (t, keys) = rw parsed at passed in
-        ((t, keys, [], time, same, counts, parsed, again, refl, rw same refl, rw same refl, refl, refl), is)
+        let again : judge_text o (Ok t) ≡ Ok (t, keys) = rw parsed at passed in (
+          (
+            t,
+            keys,
+            [],
+            time,
+            same,
+            record_applies,
+            parsed,
+            again,
+            refl,
+            rw same refl,
+            rw same refl,
+            refl,
+            refl,
+          ),
+          is,
+        )
     after_signature s new (Err fault) time known is passed = reject (Library fault) s new (inl is)
 
     -- Whichever of the operations comes next.
@@ -303,8 +334,21 @@ module _ (w : World) (o : Options) where
         → Holds (due.next_key signers s).due (due.next_key signers s) new
     next_key s new [] at judged is = reject _ s new (inl is)
     next_key s new (v ∷ []) at judged is = reject _ s new (inl is)
-    next_key s new (v ∷ u ∷ more) at
-        (text, keys, others, time, same, counts, parsed, passed, given, fault, version, signature, second)
+    next_key s new (v ∷ u ∷ more) at (
+      text,
+      keys,
+      others,
+      time,
+      same,
+      record_applies,
+      parsed,
+      passed,
+      given,
+      fault,
+      version,
+      signature,
+      second,
+    )
         is =
         let now : (others ++ v ∷ []) ++ (u ∷ more) ≡ keys = append_assoc others (v ∷ []) (u ∷ more)
         ∙ given in
@@ -315,7 +359,7 @@ module _ (w : World) (o : Options) where
             others ++ v ∷ [],
             time,
             same,
-            counts,
+            record_applies,
             parsed,
             passed,
             now,
@@ -332,14 +376,14 @@ module _ (w : World) (o : Options) where
     after_digest s new accepted known is =
         either (not accepted && due.is_rolling_back s) _ _ new (install s new known is) (known, is)
 
-    stands : (check : Bool) (s : State) (new : Disk) → IsAccepted s → new ≡ old
+    target_is_update : (check : Bool) (s : State) (new : Disk) → IsAccepted s → new ≡ old
         → Holds (if check then due.AlreadyInstalled else due.SyncTarget) s new
-    stands true s new known is = (known, is)
-    stands false s new known is = (known, is)
+    target_is_update true s new known is = (known, is)
+    target_is_update false s new known is = (known, is)
 
     after_target : (s : State) (new : Disk) (accepted : Bool) → IsAccepted s → new ≡ old
         → Holds (due.after_target accepted s).due (due.after_target accepted s) new
-    after_target s new true known is = stands s.options.check (due.after_target true s) new known is
+    after_target s new true known is = target_is_update s.options.check (due.after_target true s) new known is
     after_target s new false known is =
         either (s.is_recorded || s.options.again) _ _ new (install s new known is)
         (reject SameNumber s new (inl is))
@@ -356,7 +400,7 @@ module _ (w : World) (o : Options) where
     after_copy s new (Some left) known is =
         either (left == 0) _ _ new (known, is) (reject OtherSize s new (inl is))
 
-    -- Of a failure only the reasons count that an operation can have.
+    -- A failure can only have the reasons that are possible for its operation.
     maybe : (is : Bool) (t : State) (new : Disk) → Holds t.due t new
         → IfSome (if is then Some t else None) (λ x. Holds x.due x new)
     maybe true t new holds = holds
@@ -450,8 +494,8 @@ module _ (w : World) (o : Options) where
     begins true = (refl, refl)
     begins false = (refl, refl)
 
--- Wherever a run is cut off, target and record are as they were, or the record is that of an update that
--- may be installed, and the target is as it was or has this update.
+-- At every point where a run may be cut off, target and record are as they were, or the record is that of an
+-- update that may be installed, and the target is as it was or has this update.
 pub safe : (w : World) (o : Options) (old new : Disk) (events : List (Event × Disk)) (t : State)
     → Runs w 0 (begin o) old events t new → IsSafe w o old new
 safe w o old new events t run =

@@ -1,4 +1,4 @@
--- What is renamed is synced first, and a run ends well only if all is on the disk.
+-- Each file is synced before it is renamed, and a run succeeds only if all its files are on the disk.
 use Rattle.std.specs.Prelude.{◌≡◌, ◌&&◌, ◌||◌, ◌==◌, ℕ, Bool, true, false, List, [], ◌∷◌, Option, Some}
 use Rattle.std.specs.Prelude.{None, Result, Ok, Err, IfSome, is_some, if◌then◌else◌, nat_le, not}
 use Rattle.std.proofs.Common.{refl, inl, inr, sym, true≢false}
@@ -9,7 +9,8 @@ use Rattle.minisign_install.specs.Step.{Event, Done, InUse, Failed, RecordRead, 
 use Rattle.minisign_install.specs.Step.{Answered, PieceRead, TargetMissing, PieceCopied, State, after}
 use Rattle.minisign_install.specs.Step.{answer, begin, has_files, step}
 use Rattle.minisign_install.specs.Step as due
-use Rattle.minisign_install.specs.StepRuns.{Fits, IsRun, IsSynced, OnDisk, count, nothing_synced, synced_by}
+use Rattle.minisign_install.specs.StepRuns.{EventFits, IsRun, IsSynced, OnDisk, count, nothing_synced}
+use Rattle.minisign_install.specs.StepRuns.{synced_by}
 use Rattle.minisign_install.specs.StepRuns.{syncs}
 use Rattle.minisign_install.proofs.StepSafety.{Passed}
 
@@ -64,13 +65,13 @@ next_key s (v ∷ u ∷ more) d at = rw at tt
 after_digest : (s : State) (accepted : Bool) (d : OnDisk) → Holds d (due.after_digest accepted s)
 after_digest s accepted d = either (not accepted && due.is_rolling_back s) _ _ d (install s d) tt
 
-stands : (check : Bool) (s : State) (d : OnDisk) → s.options.check ≡ check
+target_is_update : (check : Bool) (s : State) (d : OnDisk) → s.options.check ≡ check
     → IsSynced (if check then due.AlreadyInstalled else due.SyncTarget) s d
-stands true s d is = inl is
-stands false s d is = tt
+target_is_update true s d is = inl is
+target_is_update false s d is = tt
 
 after_target : (s : State) (accepted : Bool) (d : OnDisk) → Holds d (due.after_target accepted s)
-after_target s true d = stands s.options.check (due.after_target true s) d refl
+after_target s true d = target_is_update s.options.check (due.after_target true s) d refl
 after_target s false d =
     either (s.is_recorded || s.options.again) _ _ d (install s d) (reject SameNumber s d)
 
@@ -131,7 +132,7 @@ moves s (Some t) d fits holds = holds
 moves s None d fits holds = absurd (true≢false (sym fits))
 
 run_synced : (n : ℕ) (s : State) (events : List Event) (t : State) (d : OnDisk) → Holds d s
-    → IsRun (λ n s e. Fits s e) n s events t → Holds (synced_by s events d) t
+    → IsRun (λ n s e. EventFits s e) n s events t → Holds (synced_by s events d) t
 run_synced n s [] t d holds is = rw is holds
 run_synced n s (e ∷ more) t d holds (fits, run) =
     run_synced (count n e) (step s e).1 more t (syncs s.due e d)
@@ -144,6 +145,6 @@ begins false o = tt
 
 -- For every list of events that fit, whatever they report.
 pub synced_first : (o : Options) (events : List Event) (t : State)
-    → IsRun (λ n s e. Fits s e) 0 (begin o) events t
+    → IsRun (λ n s e. EventFits s e) 0 (begin o) events t
     → IsSynced t.due t (synced_by (begin o) events nothing_synced)
 synced_first o events t run = run_synced 0 (begin o) events t nothing_synced (begins o.check o) run

@@ -4,10 +4,10 @@ use Rattle.std.specs.Prelude.{Some, None, Result, Ok, Err, IfSome, is_some, nat_
 use Rattle.std.proofs.Common.{refl, sym, ap, ◌∙◌, true≢false}
 use Rattle.minisign.specs.SignatureText.{SignatureTextRecord}
 use Rattle.minisign_external.specs.declared.public_keys.PublicKeyValue.{PublicKeyValue}
-use Rattle.minisign_install.specs.Applications.{Applies, Call, Moment, Performs}
+use Rattle.minisign_install.specs.Applications.{Applies, Call, Snapshot, Performs}
 use Rattle.minisign_install.specs.Decisions.{Options, Recorded, comment_fault, judge_record, judge_text}
 use Rattle.minisign_install.specs.Faults.{Fault, InstallFault, OtherSize, SameNumber}
-use Rattle.minisign_install.specs.Histories.{EachEvent, IsAtTime, is_past_comment}
+use Rattle.minisign_install.specs.Histories.{AllEvents, IsAtTime, is_past_comment}
 use Rattle.minisign_install.specs.Step.{Event, Operation, State, after, answer, begin, step}
 use Rattle.minisign_install.specs.Step as due
 use Rattle.minisign_install.specs.StepRuns.{World, count}
@@ -92,13 +92,13 @@ module _ (w : World) (o : Options) (time : Option ℕ) where
   after_digest : (accepted : Bool) (s : State) → IsTimely s → Holds (due.after_digest accepted s)
   after_digest accepted s is = either (not accepted && due.is_rolling_back s) _ _ (install s is) is
 
-  stands : (check : Bool) (s : State) → IsTimely s
+  target_is_update : (check : Bool) (s : State) → IsTimely s
       → Holds (due.go (if check then due.AlreadyInstalled else due.SyncTarget) s)
-  stands true s is = is
-  stands false s is = is
+  target_is_update true s is = is
+  target_is_update false s is = is
 
   after_target : (accepted : Bool) (s : State) → IsTimely s → Holds (due.after_target accepted s)
-  after_target true s is = stands s.options.check s is
+  after_target true s is = target_is_update s.options.check s is
   after_target false s is =
       either (s.is_recorded || s.options.again) _ _ (install s is) (reject SameNumber s)
 
@@ -115,7 +115,7 @@ module _ (w : World) (o : Options) (time : Option ℕ) where
   maybe true t holds = holds
   maybe false t holds = tt
 
-  keeps : (op : Operation) (e : Event) (s : State) (old new : Moment) → s.due ≡ op → Known w o op s
+  keeps : (op : Operation) (e : Event) (s : State) (old new : Snapshot) → s.due ≡ op → Known w o op s
       → At op s → Performs w s op e old new → IsAtTime time e → IfSome (after op e s) Holds
   keeps due.Nothing (due.Failed f) s old new at known is done now = tt
   keeps due.Installed (due.Failed f) s old new at known is done now = tt
@@ -166,8 +166,8 @@ module _ (w : World) (o : Options) (time : Option ℕ) where
   moved s (Some t) is holds = holds
   moved s None is holds = absurd (true≢false (sym is))
 
-  timely_from : (n : ℕ) (s : State) (m : Moment) (calls : List Call) (t : State) (end : Moment)
-      → Invariant w o ⊤ ⊥ n s m → Holds s → Applies w s m calls t end → EachEvent (IsAtTime time) calls
+  timely_from : (n : ℕ) (s : State) (m : Snapshot) (calls : List Call) (t : State) (end : Snapshot)
+      → Invariant w o ⊤ ⊥ n s m → Holds s → Applies w s m calls t end → AllEvents (IsAtTime time) calls
       → Holds t × ((k : ℕ) × Invariant w o ⊤ ⊥ k t end)
   timely_from n s m [] t end known holds (is, same) now = (rw is holds, (n, rw (is, same) known))
   timely_from n s m (c ∷ more) t end known holds (others, fits, is, run) (now, rest) =
@@ -216,8 +216,8 @@ module _ (w : World) (o : Options) (time : Option ℕ) where
   accepted_at op s holds known is = absurd (true≢false (sym is))
 
 -- The fault of the comment is that at the time which was passed in.
-pub judged_in_time : (w : World) (o : Options) (m : Moment) (calls : List Call) (t : State) (end : Moment)
-    (time : Option ℕ) → Applies w (begin o) m calls t end → EachEvent (IsAtTime time) calls
+pub judged_in_time : (w : World) (o : Options) (m : Snapshot) (calls : List Call) (t : State) (end : Snapshot)
+    (time : Option ℕ) → Applies w (begin o) m calls t end → AllEvents (IsAtTime time) calls
     → t.due ≡ due.CheckComment → (text : SignatureTextRecord) → w.text ≡ Ok text
     → t.fault ≡ comment_fault o t.recorded.version time text.comments.trusted
 judged_in_time w o m calls t end time run now is =
@@ -226,8 +226,9 @@ judged_in_time w o m calls t end time run now is =
     judged_at w o time t.due t holds is
 
 -- A comment that is rejected at this time is never past the check.
-pub accepted_in_time : (w : World) (o : Options) (m : Moment) (calls : List Call) (t : State) (end : Moment)
-    (time : Option ℕ) → Applies w (begin o) m calls t end → EachEvent (IsAtTime time) calls
+pub accepted_in_time : (w : World) (o : Options) (m : Snapshot) (calls : List Call) (t : State)
+    (end : Snapshot)
+    (time : Option ℕ) → Applies w (begin o) m calls t end → AllEvents (IsAtTime time) calls
     → is_past_comment t.due ≡ true → (text : SignatureTextRecord) → w.text ≡ Ok text
     → comment_fault o t.recorded.version time text.comments.trusted ≡ None
 accepted_in_time w o m calls t end time run now is =

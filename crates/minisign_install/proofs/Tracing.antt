@@ -1,15 +1,16 @@
--- What the recorded effects of operations mean.
+-- The meaning of the recorded effects of operations.
 use Rattle.std.specs.Prelude.{◌≡◌, ◌<◌, ◌==◌, ◌&&◌, ◌++◌, ℕ, Bool, true, false, not, bytes_eq, length, take}
 use Rattle.std.specs.Prelude.{List, [], ◌∷◌, Option, Some, None, option_map, is_some, Result, Ok, Err}
+use Rattle.std.specs.Prelude.{IfErr, ◌≤◌}
 use Rattle.std.specs.Prelude.{◌≢◌, if◌then◌else◌, IfSome, ⊤, ◌||◌, ◌-◌, ◌+◌, get_or, nat_le}
 use Rattle.std.proofs.Common.{refl, inl, inr, sym, ap, ◌∙◌, append-nil, append_assoc, arith, true≢false}
 use Rattle.std.proofs.Common.{Bor, add-one, subst, drop}
-use Rattle.std.proofs.Math.Seq.{drop-cons}
+use Rattle.std.proofs.Math.Seq.{drop-cons, take-add}
 use Rattle.std.proofs.lemmas.Bool.{eqb-true}
 use Rattle.std.proofs.lemmas.Option.{none-some, same_Some}
 use Rattle.std.proofs.lemmas.Slice.Eq.{bytes_eq-Decides}
 use Rattle.minisign_base.specs.declared.faults.NamedFault.{NamedFault}
-use Rattle.minisign_install.specs.Applications.{Applies, Call, File, Moment, Others, Performs, bytes_of}
+use Rattle.minisign_install.specs.Applications.{Applies, Call, File, Snapshot, Others, Performs, bytes_of}
 use Rattle.minisign_install.specs.Applications.{grown}
 use Rattle.minisign.specs.SignatureText.{SignatureTextRecord, read_signature}
 use Rattle.minisign_external.specs.PublicKeys.{read_utf8}
@@ -28,9 +29,12 @@ use Rattle.minisign_install.proofs.SafeCalls as safe_calls
 use Rattle.minisign_install.proofs.StepSafety.{Known, Passed, text_parsed}
 use Rattle.minisign_install.specs.Step as due
 use Rattle.minisign_install.specs.StepRuns.{World, count}
-use Rattle.minisign_install.specs.Traces.{Follows, IsFollowed, IsLawful, Knows, calls_of, changed, event_of}
+use Rattle.minisign_install.specs.Traces.{FollowerHolds, IsFollowed, IsLawful, StateKnows, calls_of, changed}
+use Rattle.minisign_install.specs.Traces.{event_of}
 use Rattle.minisign_install.specs.Traces.{IsAsked, IsSeen, Seen, affected, bytes_seen, has_failed, is_done}
 use Rattle.minisign_install.specs.Traces.{is_plain}
+use Rattle.minisign_install.specs.Traces.{MessageFits, IsRecorded, IsWhole, world_of}
+use Rattle.minisign_install.specs.declared.traces.RunInputs.{RunInputs}
 use Rattle.minisign_install.specs.Traces.{installs, is_growing, is_nothing, is_read, read_after, seen}
 use Rattle.minisign_install.specs.Traces.{seen_as, with_bytes}
 use Rattle.minisign_install.specs.declared.traces.Change.TheVariants as change
@@ -80,7 +84,7 @@ file_is_read None None number read is holds = absurd (true≢false (sym holds))
 
 -- == Operations that are done, and that have failed ==
 
-plain_performs : (w : World) (s : State) (op : Operation) (did : Effect) (m : Moment)
+plain_performs : (w : World) (s : State) (op : Operation) (did : Effect) (m : Snapshot)
     → is_plain op did ≡ true → Performs w s op due.Done m (affected did m)
 plain_performs w s due.SyncTarget effect.TargetSynced m is = refl
 plain_performs w s due.SyncTargetName effect.NamesSynced m is = refl
@@ -97,21 +101,21 @@ plain_performs w s due.SyncFileName effect.NamesSynced m is = refl
 plain_performs w s due.RemoveFiles effect.FilesRemoved m is = refl
 plain_performs w s op did m is = absurd (true≢false (sym is))
 
-pub done_performs : (w : World) (s : State) (op : Operation) (did : Effect) (f : Files) (m : Moment)
+pub done_performs : (w : World) (s : State) (op : Operation) (did : Effect) (f : Files) (m : Snapshot)
     (read update : List ℕ) → IsSeen f m → read ≡ s.read → w.update ≡ update
     → is_done op did f read update ≡ true → Performs w s op due.Done m (affected did m)
-done_performs w s due.Lock effect.Locked f m read update there same offered is =
-    (there.busy ∙ is_not f.is_busy is, refl)
-done_performs w s due.ReadTarget (effect.TargetOpened number) f m read update there same offered is =
-    let (file, at, holds, one) = file_is_read m.target f.target number read there.target is in
+done_performs w s due.Lock effect.Locked f m read update present same offered is =
+    (present.busy ∙ is_not f.is_busy is, refl)
+done_performs w s due.ReadTarget (effect.TargetOpened number) f m read update present same offered is =
+    let (file, at, holds, one) = file_is_read m.target f.target number read present.target is in
     (file, at, holds ∙ same, ap (λ (n : ℕ). record m { opened = Some n }) one)
-done_performs w s due.CopyData effect.Nothing f m read update there same offered is =
-    (bytes_are m.data_file f.data_file there.data_file ∙ same_bytes _ update is ∙ sym offered, refl)
-done_performs w s due.ReadBack effect.Nothing f m read update there same offered is =
-    (sym same ∙ same_bytes read _ is ∙ sym (bytes_are m.data_file f.data_file there.data_file), refl)
-done_performs w s op did f m read update there same offered is = plain_performs w s op did m is
+done_performs w s due.CopyData effect.Nothing f m read update present same offered is =
+    (bytes_are m.data_file f.data_file present.data_file ∙ same_bytes _ update is ∙ sym offered, refl)
+done_performs w s due.ReadBack effect.Nothing f m read update present same offered is =
+    (sym same ∙ same_bytes read _ is ∙ sym (bytes_are m.data_file f.data_file present.data_file), refl)
+done_performs w s op did f m read update present same offered is = plain_performs w s op did m is
 
-pub failed_performs : (w : World) (s : State) (op : Operation) (f : NamedFault) (did : Effect) (m : Moment)
+pub failed_performs : (w : World) (s : State) (op : Operation) (f : NamedFault) (did : Effect) (m : Snapshot)
     → has_failed op did ≡ true → Performs w s op (due.Failed f) m (affected did m)
 failed_performs w s due.RenameRecord f effect.RecordRenamed m is = inr refl
 failed_performs w s due.RenameRecord f effect.Nothing m is = inl refl
@@ -143,7 +147,7 @@ pub fits : (s : State) (e : Event) (r : Result Unit (Refusal InstallFault)) (is_
 fits s e r is_due same wrong is = answered_fits s (after s.due e s) r is_due same wrong is
 
 pub signature_is : (w : World) (s : State) (op : Operation) (text : Result SignatureTextRecord Fault)
-    (time : Option ℕ) (old new : Moment) → Performs w s op (due.SignatureRead text time) old new
+    (time : Option ℕ) (old new : Snapshot) → Performs w s op (due.SignatureRead text time) old new
     → (op ≡ due.ReadSignature) × (text ≡ w.text)
 signature_is w s due.ReadSignature text time old new is = (refl, is.0)
 signature_is w s op text time old new is = absurd is
@@ -160,7 +164,7 @@ same_ok t u is = cc is
 abbrev nothing_found : Result SignatureTextRecord Fault → World
 nothing_found text = record {
   accepts = λ message key signature. false;
-  found = None;
+  found_record = None;
   text = text;
   update = [];
   most = 0;
@@ -182,6 +186,44 @@ message_is w s text n before now is has =
     λ some t parsed.
     written s.options (read_utf8 read_signature text) (reads_into s text) n before now refl has some t
     (sym is ∙ parsed)
+
+message_of : (o : Options) (text : Result SignatureTextRecord Fault) (judged : Passed) (n : ℕ)
+    (before now : List ℕ) → judge_text o text ≡ judged → HasMessage (comment_message judged) n before now
+    → (t : SignatureTextRecord) → text ≡ Ok t → (op : Operation)
+    → (IfErr judged (λ e. op ≡ due.CheckComment → ⊥)) → op ≡ due.CheckComment
+    → (n ≡ length (t.signature.signature ++ t.comments.trusted)) × (n ≤ length now)
+message_of o text (Ok (u, keys)) n before now judged (long, room, is, rest) t parsed op not at =
+    let one = same_ok u t (sym (text_parsed (nothing_found text) o text u keys judged) ∙ parsed) in
+    (long ∙ ap (λ (x : SignatureTextRecord). length (x.signature.signature ++ x.comments.trusted)) one, room)
+message_of o text (Err e) n before now judged has t parsed op not at = absurd (not at)
+
+not_asked : (is : Bool) → (if is then due.RemoveFiles else due.Rejected) ≡ due.CheckComment → ⊥
+not_asked true = λ at. cc at
+not_asked false = λ at. cc at
+
+not_due : (judged : Passed) (time : Option ℕ) (s : State)
+    → IfErr judged (λ e. (due.after_signature judged time s).due ≡ due.CheckComment → ⊥)
+not_due (Ok (t, keys)) time s = tt
+not_due (Err e) time s = not_asked (due.has_files s.due)
+
+due_after : (s : State) (op : Operation) (text : Result SignatureTextRecord Fault) (time : Option ℕ)
+    → op ≡ due.ReadSignature
+    → (answer s (after op (due.SignatureRead text time) s)).1
+    ≡ due.after_signature (judge_text s.options text) time s
+due_after s due.ReadSignature text time is = refl
+due_after s op text time is = cc is
+
+-- The message of the question is whole if the question is due next.
+pub whole_is : (w : World) (s : State) (text : List ℕ) (time : Option ℕ) (n : ℕ) (before now : List ℕ)
+    → w.text ≡ read_utf8 read_signature text → s.due ≡ due.ReadSignature
+    → HasMessage (comment_message (reads_into s text)) n before now
+    → IsWhole w (step s (due.SignatureRead (read_utf8 read_signature text) time)).1.due n now
+whole_is w s text time n before now is at has =
+    λ asked t parsed.
+    let next = due_after s s.due (read_utf8 read_signature text) time at in
+    message_of s.options (read_utf8 read_signature text) (reads_into s text) n before now refl has t
+    (sym is ∙ parsed) (due.after_signature (reads_into s text) time s).due
+    (not_due (reads_into s text) time s) (sym (ap (λ (x : State). x.due) next) ∙ asked)
 
 -- == Steps ==
 
@@ -214,17 +256,17 @@ grown_is (Some file) None bytes piece is same = absurd (none-some (seen file) (s
 grown_is None (Some v) bytes piece is same = absurd (none-some (seen_as v) is)
 grown_is None None bytes piece is same = refl
 
-pub grown_seen : (f : Files) (g : Option FileView) (m : Moment) (bytes piece : List ℕ) → IsSeen f m
+pub grown_seen : (f : Files) (g : Option FileView) (m : Snapshot) (bytes piece : List ℕ) → IsSeen f m
     → bytes ≡ bytes_seen f.data_file ++ piece
     → option_map seen_as g ≡ with_bytes bytes (option_map seen_as f.data_file)
     → IsSeen (record f { data_file = g }) (record m { data_file = grown piece m.data_file })
-grown_seen f g m bytes piece there is same = record {
-  target = there.target;
-  recorded = there.recorded;
-  data_file = grown_is m.data_file f.data_file bytes piece there.data_file is ∙ sym same;
-  record_file = there.record_file;
-  locked = there.locked;
-  busy = there.busy;
+grown_seen f g m bytes piece present is same = record {
+  target = present.target;
+  recorded = present.recorded;
+  data_file = grown_is m.data_file f.data_file bytes piece present.data_file is ∙ sym same;
+  record_file = present.record_file;
+  locked = present.locked;
+  busy = present.busy;
 }
 
 -- == What was read ==
@@ -289,13 +331,13 @@ after_digest accepted s =
     either (not accepted && due.is_rolling_back s) s.read (due.install s)
     (record s { due = due.ReadTarget; is_recorded = accepted }) (install s) refl
 
-stands : (check : Bool) (s : State)
+target_is_update : (check : Bool) (s : State)
     → Keeps s.read (due.go (if check then due.AlreadyInstalled else due.SyncTarget) s)
-stands true s = refl
-stands false s = refl
+target_is_update true s = refl
+target_is_update false s = refl
 
 after_target : (accepted : Bool) (s : State) → Keeps s.read (due.after_target accepted s)
-after_target true s = stands s.options.check s
+after_target true s = target_is_update s.options.check s
 after_target false s =
     either (s.is_recorded || s.options.again) s.read (due.install s) (due.reject SameNumber s) (install s)
     (reject SameNumber s)
@@ -374,7 +416,7 @@ read_is s e fits = moved s (after s.due e s) e fits (reads s.due e s refl)
 -- == Whole runs ==
 
 -- One more call.
-snoc : (w : World) (s : State) (m : Moment) (calls : List Call) (t : State) (end : Moment) (c : Call)
+snoc : (w : World) (s : State) (m : Snapshot) (calls : List Call) (t : State) (end : Snapshot) (c : Call)
     → Applies w s m calls t end → Others end c.before → is_some (after t.due c.event t) ≡ true
     → Performs w t t.due c.event c.before c.after
     → Applies w s m (calls ++ c ∷ []) (step t c.event).1 c.after
@@ -383,8 +425,8 @@ snoc w s m [] t end c (is, same) others fits done =
 snoc w s m (d ∷ more) t end c (other, fit, is, run) others fits done =
     (other, fit, is, snoc w (step s d.event).1 d.after more t end c run others fits done)
 
-known_from : (w : World) (o : Options) (n : ℕ) (s : State) (m : Moment) (calls : List Call) (t : State)
-    (end : Moment) → Invariant w o ⊤ ⊥ n s m → Applies w s m calls t end
+known_from : (w : World) (o : Options) (n : ℕ) (s : State) (m : Snapshot) (calls : List Call) (t : State)
+    (end : Snapshot) → Invariant w o ⊤ ⊥ n s m → Applies w s m calls t end
     → (k : ℕ) × Invariant w o ⊤ ⊥ k t end
 known_from w o n s m [] t end known (is, same) = (n, rw (is, same) known)
 known_from w o n s m (c ∷ more) t end known (others, fits, is, run) =
@@ -404,23 +446,34 @@ signature_by w o due.CheckComment s known is t parsed =
     (same_ok known.0 t (sym known.6 ∙ parsed))
 signature_by w o op s known is t parsed = cc is
 
--- What is known after a lawful run.
-pub knows_of : (w : World) (o : Options) (m : Moment) (calls : List Call) (s : State) (end : Moment)
-    → Applies w (begin o) m calls s end → Knows w o.file s
+parsed_by : (w : World) (o : Options) (op : Operation) (s : State) → Known w o op s → op ≡ due.CheckComment
+    → (t : SignatureTextRecord) × (w.text ≡ Ok t)
+parsed_by w o due.CheckComment s known is = (known.0, known.6)
+parsed_by w o op s known is = cc is
+
+-- The facts known after a lawful run.
+pub knows_of : (w : World) (o : Options) (m : Snapshot) (calls : List Call) (s : State) (end : Snapshot)
+    → Applies w (begin o) m calls s end → StateKnows w o.file s
 knows_of w o m calls s end run =
     let (k, invariant) = known_from w o 0 (begin o) m calls s end (safe_calls.begins w o ⊤ ⊥ m) run in
     let known = knows w o ⊤ ⊥ k s end invariant in record {
       named = λ is. named_by w o s.due s known is;
       signature = λ is t parsed. signature_by w o s.due s known is t parsed;
+      parsed = λ is. parsed_by w o s.due s known is;
     }
 
--- Up to here the run is that of a lawful application, and these lines are left.
-abbrev pub Reached : World → Options → Moment → Follower → List ℕ → List Line → List Line → Type 0
-Reached w o m f message trace rest =
-    (calls : List Call) × (s : State) × (last : Moment) × (now : Moment) × Applies w (begin o) m calls s last
-    × Others last now × Follows w f message s now × (calls_of m trace ≡ calls ++ calls_of now rest)
+-- These first lines are those of a lawful application. A trace that begins with them is recorded in full only
+-- if the lines after them are.
+abbrev pub Reached : RunInputs → Options → Snapshot → Follower → List ℕ → List Line → Type 0
+Reached g o m f message front =
+    (calls : List Call) × (s : State) × (last : Snapshot) × (now : Snapshot)
+    × Applies (world_of g) (begin o) m calls s last × Others last now
+    × FollowerHolds (world_of g) f message s now
+    × ((more : List Line) → calls_of m (front ++ more) ≡ calls ++ calls_of now more)
+    × ((more : List Line) → IsRecorded g (begin o) m [] (front ++ more)
+    → IsRecorded g s now f.source.now more)
 
-others_again : (one two three : Moment) → Others one two → Others two three → Others one three
+others_again : (one two three : Snapshot) → Others one two → Others two three → Others one three
 others_again one two three a b = record {
   data_stays = b.data_stays ∙ a.data_stays;
   record_stays = b.record_stays ∙ a.record_stays;
@@ -431,7 +484,7 @@ others_again one two three a b = record {
   leftovers_stay = λ is. b.leftovers_stay (a.lock_stays ∙ is) ∙ a.leftovers_stay is;
 }
 
-nobody : (m : Moment) → Others m m
+nobody : (m : Snapshot) → Others m m
 nobody m = record {
   data_stays = refl;
   record_stays = refl;
@@ -442,16 +495,34 @@ nobody m = record {
   leftovers_stay = λ is. refl;
 }
 
-pub starts : (w : World) (o : Options) (m : Moment) (f : Follower) (message : List ℕ) (trace : List Line)
-    → Follows w f message (begin o) m → Reached w o m f message trace trace
-starts w o m f message trace follows = ([], begin o, m, m, (refl, refl), nobody m, follows, refl)
+pub starts : (g : RunInputs) (o : Options) (m : Snapshot) (f : Follower) (message : List ℕ)
+    → FollowerHolds (world_of g) f message (begin o) m → f.source.now ≡ [] → Reached g o m f message []
+starts g o m f message follows none = (
+  [],
+  begin o,
+  m,
+  m,
+  (refl, refl),
+  nobody m,
+  follows,
+  λ more. refl,
+  λ more is. rw none is,
+)
 
-pub goes_on : (w : World) (o : Options) (m : Moment) (f g : Follower) (message written : List ℕ)
-    (trace rest : List Line) (first : Line) → Reached w o m f message trace (first ∷ rest)
-    → IsFollowed w o.file first f g message written → Reached w o m g written trace rest
-goes_on w o m f g message written trace rest (line.Others other)
-    (calls, s, last, now, run, others, follows, same) followed =
-    let (allowed, after_it) = followed s now follows in (
+-- One more line.
+longer : (g : RunInputs) (s : State) (m : Snapshot) (source : List ℕ) (front : List Line) (line : Line)
+    (more : List Line) → IsRecorded g s m source ((front ++ line ∷ []) ++ more)
+    → IsRecorded g s m source (front ++ line ∷ more)
+longer g s m source front line more is =
+    subst (IsRecorded g s m source) (append_assoc front (line ∷ []) more) is
+
+pub goes_on : (g : RunInputs) (o : Options) (m : Snapshot) (f h : Follower) (message written : List ℕ)
+    (front : List Line) (next : Line) → Reached g o m f message front
+    → IsFollowed (world_of g) o.file next f h message written
+    → Reached g o m h written (front ++ next ∷ [])
+goes_on g o m f h message written front (line.Others other)
+    (calls, s, last, now, run, others, follows, same, recorded) followed =
+    let (allowed, after_it, source) = followed s now follows in (
       calls,
       s,
       last,
@@ -459,12 +530,18 @@ goes_on w o m f g message written trace rest (line.Others other)
       run,
       others_again last now (changed other now) others allowed,
       after_it,
-      same,
+      λ more. ap (calls_of m) (append_assoc front (line.Others other ∷ []) more)
+          ∙ same (line.Others other ∷ more),
+      λ more is. rw source
+          (recorded (line.Others other ∷ more) (longer g (begin o) m [] front (line.Others other) more is)).1,
     )
-goes_on w o m f g message written trace rest (line.Call reported did)
-    (calls, s, last, now, run, others, follows, same) followed =
-    let ((fits, performs), after_it) = followed s now (knows_of w o m calls s last run) follows in
-    let c : Call = record { event = event_of reported; before = now; after = affected did now } in (
+goes_on g o m f h message written front (line.Call reported did)
+    (calls, s, last, now, run, others, follows, same, recorded) followed =
+    let w = world_of g in
+    let ((fits, performs), after_it, source) =
+    followed s now (knows_of w o m calls s last run) follows in
+    let c : Call = record { event = event_of reported; before = now; after = affected did now } in
+    let next = line.Call reported did in (
       calls ++ c ∷ [],
       (step s (event_of reported)).1,
       affected did now,
@@ -472,24 +549,50 @@ goes_on w o m f g message written trace rest (line.Call reported did)
       snoc w (begin o) m calls s last c run others fits performs,
       nobody (affected did now),
       after_it,
-      same ∙ sym (append_assoc calls (c ∷ []) (calls_of (affected did now) rest)),
+      λ more. ap (calls_of m) (append_assoc front (next ∷ []) more) ∙ same (next ∷ more)
+          ∙ sym (append_assoc calls (c ∷ []) (calls_of (affected did now) more)),
+      λ more is. rw source (recorded (next ∷ more) (longer g (begin o) m [] front next more is)).2,
     )
 
-abbrev no_line : Line
+abbrev pub no_line : Line
 no_line = line.Others (change.Target None)
 
-pub goes_on_at : (w : World) (o : Options) (m : Moment) (f g : Follower) (message written : List ℕ)
-    (trace : List Line) (at : ℕ) → at < length trace → Reached w o m f message trace (drop at trace)
-    → IsFollowed w o.file (get_or trace at no_line) f g message written
-    → Reached w o m g written trace (drop (at + 1) trace)
-goes_on_at w o m f g message written trace at within reached followed =
-    let cut : drop at trace ≡ get_or trace at no_line ∷ drop (at + 1) trace =
+cut : (trace : List Line) (at : ℕ) → at < length trace
+    → drop at trace ≡ get_or trace at no_line ∷ drop (at + 1) trace
+cut trace at within =
     drop-cons trace at no_line within
-    ∙ ap (λ (j : ℕ). get_or trace at no_line ∷ drop j trace) (sym (add-one at)) in
-    goes_on w o m f g message written trace (drop (at + 1) trace) (get_or trace at no_line)
-    (subst (Reached w o m f message trace) cut reached) followed
+    ∙ ap (λ (j : ℕ). get_or trace at no_line ∷ drop j trace) (sym (add-one at))
 
-pub arrives : (w : World) (o : Options) (m : Moment) (f : Follower) (message : List ℕ) (trace : List Line)
-    → Reached w o m f message trace [] → IsLawful w o m trace
-arrives w o m f message trace (calls, s, last, now, run, others, follows, same) =
-    (s, last, rw (same ∙ append-nil calls) run)
+pub one_more : (trace : List Line) (at : ℕ) → at < length trace
+    → take (at + 1) trace ≡ take at trace ++ get_or trace at no_line ∷ []
+one_more trace at within =
+    take-add at 1 trace ∙ ap (λ (l : List Line). take at trace ++ take 1 l) (cut trace at within)
+
+pub goes_on_at : (g : RunInputs) (o : Options) (m : Snapshot) (f h : Follower) (message written : List ℕ)
+    (trace : List Line) (at : ℕ) → at < length trace → Reached g o m f message (take at trace)
+    → IsFollowed (world_of g) o.file (get_or trace at no_line) f h message written
+    → Reached g o m h written (take (at + 1) trace)
+goes_on_at g o m f h message written trace at within reached followed =
+    subst (Reached g o m h written) (sym (one_more trace at within))
+    (goes_on g o m f h message written (take at trace) (get_or trace at no_line) reached followed)
+
+pub arrives : (g : RunInputs) (o : Options) (m : Snapshot) (f : Follower) (message : List ℕ)
+    (front : List Line)
+    → Reached g o m f message front → IsLawful (world_of g) o m front
+arrives g o m f message front (calls, s, last, now, run, others, follows, same, recorded) =
+    (s, last, rw (ap (calls_of m) (sym (append-nil front)) ∙ same [] ∙ append-nil calls) run)
+
+-- If the next line offends, the trace is not recorded in full.
+pub offends : (g : RunInputs) (o : Options) (m : Snapshot) (f : Follower) (message : List ℕ)
+    (trace : List Line) (at : ℕ) → at < length trace → Reached g o m f message (take at trace)
+    → MessageFits (world_of g) message
+    → ((s : State) (now : Snapshot) → StateKnows (world_of g) o.file s
+    → FollowerHolds (world_of g) f message s now
+    → MessageFits (world_of g) message
+    → IsRecorded g s now f.source.now (get_or trace at no_line ∷ []) → false ≡ true)
+    → IsRecorded g (begin o) m [] (take (at + 1) trace) → ⊥
+offends g o m f message trace at within
+    (calls, s, last, now, run, others, follows, same, recorded) room finds is =
+    true≢false (sym (finds s now (knows_of (world_of g) o m calls s last run) follows room
+    (recorded (get_or trace at no_line ∷ [])
+    (subst (IsRecorded g (begin o) m []) (one_more trace at within) is))))

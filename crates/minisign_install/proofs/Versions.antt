@@ -8,15 +8,16 @@ use Rattle.hex.specs.Hex.{decode_sized}
 use Rattle.hex.specs.declared.error.FromHexError.{FromHexError}
 use Rattle.hex.proofs.HexLemmas.{decode_of-ok, decode_sized-ok, decode_sized-twice}
 use Rattle.minisign_hash.specs.Blake2b.{blake2b_digest}
-use Rattle.minisign_install.specs.Applications.{Applies, Call, Crashes, File, IsSynced, MayFindRecord}
-use Rattle.minisign_install.specs.Applications.{MayRemain, MayRemainOf, Moment, content}
+use Rattle.minisign_install.specs.Applications.{Applies, Call, Crashes, File, IsSynced, RecordMayBe}
+use Rattle.minisign_install.specs.Applications.{CrashMayLeave, CrashMayLeaveOneOf, Snapshot, content}
 use Rattle.minisign_install.specs.Comments.{Numbering, number_label, strip, value_of}
 use Rattle.minisign_install.specs.Decisions.{Options, Recorded, judge_record, judge_version}
 use Rattle.minisign_install.specs.Decisions.{names_other_key, nothing_recorded, number_in, number_of}
 use Rattle.minisign_install.specs.Decisions.{recorded_version}
 use Rattle.minisign_install.specs.Faults.{InstallFault}
 use Rattle.minisign_install.specs.Histories.{AcceptsWholeKeys, HasHappened, HasVersionFrom, Happening}
-use Rattle.minisign_install.specs.Histories.{GoesDown, IsUpdateRecord, IsVersionFrom, KeepsVersion, OthersAct}
+use Rattle.minisign_install.specs.Histories.{GoesDown, IsUpdateRecord, IsVersionFrom, KeepsVersion}
+use Rattle.minisign_install.specs.Histories.{OthersChangeFiles}
 use Rattle.minisign_install.specs.Histories.{OthersKeepVersion, Runs, UpdaterRun}
 use Rattle.minisign_install.specs.RecordTexts.{decoded, is_marked, record_key, record_text}
 use Rattle.minisign_install.specs.Step.{State, begin, is_rolling_back, key_of, new_key, new_record}
@@ -105,7 +106,7 @@ module _ (w : World) (o : Options) (accepts_whole : AcceptsWholeKeys w.accepts) 
   next_key_length s update =
       whole_key (is_rolling_back s) s.recorded.key (key_of s.signers)
       (accepts_whole _ _ _ update.signed_comment)
-      (λ key is. read_key o w.found key (ap key_in update.counts ∙ is))
+      (λ key is. read_key o w.found_record key (ap key_in update.record_applies ∙ is))
 
   recorded_bound : (s : State) → IsUpdate w o s → (k : ℕ) → s.recorded.version ≡ Some k → k < 2 ^ 64
   recorded_bound s update k is =
@@ -154,11 +155,11 @@ module _ (w : World) (o : Options) (accepts_whole : AcceptsWholeKeys w.accepts) 
 
   module _ (k : ℕ) where
     abbrev From : Type 0
-    From = IsVersionFrom o.numbering k w.found
+    From = IsVersionFrom o.numbering k w.found_record
 
-    module _ (compares : (bytes : List ℕ) → w.found ≡ Some bytes → (o.first || o.new_key) ≡ true
+    module _ (compares : (bytes : List ℕ) → w.found_record ≡ Some bytes → (o.first || o.new_key) ≡ true
         → names_other_key o bytes ≡ false) where
-      not_forgotten : (found : Option (List ℕ)) → w.found ≡ found → From → IsForgotten o found → ⊥
+      not_forgotten : (found : Option (List ℕ)) → w.found_record ≡ found → From → IsForgotten o found → ⊥
       not_forgotten None at (bytes, version, is, reads, least) forgets =
           none-some bytes (sym at ∙ is)
       not_forgotten (Some other) at (bytes, version, is, reads, least) (inl (first, none)) =
@@ -170,7 +171,7 @@ module _ (w : World) (o : Options) (accepts_whole : AcceptsWholeKeys w.accepts) 
       no_less : (s : State) → IsUpdate w o s → From → (r : Option ℕ) → s.recorded.version ≡ r
           → k ≤ new_version s
       no_less s update from None none =
-          absurd (not_forgotten w.found refl from (update.forgotten none))
+          absurd (not_forgotten w.found_record refl from (update.forgotten none))
       no_less s update (bytes, version, is, reads, least) (Some j) some =
           let ((other, at, holds), more) = update.not_older j some in
           let same : bytes ≡ other = same_Some bytes other (sym is ∙ at) in
@@ -188,21 +189,21 @@ module _ (w : World) (o : Options) (accepts_whole : AcceptsWholeKeys w.accepts) 
         no_less s update from s.recorded.version refl,
       )
 
-      either_from : (old : Moment) (found : Option (List ℕ)) → HasVersionFrom o.numbering k old
-          → MayFindRecord old found ⊎ (From × IsUpdateRecord w o found) → IsVersionFrom o.numbering k found
+      either_from : (old : Snapshot) (found : Option (List ℕ)) → HasVersionFrom o.numbering k old
+          → RecordMayBe old found ⊎ (From × IsUpdateRecord w o found) → IsVersionFrom o.numbering k found
       either_from old found has (inl is) = has found is
       either_from old found has (inr (from, update)) = recorded_from found from update
 
-      keeps_version : (old new : Moment) → HasVersionFrom o.numbering k old → Safe w o From ⊥ old new
+      keeps_version : (old new : Snapshot) → HasVersionFrom o.numbering k old → Safe w o From ⊥ old new
           → HasVersionFrom o.numbering k new
       keeps_version old new has safe found is = either_from old found has (safe.1 found is)
 
       -- A file may remain as it is.
-      remains : (place : Option File) → MayRemain place (content place)
+      remains : (place : Option File) → CrashMayLeave place (content place)
       remains (Some file) = (file.bytes, refl, λ synced. refl)
       remains None = refl
 
-      run_keeps : (n : ℕ) (s : State) (m : Moment) (calls : List Call) (t : State) (end : Moment)
+      run_keeps : (n : ℕ) (s : State) (m : Snapshot) (calls : List Call) (t : State) (end : Snapshot)
           → Invariant w o From ⊥ n s m → HasVersionFrom o.numbering k m → Applies w s m calls t end
           → OthersKeepVersion o.numbering m calls → HasVersionFrom o.numbering k end
       run_keeps n s m [] t end known has (is, same) others = rw same has
@@ -210,7 +211,7 @@ module _ (w : World) (o : Options) (accepts_whole : AcceptsWholeKeys w.accepts) 
           let before = keep k has in
           let read : IsVersionFrom o.numbering k (content c.before.recorded) =
           before (content c.before.recorded) (inl (remains c.before.recorded)) in
-          let reads : content c.before.recorded ≡ w.found → From =
+          let reads : content c.before.recorded ≡ w.found_record → From =
           λ found. subst (IsVersionFrom o.numbering k) found read in
           run_keeps (count n c.event) (step s c.event).1 c.after more t end
           (next w o From ⊥ n s m c known rest (λ q. absurd q) fits is reads)
@@ -228,28 +229,28 @@ updater_keeps numbering r k has =
     subst (λ x. OthersKeepVersion x r.begun r.calls) (sym r.field) r.others_keep in
     subst (λ x. HasVersionFrom x k r.ended) r.field
     (run_keeps r.world o r.accepts_whole k r.compares 0 (begin o) r.begun r.calls r.state r.ended
-    (begins r.world o (IsVersionFrom o.numbering k r.world.found) ⊥ r.begun) from r.applies others)
+    (begins r.world o (IsVersionFrom o.numbering k r.world.found_record) ⊥ r.begun) from r.applies others)
 
 -- After a crash a file on the disk is as it is.
-stays_so : (place : Option File) (found : Option (List ℕ)) → IsSynced place → MayRemain place found
+synced_stays : (place : Option File) (found : Option (List ℕ)) → IsSynced place → CrashMayLeave place found
     → found ≡ content place
-stays_so (Some file) found synced (bytes, is, same) = is ∙ ap (λ x. Some x) (same synced)
-stays_so None found synced is = is
+synced_stays (Some file) found synced (bytes, is, same) = is ∙ ap (λ x. Some x) (same synced)
+synced_stays None found synced is = is
 
-found_after : (old new : Moment) (left : List (Option File)) (found : Option (List ℕ)) → Crashes old new
-    → new.recorded_left ≡ left → MayRemainOf (new.recorded ∷ left) found → MayFindRecord old found
+found_after : (old new : Snapshot) (left : List (Option File)) (found : Option (List ℕ)) → Crashes old new
+    → new.recorded_left ≡ left → CrashMayLeaveOneOf (new.recorded ∷ left) found → RecordMayBe old found
 found_after old new [] found crash none (inl is) =
-    rw (stays_so new.recorded found crash.record_on_disk is) crash.record_remains
+    rw (synced_stays new.recorded found crash.record_on_disk is) crash.record_remains
 found_after old new [] found crash none (inr is) = absurd is
 found_after old new (x ∷ more) found crash none is =
     let empty : x ∷ more ≡ [] = sym none ∙ crash.record_sure in cc empty
 
-crash_keeps : (numbering : Numbering) (old new : Moment) → Crashes old new → KeepsVersion numbering old new
+crash_keeps : (numbering : Numbering) (old new : Snapshot) → Crashes old new → KeepsVersion numbering old new
 crash_keeps numbering old new crash k has found is =
     has found (found_after old new new.recorded_left found crash refl is)
 
 -- Over any history, the recorded version does not decrease.
-pub versions_keep : (numbering : Numbering) (old new : Moment) (happened : List (Happening numbering))
+pub versions_keep : (numbering : Numbering) (old new : Snapshot) (happened : List (Happening numbering))
     → HasHappened numbering old happened new → KeepsVersion numbering old new
 versions_keep numbering old new [] is k has = rw is has
 versions_keep numbering old new (Runs r ∷ later) (on, rest) k has =
@@ -257,5 +258,5 @@ versions_keep numbering old new (Runs r ∷ later) (on, rest) k has =
     versions_keep numbering r.ended new later rest k (updater_keeps numbering r k begun)
 versions_keep numbering old new (GoesDown m ∷ later) (crash, rest) k has =
     versions_keep numbering m new later rest k (crash_keeps numbering old m crash k has)
-versions_keep numbering old new (OthersAct m ∷ later) (keeps, rest) k has =
+versions_keep numbering old new (OthersChangeFiles m ∷ later) (keeps, rest) k has =
     versions_keep numbering m new later rest k (keeps k has)

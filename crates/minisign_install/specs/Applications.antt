@@ -1,8 +1,8 @@
--- A lawful application: one that performs the operation that is due, and reports what happened. Moment is
--- what there is on the computer at one moment, Performs says what each operation does to it, and Others what
--- other processes may do between two operations. Applies puts these together to a run, which may be cut off
--- anywhere, and Crashes says what a crash of the machine leaves. Any operation may fail, and the clock may
--- show any time.
+-- A lawful application: it performs the operation that is due, and reports what happened. Snapshot models the
+-- files at one point in time, Performs defines the effect of each operation on them, and Others the changes
+-- that other processes may make between two operations. Applies combines these to a run, which may be cut off
+-- anywhere, and Crashes defines the files after a crash of the machine. Any operation may fail, and the clock
+-- may show any time.
 use Rattle.std.specs.Prelude.{◌≡◌, ◌<◌, ◌≤◌, ◌++◌, ◌==◌, ◌⊎◌, ⊤, ℕ, Bool, true, false, is_some}
 use Rattle.std.specs.Prelude.{if◌then◌else◌, List, [], ◌∷◌, length, Option, Some, None}
 use Rattle.minisign_install.specs.Step.{Answered}
@@ -17,19 +17,20 @@ use Rattle.minisign_install.specs.StepRuns.{IsAnswer, World}
 -- == Files ==
 
 -- A file. Files with the same number are the same file. If a file is not synced, it may have any content
--- after a crash. permissions says if it has the permissions of the installed file.
+-- after a crash. `permissions` says whether it has the permissions of the installed file.
 pub record File : Type 0 where
   pub number : ℕ
   pub bytes : List ℕ
   pub synced : Bool
   pub permissions : Bool
 
--- What processes find: the installed file, the record, and the two temporary files of this run, if there are
--- any. A temporary file has a random name, which no other process uses. A crash may leave a name leading to
--- one of the files that are listed in target_left and in recorded_left (None: no file) instead. opened is the
--- number of the installed file that this run has read. leftovers: there may be temporary files of killed
--- runs that can be removed. locked: this run holds the lock. busy: another run holds it.
-pub record Moment : Type 0 where
+-- The files that processes find: the installed file, the record, and the two temporary files of this run, if
+-- there are any. A temporary file has a random name, which no other process uses. After a crash, the name of
+-- the target may lead to one of the files in `target_left` instead, and that of the record to one of those
+-- in `recorded_left` (None: to no file). `opened` is the number of the installed file that this run has
+-- read. `leftovers` is true if there may be temporary files of killed runs that can be removed, `locked` if
+-- this run holds the lock, and `busy` if another run holds it.
+pub record Snapshot : Type 0 where
   pub target : Option File
   pub target_left : List (Option File)
   pub recorded : Option File
@@ -71,33 +72,35 @@ abbrev pub synced : Option File → Option File
 synced (Some file) = Some (record file { synced = true })
 synced None = None
 
--- The file that was opened is synced. Another process may have put another one in its place.
+-- The installed file after the file that was read is synced. This changes nothing if another process has
+-- replaced it since.
 abbrev pub synced_if : Option ℕ → Option File → Option File
 synced_if (Some n) (Some file) = if file.number == n then synced (Some file) else Some file
 synced_if opened file = file
 
--- Both names are synced: a crash leaves them leading where they lead.
-abbrev pub names_synced : Moment → Moment
+-- Both names are synced: a crash does not change which files they lead to.
+abbrev pub names_synced : Snapshot → Snapshot
 names_synced m = record m { target_left = []; recorded_left = [] }
 
--- A rename replaces a file in one step. Until the directory is synced, a crash may leave what was there.
-abbrev pub data_renamed : Moment → Moment
+-- A rename replaces a file in one step. Until the directory is synced, a crash may bring back the previous
+-- file.
+abbrev pub data_renamed : Snapshot → Snapshot
 data_renamed m =
     record m { target = m.data_file; target_left = m.target ∷ m.target_left; data_file = None }
 
-abbrev pub record_renamed : Moment → Moment
+abbrev pub record_renamed : Snapshot → Snapshot
 record_renamed m =
     record m { recorded = m.record_file; recorded_left = m.recorded ∷ m.recorded_left; record_file = None }
 
--- The operation is performed in this state, and this event is reported. w is what the run finds: the record,
--- what the signature file parses to, the data, and what Ed25519 accepts. An operation that fails may have
--- been done in part: it may leave anything in the temporary file that it is about, and a rename that failed
--- may have been done.
-abbrev pub Performs : World → State → Operation → Event → Moment → Moment → Type 0
+-- The operation is performed in this state, and this event is reported. `w` has the inputs of the run: the
+-- record, the parsed signature file, the data, and the signatures that Ed25519 accepts. An operation that
+-- fails may have been done in part: its temporary file may have any content, and a rename may have taken
+-- effect.
+abbrev pub Performs : World → State → Operation → Event → Snapshot → Snapshot → Type 0
 Performs w s Lock Done old new = (old.busy ≡ false) × (new ≡ record old { locked = true })
 Performs w s Lock InUse old new = (old.busy ≡ true) × (new ≡ old)
 Performs w s ReadRecord (RecordRead found) old new =
-    (found ≡ w.found) × (found ≡ content old.recorded) × (new ≡ old)
+    (found ≡ w.found_record) × (found ≡ content old.recorded) × (new ≡ old)
 Performs w s ReadSignature (SignatureRead text time) old new = (text ≡ w.text) × (new ≡ old)
 Performs w s ReadTarget (PieceRead bytes) old new =
     (0 < length bytes) × (length (s.read ++ bytes) ≤ w.most) × (new ≡ old)
@@ -151,9 +154,9 @@ Performs w s op e old new = ⊥
 
 -- == Other processes ==
 
--- Other processes may do anything to the target. They leave the temporary files of this run alone, and while
--- this run holds the lock they leave the record alone too.
-pub record Others (old new : Moment) : Type 0 where
+-- The changes that other processes may make. They may do anything to the target. They do not touch the
+-- temporary files of this run, nor the record while this run holds the lock.
+pub record Others (old new : Snapshot) : Type 0 where
   pub data_stays : new.data_file ≡ old.data_file
   pub record_stays : new.record_file ≡ old.record_file
   pub opened_stays : new.opened ≡ old.opened
@@ -164,54 +167,56 @@ pub record Others (old new : Moment) : Type 0 where
 
 -- == Runs ==
 
--- The event that was reported, and the moments before and after the operation.
+-- The event that was reported, and the files before and after the operation.
 pub record Call : Type 0 where
   pub event : Event
-  pub before : Moment
-  pub after : Moment
+  pub before : Snapshot
+  pub after : Snapshot
 
--- The application performs these operations, one after another, from one state of the installer and one
--- moment to another.
-abbrev pub Applies : World → State → Moment → List Call → State → Moment → Type 0
+-- The application performs these operations one after another. They lead from one state of the installer and
+-- its files to another state and its files.
+abbrev pub Applies : World → State → Snapshot → List Call → State → Snapshot → Type 0
 Applies w s m [] t end = (t ≡ s) × (end ≡ m)
 Applies w s m (c ∷ more) t end =
     Others m c.before × (is_some (after s.due c.event s) ≡ true)
     × Performs w s s.due c.event c.before c.after × Applies w (step s c.event).1 c.after more t end
 
--- A run begins without temporary files of its own, and without the lock.
-pub record IsAtRest (m : Moment) : Type 0 where
+-- The files before a run: it has no temporary files yet, and does not hold the lock.
+pub record IsBeforeRun (m : Snapshot) : Type 0 where
   pub no_data : m.data_file ≡ None
   pub no_record : m.record_file ≡ None
   pub unlocked : m.locked ≡ false
 
 -- == Crashes ==
 
--- What may be left of a file, or of none.
-abbrev pub MayRemain : Option File → Option (List ℕ) → Type 0
-MayRemain (Some file) found =
+-- A crash may leave `found` of the file: its bytes, if it was synced, and otherwise any bytes. If
+-- there was no file, there is none after the crash.
+abbrev pub CrashMayLeave : Option File → Option (List ℕ) → Type 0
+CrashMayLeave (Some file) found =
     (bytes : List ℕ) × (found ≡ Some bytes) × (file.synced ≡ true → bytes ≡ file.bytes)
-MayRemain None found = found ≡ None
+CrashMayLeave None found = found ≡ None
 
-abbrev pub MayRemainOf : List (Option File) → Option (List ℕ) → Type 0
-MayRemainOf [] found = ⊥
-MayRemainOf (file ∷ more) found = MayRemain file found ⊎ MayRemainOf more found
+abbrev pub CrashMayLeaveOneOf : List (Option File) → Option (List ℕ) → Type 0
+CrashMayLeaveOneOf [] found = ⊥
+CrashMayLeaveOneOf (file ∷ more) found = CrashMayLeave file found ⊎ CrashMayLeaveOneOf more found
 
--- What a process may find at the target, or at the record, now or after a crash now.
-abbrev pub MayFindTarget : Moment → Option (List ℕ) → Type 0
-MayFindTarget m found = MayRemainOf (m.target ∷ m.target_left) found
+-- A process may find these bytes, or no file, at the target (or at the record), now or after a crash at this
+-- time.
+abbrev pub TargetMayBe : Snapshot → Option (List ℕ) → Type 0
+TargetMayBe m found = CrashMayLeaveOneOf (m.target ∷ m.target_left) found
 
-abbrev pub MayFindRecord : Moment → Option (List ℕ) → Type 0
-MayFindRecord m found = MayRemainOf (m.recorded ∷ m.recorded_left) found
+abbrev pub RecordMayBe : Snapshot → Option (List ℕ) → Type 0
+RecordMayBe m found = CrashMayLeaveOneOf (m.recorded ∷ m.recorded_left) found
 
 abbrev pub IsSynced : Option File → Type 0
 IsSynced (Some file) = file.synced ≡ true
 IsSynced None = ⊤
 
--- The machine crashes and starts again. Then each name leads to something that may have remained of it, and
--- a further crash changes nothing.
-pub record Crashes (old new : Moment) : Type 0 where
-  pub target_remains : MayFindTarget old (content new.target)
-  pub record_remains : MayFindRecord old (content new.recorded)
+-- The machine crashes and starts again. Then each name leads to a file that a crash may have left there, or
+-- to none, and a further crash changes nothing.
+pub record Crashes (old new : Snapshot) : Type 0 where
+  pub target_remains : TargetMayBe old (content new.target)
+  pub record_remains : RecordMayBe old (content new.recorded)
   pub target_sure : new.target_left ≡ []
   pub record_sure : new.recorded_left ≡ []
   pub target_on_disk : IsSynced new.target
@@ -219,6 +224,6 @@ pub record Crashes (old new : Moment) : Type 0 where
 
 -- == Checks ==
 
--- Nothing has changed but the number of the file that was read.
-abbrev pub LeavesAll : Moment → Moment → Type 0
+-- Nothing has changed except the number of the file that was read.
+abbrev pub LeavesAll : Snapshot → Snapshot → Type 0
 LeavesAll old new = new ≡ record old { opened = new.opened }

@@ -1,4 +1,4 @@
--- What it means that a trusted comment is accepted, or rejected with an error: the relations between the text
+-- The meaning of accepting a trusted comment, or rejecting it with an error: the relations between the text
 -- and its fields. `any_comment_is_judged` states that `comment_fault` decides them.
 use Rattle.std.specs.Prelude.{◌≡◌, ◌≢◌, ◌⊎◌, ◌<◌, ◌-◌, ◌^◌, ℕ, List, Option, Some}
 use Rattle.std.specs.Option.{unwrap_or}
@@ -7,9 +7,10 @@ use Rattle.minisign_install.specs.Comments.{IsUnexpired, file_label, number_labe
 use Rattle.minisign_install.specs.Decisions.{Options}
 use Rattle.minisign_install.specs.Faults.{BadSize, InstallFault, NoNumber, OlderUpdate, OtherFile}
 
--- The time that counts. At a time before 1970 every update that expires has expired.
-abbrev pub time_that_counts : Option ℕ → ℕ
-time_that_counts time = unwrap_or time (2 ^ 64 - 1)
+-- The time at which the comment is checked. At a time before 1970, every update that has an expiry time has
+-- expired.
+abbrev pub time_that_applies : Option ℕ → ℕ
+time_that_applies time = unwrap_or time (2 ^ 64 - 1)
 
 -- The comment names the file, has this version number, has not expired at this time, and either has no field
 -- `size:` or has one, with a number.
@@ -18,21 +19,22 @@ pub record CommentSays (o : Options) (time : Option ℕ) (comment : List ℕ) (n
   pub named : value_of file_label comment ≡ Some o.file
   pub numbered : value_of (number_label o.numbering) comment ≡ Some value
   pub number : IsNumberText value n
-  pub unexpired : IsUnexpired o.must_expire (time_that_counts time) comment
+  pub unexpired : IsUnexpired o.must_expire (time_that_applies time) comment
   pub size : Option ℕ
   pub sized : HasSize comment size
 
--- The error is true of the comment, and the checks before it have passed: it does not name the file; it has
--- no version number; it has expired, or does not say when it expires although it must, or says so in a wrong
--- way; its field `size:` is repeated or has no number; or its version is below the recorded one.
+-- The reason that the error names is true of the comment, and all earlier checks have passed. In this order:
+-- the comment does not name the file; has no version number; has expired, lacks a required expiry time, or
+-- has a malformed or repeated one; has a malformed or repeated field `size:`; or has a version below the
+-- recorded one.
 abbrev pub IsCommentRefused : Options → Option ℕ → Option ℕ → List ℕ → InstallFault → Type 0
 IsCommentRefused o recorded time comment e =
     ((e ≡ OtherFile) × (value_of file_label comment ≢ Some o.file))
     ⊎ ((e ≡ NoNumber) × (value_of file_label comment ≡ Some o.file)
     × ((n : ℕ) → ¬ (HasNumber comment o.numbering n)))
     ⊎ ((value_of file_label comment ≡ Some o.file) × ((n : ℕ) × HasNumber comment o.numbering n)
-    × IsExpiryRefused o.must_expire (time_that_counts time) comment e)
+    × IsExpiryRefused o.must_expire (time_that_applies time) comment e)
     ⊎ ((e ≡ BadSize) × (value_of file_label comment ≡ Some o.file)
     × ((n : ℕ) × HasNumber comment o.numbering n)
-    × IsUnexpired o.must_expire (time_that_counts time) comment × IsBadlySized comment)
+    × IsUnexpired o.must_expire (time_that_applies time) comment × IsBadlySized comment)
     ⊎ ((e ≡ OlderUpdate) × ((n : ℕ) × (k : ℕ) × CommentSays o time comment n × (recorded ≡ Some k) × (n < k)))

@@ -1,4 +1,4 @@
--- What the record, the signature file and the trusted comment decide, as functions of the options.
+-- The checks of the record, the signature file and the trusted comment, as functions of the options.
 -- Comments and RecordTexts define the fields and the format. CommentChecks says what comment_fault means.
 use Rattle.std.specs.Prelude.{ℕ, Bool, false, not, ◌&&◌, ◌||◌, ◌^◌, nat_lt, if◌then◌else◌, List, [], ◌∷◌}
 use Rattle.std.specs.Prelude.{map, filter, bytes_eq, is_some, Option, Some, None, Result, Ok, Err}
@@ -18,10 +18,11 @@ use Rattle.minisign_install.specs.Comments.{size_label, strip, value_of, values_
 use Rattle.minisign_install.specs.Faults.{BadExpiry, BadSize, DamagedRecord, Expired, Fault, InstallFault}
 use Rattle.minisign_install.specs.Faults.{Library, Named, NoExpiry, NoNumber, NoRecord, OlderUpdate}
 use Rattle.minisign_install.specs.Faults.{OtherFile}
-use Rattle.minisign_install.specs.RecordTexts.{is_other, kept_by, other_field, record_digest, record_key}
+use Rattle.minisign_install.specs.RecordTexts.{is_foreign_key, recorded_by, other_field, record_digest}
+use Rattle.minisign_install.specs.RecordTexts.{record_key}
 use Rattle.minisign_install.specs.RecordTexts.{record_text}
 
--- What the user asked for. keys are the public keys that were given, one or two. file is the name that the
+-- The options of a run. `keys` are the public keys that were given, one or two. `file` is the name that the
 -- trusted comment must contain. The other fields are the options of the command line.
 pub record Options : Type 0 where
   pub keys : List PublicKeyValue
@@ -51,19 +52,19 @@ is_number text = are_digits text && nat_lt (digits_value 10 text) (2 ^ 64)
 abbrev pub number_in : List ℕ → Option ℕ
 number_in text = if is_number text then Some (digits_value 10 text) else None
 
--- The same for the text of a field, if the comment has this field.
+-- The number in the text of a field, if the comment has this field.
 abbrev pub number_of : Option (List ℕ) → Option ℕ
 number_of (Some text) = number_in text
 number_of None = None
 
--- The first number is less than the second, if there are two.
+-- Both numbers exist, and the first is less than the second.
 abbrev pub is_below : Option ℕ → Option ℕ → Bool
 is_below (Some n) (Some m) = nat_lt n m
 is_below n m = false
 
 -- == The record ==
 
--- What counts of the record. version is None if any version may be installed.
+-- The part of the record that applies to this run. `version` is None if any version may be installed.
 pub record Recorded : Type 0 where
   pub version : Option ℕ
   pub key : Option (List ℕ)
@@ -72,7 +73,7 @@ pub record Recorded : Type 0 where
 abbrev pub nothing_recorded : Recorded
 nothing_recorded = record { version = None; key = None; digest = None }
 
--- The version number of a record, if it has one for this field. A number without a label counts for both
+-- The version number of a record, if it has one for this field. A number without a label is valid for both
 -- fields.
 abbrev pub recorded_version : Numbering → List ℕ → Option ℕ
 recorded_version numbering bytes =
@@ -80,12 +81,12 @@ recorded_version numbering bytes =
 
 -- The record names a key that was not given.
 abbrev pub names_other_key : Options → List ℕ → Bool
-names_other_key o bytes = is_other (map (λ v. v.key) o.keys) (record_key bytes)
+names_other_key o bytes = is_foreign_key (map (λ v. v.key) o.keys) (record_key bytes)
 
--- Why a record without a version number for this field is rejected.
+-- The error for a record without a version number for this field.
 abbrev pub record_fault : Numbering → List ℕ → InstallFault
 record_fault numbering bytes =
-    if is_some (recorded_version (other_field numbering) bytes) then kept_by (other_field numbering)
+    if is_some (recorded_version (other_field numbering) bytes) then recorded_by (other_field numbering)
     else DamagedRecord
 
 -- A record of another key is ignored with --first and with --new-key. A record without a version number for
@@ -103,7 +104,7 @@ judge_record o None = if o.first then Ok nothing_recorded else Err NoRecord
 
 -- == The signature file ==
 
--- The key ID that an error names if no key fits: that of the key that was given last.
+-- The key ID in the error DifferentKeyIds: that of the key that was given last.
 abbrev pub last_key_id : List PublicKeyValue → List ℕ
 last_key_id [] = []
 last_key_id (v ∷ []) = v.key_id
@@ -137,8 +138,8 @@ abbrev pub is_named : List ℕ → Option (List ℕ) → Bool
 is_named file (Some name) = bytes_eq name file
 is_named file None = false
 
--- Why the fields `expires:` are rejected at this time, in seconds since the beginning of 1970. None is a
--- time before 1970, at which every update that expires has expired.
+-- The error for which the fields `expires:` are rejected at this time, in seconds since the beginning of
+-- 1970. None is a time before 1970, at which every update that expires has expired.
 abbrev pub expiry_fault : Bool → Option ℕ → List (List ℕ) → Option ℕ → Option InstallFault
 expiry_fault must_expire time [] until = if must_expire then Some NoExpiry else None
 expiry_fault must_expire time (once ∷ []) (Some until) = unless (is_below time (Some until)) Expired
@@ -152,7 +153,7 @@ size_of fields = None
 abbrev pub size_in : List ℕ → Option ℕ
 size_in comment = size_of (values_of size_label comment)
 
--- Why the fields `size:` are rejected.
+-- The error for which the fields `size:` are rejected.
 abbrev pub size_fault : List (List ℕ) → Option InstallFault
 size_fault [] = None
 size_fault fields = unless (is_some (size_of fields)) BadSize
@@ -166,7 +167,7 @@ first_of [] = None
 first_of (Some fault ∷ more) = Some fault
 first_of (None ∷ more) = first_of more
 
--- Why a trusted comment is rejected: the first of these checks that fails.
+-- The error for which a trusted comment is rejected: the first of these checks that fails.
 abbrev pub comment_fault : Options → Option ℕ → Option ℕ → List ℕ → Option InstallFault
 comment_fault o recorded time comment = first_of
     (unless (is_named o.file (value_of file_label comment)) OtherFile
@@ -179,10 +180,10 @@ comment_fault o recorded time comment = first_of
 
 -- == A trusted comment alone ==
 
--- Why a comment is rejected if the version must not be below this one, and it need not say when the update
--- expires or how long the data is.
-abbrev pub alone_fault : List ℕ → Numbering → ℕ → ℕ → List ℕ → Option InstallFault
-alone_fault file numbering time least comment = first_of
+-- The error with which a comment is rejected if its version must not be below this one. The comment need not
+-- say when the update expires or how long the data is.
+abbrev pub comment_only_fault : List ℕ → Numbering → ℕ → ℕ → List ℕ → Option InstallFault
+comment_only_fault file numbering time least comment = first_of
     (unless (is_named file (value_of file_label comment)) OtherFile
     ∷ unless (is_some (version_in numbering comment)) NoNumber
     ∷ expiry_fault false (Some time) (expiries false comment) (number_of (value_of expiry_label comment))
@@ -194,12 +195,12 @@ abbrev pub version_unless : Option InstallFault → Option ℕ → Result ℕ In
 version_unless None version = Ok (unwrap_or version 0)
 version_unless (Some fault) version = Err fault
 
-abbrev pub judge_alone : List ℕ → Numbering → ℕ → ℕ → List ℕ → Result ℕ InstallFault
-judge_alone file numbering time least comment =
-    version_unless (alone_fault file numbering time least comment) (version_in numbering comment)
+abbrev pub judge_comment_only : List ℕ → Numbering → ℕ → ℕ → List ℕ → Result ℕ InstallFault
+judge_comment_only file numbering time least comment =
+    version_unless (comment_only_fault file numbering time least comment) (version_in numbering comment)
 
--- The same for bytes: the comment and the name must be UTF-8.
+-- As version_unless, for a comment and a name in bytes, which must be UTF-8.
 abbrev pub judge_comment : List ℕ → Numbering → ℕ → ℕ → List ℕ → Result ℕ InstallFault
 judge_comment file numbering time least comment =
-    if is_utf8 comment && is_utf8 file then judge_alone file numbering time least comment
+    if is_utf8 comment && is_utf8 file then judge_comment_only file numbering time least comment
     else Err (Library (Named named.NotUtf8))

@@ -1,5 +1,5 @@
--- Why an installation is rejected: of each error the number by which a host in another language knows it, the
--- kind, and the text, which a program shows word for word.
+-- The errors of an installation: the number that applications in other languages see, the kind, and the text
+-- that programs print.
 use Rattle.std.specs.Prelude.{◌≡◌, ◌≢◌, Bool, ℕ, List, codes, false, true}
 use Rattle.minisign_base.specs.Fault.{kind_of, text_of}
 use Rattle.minisign_base.specs.Faults.{FaultRow, row}
@@ -20,6 +20,7 @@ pub use Rattle.minisign_install.specs.declared.faults.InstallFault.TheVariants.{
 pub use Rattle.minisign_install.specs.declared.faults.InstallFault.TheVariants.{BadExpiry, SameNumber}
 pub use Rattle.minisign_install.specs.declared.faults.InstallFault.TheVariants.{NoExpiry, BadSize, OtherSize}
 
+-- The number, the kind and the text of each error.
 abbrev pub install_row : InstallFault → FaultRow
 install_row (Library fault) = row (fault_number fault) (kind_of fault) (text_of fault)
 install_row TargetInUse = row 46 Io (codes "another installation of this file is running")
@@ -44,17 +45,17 @@ install_row BadSize =
     row 59 Verify (codes "the trusted comment has an invalid or repeated field size:")
 install_row OtherSize = row 60 Verify (codes "the data does not have the signed size")
 
--- the number of an error: of one of the library its own
+-- The number of an error. An error of the library keeps its number.
 abbrev pub install_number : InstallFault → ℕ
 install_number e = (install_row e).number
 
--- installing adds the error, which is none of the library
+-- The error is an installation error, not one of the library.
 abbrev pub is_own : InstallFault → Bool
 is_own (Library fault) = false
 is_own e = true
 
--- The text says what this error number means: that of the installation error with this number; that of the
--- library's error, without key IDs; or that of an unknown error.
+-- The text for this error number: the text of the installation error or of the library's error (without key
+-- IDs) with this number, or the text for an unknown number.
 pub record IsErrorText (n : ℕ) (text : List ℕ) : Type 0 where
   pub library : IsListedMeaning n text
   pub own : (e : InstallFault) → is_own e ≡ true → n ≡ install_number e → text ≡ (install_row e).summary

@@ -1,4 +1,4 @@
--- An installation as a struct of fixed size, and the state of the installer that it stands for. The contract
+-- An installation as a struct of fixed size, and the state of the installer that it represents. The contract
 -- of each call is an equation with `step`.
 use Rattle.std.specs.Prelude.{◌≡◌, ◌==◌, ◌++◌, ◌&&◌, ◌||◌, not, nat_le, ℕ, Bool, true, false, if◌then◌else◌}
 use Rattle.std.specs.Prelude.{List, [], ◌∷◌}
@@ -42,7 +42,7 @@ use Rattle.minisign_install.specs.declared.installation.progress.RecordedValue.{
 
 -- == The state of a struct ==
 
--- The operation with this number. No other number is one.
+-- The operation with this number, or Nothing if there is none.
 abbrev pub operation_of : ℕ → Operation
 operation_of n = get_or operations n Nothing
 
@@ -77,22 +77,23 @@ recorded_of r = record {
   digest = when (r.has_digest == 1) r.digest;
 }
 
--- What counts of a record of these bytes, with this version number.
+-- The part that applies of a record of these bytes, which has this version number.
 abbrev pub numbered : ℕ → List ℕ → Recorded
 numbered n bytes = record { version = Some n; key = record_key bytes; digest = record_digest bytes }
 
--- What counts of the record, or why it is rejected.
+-- The part of the record that applies, or the error with which it is rejected.
 abbrev pub judgment_of : Result RecordedValue InstallFault → Result Recorded InstallFault
 judgment_of (Ok r) = Ok (recorded_of r)
 judgment_of (Err fault) = Err fault
 
--- The first key, if it may have signed, and then the other one, if that one may.
+-- The keys that may have signed: the first key, the other key, both or none.
 abbrev pub signers_of : Progress → List PublicKeyValue
 signers_of p =
-    (if p.by_key == 1 then p.chosen.key ∷ [] else []) ++ (if p.by_other == 1 then p.chosen.other ∷ [] else [])
+    (if p.by_key == 1 then p.chosen.key ∷ [] else []) ++ (if p.by_other_key == 1 then p.chosen.other
+    ∷ [] else [])
 
--- The state that the struct stands for. The struct has neither the name of the file nor what was read, of
--- which it has the hash, and of errors it has only the numbers.
+-- The state that the struct represents. The struct has no file name, the hash instead of the bytes that were
+-- read, and the numbers instead of the errors.
 abbrev pub state_of : Progress → List ℕ → List ℕ → Option InstallFault → Option InstallFault → State
 state_of p file read fault error = record {
   due = operation_of p.due;
@@ -111,7 +112,7 @@ state_of p file read fault error = record {
   error = error;
 }
 
--- The number of an error that installing adds, or 0.
+-- The number of an installation error, or 0.
 abbrev pub IsOwnNumber : ℕ → Option InstallFault → Type 0
 IsOwnNumber n fault = MatchOption fault (n ≡ 0) (λ e. (n ≡ install_number e) × (is_own e ≡ true))
 
@@ -120,8 +121,8 @@ abbrev pub error_number : Option InstallFault → ℕ
 error_number None = 0
 error_number (Some e) = install_number e
 
--- The struct stands for the state.
-pub record IsKept (p : Progress) (s : State) : Type 0 where
+-- The struct represents the state.
+pub record HoldsState (p : Progress) (s : State) : Type 0 where
   pub file : List ℕ
   pub read : List ℕ
   pub fault : Option InstallFault
@@ -131,16 +132,16 @@ pub record IsKept (p : Progress) (s : State) : Type 0 where
   pub error_number : p.error ≡ error_number error
   pub fed : WasFed p.hash read
 
--- An installation that was begun begins with the letters "minstall".
+-- The mark (magic number) of an installation that was begun: the letters "minstall".
 abbrev pub begun_mark : ℕ
 begun_mark = 7812726606361684333
 
 abbrev pub IsStoredIf : Bool → Progress → State → Type 0
-IsStoredIf true p s = IsKept p s
+IsStoredIf true p s = HoldsState p s
 IsStoredIf false p s = (s.due ≡ Nothing) × (s.is_signed ≡ false) × (s.error ≡ None)
 
--- **The installation stands for the state. One that was never begun stands for each state in which nothing is
--- due, nothing is signed and no error was found.**
+-- **The installation represents the state. An installation that was never begun represents every state in
+-- which nothing is due, nothing is signed and no error was found.**
 abbrev pub IsStored : Installation → State → Type 0
 IsStored i s = IsStoredIf (i.mark == begun_mark) i.progress s
 
@@ -195,8 +196,8 @@ first_key (v ∷ more) = Some v.key
 abbrev pub about : List ℕ → List ℕ → List ℕ → Question
 about key signature digest = record { key = key; signature = signature; digest = digest; is_comment = 0 }
 
--- The question that is due, under this key. That about the trusted comment has zeros instead of a digest: its
--- message is the one that the call `signature` wrote.
+-- The question that is due, under this key. The question about the trusted comment has zeros instead of a
+-- digest; its message is the one that the call `signature` wrote.
 abbrev pub question_of : Operation → List ℕ → State → Option Question
 question_of CheckComment key s = Some (record {
   key = key;
@@ -222,8 +223,8 @@ abbrev pub record_due : State → Option (List ℕ)
 record_due s =
     if is_writing_record s.due then option_map (λ key. new_record s) (first_key s.signers) else None
 
--- These bytes are read as the record that the run writes: the recorded version does not decrease by a
--- roll-back, and the digest is that of what was read.
+-- These bytes are the record that the run writes. A roll-back does not decrease the recorded version. The
+-- digest is that of the bytes that were read.
 abbrev pub IsNewRecord : State → List ℕ → Type 0
 IsNewRecord s bytes =
     IsRecordOf s.options.numbering (new_version s) (new_key s) (blake2b_digest 64 s.read) bytes
@@ -255,8 +256,8 @@ options_by key other c file = record {
   roll_back = c.roll_back == 1;
 }
 
--- Why the options are rejected: one is neither 0 nor 1, or two of them must not be combined; or there is no
--- field with this number.
+-- The API misuse if the options are rejected: an option is neither 0 nor 1, or two options must not be
+-- combined, or there is no field with this number.
 abbrev pub is_flag : ℕ → Bool
 is_flag n = nat_le n 1
 
@@ -272,7 +273,7 @@ choices_misuse c =
     if are_flags c && choices_fit c then if nat_le c.numbering 1 then None else Some BadNumbering
     else Some BadOption
 
--- What a piece of no bytes reports: the end, if a file is being read.
+-- The event of an empty piece: the end of the file, if a file is being read.
 abbrev pub end_event : Operation → Event
 end_event op = if is_reading op then Done else PieceRead []
 
@@ -281,7 +282,7 @@ piece_event op bytes = if length bytes == 0 then end_event op else PieceRead byt
 
 -- The result and the new struct are those of the step with this event, from the state of the old struct.
 abbrev pub Steps : Event → State → Result Unit (Refusal InstallFault) → Progress → Type 0
-Steps e s result new = IsKept new (step s e).1 × (result ≡ (step s e).0)
+Steps e s result new = HoldsState new (step s e).1 × (result ≡ (step s e).0)
 
 -- == The signature file ==
 
@@ -289,7 +290,7 @@ Steps e s result new = IsKept new (step s e).1 × (result ≡ (step s e).0)
 abbrev pub signature_read : List ℕ → Option ℕ → Event
 signature_read sig_text time = SignatureRead (read_utf8 read_signature sig_text) time
 
--- What the checks that need no Ed25519 find.
+-- The result of the checks that need no Ed25519.
 abbrev pub reads_into : State → List ℕ → Result (SignatureTextRecord × List PublicKeyValue) Fault
 reads_into s sig_text = judge_text s.options (read_utf8 read_signature sig_text)
 
@@ -297,7 +298,7 @@ reads_into s sig_text = judge_text s.options (read_utf8 read_signature sig_text)
 abbrev pub given : Chosen → SignatureTextRecord → List PublicKeyValue
 given c t = filter (λ v. bytes_eq t.signature.keynum v.key_id) (c.key ∷ c.other ∷ [])
 
--- The checks of judge_keys if there is such a key.
+-- The checks of judge_keys if a key has the key ID of the signature.
 abbrev pub judge_form : SignatureTextRecord → List PublicKeyValue
     → Result (SignatureTextRecord × List PublicKeyValue) Fault
 judge_form t signers =
@@ -332,7 +333,7 @@ abbrev pub plain : Result ℕ (Refusal InstallFault) → Result Unit (Refusal In
 plain (Ok n) = Ok tt
 plain (Err r) = Err r
 
--- What the struct has of a signature file, with this signature of the comment, after the comment was judged.
+-- The struct holds a signature file, with this signature of the comment, after the comment was judged.
 pub record IsReadAs (j : Judged) (o : Options) (t : SignatureTextRecord) (second : List ℕ)
     (recorded time : Option ℕ)
     : Type 0 where
@@ -343,32 +344,32 @@ pub record IsReadAs (j : Judged) (o : Options) (t : SignatureTextRecord) (second
   pub size : when (j.has_size == 1) j.size ≡ size_in t.comments.trusted
   pub fault : IsOwnNumber j.fault (comment_fault o recorded time t.comments.trusted)
 
--- The run went on with this state, from the one before.
-abbrev pub Leads : State → State → Result Unit (Refusal InstallFault) → Progress → Type 0
-Leads s t result new = IsKept new t × (result ≡ result_of s.error t.error)
+-- The run has continued from one state to the other.
+abbrev pub RunLeadsTo : State → State → Result Unit (Refusal InstallFault) → Progress → Type 0
+RunLeadsTo s t result new = HoldsState new t × (result ≡ result_of s.error t.error)
 
--- The signature file was judged like this: the run went on, the message was written, or it does not fit into
--- the buffer.
+-- The call `signature` after these checks: the run has continued and the message was written, or the message
+-- does not fit into the buffer.
 pub record SignatureLeads (judged : Result (SignatureTextRecord × List PublicKeyValue) Fault)
     (time : Option ℕ) (s : State) (result : Result ℕ (Refusal InstallFault)) (new : Progress)
     (before after : List ℕ) : Type 0 where
-  pub leads : result ≢ Err (WrongUse NoRoom) → Leads s (after_signature judged time s) (plain result) new
+  pub leads : result ≢ Err (WrongUse NoRoom) → RunLeadsTo s (after_signature judged time s) (plain result) new
   pub message : IfOk result (λ n. HasMessage (comment_message judged) n before after)
   pub room : result ≡ Err (WrongUse NoRoom) → IsTooLong (comment_message judged) (length before)
 
--- The result is that of the step, the new struct stands for its state, and the message was written; or it
--- does not fit into the buffer.
+-- The result is that of the step, the new struct represents the state after it, and the message was written;
+-- or the message does not fit into the buffer.
 pub record SignatureSteps (sig_text : List ℕ) (time : Option ℕ) (s : State)
-    (result : Result ℕ (Refusal InstallFault)) (NowStands : State → Type 0) (before after : List ℕ)
+    (result : Result ℕ (Refusal InstallFault)) (HoldsNew : State → Type 0) (before after : List ℕ)
     : Type 0 where
-  pub steps : result ≢ Err (WrongUse NoRoom) → NowStands (step s (signature_read sig_text time)).1
+  pub steps : result ≢ Err (WrongUse NoRoom) → HoldsNew (step s (signature_read sig_text time)).1
       × (plain result ≡ (step s (signature_read sig_text time)).0)
   pub message : IfOk result (λ n. HasMessage (comment_message (reads_into s sig_text)) n before after)
   pub room : result ≡ Err (WrongUse NoRoom)
       → (s.due ≡ ReadSignature) × IsTooLong (comment_message (reads_into s sig_text)) (length before)
 
--- **For every state for which the old installation stands, the new one stands for the state after the step
--- with this event, and the result is that of the step.**
+-- **If the old installation represents a state, the new one represents the state after the step with this
+-- event, and the result is that of the step.**
 abbrev pub CallSteps : Event → Installation → Installation → Result Unit (Refusal InstallFault) → Type 0
 CallSteps e old new result =
     (s : State) → IsStored old s → IsStored new (step s e).1 × (result ≡ (step s e).0)

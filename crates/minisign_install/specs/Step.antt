@@ -83,13 +83,14 @@ operations =
     ∷ SetPermissions ∷ SyncFile ∷ CreateRecord ∷ WriteRecord ∷ SyncRecord ∷ RenameRecord ∷ SyncRecordName
     ∷ RenameFile ∷ SyncFileName ∷ RemoveFiles ∷ Installed ∷ AlreadyInstalled ∷ WouldInstall ∷ Rejected ∷ []
 
--- What the installer knows. After the record was read, recorded says what counts of it. After the signature
--- file was read, signers are the keys that may have signed, signature is the signature of the data,
--- comment_signature is that of the trusted comment, and the comment was judged: fault says why it is
--- rejected, version is its version number (0 if it has none), and size is the signed size. All this counts
--- only once is_signed is true. Then the first of the signers has signed the comment. is_recorded says if the
--- digest in the record is that of the update. read are the bytes of the file that is being read. left is how
--- many bytes of the signed size were not copied yet. error is why the run is rejected.
+-- The state of the installer. After the record was read, `recorded` is the part of it that applies. After the
+-- signature file was read, `signers` are the keys that may have signed, `signature` is the signature of the
+-- data, and `comment_signature` is that of the trusted comment. The comment has then been checked: `fault` is
+-- the error for which it is rejected, `version` its version number (0 if it has none), and `size` the signed
+-- size. None of these may be relied on before `is_signed` is true; then the first of the signers has signed
+-- the comment. `is_recorded` says whether the digest in the record is that of the update. `read` holds the
+-- bytes of the file that is being read, `left` is the number of bytes of the signed size that were not copied
+-- yet, and `error` is the error for which the run is rejected.
 pub record State : Type 0 where
   pub due : Operation
   pub options : Options
@@ -127,10 +128,11 @@ begin o = record {
 
 -- == Events ==
 
--- What the application reports. RecordRead: the bytes of the record, or None if there is none.
--- SignatureRead: what the signature file parses to, and the time in seconds since the beginning of 1970, or
--- None for a time before 1970. Answered: whether Ed25519 accepts. PieceRead: the next bytes of the file.
--- PieceCopied: how many bytes were copied. Failed: out of memory, or an operation of the system failed.
+-- The events that the application reports. RecordRead: the bytes of the record, or None if there is none.
+-- SignatureRead: the result of parsing the signature file, and the time in seconds since the beginning of
+-- 1970, or None for a time before 1970. Answered: whether Ed25519 accepts. PieceRead: the next bytes of the
+-- file. PieceCopied: the number of bytes that were copied. Failed: out of memory, or an operation of the
+-- system failed.
 pub data Event : Type 0 where
   Done : Event
   InUse : Event
@@ -144,13 +146,13 @@ pub data Event : Type 0 where
 
 -- == The questions for Ed25519 ==
 
--- The question is if the signature of the message is valid under the key.
+-- A question for Ed25519: is the signature of the message valid under the key?
 pub record Question : Type 0 where
   pub key : List ℕ
   pub message : List ℕ
   pub signature : List ℕ
 
--- The key that is asked: the first of the signers.
+-- The key of the next question: that of the first signer.
 abbrev pub key_of : List PublicKeyValue → List ℕ
 key_of [] = []
 key_of (v ∷ more) = v.key
@@ -178,7 +180,7 @@ data_question op s =
 abbrev pub go : Operation → State → State
 go op s = record s { due = op }
 
--- This run has made a temporary file that it has not renamed.
+-- When this operation is due, the run has a temporary file that it has not renamed.
 abbrev pub has_files : Operation → Bool
 has_files CopyData = true
 has_files ReadBack = true
@@ -215,7 +217,7 @@ is_failure f = false
 abbrev pub fail : NamedFault → State → Option State
 fail f s = if is_failure f then Some (reject (failure s.due f) s) else None
 
--- The update is to be installed. What was read of the installed file is forgotten.
+-- The update is to be installed. The bytes that were read of the installed file are discarded.
 abbrev pub install : State → State
 install s = record s { due = if s.options.check then WouldInstall else RemoveLeftovers; read = [] }
 
@@ -255,30 +257,31 @@ compare s =
     else if is_rolling_back s then install s
     else go ReadTarget s
 
--- The comment is signed, and is accepted or not.
+-- The comment is signed. It is accepted, or rejected for this error.
 abbrev pub after_comment : Option InstallFault → State → State
 after_comment None s = compare s
 after_comment (Some fault) s = reject fault s
 
--- This key has not signed the comment. The next one is asked, if there is one with this key ID.
+-- This key has not signed the comment. The next key with this key ID is tried, if there is one.
 abbrev pub next_key : List PublicKeyValue → State → State
 next_key (v ∷ w ∷ more) s = record s { signers = w ∷ more }
 next_key signers s = reject (Library (Named named.CommentSignatureRefused)) s
 
--- The digest in the record is that of the update, or not. If not, a roll-back installs.
+-- Ed25519 has said whether the digest in the record is that of the update. If it is not, and the update is
+-- older, it is installed: this is a roll-back.
 abbrev pub after_digest : Bool → State → State
 after_digest accepted s =
     if not accepted && is_rolling_back s then install s
     else record s { due = ReadTarget; is_recorded = accepted }
 
--- The installed file is the update. Other data of the recorded version is replaced if the record is that of
--- the update, or with --again.
+-- Ed25519 has said whether the installed file is the update. If it is not, the update replaces it only if the
+-- record is that of the update, or if --again is given.
 abbrev pub after_target : Bool → State → State
 after_target true s = go (if s.options.check then AlreadyInstalled else SyncTarget) s
 after_target false s =
     if s.is_recorded || s.options.again then install s else reject SameNumber s
 
--- A piece was copied. More than the signed size is never copied.
+-- A piece was copied. The run is rejected if the data is longer than the signed size.
 abbrev pub after_piece : ℕ → Option ℕ → State → State
 after_piece n None s = s
 after_piece n (Some left) s =
@@ -291,7 +294,8 @@ after_copy (Some left) s = if left == 0 then go ReadBack s else reject OtherSize
 
 -- == The step ==
 
--- The operation after one that was done, where nothing is decided.
+-- The operation that always follows this one when it is done, or None if the next operation depends on the
+-- state.
 abbrev pub next : Operation → Option Operation
 next Lock = Some ReadRecord
 next ReadTarget = Some CheckTarget
@@ -343,7 +347,7 @@ after op (Failed f) s = fail f s
 after op Done s = proceed (next op) s
 after op e s = None
 
--- The result of an event that fits: the error for which this event ends the run.
+-- The result of an event that fits: success, or the error for which this event ends the run.
 abbrev pub result_of : Option InstallFault → Option InstallFault → Result Unit (Refusal InstallFault)
 result_of None (Some fault) = Err (Refused fault)
 result_of before now = Ok tt

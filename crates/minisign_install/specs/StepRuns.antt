@@ -1,8 +1,8 @@
--- Runs of an application that performs the operation that is due and reports what happened, and what
--- holds of all of them. The clock may show any time at any event. Other processes may do anything to the
--- installed file. They leave the record and the temporary files of this run alone while it holds the
--- lock. proofs/StepSafety, StepReasons, StepArrivals, StepEnds, StepSyncs, StepFiles and StepChecks prove
--- the laws.
+-- Runs of an application that performs the operation that is due and reports what happened, and the
+-- properties that all runs have. The clock may show any time at any event. Other processes may do anything to
+-- the installed file. They leave the record and the temporary files of this run alone while it holds the
+-- lock. proofs/StepSafety, StepReasons, StepArrivals, StepEnds, StepSyncs, StepFiles and StepChecks prove the
+-- laws.
 use Rattle.std.specs.Prelude.{◌≡◌, ◌≢◌, ◌<◌, ◌≤◌, ◌+◌, ◌++◌, ◌⊎◌, ◌||◌, ⊤, ℕ, Bool, true, false}
 use Rattle.std.specs.Prelude.{if◌then◌else◌, List, [], ◌∷◌, length, take, is_some, Option, Some, None}
 use Rattle.std.specs.Prelude.{Result, Ok, Err}
@@ -26,11 +26,11 @@ use Rattle.minisign_install.specs.Step.{CreateRecord, SetPermissions, SyncFile, 
 use Rattle.minisign_install.specs.Step.{SyncRecordName, SyncTarget, SyncTargetName, WriteRecord}
 use Rattle.minisign_install.specs.Step.{data_question, failure, new_record, new_version, step}
 
--- What a run finds: what Ed25519 accepts (message, key and signature), the record, what the signature file
--- parses to, and the data. The installed file never has more than most bytes.
+-- The inputs of a run: the signatures that Ed25519 accepts (message, key and signature), the record, the
+-- parsed signature file, and the data. The installed file never has more than `most` bytes.
 pub record World : Type 0 where
   pub accepts : Verifier
-  pub found : Option (List ℕ)
+  pub found_record : Option (List ℕ)
   pub text : Result SignatureTextRecord Fault
   pub update : List ℕ
   pub most : ℕ
@@ -38,17 +38,17 @@ pub record World : Type 0 where
 abbrev pub asks : World → Question → Bool
 asks w q = w.accepts q.message q.key q.signature
 
--- The answer is what Ed25519 says to the question at this operation.
+-- `accepted` is the result of Ed25519 for the question at this operation.
 abbrev pub IsAnswer : World → State → Operation → Bool → Type 0
 IsAnswer w s CheckComment accepted =
     (t : SignatureTextRecord) → w.text ≡ Ok t → accepted ≡ asks w (comment_question s t.comments.trusted)
 IsAnswer w s op accepted = accepted ≡ asks w (data_question op s)
 
--- At this operation the application reports the event only if it is true. n bytes were copied so far. A
--- piece has a byte or more, and no more than the file has left. Copying ends with the data. The temporary
--- file holds what was copied.
+-- The event is true at this operation; a lawful application reports no other. n is the number of bytes that
+-- were copied so far. A piece is not empty, and not longer than the rest of the file. Copying ends at the end
+-- of the data. The temporary file has the bytes that were copied.
 abbrev pub IsTrueEvent : World → ℕ → State → Operation → Event → Type 0
-IsTrueEvent w n s op (RecordRead found) = found ≡ w.found
+IsTrueEvent w n s op (RecordRead found) = found ≡ w.found_record
 IsTrueEvent w n s op (SignatureRead text time) = text ≡ w.text
 IsTrueEvent w n s op (Answered accepted) = IsAnswer w s op accepted
 IsTrueEvent w n s ReadTarget (PieceRead bytes) =
@@ -60,48 +60,49 @@ IsTrueEvent w n s CopyData Done = n ≡ length w.update
 IsTrueEvent w n s ReadBack Done = s.read ≡ w.update
 IsTrueEvent w n s op e = ⊤
 
--- How many bytes were copied after an event.
+-- The number of bytes copied after an event.
 abbrev pub count : ℕ → Event → ℕ
 count n (PieceCopied k) = n + k
 count n e = n
 
--- The same after several events.
+-- The number of bytes that were copied, after several events.
 abbrev pub total : ℕ → List Event → ℕ
 total n [] = n
 total n (e ∷ more) = total (count n e) more
 
--- The run leads from one state to another by these events, with this relation for each of them. A run may be
--- cut off anywhere.
+-- These events lead from one state to another, and each of them has the property Holds. A run may be cut off
+-- anywhere.
 abbrev pub IsRun : (ℕ → State → Event → Type 0) → ℕ → State → List Event → State → Type 0
 IsRun Holds n s [] t = t ≡ s
 IsRun Holds n s (e ∷ more) t = Holds n s e × IsRun Holds (count n e) (step s e).1 more t
 
--- Each event fits the operation that is due, and is true.
-abbrev pub Fits : State → Event → Type 0
-Fits s e = is_some (after s.due e s) ≡ true
+-- The event fits the operation that is due; EventIsTrue: it also is true.
+abbrev pub EventFits : State → Event → Type 0
+EventFits s e = is_some (after s.due e s) ≡ true
 
-abbrev pub IsTrue : World → ℕ → State → Event → Type 0
-IsTrue w n s e = Fits s e × IsTrueEvent w n s s.due e
+abbrev pub EventIsTrue : World → ℕ → State → Event → Type 0
+EventIsTrue w n s e = EventFits s e × IsTrueEvent w n s s.due e
 
 -- == A good update ==
 
--- The key accepts the trusted comment.
+-- The comment signature is valid under this key.
 abbrev pub signs_comment : World → SignatureTextRecord → PublicKeyValue → Bool
 signs_comment w t v =
     w.accepts (t.signature.signature ++ t.comments.trusted) v.key (take 64 t.comments.signature)
 
--- The first of the keys that accepts it.
+-- The first of the keys under which the comment signature is valid.
 abbrev pub first_signer : World → SignatureTextRecord → List PublicKeyValue → Option (List ℕ)
 first_signer w t [] = None
 first_signer w t (v ∷ more) = if signs_comment w t v then Some v.key else first_signer w t more
 
--- The update ought to be installed: the record counts, or none is needed; the signature file has passed
--- the checks without Ed25519, for these keys; one of them has signed the comment, and the data; the
--- comment has a version number that is greater than the recorded one; and the data has the signed size.
+-- The update ought to be installed. The record is accepted, or is missing and not needed. The signature file
+-- has passed the checks that need no Ed25519, and keys are the keys with its key ID. The first of them that
+-- signed the comment also signed the data. The comment has a version number that is greater than the recorded
+-- one, and the data has the signed size.
 pub record IsGoodUpdate (w : World) (o : Options) : Type 0 where
   pub installs : o.check ≡ false
   pub recorded : Recorded
-  pub counts : judge_record o w.found ≡ Ok recorded
+  pub record_applies : judge_record o w.found_record ≡ Ok recorded
   pub text : SignatureTextRecord
   pub parsed : w.text ≡ Ok text
   pub keys : List PublicKeyValue
@@ -114,27 +115,27 @@ pub record IsGoodUpdate (w : World) (o : Options) : Type 0 where
   pub newer : (k : ℕ) → recorded.version ≡ Some k → k < version
   pub sized : (size : ℕ) → size_in text.comments.trusted ≡ Some size → length w.update ≡ size
 
--- The event is no failure, and the comment is not rejected at the time that is passed in.
-abbrev pub IsFine : {w : World} {o : Options} → IsGoodUpdate w o → Event → Type 0
-IsFine g (Failed f) = ⊥
-IsFine g InUse = ⊥
-IsFine {o = o} g (SignatureRead text time) =
+-- The event is not a failure, and the comment is not rejected at the time that is passed in.
+abbrev pub IsAcceptable : {w : World} {o : Options} → IsGoodUpdate w o → Event → Type 0
+IsAcceptable g (Failed f) = ⊥
+IsAcceptable g InUse = ⊥
+IsAcceptable {o = o} g (SignatureRead text time) =
     comment_fault o g.recorded.version time g.text.comments.trusted ≡ None
-IsFine g e = ⊤
+IsAcceptable g e = ⊤
 
--- A run without failures, up to here, in which the application finds this world.
+-- A run without failures so far, with these inputs.
 abbrev pub IsGoodRun : {w : World} {o : Options} → IsGoodUpdate w o → List Event → State → Type 0
-IsGoodRun {w = w} {o = o} g = IsRun (λ n s e. IsTrue w n s e × IsFine g e) 0 (begin o)
+IsGoodRun {w = w} {o = o} g = IsRun (λ n s e. EventIsTrue w n s e × IsAcceptable g e) 0 (begin o)
 
 -- == What a run changes ==
 
--- What is found at the target and at the record.
+-- The bytes of the installed file and of the record.
 pub record Disk : Type 0 where
   pub target : Option (List ℕ)
   pub record_bytes : Option (List ℕ)
 
--- What an event at this operation says about the disk. A rename that failed may have been done. Nothing else
--- changes target or record.
+-- The effect of an operation with this event on the target and the record. Only the two renames change them.
+-- A rename that is reported as failed may have been done.
 abbrev pub Changes : Operation → State → Event → Disk → Disk → Type 0
 Changes RenameRecord s Done old new = new ≡ record old { record_bytes = Some (new_record s) }
 Changes RenameRecord s (Failed f) old new =
@@ -143,14 +144,14 @@ Changes RenameFile s Done old new = new ≡ record old { target = Some s.read }
 Changes RenameFile s (Failed f) old new = (new ≡ old) ⊎ (new ≡ record old { target = Some s.read })
 Changes op s e old new = new ≡ old
 
--- A run, also one with failures, from one state and disk to another, by these events with the disk after
--- each. It may be cut off anywhere.
+-- A run, possibly with failures, from one state and disk to another. The list has each event with the disk
+-- after it. The run may be cut off anywhere.
 abbrev pub Runs : World → ℕ → State → Disk → List (Event × Disk) → State → Disk → Type 0
 Runs w n s d [] t d' = (t ≡ s) × (d' ≡ d)
 Runs w n s d ((e, mid) ∷ more) t d' =
-    IsTrue w n s e × Changes s.due s e d mid × Runs w (count n e) (step s e).1 mid more t d'
+    EventIsTrue w n s e × Changes s.due s e d mid × Runs w (count n e) (step s e).1 mid more t d'
 
--- No operation has failed, and the lock was free.
+-- The event does not report a failed operation or a lock that is in use.
 abbrev pub Succeeds : Event → Type 0
 Succeeds (Failed f) = ⊥
 Succeeds InUse = ⊥
@@ -168,18 +169,18 @@ IsForgotten o (Some bytes) =
     ((o.first ≡ true) × (recorded_version o.numbering bytes ≡ None))
     ⊎ (((o.first || o.new_key) ≡ true) × (names_other_key o bytes ≡ true))
 
--- The record has this version number, and it counts.
+-- The record has this version number for the field of the options.
 abbrev pub HasVersion : Options → Option (List ℕ) → ℕ → Type 0
 HasVersion o found k =
     (bytes : List ℕ) × (found ≡ Some bytes) × (recorded_version o.numbering bytes ≡ Some k)
 
--- The update that a run with these options may install: keys are those that have the key ID of the
--- signature, the first of them that was not excluded has signed the comment and the data, and the comment
--- is not rejected at the time that was passed in. The version number that is recorded next is not below
--- the recorded one.
+-- The update that a run with these options may install: `keys` are the given keys that have the key ID of
+-- the signature. The run has passed over those in `others`; the first key after them has signed the comment
+-- and the data, and the comment is not rejected at the time that was passed in. The version number that is
+-- recorded next is not below the recorded one.
 pub record IsUpdate (w : World) (o : Options) (s : State) : Type 0 where
   pub same : s.options ≡ o
-  pub counts : judge_record o w.found ≡ Ok s.recorded
+  pub record_applies : judge_record o w.found_record ≡ Ok s.recorded
   pub text : SignatureTextRecord
   pub parsed : w.text ≡ Ok text
   pub keys : List PublicKeyValue
@@ -187,17 +188,17 @@ pub record IsUpdate (w : World) (o : Options) (s : State) : Type 0 where
   pub others : List PublicKeyValue
   pub given : others ++ s.signers ≡ keys
   pub time : Option ℕ
-  pub wanted : comment_fault o s.recorded.version time text.comments.trusted ≡ None
+  pub comment_accepted : comment_fault o s.recorded.version time text.comments.trusted ≡ None
   pub version : s.version ≡ unwrap_or (version_in o.numbering text.comments.trusted) 0
   pub signature : s.signature ≡ text.signature.signature
   pub comment_signature : s.comment_signature ≡ take 64 text.comments.signature
   pub signed_comment : asks w (comment_question s text.comments.trusted) ≡ true
   pub signed_data : asks w (data_question CheckData s) ≡ true
-  pub not_older : (k : ℕ) → s.recorded.version ≡ Some k → HasVersion o w.found k × (k ≤ new_version s)
-  pub forgotten : s.recorded.version ≡ None → IsForgotten o w.found
+  pub not_older : (k : ℕ) → s.recorded.version ≡ Some k → HasVersion o w.found_record k × (k ≤ new_version s)
+  pub forgotten : s.recorded.version ≡ None → IsForgotten o w.found_record
 
--- The disk is as it was before the run. Or the record is that of such an update, and the target is as it
--- was or has the update.
+-- The disk is as it was before the run, or the record is that of an update (IsUpdate), and the target is
+-- either unchanged or the update.
 abbrev pub IsSafe : World → Options → Disk → Disk → Type 0
 IsSafe w o old new =
     (new ≡ old)
@@ -206,17 +207,17 @@ IsSafe w o old new =
 
 -- == Reasons ==
 
--- The record counts, or none is needed, and one of the given keys has signed the comment.
+-- The record is valid, or none is needed, and one of the given keys has signed the comment.
 pub record IsSigned (w : World) (o : Options) : Type 0 where
   pub recorded : Recorded
-  pub counts : judge_record o w.found ≡ Ok recorded
+  pub record_applies : judge_record o w.found_record ≡ Ok recorded
   pub text : SignatureTextRecord
   pub keys : List PublicKeyValue
   pub passed : judge_text o w.text ≡ Ok (text, keys)
   pub key : List ℕ
   pub signer : first_signer w text keys ≡ Some key
 
--- The data of this digest is signed, or is not.
+-- The signature is valid for data with this digest.
 abbrev pub accepts_digest : {w : World} {o : Options} → IsSigned w o → List ℕ → Bool
 accepts_digest {w = w} g digest = w.accepts digest g.key g.text.signature.signature
 
@@ -231,50 +232,60 @@ pub record IsSameVersion {w : World} {o : Options} (g : IsSigned w o) : Type 0 w
   pub other : accepts_digest g (blake2b_digest 64 installed) ≡ false
   pub other_digest : (digest : List ℕ) → g.recorded.digest ≡ Some digest → accepts_digest g digest ≡ false
 
--- Why a run is rejected for what it found: the record; the signature file; no given key has signed the
--- comment; what the signed comment says, at the time that was passed in; the recorded version, and
--- another file; the size of the data; or the data.
-abbrev pub IsFoundFault : World → Options → InstallFault → Type 0
-IsFoundFault w o fault =
-    (judge_record o w.found ≡ Err fault)
+-- If this event passes in a time, the time is in the set.
+abbrev pub IsAtOneOf : (Option ℕ → Bool) → Event → Type 0
+IsAtOneOf times (SignatureRead text time) = times time ≡ true
+IsAtOneOf times e = ⊤
+
+-- A time in the set.
+abbrev pub TimeOf : (Option ℕ → Bool) → Type 0
+TimeOf times = (time : Option ℕ) × (times time ≡ true)
+
+-- The error is due to an input of the run: the record is rejected; or the signature file is; or no given key
+-- has signed the comment; or the signed comment is rejected at a time in the set; or the recorded version is
+-- installed with a different file; or the data does not have the signed size; or the data is not signed.
+abbrev pub IsFoundFault : World → Options → (Option ℕ → Bool) → InstallFault → Type 0
+IsFoundFault w o times fault =
+    (judge_record o w.found_record ≡ Err fault)
     ⊎ ((f : Fault) × (fault ≡ Library f) × (judge_text o w.text ≡ Err f))
     ⊎ ((fault ≡ Library (Named named.CommentSignatureRefused))
     × ((t : SignatureTextRecord) × (keys : List PublicKeyValue) × (judge_text o w.text ≡ Ok (t, keys))
     × (first_signer w t keys ≡ None)))
-    ⊎ ((g : IsSigned w o) × (time : Option ℕ)
-    × (comment_fault o g.recorded.version time g.text.comments.trusted ≡ Some fault))
+    ⊎ ((g : IsSigned w o) × (time : TimeOf times)
+    × (comment_fault o g.recorded.version time.0 g.text.comments.trusted ≡ Some fault))
     ⊎ ((g : IsSigned w o) × (fault ≡ SameNumber) × IsSameVersion g)
     ⊎ ((g : IsSigned w o) × (fault ≡ OtherSize)
     × ((size : ℕ) × (size_in g.text.comments.trusted ≡ Some size) × (length w.update ≢ size)))
     ⊎ ((g : IsSigned w o) × (fault ≡ Library (Named named.SignatureRefused))
     × (accepts_digest g (blake2b_digest 64 w.update) ≡ false))
 
--- Why an event in this state ends the run: the operation failed, the lock is in use, or what was found.
-abbrev pub IsReason : World → Options → State → Event → InstallFault → Type 0
-IsReason w o s (Failed f) fault = fault ≡ failure s.due f
-IsReason w o s InUse fault = fault ≡ TargetInUse
-IsReason w o s e fault = IsFoundFault w o fault
+-- The error with which an event in this state ends the run: the operation failed, the lock is in use, or an
+-- input is rejected.
+abbrev pub IsReason : World → Options → (Option ℕ → Bool) → State → Event → InstallFault → Type 0
+IsReason w o times s (Failed f) fault = fault ≡ failure s.due f
+IsReason w o times s InUse fault = fault ≡ TargetInUse
+IsReason w o times s e fault = IsFoundFault w o times fault
 
--- What the end of a run means. AlreadyInstalled: a file that is signed was read at the target, and its
--- comment is not rejected. Installed and WouldInstall: the comment is signed and not rejected; Installed:
--- and so is the data.
-abbrev pub IsEnd : World → Options → Operation → Type 0
-IsEnd w o Installed =
-    (g : IsSigned w o) × (time : Option ℕ)
-    × (comment_fault o g.recorded.version time g.text.comments.trusted ≡ None)
+-- The meaning of the end of a run. After AlreadyInstalled, a given key has signed the file that the run read
+-- at the target. After Installed and WouldInstall, a given key has signed the trusted comment, and after
+-- Installed also the data. After all three, the comment is not rejected at a time in the set.
+abbrev pub IsEnd : World → Options → (Option ℕ → Bool) → Operation → Type 0
+IsEnd w o times Installed =
+    (g : IsSigned w o) × (time : TimeOf times)
+    × (comment_fault o g.recorded.version time.0 g.text.comments.trusted ≡ None)
     × (accepts_digest g (blake2b_digest 64 w.update) ≡ true)
-IsEnd w o AlreadyInstalled =
-    (g : IsSigned w o) × (time : Option ℕ)
-    × (comment_fault o g.recorded.version time g.text.comments.trusted ≡ None)
+IsEnd w o times AlreadyInstalled =
+    (g : IsSigned w o) × (time : TimeOf times)
+    × (comment_fault o g.recorded.version time.0 g.text.comments.trusted ≡ None)
     × ((installed : List ℕ) × (accepts_digest g (blake2b_digest 64 installed) ≡ true))
-IsEnd w o WouldInstall =
-    (o.check ≡ true) × ((g : IsSigned w o) × (time : Option ℕ)
-    × (comment_fault o g.recorded.version time g.text.comments.trusted ≡ None))
-IsEnd w o op = ⊤
+IsEnd w o times WouldInstall =
+    (o.check ≡ true) × ((g : IsSigned w o) × (time : TimeOf times)
+    × (comment_fault o g.recorded.version time.0 g.text.comments.trusted ≡ None))
+IsEnd w o times op = ⊤
 
 -- == Checks ==
 
--- Where an installation goes on, a check ends.
+-- The operation of a check: it ends at the operation with which an installation would start to change files.
 abbrev pub check_due : Operation → Operation
 check_due RemoveLeftovers = WouldInstall
 check_due SyncTarget = AlreadyInstalled
@@ -284,7 +295,7 @@ check_due op = op
 abbrev pub as_check : State → State
 as_check s = record s { due = check_due s.due; options = record s.options { check = true } }
 
--- The operation is one of both, an installation and a check.
+-- Both installations and checks perform the operation.
 abbrev pub decides : Operation → Bool
 decides ReadRecord = true
 decides ReadSignature = true
@@ -296,8 +307,8 @@ decides op = false
 
 -- == What is on the disk ==
 
--- What was synced since it was changed last: the temporary file of the data, that of the record, the name
--- of the record, the installed file, and its name.
+-- The files and names that were synced since their last change: the temporary files of the data and of the
+-- record, the name of the record, the installed file, and its name.
 pub record OnDisk : Type 0 where
   pub data_file : Bool
   pub record_file : Bool
@@ -314,7 +325,7 @@ nothing_synced = record {
   target_name = false;
 }
 
--- What an event at this operation says about it.
+-- The effect of an event at this operation on these flags.
 abbrev pub syncs : Operation → Event → OnDisk → OnDisk
 syncs CopyData (PieceCopied k) d = record d { data_file = false }
 syncs SetPermissions Done d = record d { data_file = false }
@@ -354,7 +365,7 @@ IsSynced op s d = ⊤
 
 -- == Temporary files ==
 
--- Which temporary files this run has made, and neither renamed nor tried to remove: that of the data, and
+-- The temporary files that this run has made, and neither renamed nor tried to remove: that of the data, and
 -- that of the record.
 pub record Owned : Type 0 where
   pub data_file : Bool
@@ -363,7 +374,7 @@ pub record Owned : Type 0 where
 abbrev pub nothing_owned : Owned
 nothing_owned = record { data_file = false; record_file = false }
 
--- What an event at this operation says about them.
+-- The effect of an event at this operation on them.
 abbrev pub owns : Operation → Event → Owned → Owned
 owns CreateFile Done d = record d { data_file = true }
 owns CreateRecord Done d = record d { record_file = true }

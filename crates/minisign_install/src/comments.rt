@@ -1,4 +1,4 @@
-//! What the trusted comment says about an update.
+//! Parses the fields of a trusted comment that describe an update.
 
 ghost use Rattle.std.specs.Prelude.{◌≡◌, ◌==◌, ◌<◌, ◌∷◌, [], ℕ, Bool, if◌then◌else◌, List};
 ghost use Rattle.std.specs.Prelude.{Some, None, Option, false, is_some, option_map, MatchOption, filter_map};
@@ -12,8 +12,8 @@ ghost use Rattle.minisign_install.specs.Faults.{InstallFault};
 ghost use Rattle.minisign_install.specs.Installations.{numbering_of};
 ghost use Rattle.minisign_install.specs.RecordTexts.{other_field};
 
-/// The field of the trusted comment that holds the version number of an update. Fields end at tabs. If a
-/// label occurs more than once, the first field with it counts.
+/// The field of the trusted comment that holds the version number of an update. Fields are separated by tabs.
+/// If several fields have the label, the first one is used.
 #[derive(Clone, Copy, PartialEq, Eq)]
 pub enum Numbering {
     /// `timestamp:`, which Minisign writes by default.
@@ -34,7 +34,7 @@ impl Numbering {
         }
     }
 
-    // The label of the field.
+    // Returns the label of the field.
     pub(crate) fn label(self) -> &'static str
         ensures { result.now ≡ number_label self }
     {
@@ -44,7 +44,7 @@ impl Numbering {
         }
     }
 
-    // The other field.
+    // Returns the other field.
     pub(crate) fn other(self) -> Numbering
         ensures { result ≡ other_field self }
     {
@@ -55,7 +55,8 @@ impl Numbering {
     }
 }
 
-// The fields behind the first one by which a comment says when its update expires.
+// Returns the rest of the comment after the first field that says when the update expires, or `None` if there
+// is no such field.
 #[tactic(auto, using(crate::proofs::Fields::no_expiry))]
 pub(crate) fn first_expiry(comment: &str, must_expire: bool) -> Option<&str>
     ensures { MatchOption result (expiries must_expire comment.now ≡ [])
@@ -72,8 +73,7 @@ pub(crate) fn first_expiry(comment: &str, must_expire: bool) -> Option<&str>
     None
 }
 
-// Whether a field begins with the label; loosely also one that differs from such a field in white space or
-// case alone.
+// Returns true if the field begins with the label. If `loosely` is true, white space and case are ignored.
 fn begins(field: &str, label: &str, loosely: bool) -> bool
     ensures { result ≡ is_some (strip label.now (if loosely then folded field.now else field.now)) }
 {
@@ -84,7 +84,7 @@ fn begins(field: &str, label: &str, loosely: bool) -> bool
     }
 }
 
-// Whether a text begins with these letters once its white space is left out, in small letters.
+// Returns true if the text, without its white space and in lower case, begins with the label.
 fn begins_loosely(text: &[u8], label: &[u8]) -> bool
     ensures { result ≡ is_some (strip label.now (folded text.now)) }
 {
@@ -94,7 +94,7 @@ fn begins_loosely(text: &[u8], label: &[u8]) -> bool
         if !letter.is_ascii_whitespace() {
             match label.split_first() {
                 None => return true,
-                Some((wanted, others)) if is_letter(*letter, *wanted) => label = others,
+                Some((lower, others)) if is_letter(*letter, *lower) => label = others,
                 Some(_) => return false,
             }
         }
@@ -103,14 +103,14 @@ fn begins_loosely(text: &[u8], label: &[u8]) -> bool
     label.is_empty()
 }
 
-// Whether a letter is this small one, or its capital.
-fn is_letter(letter: u8, wanted: u8) -> bool
-    ensures { result ≡ (to_ascii_lowercase letter == wanted) }
+// Returns true if a letter is this lower-case letter or its upper-case form.
+fn is_letter(letter: u8, lower: u8) -> bool
+    ensures { result ≡ (to_ascii_lowercase letter == lower) }
 {
-    letter.to_ascii_lowercase() == wanted
+    letter.to_ascii_lowercase() == lower
 }
 
-// What stands behind the label in the first field that begins with it.
+// Returns the value of the first field with this label.
 pub(crate) fn value<'a>(comment: &'a str, label: &str) -> Option<&'a str>
     requires { 0 < length label.now }
     ensures { option_map (λ v. v.now) result ≡ value_of label.now comment.now }
@@ -121,7 +121,7 @@ pub(crate) fn value<'a>(comment: &'a str, label: &str) -> Option<&'a str>
     }
 }
 
-// The same, and the fields behind that one.
+// Returns the value of the first field with this label, and the fields after it.
 #[tactic(auto, using(crate::proofs::Fields::nothing))]
 pub(crate) fn first_value<'a>(comment: &'a str, label: &str) -> Option<(&'a str, &'a str)>
     requires { 0 < length label.now }
@@ -139,7 +139,7 @@ pub(crate) fn first_value<'a>(comment: &'a str, label: &str) -> Option<(&'a str,
     None
 }
 
-// The first field of a comment, and those behind it: no text where there are none.
+// Returns the first field of a comment, and the rest after it, which is empty if there are no more fields.
 fn first_field(comment: &str) -> (&str, &str)
     ensures field { (label : List ℕ) → 0 < length label
         → values_of label comment.now ≡ filter_map (strip label) (result.0.now ∷ fields result.1.now) }
@@ -153,7 +153,7 @@ fn first_field(comment: &str) -> (&str, &str)
     }
 }
 
-// What stands behind the label in a text that begins with it.
+// Returns the text after the label, if the text begins with the label.
 #[tactic(auto, using(crate::proofs::Fields::strip_answers))]
 pub(crate) fn strip<'a>(text: &'a str, label: &str) -> Option<&'a str>
     ensures { option_map (λ v. v.now) result ≡ strip label.now text.now }
@@ -161,7 +161,7 @@ pub(crate) fn strip<'a>(text: &'a str, label: &str) -> Option<&'a str>
     text.strip_prefix(label)
 }
 
-// The number that a text writes in decimal digits, and nothing else: `parse` takes a plus before them too.
+// Parses decimal digits. A plus sign is rejected here, because `parse` accepts one.
 pub(crate) fn number_of(text: &str) -> Option<u64>
     ensures { MatchOption result ((n : ℕ) → ¬ (IsNumberText text.now n)) (IsNumberText text.now) }
 {
@@ -174,17 +174,19 @@ pub(crate) fn number_of(text: &str) -> Option<u64>
     }
 }
 
-/// States what the checks of a trusted comment mean. This function is a law: it does nothing, and its
-/// contract is what it is for.
+/// States which trusted comments are accepted, and what each error says about a rejected one. This function
+/// is a law: it does nothing, and exists only for its contract.
 pub fn any_comment_is_judged()
-    // A comment that is not rejected names the file, has the version number, has not expired, and has a
-    // proper size or none; and the version is not below the recorded one, unless `roll_back` is set.
+    // A comment that is not rejected names the file, has a version number, has not expired, and has no
+    // field `size:`, or only one, with a number. The version number is not below the recorded one, unless
+    // `roll_back` is set.
     ensures accepted { (o : Options) (recorded time : Option ℕ) (comment : List ℕ)
         → comment_fault o recorded time comment ≡ None
         → (n : ℕ) × (version_in o.numbering comment ≡ Some n) × CommentSays o time comment n
         × (is_too_old o recorded (Some n) ≡ false) }
 
-    // The error for which a comment is rejected is true of it, and the checks before have passed.
+    // If a comment is rejected, it fails the check that belongs to the error, and has passed all checks
+    // before that.
     ensures rejected { (o : Options) (recorded time : Option ℕ) (comment : List ℕ) (e : InstallFault)
         → comment_fault o recorded time comment ≡ Some e → IsCommentRefused o recorded time comment e }
 {}

@@ -1,5 +1,5 @@
-//! Why an installation is rejected: one enum of the errors of the library and of those that installing adds,
-//! of each of the latter the number, the kind and the text. None of these allocates.
+//! The errors of an installation: those of the library, and those that only installing has, with the number,
+//! kind and text of each. Nothing here allocates.
 
 ghost use Rattle.std.specs.Prelude.{◌≡◌, ◌<◌, List, ℕ, Some, true, IfSome, MatchResult, length};
 ghost use Rattle.minisign_external.specs.Numbers.{WritesCut};
@@ -12,10 +12,11 @@ use minisign_base::{NamedFault, PError};
 use minisign_external::numbers::{self, Numbered};
 use std::fmt;
 
-/// Why an installation is rejected. `Display` writes the text.
+/// The error with which an installation is rejected. `Display` writes the text.
 #[derive(Debug, Drop)]
 pub enum InstallFault {
-    /// An error of the library: of the texts, of a device, or of memory.
+    /// An error of the library: a key file or signature file is invalid, reading or writing failed, or memory
+    /// ran out.
     Library(PError),
     /// Another installation holds the lock on this target.
     TargetInUse,
@@ -39,9 +40,9 @@ pub enum InstallFault {
     KeptByVersion,
     /// The update has expired at the time that the caller passes.
     Expired,
-    /// The trusted comment has more than one field `expires:`, or its value is not a decimal number
-    /// below 2^64. If `must_expire` is set, a field that differs from it only in case or in white
-    /// space counts too.
+    /// The trusted comment has more than one field `expires:`, or its value is not a decimal number below
+    /// 2^64. If `must_expire` is set, this includes fields that differ from it only in case or in white
+    /// space.
     BadExpiry,
     /// This version is already recorded, but the installed file is different, and `again` is not
     /// set.
@@ -56,10 +57,10 @@ pub enum InstallFault {
 }
 
 impl InstallFault {
-    /// What the error concerns.
+    /// Returns the kind of the error.
     pub fn kind(&self) -> &ErrorKind
-        // The result is the kind that the table gives for an installation error, and for an error of the
-        // library that error's own kind.
+        // The result is the kind in the table of installation errors (`install_row`), or the kind of the
+        // library's error.
         ensures { result.now ≡ (install_row self.now).kind }
     {
         match self.row() {
@@ -68,7 +69,7 @@ impl InstallFault {
         }
     }
 
-    /// The error of installing that has this number.
+    /// Returns the installation error with this number.
     pub(crate) fn of_number(number: u32) -> Option<InstallFault>
         ensures found { (e : InstallFault) → is_own e ≡ true → number ≡ install_number e → result ≡ Some e }
         ensures own { IfSome result (λ e. (is_own e ≡ true) × (number ≡ install_number e)) }
@@ -94,7 +95,7 @@ impl InstallFault {
         })
     }
 
-    // The number, the kind and the text of an error that installing adds; of any other the error of the
+    // Returns the number, the kind and the text of an installation error, or `Err` with the error of the
     // library.
     pub(crate) fn row(&self) -> Result<&'static (u32, ErrorKind, &'static str), &PError>
         ensures { MatchResult result
@@ -159,8 +160,7 @@ impl InstallFault {
     }
 }
 
-/// Returns the number that the table gives for an installation error, and for an error of the library that
-/// error's own number.
+/// Returns the number in the table of installation errors, or the number of the library's error.
 impl Numbered for InstallFault {
     ghost number_of = { install_number };
 
@@ -172,8 +172,7 @@ impl Numbered for InstallFault {
     }
 }
 
-/// Writes the text that the table gives for an installation error, and for an error of the library that
-/// error's own text.
+/// Writes the text in the table of installation errors, or the text of the library's error.
 impl fmt::Display for InstallFault {
     ghost output = { λ e. Some (install_row e).summary };
 

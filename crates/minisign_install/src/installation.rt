@@ -1,5 +1,5 @@
-//! An installation as a value of fixed size, for applications in other languages. The application performs
-//! the operation that is due and reports what happened. Nothing here allocates.
+//! An installation as a struct of fixed size, for applications in other languages. The application performs
+//! the operation that is due, reports what happened, and goes on with the next one. Nothing here allocates.
 
 ghost use Rattle.std.specs.Prelude.{◌≡◌, ◌==◌, List, Some, None, Err, MatchResult, OnErr};
 ghost use Rattle.std.specs.Prelude.{if◌then◌else◌, true, false, ℕ, ◌<◌, take, drop};
@@ -33,7 +33,7 @@ use minisign_external::public_keys::PublicKeyValue;
 use minisign_external::state::{Misuse, Refusal};
 use progress::Progress;
 
-// An installation that was begun begins with the letters `minstall`.
+// The mark (magic number) of an installation that was begun: the letters `minstall`.
 const BEGUN: u64 = 7812726606361684333;
 
 /// An installation, 1024 bytes with the layout of C.
@@ -64,28 +64,28 @@ pub struct Question {
 #[repr(C)]
 #[derive(Clone, Copy)]
 pub struct Choices {
-    /// The field that has the version number: 0 for `timestamp:`, 1 for `version:`.
+    /// The field of the trusted comment that holds the version number: 0 for `timestamp:`, 1 for `version:`.
     pub numbering: u32,
     /// Install even if no version is recorded.
     pub is_first: u32,
     /// Replace different data that has the recorded version.
     pub again: u32,
-    /// Only find out what a run would do.
+    /// Only find out if a run would install the update.
     pub is_check: u32,
     /// Reject an update whose comment does not say when it expires.
     pub must_expire: u32,
-    /// Ignore a record of a key that was not given.
+    /// Ignore the record if it was made under a key that was not passed.
     pub new_key: u32,
     /// Install an older update.
     pub roll_back: u32,
 }
 
-/// The operation that is due, or how the run has ended. The numbers go from 0 on.
+/// The operation that is due, or the end of the run. The operations are numbered from 0 on, in this order.
 #[derive(Clone, Copy, PartialEq, Eq, Debug)]
 pub enum Operation {
     /// Nothing: the installation was never begun.
     Nothing,
-    /// Lock the target, and wait as long as the user allows. Report done, or failed with target in use.
+    /// Lock the target, and wait for the lock as long as the user allows. Report `done`, or `in_use`.
     Lock,
     /// Read the record, and report its bytes, or that there is none.
     ReadRecord,
@@ -101,9 +101,10 @@ pub enum Operation {
     CheckTarget,
     /// Sync the installed file, which is already the update.
     SyncTarget,
-    /// Sync the directory, so that a crash does not undo the name of the installed file.
+    /// Sync the directory, so that the name of the installed file survives a crash.
     SyncTargetName,
-    /// Remove the temporary files that killed runs have left behind, as far as possible.
+    /// Remove the temporary files that killed runs have left behind. Files that cannot be removed are
+    /// ignored.
     RemoveLeftovers,
     /// Create the temporary file of the data under a random name.
     CreateFile,
@@ -145,8 +146,8 @@ pub enum Operation {
 }
 
 impl Installation {
-    /// Begins an installation. Locking is due, or for a check reading the record. An application that has one
-    /// key passes it twice.
+    /// Begins an installation. The first operation that is due is to lock the target or, for a check, to read
+    /// the record. An application that has one key passes it twice.
     pub fn new(
         key: &PublicKeyValue,
         other: &PublicKeyValue,
@@ -174,7 +175,7 @@ impl Installation {
         self.mark == BEGUN
     }
 
-    /// Returns the operation that is due, or how the run has ended.
+    /// Returns the operation that is due, or the end of the run.
     pub fn due(&self) -> Operation
         ensures { (s : State) → IsStored self.now s → result ≡ s.due }
     {
@@ -187,8 +188,8 @@ impl Installation {
 
     /// Reports that the operation that is due was done.
     pub fn done(&mut self) -> Result<(), Refusal<InstallFault>>
-        // For every state for which the installation stands, the result and the new state are those of the
-        // step.
+        // If the installation represents a state, the result and the new state are those that `step`
+        // computes from this state and this event.
         ensures steps { CallSteps Done self.old self.new result }
         // After `NotDue` the installation is unchanged.
         ensures misuse { result ≡ Err (WrongUse NotDue) → self.new ≡ self.old }
@@ -202,8 +203,8 @@ impl Installation {
 
     /// Reports that a piece of `len` bytes was copied.
     pub fn copied(&mut self, len: u64) -> Result<(), Refusal<InstallFault>>
-        // For every state for which the installation stands, the result and the new state are those of the
-        // step.
+        // If the installation represents a state, the result and the new state are those that `step`
+        // computes from this state and this event.
         ensures steps { CallSteps (PieceCopied len) self.old self.new result }
         // After `NotDue` the installation is unchanged.
         ensures misuse { result ≡ Err (WrongUse NotDue) → self.new ≡ self.old }
@@ -215,11 +216,11 @@ impl Installation {
         }
     }
 
-    /// Reports that the operation that is due failed: out of memory, or reading, writing or the random
+    /// Reports that the operation that is due failed: memory ran out, or reading, writing or the random
     /// source failed.
     pub fn failed(&mut self, fault: NamedFault) -> Result<(), Refusal<InstallFault>>
-        // For every state for which the installation stands, the result and the new state are those of the
-        // step.
+        // If the installation represents a state, the result and the new state are those that `step`
+        // computes from this state and this event.
         ensures steps { CallSteps (Failed fault) self.old self.new result }
         // After `NotDue` the installation is unchanged.
         ensures misuse { result ≡ Err (WrongUse NotDue) → self.new ≡ self.old }
@@ -233,8 +234,8 @@ impl Installation {
 
     /// Reports that another process holds the lock, and the application gave up waiting for it.
     pub fn in_use(&mut self) -> Result<(), Refusal<InstallFault>>
-        // For every state for which the installation stands, the result and the new state are those of the
-        // step.
+        // If the installation represents a state, the result and the new state are those that `step`
+        // computes from this state and this event.
         ensures steps { CallSteps InUse self.old self.new result }
         // After `NotDue` the installation is unchanged.
         ensures misuse { result ≡ Err (WrongUse NotDue) → self.new ≡ self.old }
@@ -248,8 +249,8 @@ impl Installation {
 
     /// Reports the bytes of the record.
     pub fn record(&mut self, bytes: &[u8]) -> Result<(), Refusal<InstallFault>>
-        // For every state for which the installation stands, the result and the new state are those of the
-        // step.
+        // If the installation represents a state, the result and the new state are those that `step`
+        // computes from this state and this event.
         ensures steps { CallSteps (RecordRead (Some bytes.now)) self.old self.new result }
         // After `NotDue` the installation is unchanged.
         ensures misuse { result ≡ Err (WrongUse NotDue) → self.new ≡ self.old }
@@ -263,8 +264,8 @@ impl Installation {
 
     /// Reports that there is no record.
     pub fn no_record(&mut self) -> Result<(), Refusal<InstallFault>>
-        // For every state for which the installation stands, the result and the new state are those of the
-        // step.
+        // If the installation represents a state, the result and the new state are those that `step`
+        // computes from this state and this event.
         ensures steps { CallSteps (RecordRead None) self.old self.new result }
         // After `NotDue` the installation is unchanged.
         ensures misuse { result ≡ Err (WrongUse NotDue) → self.new ≡ self.old }
@@ -276,7 +277,7 @@ impl Installation {
         }
     }
 
-    /// Reports the next bytes of the file that is read. No bytes report its end.
+    /// Reports the next bytes of the file that is being read, or its end, if `bytes` is empty.
     pub fn piece(&mut self, bytes: &[u8]) -> Result<(), Refusal<InstallFault>>
         ensures steps { (s : State) → IsStored self.old s
             → IsStored self.new (step s (piece_event s.due bytes.now)).1
@@ -293,8 +294,8 @@ impl Installation {
 
     /// Reports that there is no file at the target.
     pub fn no_target(&mut self) -> Result<(), Refusal<InstallFault>>
-        // For every state for which the installation stands, the result and the new state are those of the
-        // step.
+        // If the installation represents a state, the result and the new state are those that `step`
+        // computes from this state and this event.
         ensures steps { CallSteps TargetMissing self.old self.new result }
         // After `NotDue` the installation is unchanged.
         ensures misuse { result ≡ Err (WrongUse NotDue) → self.new ≡ self.old }
@@ -319,12 +320,12 @@ impl Installation {
         time: Option<u64>,
         message: &mut [u8],
     ) -> Result<usize, Refusal<InstallFault>>
-        // For every state for which the installation stands and that has this name of the file, the result
-        // and the new state are those of the step. After `NoRoom` and `NotDue` the installation is unchanged,
-        // and after every error the buffer.
+        // If the installation represents a state with the file name `file` in its options, the result and
+        // the new state are those that `step` computes from it and this event. After `NoRoom` and `NotDue`
+        // the installation is unchanged, and after every error the buffer.
         ensures steps { (s : State) → IsStored self.old s → s.options.file ≡ file.now
             → SignatureSteps sig_text.now time s result (IsStored self.new) message.old message.new }
-        ensures kept { OnErr result (message.new ≡ message.old) }
+        ensures unchanged { OnErr result (message.new ≡ message.old) }
         ensures misuse { result ≡ Err (WrongUse NotDue) → self.new ≡ self.old }
         ensures short { result ≡ Err (WrongUse NoRoom) → self.new ≡ self.old }
     {
@@ -346,7 +347,7 @@ impl Installation {
         }
     }
 
-    /// Reports what Ed25519 answered: `ANSWER_YES` or `ANSWER_NO`.
+    /// Reports the result of Ed25519: `ANSWER_YES` or `ANSWER_NO`.
     pub fn answer(&mut self, accepted: u32) -> Result<(), Refusal<InstallFault>>
         ensures steps { is_answer accepted ≡ true
             → CallSteps (Answered (accepted == answer_yes)) self.old self.new result }
@@ -365,8 +366,8 @@ impl Installation {
 
     // Reports what Ed25519 answered.
     fn answered(&mut self, accepted: bool) -> Result<(), Refusal<InstallFault>>
-        // For every state for which the installation stands, the result and the new state are those of the
-        // step.
+        // If the installation represents a state, the result and the new state are those that `step`
+        // computes from this state and this event.
         ensures steps { CallSteps (Answered accepted) self.old self.new result }
         // After `NotDue` the installation is unchanged.
         ensures misuse { result ≡ Err (WrongUse NotDue) → self.new ≡ self.old }
@@ -378,7 +379,7 @@ impl Installation {
         }
     }
 
-    /// Returns true if a key was found to have signed the trusted comment.
+    /// Returns true once one of the keys has been found to have signed the trusted comment.
     pub fn is_signed(&self) -> bool
         ensures { (s : State) → IsStored self.now s → result ≡ s.is_signed }
     {
@@ -416,8 +417,8 @@ impl Installation {
     pub fn record_text(&self, to: &mut [u8]) -> usize
         ensures written { (s : State) → IsStored self.now s
             → written_if (record_due s) result to.old to.new }
-        // What is written is read as the version number, the key and the digest that the run records: those
-        // of the update, or after a roll-back the recorded version and its key.
+        // The bytes that were written parse to the version number, the key and the digest that the run
+        // records: those of the update, or after a roll-back the recorded version and its key.
         ensures reads_back { (s : State) → IsStored self.now s → 0 < result
             → IsNewRecord s (take result to.new) }
         // The rest of the buffer is unchanged, in every case.
@@ -430,7 +431,7 @@ impl Installation {
         }
     }
 
-    /// Returns the number of the error for which the run is rejected, or 0.
+    /// Returns the number of the error because of which the run is rejected, or 0.
     pub fn error(&self) -> u32
         ensures { (s : State) → IsStored self.now s → result ≡ error_number s.error }
     {
@@ -455,14 +456,15 @@ impl Choices {
             && self.roll_back <= 1
     }
 
-    // Returns true if the first installation is not combined with options that need a record.
+    // Returns true unless `is_first`, which needs no record, is combined with an option that needs one.
     fn fit_together(&self) -> bool
         ensures { result ≡ choices_fit self.now }
     {
         self.is_first != 1 || (self.new_key != 1 && self.roll_back != 1)
     }
 
-    // Tests the options, and then the numbering.
+    // Returns `BadOption` if an option is not 0 or 1 or two options must not be combined, else `BadNumbering`
+    // if there is no such field.
     fn test(&self) -> Result<(), Misuse>
         ensures { MatchResult result (λ _. choices_misuse self.now ≡ None)
             (λ m. choices_misuse self.now ≡ Some m) }
@@ -527,7 +529,8 @@ impl Operation {
         }
     }
 
-    // Returns the operation after this one was done, if nothing is decided then.
+    // Returns the operation that always follows this one when it is done, or `None` if the next operation
+    // depends on the state.
     pub(crate) fn next(self) -> Option<Operation>
         ensures { result ≡ next self }
     {
@@ -554,7 +557,7 @@ impl Operation {
         })
     }
 
-    // Returns true if the run has made a temporary file that it has not renamed.
+    // Returns true if, when this operation is due, the run has a temporary file that it has not renamed.
     pub(crate) fn has_files(self) -> bool
         ensures { result ≡ has_files self }
     {
@@ -604,7 +607,7 @@ impl Operation {
         matches!(self, Operation::RemoveFiles)
     }
 
-    // Returns the error of this operation if it failed.
+    // Returns the error with which the run is rejected if this operation fails.
     pub(crate) fn failure(self, fault: NamedFault) -> InstallFault
         ensures { result ≡ failure self fault }
     {
@@ -615,28 +618,28 @@ impl Operation {
         }
     }
 
-    // Returns true if the lock is due.
+    // Returns true if the operation is to lock the target.
     pub(crate) fn is_locking(self) -> bool
         ensures { result ≡ is_locking self }
     {
         matches!(self, Operation::Lock)
     }
 
-    // Returns true if the record is to be read.
+    // Returns true if the operation is to read the record.
     pub(crate) fn is_reading_record(self) -> bool
         ensures { result ≡ is_reading_record self }
     {
         matches!(self, Operation::ReadRecord)
     }
 
-    // Returns true if the signature file is to be read.
+    // Returns true if the operation is to read the signature file.
     pub(crate) fn is_reading_signature(self) -> bool
         ensures { result ≡ is_reading_signature self }
     {
         matches!(self, Operation::ReadSignature)
     }
 
-    // Returns true if the new record is to be written.
+    // Returns true if the operation is to write the new record.
     pub(crate) fn is_writing_record(self) -> bool
         ensures { result ≡ is_writing_record self }
     {

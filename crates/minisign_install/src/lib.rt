@@ -1,5 +1,5 @@
-//! Installs an update if a public key and a signature are valid for it. The application makes each system
-//! call.
+//! Installs an update if one of the given public keys has signed it. The application makes all system calls;
+//! this crate decides which operation comes next.
 
 #![tactic(auto)]
 

@@ -5,32 +5,33 @@ ghost use Rattle.std.specs.Prelude.{Some, ◌≡◌, ◌⊎◌, ℕ, ◌==◌, �
 ghost use Rattle.std.specs.Prelude.{MatchOption, length, take, drop};
 ghost use Rattle.hex.specs.Hex.{encode_lower};
 ghost use Rattle.minisign_install.specs.Faults.{DamagedRecord};
-ghost use Rattle.minisign_install.specs.RecordTexts.{kept_by, other_field, HasNoNumber, IsNumberFor};
-ghost use Rattle.minisign_install.specs.RecordTexts.{is_marked, is_other, mark_text, marked_line};
+ghost use Rattle.minisign_install.specs.RecordTexts.{recorded_by, other_field, HasNoNumber, IsNumberFor};
+ghost use Rattle.minisign_install.specs.RecordTexts.{is_marked, is_foreign_key, mark_text, marked_line};
 ghost use Rattle.minisign_install.specs.RecordTexts.{record_digest, record_key, record_of, record_text};
 
 use crate::comments::{Numbering, number_of, strip};
 use crate::faults::InstallFault;
 
-// A line of more bytes is no number.
+// The greatest length of the first line. A longer line is not a version number.
 const MAX_LINE: usize = 64;
 
-// What stands behind the number: two lines of hexadecimal digits, each behind a line feed.
+// The length of the two lines after the version number, each with a line feed before it: 64 and 128
+// hexadecimal digits.
 const MARK_TEXT: usize = 194;
 
-/// What a record says beside a number, 96 bytes.
+/// The part of a record after the version number: 96 bytes.
 #[repr(C)]
 #[derive(Clone, Copy)]
 pub(crate) struct Mark {
-    // The key that has vouched.
+    // The key that signed the update.
     pub(crate) key: [u8; 32],
     // The digest of the data.
     pub(crate) digest: [u8; 64],
 }
 
-// Why a record of these bytes, which holds no number for the field, is refused.
-pub(crate) fn unfit(bytes: &[u8], numbering: Numbering) -> InstallFault
-    ensures why { ((result ≡ kept_by (other_field numbering))
+// Returns the error for a record that has no version number for the field.
+pub(crate) fn unfit_record_fault(bytes: &[u8], numbering: Numbering) -> InstallFault
+    ensures why { ((result ≡ recorded_by (other_field numbering))
         × ((n : ℕ) × IsNumberFor (other_field numbering) bytes.now n))
         ⊎ ((result ≡ DamagedRecord) × HasNoNumber (other_field numbering) bytes.now) }
 {
@@ -42,7 +43,7 @@ pub(crate) fn unfit(bytes: &[u8], numbering: Numbering) -> InstallFault
     }
 }
 
-// The number that a record of these bytes holds for the field, where it holds one.
+// Returns the version number of a record, if it has one for this field.
 pub(crate) fn number_for(bytes: &[u8], numbering: Numbering) -> Option<u64>
     ensures { MatchOption result (HasNoNumber numbering bytes.now) (IsNumberFor numbering bytes.now) }
 {
@@ -58,7 +59,7 @@ pub(crate) fn number_for(bytes: &[u8], numbering: Numbering) -> Option<u64>
     }
 }
 
-// What is read of a record of these bytes as its number.
+// Returns the part of a record that contains its version number.
 fn record_text(bytes: &[u8]) -> &[u8]
     ensures { result.now ≡ record_text bytes.now }
 {
@@ -71,7 +72,7 @@ fn record_text(bytes: &[u8]) -> &[u8]
     }
 }
 
-// The first line of a record that has two more, where it is no longer than a record of one line.
+// Returns the first line of a record of three lines, or nothing if the record has another form.
 fn marked_line(bytes: &[u8]) -> &[u8]
     ensures { result.now ≡ marked_line bytes.now }
 {
@@ -82,7 +83,7 @@ fn marked_line(bytes: &[u8]) -> &[u8]
     line
 }
 
-// Whether a record of these bytes has two lines of their lengths behind the first one.
+// Returns true if two lines of 64 and 128 bytes can follow the first line of a record.
 fn is_marked(bytes: &[u8]) -> bool
     ensures { result ≡ is_marked bytes.now }
 {
@@ -90,14 +91,14 @@ fn is_marked(bytes: &[u8]) -> bool
     MARK_TEXT <= len && len <= MARK_TEXT + MAX_LINE && ends_line(bytes[len - MARK_TEXT])
 }
 
-// Whether a line ends at this byte.
+// Returns true if the byte is a line feed.
 fn ends_line(byte: u8) -> bool
     ensures { result ≡ (byte == 10) }
 {
     byte == b'\n'
 }
 
-// The digest of the data that a record of these bytes was written for, where it says so.
+// Returns the digest of the data for which a record was written, if the record has one.
 pub(crate) fn record_digest(bytes: &[u8]) -> Option<[u8; 64]>
     ensures { result ≡ record_digest bytes.now }
 {
@@ -112,7 +113,7 @@ pub(crate) fn record_digest(bytes: &[u8]) -> Option<[u8; 64]>
     }
 }
 
-// The key that a record of these bytes names, where it names one.
+// Returns the key that a record names, if it names one.
 pub(crate) fn record_key(bytes: &[u8]) -> Option<[u8; 32]>
     ensures { result ≡ record_key bytes.now }
 {
@@ -128,9 +129,9 @@ pub(crate) fn record_key(bytes: &[u8]) -> Option<[u8; 32]>
     }
 }
 
-// Whether a record of these bytes names a key that is none of these two.
-pub(crate) fn is_other(bytes: &[u8], key: &[u8; 32], other: &[u8; 32]) -> bool
-    ensures { result ≡ is_other (key.now ∷ other.now ∷ []) (record_key bytes.now) }
+// Returns true if the record names a key that is neither of these two.
+pub(crate) fn is_foreign_key(bytes: &[u8], key: &[u8; 32], other: &[u8; 32]) -> bool
+    ensures { result ≡ is_foreign_key (key.now ∷ other.now ∷ []) (record_key bytes.now) }
 {
     match record_key(bytes) {
         Some(named) => is_neither(&named, key, other),
@@ -138,14 +139,15 @@ pub(crate) fn is_other(bytes: &[u8], key: &[u8; 32], other: &[u8; 32]) -> bool
     }
 }
 
-// Whether the key that is named is none of these two.
+// Returns true if the key is neither of these two.
 fn is_neither(named: &[u8; 32], key: &[u8; 32], other: &[u8; 32]) -> bool
-    ensures { result ≡ is_other (key.now ∷ other.now ∷ []) (Some named.now) }
+    ensures { result ≡ is_foreign_key (key.now ∷ other.now ∷ []) (Some named.now) }
 {
     *named != *key && *named != *other
 }
 
-// Writes a record to the front of `to`, and returns how long that is; where it has no room, nothing.
+// Writes a record to the start of `to` and returns its length. If `to` is too short, writes nothing and
+// returns 0.
 pub(crate) fn write_record(numbering: Numbering, number: u64, mark: &Mark, to: &mut [u8]) -> usize
     ensures written { 0 < result
         → (result ≤ length to.new)
@@ -169,7 +171,7 @@ pub(crate) fn write_record(numbering: Numbering, number: u64, mark: &Mark, to: &
     line + MARK_TEXT
 }
 
-// Fills the buffer with both, one after the other.
+// Fills the buffer with the label and the digits.
 fn fill(to: &mut [u8], label: &[u8], digits: &[u8])
     requires { length to.old ≡ length label.now + length digits.now }
     ensures { to.new ≡ label.now ++ digits.now }
@@ -179,7 +181,7 @@ fn fill(to: &mut [u8], label: &[u8], digits: &[u8])
     back.copy_from_slice(digits);
 }
 
-// Fills the buffer with the two lines behind the number, each behind a line feed.
+// Fills the buffer with the two lines after the version number, each with a line feed before it.
 fn write_mark(mark: &Mark, to: &mut [u8])
     requires { length to.old ≡ 194 }
     ensures { to.new ≡ mark_text mark.now.key mark.now.digest }

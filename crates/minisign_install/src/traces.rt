@@ -1,22 +1,28 @@
-//! Decides whether a recorded run is that of a lawful application, so that the laws in `histories` hold of
+//! Decides whether a recorded run is that of a lawful application, so that the laws in `histories` apply to
 //! it. Nothing here allocates.
 
 ghost use Rattle.std.specs.Prelude.{◌≡◌, ◌++◌, ◌<◌, ◌≤◌, ℕ, List, IfSome, None, Some, MatchOption, true};
 ghost use Rattle.std.specs.Prelude.{false};
 ghost use Rattle.std.specs.Prelude.{Option, option_map, take, bytes_eq, length, Result, Err, is_some, []};
-ghost use Rattle.std.specs.Prelude.{if◌then◌else◌};
+ghost use Rattle.std.specs.Prelude.{if◌then◌else◌, ◌≢◌, ◌∷◌, ◌+◌};
 ghost use Rattle.minisign_external.specs.declared.state.Refusal.TheVariants.{WrongUse};
 ghost use Rattle.minisign_external.specs.declared.state.Misuse.TheVariants.{NotDue};
+ghost use Rattle.minisign_external.specs.declared.state.Misuse.{Misuse};
 ghost use Rattle.minisign.specs.SignatureText.{read_signature};
 ghost use Rattle.minisign_external.specs.PublicKeys.{read_utf8};
-ghost use Rattle.minisign_install.specs.Applications.{Moment, Others, Performs, grown};
-ghost use Rattle.minisign_install.specs.Installations.{IsStored, options_by};
+ghost use Rattle.minisign_install.specs.Applications.{Snapshot, Others, Performs, grown};
+ghost use Rattle.minisign_install.specs.Installations.{IsStored, choices_misuse, options_by, question_due};
 ghost use Rattle.minisign_install.specs.Step.{Answered, Done, Failed, InUse, PieceCopied, PieceRead, State};
+ghost use Rattle.minisign_install.specs.Step.{CopyData, Lock, ReadRecord, ReadSignature, ReadTarget, begin};
 ghost use Rattle.minisign_install.specs.Step.{RecordRead, SignatureRead, TargetMissing, WriteRecord, after};
 ghost use Rattle.minisign_install.specs.Step.{new_record, step};
 ghost use Rattle.minisign_install.specs.StepRuns.{World};
 ghost use Rattle.minisign_install.specs.Traces.{HasReported, IsFollowed};
-ghost use Rattle.minisign_install.specs.Traces.{Follows, HasFollowed, IsLawful, IsNext, IsSeen, Knows};
+ghost use Rattle.minisign_install.specs.Traces.{CanGrow, HasCopied, MessageFits, HasWritten, IsDoneAs};
+ghost use Rattle.minisign_install.specs.Traces.{IsNextRead, IsNoted, IsPieceOf, IsReadFrom, IsRecordDue};
+ghost use Rattle.minisign_install.specs.Traces.{IsRecorded, is_reported, source_at};
+ghost use Rattle.minisign_install.specs.Traces.{FollowerHolds, HasFollowed, IsLawful, IsNext, IsSeen};
+ghost use Rattle.minisign_install.specs.Traces.{StateKnows};
 ghost use Rattle.minisign_install.specs.Traces.{affected, bytes_seen, changed, event_of, has_failed};
 ghost use Rattle.minisign_install.specs.Traces.{installs, is_done, is_growing, is_listed, is_nothing};
 ghost use Rattle.minisign_install.specs.Traces.{is_plain, is_read, read_after, seen_as, with_bytes, world_of};
@@ -35,7 +41,7 @@ pub struct FileView<'a> {
     pub bytes: &'a [u8],
 }
 
-/// What processes find: the installed file, the record, and the two temporary files of this run.
+/// The files that processes find: the installed file, the record, and the two temporary files of this run.
 #[derive(Clone, Copy)]
 pub struct Files<'a> {
     pub target: Option<FileView<'a>>,
@@ -56,9 +62,9 @@ pub struct Signed<'a> {
     pub signature: [u8; 64],
 }
 
-/// What the run finds.
+/// The inputs of the run.
 #[derive(Clone, Copy)]
-pub struct Findings<'a> {
+pub struct RunInputs<'a> {
     /// All signatures that Ed25519 accepts.
     pub signed: &'a [Signed<'a>],
     /// The bytes of the record.
@@ -71,7 +77,7 @@ pub struct Findings<'a> {
     pub most: usize,
 }
 
-/// What the application reports to the installer, by the call of `Installation` with this name.
+/// The event that the application reports to the installer, by the call of `Installation` with this name.
 #[derive(Clone, Copy)]
 pub enum Report<'a> {
     Done,
@@ -85,7 +91,7 @@ pub enum Report<'a> {
     Copied(u64),
 }
 
-/// What an operation did to the files. `Data` is the temporary file of the data, `Record` that of the
+/// The effect of an operation on the files. `Data` is the temporary file of the data, `Record` that of the
 /// record.
 #[derive(Clone, Copy)]
 pub enum Effect<'a> {
@@ -110,7 +116,7 @@ pub enum Effect<'a> {
     FilesRemoved,
 }
 
-/// What another process did.
+/// The change that another process made.
 #[derive(Clone, Copy)]
 pub enum Change<'a> {
     /// It replaced or removed the installed file.
@@ -130,7 +136,8 @@ pub enum Line<'a> {
     Call(Report<'a>, Effect<'a>),
 }
 
-// Follows a run. `read` is what was read of the file that is being read, and `source` this file.
+// Tracks a run line by line. `source` is the file that is being read, and `read` the bytes that were read of
+// it so far.
 #[derive(Clone, Copy)]
 pub struct Follower<'a> {
     pub(crate) installation: Installation,
@@ -153,10 +160,11 @@ fn is_listed(table: &[Signed], message: &[u8], key: &[u8; 32], signature: &[u8; 
     false
 }
 
-// Returns the front of the bytes that has the piece after this front.
+// Returns the prefix of the bytes that consists of `front` and `piece`, if they begin so.
 fn extended<'a>(whole: &'a [u8], front: &[u8], piece: &[u8]) -> Option<&'a [u8]>
-    ensures { IfSome result (λ r. (r.now ≡ front.now ++ piece.now)
+    ensures is { IfSome result (λ r. (r.now ≡ front.now ++ piece.now)
         × ((rest : List ℕ) × (r.now ++ rest ≡ whole.now))) }
+    ensures finds { IsPieceOf whole.now front.now piece.now → is_some result ≡ true }
 {
     if whole.len() < front.len() || whole.len() - front.len() < piece.len() {
         return None;
@@ -241,8 +249,7 @@ impl<'a> Files<'a> {
         }
     }
 
-    // Returns true if the operation is done with this effect. Whether a new record is the right one is not
-    // decided here.
+    // Returns true if the operation is done with this effect. It does not check the contents of a new record.
     fn are_done(&self, due: Operation, effect: &Effect<'a>, read: &[u8], update: &[u8]) -> bool
         ensures { result ≡ is_done due effect.now self.now read.now update.now }
     {
@@ -257,7 +264,7 @@ impl<'a> Files<'a> {
 
     // Returns the files after an effect that is not `DataGrown`.
     fn after(&self, effect: &Effect<'a>) -> Files<'a>
-        ensures { is_growing effect.now ≡ false → (m : Moment) → IsSeen self.now m
+        ensures { is_growing effect.now ≡ false → (m : Snapshot) → IsSeen self.now m
             → IsSeen result (affected effect.now m) }
     {
         match *effect {
@@ -298,8 +305,10 @@ impl<'a> Files<'a> {
 
     // Returns the files after another process did this, or `None` if no process may do this now.
     fn changed(&self, change: &Change<'a>) -> Option<Files<'a>>
-        ensures { IfSome result (λ f. (m : Moment) → IsSeen self.now m
+        ensures is { IfSome result (λ f. (m : Snapshot) → IsSeen self.now m
             → Others m (changed change.now m) × IsSeen f (changed change.now m)) }
+        ensures finds { (m : Snapshot) → IsSeen self.now m → Others m (changed change.now m)
+            → is_some result ≡ true }
     {
         match *change {
             Change::Target(target) => Some(Files { target, ..*self }),
@@ -328,19 +337,23 @@ fn with_bytes<'a>(file: &Option<FileView<'a>>, bytes: &'a [u8]) -> Option<FileVi
     }
 }
 
-// Returns true unless the event did not fit the operation that was due.
-fn was_due(told: Result<(), Refusal<InstallFault>>) -> bool
-    ensures { told ≡ Err (WrongUse NotDue) → result ≡ false }
+// Returns true if the event fitted the operation that was due.
+fn was_due(outcome: Result<(), Refusal<InstallFault>>) -> bool
+    ensures wrong { outcome ≡ Err (WrongUse NotDue) → result ≡ false }
+    ensures due { ((m : Misuse) → outcome ≢ Err (WrongUse m)) → result ≡ true }
 {
-    !matches!(told, Err(Refusal::WrongUse(_)))
+    !matches!(outcome, Err(Refusal::WrongUse(_)))
 }
 
-// Reports what happened. Returns true if it fits the operation that was due. What was read of the signature
-// file is reported elsewhere.
+// Reports an event to the installer. Returns true if it fits the operation that was due. The signature file
+// is reported elsewhere.
 fn has_reported(installation: &mut Installation, report: &Report) -> bool
-    ensures { result ≡ true → (s : State) → IsStored installation.old s
+    ensures taken { result ≡ true → (s : State) → IsStored installation.old s
         → IsStored installation.new (step s (event_of report.now)).1
         × (is_some (after s.due (event_of report.now) s) ≡ true) }
+    ensures fits { (s : State) → IsStored installation.old s
+        → is_some (after s.due (event_of report.now) s) ≡ true → is_reported report.now ≡ true
+        → result ≡ true }
 {
     match *report {
         Report::Done => was_due(installation.done()),
@@ -360,8 +373,10 @@ fn has_reported(installation: &mut Installation, report: &Report) -> bool
 impl<'a> Follower<'a> {
     // Returns true if these bytes are the new record.
     fn is_new_record(&self, bytes: &[u8]) -> bool
-        ensures { result ≡ true → (s : State) → IsStored self.now.installation s → s.due ≡ WriteRecord
+        ensures is { result ≡ true → (s : State) → IsStored self.now.installation s → s.due ≡ WriteRecord
             → bytes.now ≡ new_record s }
+        ensures finds { (s : State) → IsStored self.now.installation s → IsRecordDue s bytes.now
+            → result ≡ true }
     {
         let mut room = [0u8; 224];
         let len = self.installation.record_text(&mut room);
@@ -374,8 +389,10 @@ impl<'a> Follower<'a> {
 
     // Returns true if the new record was written.
     fn has_written(&self, effect: &Effect<'a>) -> bool
-        ensures { result ≡ true → (w : World) (s : State) (m : Moment) → IsStored self.now.installation s
+        ensures is { result ≡ true → (w : World) (s : State) (m : Snapshot) → IsStored self.now.installation s
             → s.due ≡ WriteRecord → Performs w s WriteRecord Done m (affected effect.now m) }
+        ensures finds { (s : State) → IsStored self.now.installation s → HasWritten s effect.now
+            → result ≡ true }
     {
         match *effect {
             Effect::RecordWritten(bytes) => self.is_new_record(bytes),
@@ -384,68 +401,89 @@ impl<'a> Follower<'a> {
     }
 
     // Returns true if the operation was done.
-    fn is_done(&self, found: &Findings<'a>, effect: &Effect<'a>) -> bool
-        ensures { result ≡ true → (message : List ℕ) (s : State) (m : Moment)
-            → Follows (world_of found.now) self.now message s m
-            → Performs (world_of found.now) s s.due Done m (affected effect.now m) }
+    fn is_done(&self, inputs: &RunInputs<'a>, effect: &Effect<'a>) -> bool
+        ensures is { result ≡ true → (message : List ℕ) (s : State) (m : Snapshot)
+            → FollowerHolds (world_of inputs.now) self.now message s m
+            → Performs (world_of inputs.now) s s.due Done m (affected effect.now m) }
+        ensures finds { (message : List ℕ) (s : State) (m : Snapshot)
+            → FollowerHolds (world_of inputs.now) self.now message s m
+            → Performs (world_of inputs.now) s s.due Done m (affected effect.now m)
+            → IsDoneAs s s.due effect.now → result ≡ true }
     {
         match self.installation.due() {
             Operation::WriteRecord => self.has_written(effect),
-            due => self.files.are_done(due, effect, self.read, found.update),
+            due => self.files.are_done(due, effect, self.read, inputs.update),
         }
     }
 
     // Returns true if another run holds the lock.
     fn is_in_use(&self, effect: &Effect<'a>) -> bool
-        ensures { result ≡ true → (w : World) (message : List ℕ) (s : State) (m : Moment)
-            → Follows w self.now message s m → Performs w s s.due InUse m (affected effect.now m) }
+        ensures is { result ≡ true → (w : World) (message : List ℕ) (s : State) (m : Snapshot)
+            → FollowerHolds w self.now message s m → Performs w s s.due InUse m (affected effect.now m) }
+        ensures finds { (s : State) → IsStored self.now.installation s → s.due ≡ Lock
+            → self.now.files.is_busy ≡ true → is_nothing effect.now ≡ true → result ≡ true }
     {
         self.installation.due() == Operation::Lock && self.files.is_busy && effect.is_nothing()
     }
 
     // Returns true if the operation may have failed with this effect.
     fn has_failed(&self, fault: NamedFault, effect: &Effect<'a>) -> bool
-        ensures { result ≡ true → (w : World) (message : List ℕ) (s : State) (m : Moment)
-            → Follows w self.now message s m
+        ensures is { result ≡ true → (w : World) (message : List ℕ) (s : State) (m : Snapshot)
+            → FollowerHolds w self.now message s m
             → Performs w s s.due (Failed fault) m (affected effect.now m) }
+        ensures finds { (s : State) → IsStored self.now.installation s
+            → has_failed s.due effect.now ≡ true → result ≡ true }
     {
         effect.has_failed(self.installation.due())
     }
 
-    // Returns true if this is the record that the run finds.
-    fn has_read_record(&self, found: &Findings<'a>, record: Option<&'a [u8]>) -> bool
-        ensures { result ≡ true → (message : List ℕ) (s : State) (m : Moment)
-            → Follows (world_of found.now) self.now message s m
-            → Performs (world_of found.now) s s.due (RecordRead (option_map (λ r. r.now) record.entry)) m m }
+    // Returns true if this is the record among the inputs of the run.
+    fn has_read_record(&self, inputs: &RunInputs<'a>, record: Option<&'a [u8]>) -> bool
+        ensures is { result ≡ true → (message : List ℕ) (s : State) (m : Snapshot)
+            → FollowerHolds (world_of inputs.now) self.now message s m
+            → Performs (world_of inputs.now) s s.due (RecordRead (option_map (λ r. r.now) record.entry)) m m }
+        ensures finds { (s : State) → IsStored self.now.installation s → s.due ≡ ReadRecord
+            → option_map (λ r. r.now) record.entry ≡ (world_of inputs.now).found_record
+            → option_map (λ r. r.now) record.entry ≡ option_map (λ v. v.bytes.now) self.now.files.recorded
+            → result ≡ true }
     {
         self.installation.due() == Operation::ReadRecord
-            && same(record, found.recorded)
+            && same(record, inputs.recorded)
             && same(record, bytes_at(&self.files.recorded))
     }
 
-    // Returns true if this is the signature file that the run finds.
-    fn has_read_signature(&self, found: &Findings<'a>, text: &[u8]) -> bool
-        ensures { result ≡ true → (time : Option ℕ) (message : List ℕ) (s : State) (m : Moment)
-            → Follows (world_of found.now) self.now message s m
-            → Performs (world_of found.now) s s.due
+    // Returns true if this is the signature file among the inputs of the run.
+    fn has_read_signature(&self, inputs: &RunInputs<'a>, text: &[u8]) -> bool
+        ensures is { result ≡ true → (time : Option ℕ) (message : List ℕ) (s : State) (m : Snapshot)
+            → FollowerHolds (world_of inputs.now) self.now message s m
+            → Performs (world_of inputs.now) s s.due
             (SignatureRead (read_utf8 read_signature text.now) time) m m }
+        ensures finds { (s : State) → IsStored self.now.installation s → s.due ≡ ReadSignature
+            → text.now ≡ inputs.now.sig_text.now → result ≡ true }
     {
-        self.installation.due() == Operation::ReadSignature && *text == *found.sig_text
+        self.installation.due() == Operation::ReadSignature && *text == *inputs.sig_text
     }
 
     // Returns true if there is no file at the target.
     fn has_no_target(&self) -> bool
-        ensures { result ≡ true → (w : World) (message : List ℕ) (s : State) (m : Moment)
-            → Follows w self.now message s m → Performs w s s.due TargetMissing m m }
+        ensures is { result ≡ true → (w : World) (message : List ℕ) (s : State) (m : Snapshot)
+            → FollowerHolds w self.now message s m → Performs w s s.due TargetMissing m m }
+        ensures finds { (s : State) → IsStored self.now.installation s → s.due ≡ ReadTarget
+            → self.now.files.target ≡ None → result ≡ true }
     {
         self.installation.due() == Operation::ReadTarget && self.files.target.is_none()
     }
 
-    // Returns true if Ed25519 answers the question that is due like this.
-    fn has_answered(&self, found: &Findings<'a>, message: &[u8], accepted: bool) -> bool
-        ensures { result ≡ true → (file : List ℕ) (s : State) (m : Moment)
-            → Knows (world_of found.now) file s → Follows (world_of found.now) self.now message.now s m
-            → Performs (world_of found.now) s s.due (Answered accepted) m m }
+    // Returns true if this is the result of Ed25519 for the question that is due.
+    fn has_answered(&self, inputs: &RunInputs<'a>, message: &[u8], accepted: bool) -> bool
+        ensures is { result ≡ true → (file : List ℕ) (s : State) (m : Snapshot)
+            → StateKnows (world_of inputs.now) file s
+            → FollowerHolds (world_of inputs.now) self.now message.now s m
+            → Performs (world_of inputs.now) s s.due (Answered accepted) m m }
+        ensures finds { (file : List ℕ) (s : State) (m : Snapshot) → StateKnows (world_of inputs.now) file s
+            → FollowerHolds (world_of inputs.now) self.now message.now s m
+            → Performs (world_of inputs.now) s s.due (Answered accepted) m m
+            → is_some (question_due s) ≡ true → result ≡ true }
     {
         let Some(question) = self.installation.question() else {
             return false;
@@ -453,7 +491,7 @@ impl<'a> Follower<'a> {
         if question.is_comment != 1 {
             return accepted
                 == is_listed(
-                    found.signed,
+                    inputs.signed,
                     &question.digest,
                     &question.key,
                     &question.signature,
@@ -463,14 +501,18 @@ impl<'a> Follower<'a> {
             return false;
         }
         let (text, _) = message.split_at(self.message_len);
-        accepted == is_listed(found.signed, text, &question.key, &question.signature)
+        accepted == is_listed(inputs.signed, text, &question.key, &question.signature)
     }
 
-    // Returns what was read after this piece, if it is the next one of the file that is read.
+    // Returns the bytes that were read including this piece, if it is the next piece of the file that is
+    // being read.
     fn next_read(&self, most: usize, bytes: &[u8]) -> Option<&'a [u8]>
-        ensures { IfSome result (λ r. (w : World) (message : List ℕ) (s : State) (m : Moment) → w.most ≡ most
-            → Follows w self.now message s m
+        ensures is { IfSome result (λ r. (w : World) (message : List ℕ) (s : State) (m : Snapshot)
+            → w.most ≡ most → FollowerHolds w self.now message s m
             → (r.now ≡ s.read ++ bytes.now) × Performs w s s.due (PieceRead bytes.now) m m) }
+        ensures finds { (w : World) (message : List ℕ) (s : State) (m : Snapshot) → w.most ≡ most
+            → FollowerHolds w self.now message s m → Performs w s s.due (PieceRead bytes.now) m m
+            → IsNextRead s self.now.source.now bytes.now → is_some result ≡ true }
     {
         if bytes.is_empty() {
             return None;
@@ -485,12 +527,16 @@ impl<'a> Follower<'a> {
         }
     }
 
-    // Returns what the temporary file of the data has after this piece, if it is the next one of the data.
+    // Returns the contents of the temporary file of the data including this piece, if it is the next piece of
+    // the data.
     fn next_data(&self, update: &'a [u8], len: u64, piece: &[u8]) -> Option<&'a [u8]>
-        ensures { IfSome result (λ r. (w : World) (message : List ℕ) (s : State) (m : Moment)
-            → w.update ≡ update.now → Follows w self.now message s m
+        ensures is { IfSome result (λ r. (w : World) (message : List ℕ) (s : State) (m : Snapshot)
+            → w.update ≡ update.now → FollowerHolds w self.now message s m
             → (r.now ≡ bytes_seen self.now.files.data_file ++ piece.now)
             × Performs w s s.due (PieceCopied len) m (record m { data_file = grown piece.now m.data_file })) }
+        ensures finds { (s : State) → IsStored self.now.installation s → s.due ≡ CopyData → 0 < len
+            → length piece.now ≡ len → IsPieceOf update.now (bytes_seen self.now.files.data_file) piece.now
+            → is_some result ≡ true }
     {
         if self.installation.due() != Operation::CopyData || len == 0 || piece.len() as u64 != len {
             return None;
@@ -500,9 +546,11 @@ impl<'a> Follower<'a> {
 
     // Returns true if this piece was copied.
     fn has_copied(&self, update: &'a [u8], len: u64, effect: &Effect<'a>) -> bool
-        ensures { result ≡ true → (w : World) (message : List ℕ) (s : State) (m : Moment)
-            → w.update ≡ update.now → Follows w self.now message s m
+        ensures is { result ≡ true → (w : World) (message : List ℕ) (s : State) (m : Snapshot)
+            → w.update ≡ update.now → FollowerHolds w self.now message s m
             → Performs w s s.due (PieceCopied len) m (affected effect.now m) }
+        ensures finds { (s : State) → IsStored self.now.installation s → s.due ≡ CopyData
+            → HasCopied update.now (bytes_seen self.now.files.data_file) len effect.now → result ≡ true }
     {
         match *effect {
             Effect::DataGrown(piece) => self.next_data(update, len, piece).is_some(),
@@ -510,47 +558,56 @@ impl<'a> Follower<'a> {
         }
     }
 
-    // Returns true if the application has performed the operation that is due and reports what happened.
+    // Returns true if the application has performed the operation that is due, with this effect, and its
+    // report is true.
     fn has_performed(
         &self,
-        found: &Findings<'a>,
+        inputs: &RunInputs<'a>,
         message: &[u8],
         report: &Report<'a>,
         effect: &Effect<'a>,
     ) -> bool
-        ensures { result ≡ true → (file : List ℕ) (s : State) (m : Moment)
-            → Knows (world_of found.now) file s → Follows (world_of found.now) self.now message.now s m
-            → Performs (world_of found.now) s s.due (event_of report.now) m (affected effect.now m) }
+        ensures is { result ≡ true → (file : List ℕ) (s : State) (m : Snapshot)
+            → StateKnows (world_of inputs.now) file s
+            → FollowerHolds (world_of inputs.now) self.now message.now s m
+            → Performs (world_of inputs.now) s s.due (event_of report.now) m (affected effect.now m) }
+        ensures finds { (file : List ℕ) (s : State) (m : Snapshot) → StateKnows (world_of inputs.now) file s
+            → FollowerHolds (world_of inputs.now) self.now message.now s m
+            → Performs (world_of inputs.now) s s.due (event_of report.now) m (affected effect.now m)
+            → IsNoted inputs.now s m self.now.source.now report.now effect.now → result ≡ true }
     {
         match *report {
-            Report::Done => self.is_done(found, effect),
+            Report::Done => self.is_done(inputs, effect),
             Report::InUse => self.is_in_use(effect),
             Report::Failed(fault) => self.has_failed(fault, effect),
             Report::Recorded(record) => {
-                effect.is_nothing() && self.has_read_record(found, record)
+                effect.is_nothing() && self.has_read_record(inputs, record)
             }
             Report::Signature(text, _) => {
-                effect.is_nothing() && self.has_read_signature(found, text)
+                effect.is_nothing() && self.has_read_signature(inputs, text)
             }
             Report::Answered(accepted) => {
-                effect.is_nothing() && self.has_answered(found, message, accepted)
+                effect.is_nothing() && self.has_answered(inputs, message, accepted)
             }
             Report::NoTarget => effect.is_nothing() && self.has_no_target(),
             Report::Piece(bytes) => {
-                effect.is_nothing() && self.next_read(found.most, bytes).is_some()
+                effect.is_nothing() && self.next_read(inputs.most, bytes).is_some()
             }
-            Report::Copied(len) => self.has_copied(found.update, len, effect),
+            Report::Copied(len) => self.has_copied(inputs.update, len, effect),
         }
     }
 
     // Returns the files after this effect, or `None` if the piece is not the next one of the data.
-    fn next_files(&self, found: &Findings<'a>, effect: &Effect<'a>) -> Option<Files<'a>>
-        ensures { IfSome result (λ f. (message : List ℕ) (s : State) (m : Moment)
-            → Follows (world_of found.now) self.now message s m → IsSeen f (affected effect.now m)) }
+    fn next_files(&self, inputs: &RunInputs<'a>, effect: &Effect<'a>) -> Option<Files<'a>>
+        ensures is { IfSome result (λ f. (message : List ℕ) (s : State) (m : Snapshot)
+            → FollowerHolds (world_of inputs.now) self.now message s m → IsSeen f (affected effect.now m)) }
+        ensures finds { (s : State) → IsStored self.now.installation s
+            → CanGrow s inputs.now.update.now (bytes_seen self.now.files.data_file) effect.now
+            → is_some result ≡ true }
     {
         match *effect {
             Effect::DataGrown(piece) => {
-                match self.next_data(found.update, piece.len() as u64, piece) {
+                match self.next_data(inputs.update, piece.len() as u64, piece) {
                     Some(bytes) => Some(Files {
                         data_file: with_bytes(&self.files.data_file, bytes),
                         ..self.files
@@ -562,22 +619,29 @@ impl<'a> Follower<'a> {
         }
     }
 
-    // Returns what was read after this report, or `None` if the piece is not the next one of the file.
-    fn now_read(&self, found: &Findings<'a>, report: &Report<'a>) -> Option<&'a [u8]>
-        ensures { IfSome result (λ r. (message : List ℕ) (s : State) (m : Moment)
-            → Follows (world_of found.now) self.now message s m
+    // Returns the bytes that were read including this report, or `None` if its piece is not the next one of
+    // the file.
+    fn now_read(&self, inputs: &RunInputs<'a>, report: &Report<'a>) -> Option<&'a [u8]>
+        ensures is { IfSome result (λ r. (message : List ℕ) (s : State) (m : Snapshot)
+            → FollowerHolds (world_of inputs.now) self.now message s m
             → r.now ≡ read_after (event_of report.now) s.read) }
+        ensures finds { (message : List ℕ) (s : State) (m new : Snapshot)
+            → FollowerHolds (world_of inputs.now) self.now message s m
+            → Performs (world_of inputs.now) s s.due (event_of report.now) m new
+            → IsReadFrom s self.now.source.now report.now → is_some result ≡ true }
     {
         match *report {
-            Report::Piece(bytes) => self.next_read(found.most, bytes),
+            Report::Piece(bytes) => self.next_read(inputs.most, bytes),
             _ => Some(self.read),
         }
     }
 
     // Opens the installed file if nothing of it was read.
     fn open_target(&mut self)
-        ensures { (w : World) (message : List ℕ) (s : State) (m : Moment) → Follows w self.old message s m
-            → Follows w self.new message s m }
+        ensures follows { (w : World) (message : List ℕ) (s : State) (m : Snapshot)
+            → FollowerHolds w self.old message s m → FollowerHolds w self.new message s m }
+        ensures source { (w : World) (message : List ℕ) (s : State) (m : Snapshot)
+            → FollowerHolds w self.old message s m → self.new.source.now ≡ source_at s m self.old.source.now }
     {
         if self.read.is_empty() {
             self.source = bytes_seen(&self.files.target);
@@ -595,7 +659,11 @@ impl<'a> Follower<'a> {
         ensures taken { result ≡ true → (w : World) (s : State) → IsStored self.old.installation s
             → s.options.file ≡ file.now → w.text ≡ read_utf8 read_signature text.now
             → HasReported w (SignatureRead (read_utf8 read_signature text.now) time) s self.new message.new }
-        ensures kept { (self.new.files ≡ self.old.files) × (self.new.read ≡ self.old.read) }
+        ensures fits { (w : World) (s : State) → IsStored self.old.installation s
+            → s.options.file ≡ file.now → w.text ≡ read_utf8 read_signature text.now
+            → MessageFits w message.old → s.due ≡ ReadSignature → result ≡ true }
+        ensures unchanged { (self.new.files ≡ self.old.files) × (self.new.read ≡ self.old.read)
+            × (self.new.source ≡ self.old.source) }
     {
         match self.installation.signature(text, file, time, message) {
             Ok(len) => {
@@ -610,12 +678,17 @@ impl<'a> Follower<'a> {
         }
     }
 
-    // Reports what happened. Returns true if it fits the operation that was due.
+    // Reports an event to the installer. Returns true if it fits the operation that was due.
     fn reports(&mut self, file: &[u8], message: &mut [u8], report: &Report<'a>) -> bool
-        ensures taken { result ≡ true → (w : World) (s : State) (m new : Moment) → Knows w file.now s
-            → Follows w self.old message.old s m → Performs w s s.due (event_of report.now) m new
+        ensures taken { result ≡ true → (w : World) (s : State) (m new : Snapshot) → StateKnows w file.now s
+            → FollowerHolds w self.old message.old s m → Performs w s s.due (event_of report.now) m new
             → HasReported w (event_of report.now) s self.new message.new }
-        ensures kept { (self.new.files ≡ self.old.files) × (self.new.read ≡ self.old.read) }
+        ensures fits { (w : World) (s : State) (m new : Snapshot) → StateKnows w file.now s
+            → FollowerHolds w self.old message.old s m → Performs w s s.due (event_of report.now) m new
+            → is_some (after s.due (event_of report.now) s) ≡ true → MessageFits w message.old
+            → result ≡ true }
+        ensures unchanged { (self.new.files ≡ self.old.files) × (self.new.read ≡ self.old.read)
+            × (self.new.source ≡ self.old.source) }
     {
         match *report {
             Report::Signature(text, time) => self.report_signature(file, message, text, time),
@@ -623,12 +696,13 @@ impl<'a> Follower<'a> {
         }
     }
 
-    // Takes in what was read, unless the installation is to begin now.
+    // Stores the bytes that were read, or discards them if the update is to be installed now.
     fn keep_read(&mut self, read: &'a [u8])
         ensures read { (s : State) → IsStored self.old.installation s
             → self.new.read.now ≡ (if installs s.due then [] else read.now) }
-        ensures kept { (self.new.installation ≡ self.old.installation)
-            × (self.new.files ≡ self.old.files) × (self.new.message_len ≡ self.old.message_len) }
+        ensures unchanged { (self.new.installation ≡ self.old.installation)
+            × (self.new.files ≡ self.old.files) × (self.new.message_len ≡ self.old.message_len)
+            × (self.new.source ≡ self.old.source) }
     {
         match self.installation.due() {
             Operation::RemoveLeftovers | Operation::WouldInstall => self.read = &[],
@@ -636,26 +710,32 @@ impl<'a> Follower<'a> {
         }
     }
 
-    // Follows a call. Returns false if a lawful application does not make it.
+    // Checks a call. Returns false if a lawful application does not make it.
     fn call(
         &mut self,
-        found: &Findings<'a>,
+        inputs: &RunInputs<'a>,
         file: &[u8],
         message: &mut [u8],
         report: &Report<'a>,
         effect: &Effect<'a>,
     ) -> bool
-        ensures { result ≡ true → HasFollowed (world_of found.now) file.now (event_of report.now) effect.now
-            self.old self.new message.old message.new }
+        ensures follows { result ≡ true → HasFollowed (world_of inputs.now) file.now (event_of report.now)
+            effect.now self.old self.new message.old message.new }
+        ensures finds { (s : State) (m : Snapshot) → StateKnows (world_of inputs.now) file.now s
+            → FollowerHolds (world_of inputs.now) self.old message.old s m
+            → MessageFits (world_of inputs.now) message.old
+            → IsNext (world_of inputs.now) s m (event_of report.now) effect.now
+            → IsNoted inputs.now s m (source_at s m self.old.source.now) report.now effect.now
+            → result ≡ true }
     {
         self.open_target();
-        if !self.has_performed(found, message, report, effect) {
+        if !self.has_performed(inputs, message, report, effect) {
             return false;
         }
-        let Some(files) = self.next_files(found, effect) else {
+        let Some(files) = self.next_files(inputs, effect) else {
             return false;
         };
-        let Some(read) = self.now_read(found, report) else {
+        let Some(read) = self.now_read(inputs, report) else {
             return false;
         };
         if !self.reports(file, message, report) {
@@ -666,16 +746,20 @@ impl<'a> Follower<'a> {
         true
     }
 
-    // Follows a line of a trace. Returns false if the run is not that of a lawful application.
+    // Checks a line of a trace. Returns false if the run is not that of a lawful application.
     fn line(
         &mut self,
-        found: &Findings<'a>,
+        inputs: &RunInputs<'a>,
         file: &[u8],
         message: &mut [u8],
         line: &Line<'a>,
     ) -> bool
-        ensures { result ≡ true → IsFollowed (world_of found.now) file.now line.now self.old self.new
+        ensures follows { result ≡ true → IsFollowed (world_of inputs.now) file.now line.now self.old self.new
             message.old message.new }
+        ensures finds { (s : State) (m : Snapshot) → StateKnows (world_of inputs.now) file.now s
+            → FollowerHolds (world_of inputs.now) self.old message.old s m
+            → MessageFits (world_of inputs.now) message.old
+            → IsRecorded inputs.now s m self.old.source.now (line.now ∷ []) → result ≡ true }
     {
         match *line {
             Line::Others(change) => match self.files.changed(&change) {
@@ -685,14 +769,16 @@ impl<'a> Follower<'a> {
                 }
                 None => false,
             },
-            Line::Call(report, effect) => self.call(found, file, message, &report, &effect),
+            Line::Call(report, effect) => self.call(inputs, file, message, &report, &effect),
         }
     }
 }
 
 // Returns true if both are the same bytes, or none.
 fn same(one: Option<&[u8]>, other: Option<&[u8]>) -> bool
-    ensures { result ≡ true → option_map (λ r. r.now) one.entry ≡ option_map (λ r. r.now) other.entry }
+    ensures is { result ≡ true → option_map (λ r. r.now) one.entry ≡ option_map (λ r. r.now) other.entry }
+    ensures finds { option_map (λ r. r.now) one.entry ≡ option_map (λ r. r.now) other.entry
+        → result ≡ true }
 {
     match (one, other) {
         (Some(one), Some(other)) => *one == *other,
@@ -715,26 +801,37 @@ fn bytes_at<'a>(file: &Option<FileView<'a>>) -> Option<&'a [u8]>
 /// of the first line that a lawful application cannot have caused, from 0 on. If the options are not valid,
 /// this is line 0.
 ///
-/// `begun` is what processes find at the beginning, and `found` is what the run finds. `message` is a
-/// buffer at least as long as the signature file.
+/// `begun` has the files at the beginning, and `inputs` the inputs of the run. `message` is a buffer at least
+/// as long as the signature file.
 ///
-/// It is not promised that each lawful run is accepted: what a failed operation leaves in a temporary file
-/// must not be recorded, and the pieces that are read must be those of the file that is at the target when
-/// reading begins.
-pub fn first_offence<'a>(
+/// Some lawful runs are rejected: a trace must not record the bytes that a failed operation leaves in a
+/// temporary file, and the pieces that are read must be those of the file that is at the target when reading
+/// begins.
+pub fn first_unlawful_line<'a>(
     key: &PublicKeyValue,
     other: &PublicKeyValue,
     choices: &Choices,
     file: &[u8],
     begun: &Files<'a>,
-    found: &Findings<'a>,
+    inputs: &RunInputs<'a>,
     message: &mut [u8],
     trace: &[Line<'a>],
 ) -> Option<usize>
-    // If no line offends, the run is that of an application that performs the operations of `step`, and all
-    // laws on such applications hold of it.
-    ensures { result ≡ None → (m : Moment) → IsSeen begun.now m
-        → IsLawful (world_of found.now) (options_by key.now other.now choices.now file.now) m trace.now }
+    // If the result is `None`, the run is that of an application that performs the operations of `step`, so
+    // all laws about such applications hold for it.
+    ensures lawful { result ≡ None → (m : Snapshot) → IsSeen begun.now m
+        → IsLawful (world_of inputs.now) (options_by key.now other.now choices.now file.now) m trace.now }
+    // If the result is `Some(n)`, the first n lines are a run of such an application.
+    ensures before { IfSome result (λ n. (m : Snapshot) → IsSeen begun.now m
+        → IsLawful (world_of inputs.now) (options_by key.now other.now choices.now file.now) m
+        (take n trace.now)) }
+    // With the line after these, they are not: no application that performs the operations of `step`, and
+    // records the report and the effect of each operation, has these lines. This assumes that the options can
+    // be combined, and that the buffer is large enough for the message of the trusted comment.
+    ensures offends { IfSome result (λ n. choices_misuse choices.now ≡ None
+        → MessageFits (world_of inputs.now) message.old → (m : Snapshot) → IsSeen begun.now m
+        → IsRecorded inputs.now (begin (options_by key.now other.now choices.now file.now)) m []
+        (take (n + 1) trace.now) → ⊥) }
 {
     let Ok(installation) = Installation::new(key, other, choices) else {
         return Some(0);
@@ -748,7 +845,7 @@ pub fn first_offence<'a>(
     };
     let mut at = 0;
     'lines: while at < trace.len() {
-        if !follower.line(found, file, message, &trace[at]) {
+        if !follower.line(inputs, file, message, &trace[at]) {
             return Some(at);
         }
         at += 1;

@@ -1,8 +1,9 @@
 //! Decides whether recorded runs of an installer are those of lawful applications, for tests. Reads one run
-//! from each line of standard input, and prints `lawful`, or the number of the first call or change that
-//! offends.
+//! from each line of standard input, and prints `lawful`, or the number of the first call or change that a
+//! lawful application, or another process, cannot have made.
 //!
-//! The words on a line are separated by spaces. Bytes are hexadecimal digits between brackets. First come:
+//! The words on a line are separated by spaces. Bytes are hexadecimal digits between brackets. A line begins
+//! with:
 //!
 //!     OPTIONS KEY KEY FILE SIGNATURE DATA MOST RECORD TARGET-NUMBER TARGET RECORD-NUMBER RECORD
 //!
@@ -17,8 +18,9 @@
 //!     busy 0|1 -
 //!     call REPORT BYTES NUMBER EFFECT NUMBER BYTES
 //!
-//! `target`, `record` and `busy` say what another process did. REPORT is the call of the installer with its
-//! bytes and its number, and EFFECT is what the operation did to the files.
+//! `target`, `record` and `busy` are changes by another process. In a `call`, REPORT is the event that is
+//! reported to the installer, with its bytes and its number, and EFFECT is the effect of the operation on the
+//! files, with its number and its bytes.
 
 #![tactic(auto)]
 
@@ -27,13 +29,13 @@ use minisign_base::NamedFault;
 use minisign_external::public_keys::PublicKeyValue;
 use minisign_install::installation::Choices;
 use minisign_install::traces::{
-    Change, Effect, FileView, Files, Findings, Line, Report, Signed, first_offence,
+    Change, Effect, FileView, Files, Line, Report, RunInputs, Signed, first_unlawful_line,
 };
 use std::alloc::{AllocError, AllocFailed, Global};
 use std::io::{self, BufRead, BufReader, BufWriter, Write};
 use std::process::ExitCode;
 
-// Why there is no decision.
+// The reason for which there is no decision.
 #[derive(Drop)]
 enum Failure {
     BadRequest,
@@ -288,7 +290,7 @@ fn decided(alloc: Global, line: &str) -> Result<Option<usize>, Failure> {
         is_locked: false,
         is_busy: false,
     };
-    let found = Findings {
+    let inputs = RunInputs {
         signed: &signed,
         recorded: words.optional(7),
         sig_text: words.bytes(4),
@@ -296,13 +298,13 @@ fn decided(alloc: Global, line: &str) -> Result<Option<usize>, Failure> {
         most: words.number(6) as usize,
     };
     let mut message = vec![in alloc; 0u8; words.bytes(4).len()]?;
-    Ok(first_offence(
+    Ok(first_unlawful_line(
         &words.key(1),
         &words.key(2),
         &words.choices(),
         words.bytes(3),
         &begun,
-        &found,
+        &inputs,
         &mut message,
         &lines,
     ))

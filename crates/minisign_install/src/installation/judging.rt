@@ -1,11 +1,11 @@
-//! What the trusted comment decides. Nothing here allocates.
+//! Checks the trusted comment. Nothing here allocates.
 
 ghost use Rattle.std.specs.Prelude.{◌≡◌, ◌==◌, ◌∷◌, [], Bool, List, ℕ, Some, None, IfSome, is_some, true};
 ghost use Rattle.std.specs.Prelude.{not, false};
 ghost use Rattle.minisign_install.specs.Comments.{expiries, expiry_label, file_label, size_label};
 ghost use Rattle.minisign_install.specs.Comments.{value_of, values_of};
-ghost use Rattle.minisign_install.specs.Decisions.{alone_fault, comment_fault, expiry_fault, is_below};
-ghost use Rattle.minisign_install.specs.Decisions.{is_named, judge_alone, judge_comment};
+ghost use Rattle.minisign_install.specs.Decisions.{comment_only_fault, comment_fault, expiry_fault, is_below};
+ghost use Rattle.minisign_install.specs.Decisions.{is_named, judge_comment_only, judge_comment};
 ghost use Rattle.minisign_install.specs.Decisions.{is_too_old, number_in, number_of, size_fault, size_in};
 ghost use Rattle.minisign_install.specs.Decisions.{unless, version_in};
 ghost use Rattle.minisign_install.specs.Faults.{NoNumber, OlderUpdate, OtherFile, is_own};
@@ -16,7 +16,7 @@ use crate::faults::InstallFault;
 use crate::installation::progress::Chosen;
 use minisign_base::NamedFault;
 
-// Returns why the trusted comment is rejected: the first check that fails.
+// Returns the error with which the trusted comment is rejected: that of the first check that fails.
 pub(crate) fn comment_fault(
     chosen: &Chosen,
     file: &str,
@@ -71,7 +71,7 @@ fn number_fault(chosen: &Chosen, comment: &str) -> Option<InstallFault>
     }
 }
 
-// Returns why the fields `expires:` are rejected at this time.
+// Returns the error with which the fields `expires:` are rejected at this time.
 fn expiry_fault(comment: &str, must_expire: bool, time: Option<u64>) -> Option<InstallFault>
     ensures is { result ≡ expiry_fault must_expire time (expiries must_expire comment.now)
         (number_of (value_of expiry_label comment.now)) }
@@ -92,7 +92,7 @@ fn expiry_fault(comment: &str, must_expire: bool, time: Option<u64>) -> Option<I
     }
 }
 
-// Returns why the only field `expires:` is rejected at this time.
+// Returns the error with which the only field `expires:` is rejected at this time.
 fn expiry_at(comment: &str, time: Option<u64>) -> Option<InstallFault>
     ensures is { (must : Bool) (v : List ℕ) → result
         ≡ expiry_fault must time (v ∷ []) (number_of (value_of expiry_label comment.now)) }
@@ -120,7 +120,7 @@ fn expiry_in(comment: &str) -> Option<u64>
     }
 }
 
-// Returns why the fields `size:` are rejected.
+// Returns the error with which the fields `size:` are rejected.
 fn size_fault(comment: &str) -> Option<InstallFault>
     ensures is { result ≡ size_fault (values_of size_label comment.now) }
     ensures own { IfSome result (λ e. is_own e ≡ true) }
@@ -134,7 +134,7 @@ fn size_fault(comment: &str) -> Option<InstallFault>
     }
 }
 
-// Returns an error if the update is older than the recorded version and is not to be rolled back to.
+// Returns an error if the update is older than the recorded version and `roll_back` is not set.
 fn age_fault(chosen: &Chosen, recorded: Option<u64>, comment: &str) -> Option<InstallFault>
     ensures is { (file : List ℕ) → result ≡ unless (not (is_too_old (options_of chosen.now file) recorded
         (version_in (options_of chosen.now file).numbering comment.now))) OlderUpdate }
@@ -170,7 +170,7 @@ pub(crate) fn size_in(comment: &str) -> Option<u64>
     }
 }
 
-// Returns the number that a text writes in decimal digits.
+// Parses decimal digits.
 fn number_in(text: &str) -> Option<u64>
     ensures { result ≡ number_in text.now }
 {
@@ -197,12 +197,12 @@ pub fn judge_comment(
     time: u64,
     least: u64,
 ) -> Result<u64, InstallFault>
-    // The result is the version number if all checks pass, otherwise the first one that fails.
+    // The result is the version number if all checks pass, otherwise the first check that fails.
     ensures { result ≡ judge_comment file.now numbering time least comment.now }
 {
     match str::from_utf8(comment) {
         Ok(comment) => match str::from_utf8(file) {
-            Ok(file) => judge_alone(comment, file, numbering, time, least),
+            Ok(file) => judge_comment_only(comment, file, numbering, time, least),
             Err(_) => Err(NamedFault::NotUtf8.into()),
         },
         Err(_) => Err(NamedFault::NotUtf8.into()),
@@ -210,30 +210,30 @@ pub fn judge_comment(
 }
 
 // Returns the version number of the update, or the first check that fails.
-fn judge_alone(
+fn judge_comment_only(
     comment: &str,
     file: &str,
     numbering: Numbering,
     time: u64,
     least: u64,
 ) -> Result<u64, InstallFault>
-    ensures { result ≡ judge_alone file.now numbering time least comment.now }
+    ensures { result ≡ judge_comment_only file.now numbering time least comment.now }
 {
-    match alone_fault(comment, file, numbering, time, least) {
+    match comment_only_fault(comment, file, numbering, time, least) {
         Some(fault) => Err(fault),
         None => Ok(version_in(comment, numbering).unwrap_or(0)),
     }
 }
 
 // Returns the first check that fails.
-fn alone_fault(
+fn comment_only_fault(
     comment: &str,
     file: &str,
     numbering: Numbering,
     time: u64,
     least: u64,
 ) -> Option<InstallFault>
-    ensures { result ≡ alone_fault file.now numbering time least comment.now }
+    ensures { result ≡ comment_only_fault file.now numbering time least comment.now }
 {
     match name_fault(comment, file) {
         Some(fault) => Some(fault),

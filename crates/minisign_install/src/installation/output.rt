@@ -1,10 +1,11 @@
-//! What an installation passes to the application: the question for Ed25519 and the new record. Nothing here
-//! allocates.
+//! The outputs of an installation for the application: the question for Ed25519 and the new record. Nothing
+//! here allocates.
 
 ghost use Rattle.std.specs.Prelude.{◌≡◌, ◌<◌, ◌==◌, Some, drop, length, take, true};
 ghost use Rattle.minisign_hash.specs.Blake2b.{blake2b_digest};
 ghost use Rattle.std.specs.Option.{unwrap_or};
-ghost use Rattle.minisign_install.specs.Installations.{IsKept, IsWritten, first_key, record_due, written_if};
+ghost use Rattle.minisign_install.specs.Installations.{HoldsState, IsWritten, first_key, record_due};
+ghost use Rattle.minisign_install.specs.Installations.{written_if};
 ghost use Rattle.minisign_install.specs.Installations.{IsNewRecord, about, question_due, question_of};
 ghost use Rattle.minisign_install.specs.Step.{CheckComment, CheckRecord};
 ghost use Rattle.minisign_install.specs.Step.{State, key_of, new_key, new_record, new_version};
@@ -16,7 +17,7 @@ use crate::recording::{Mark, write_record};
 impl Progress {
     // Returns the question that is due.
     pub(crate) fn question(&self) -> Option<Question>
-        ensures { (s : State) → IsKept self.now s → result ≡ question_due s }
+        ensures { (s : State) → HoldsState self.now s → result ≡ question_due s }
     {
         if !self.is_read() {
             return None;
@@ -29,7 +30,7 @@ impl Progress {
 
     // Returns true if the signature file was read.
     fn is_read(&self) -> bool
-        ensures read { (s : State) → IsKept self.now s → result ≡ (length s.signature == 64) }
+        ensures read { (s : State) → HoldsState self.now s → result ≡ (length s.signature == 64) }
         ensures judged { result ≡ (self.now.judged.is_judged == 1) }
     {
         self.judged.is_judged == 1
@@ -38,7 +39,7 @@ impl Progress {
     // Returns the question that is due, under this key.
     fn question_under(&self, key: [u8; 32]) -> Option<Question>
         requires { (self.now.judged.is_judged == 1) ≡ true }
-        ensures { (s : State) → IsKept self.now s → result ≡ question_of s.due key s }
+        ensures { (s : State) → HoldsState self.now s → result ≡ question_of s.due key s }
     {
         match self.due() {
             Operation::CheckComment => Some(self.comment_question(key)),
@@ -52,7 +53,7 @@ impl Progress {
     // Returns the question about the trusted comment.
     fn comment_question(&self, key: [u8; 32]) -> Question
         requires { (self.now.judged.is_judged == 1) ≡ true }
-        ensures { (s : State) → IsKept self.now s → Some result ≡ question_of CheckComment key s }
+        ensures { (s : State) → HoldsState self.now s → Some result ≡ question_of CheckComment key s }
     {
         Question {
             key,
@@ -65,7 +66,7 @@ impl Progress {
     // Returns the question about the digest in the record, if it has one.
     fn record_question(&self, key: [u8; 32]) -> Option<Question>
         requires { (self.now.judged.is_judged == 1) ≡ true }
-        ensures { (s : State) → IsKept self.now s → result ≡ question_of CheckRecord key s }
+        ensures { (s : State) → HoldsState self.now s → result ≡ question_of CheckRecord key s }
     {
         if self.has_digest() {
             Some(self.question_about(key, self.recorded.digest))
@@ -74,7 +75,7 @@ impl Progress {
         }
     }
 
-    // Returns true if the record has a digest that counts.
+    // Returns true if the record has a digest and is not ignored.
     fn has_digest(&self) -> bool
         ensures { result ≡ (self.now.recorded.has_digest == 1) }
     {
@@ -84,7 +85,7 @@ impl Progress {
     // Returns the question about the digest of what was read.
     fn data_question(&self, key: [u8; 32]) -> Question
         requires { (self.now.judged.is_judged == 1) ≡ true }
-        ensures { (s : State) → IsKept self.now s
+        ensures { (s : State) → HoldsState self.now s
             → result ≡ about key s.signature (blake2b_digest 64 s.read) }
     {
         self.question_about(key, self.digest())
@@ -104,9 +105,9 @@ impl Progress {
 
     // Writes the new record, if writing it is due.
     pub(crate) fn record_text(&self, to: &mut [u8]) -> usize
-        ensures written { (s : State) → IsKept self.now s
+        ensures written { (s : State) → HoldsState self.now s
             → written_if (record_due s) result to.old to.new }
-        ensures reads_back { (s : State) → IsKept self.now s → 0 < result
+        ensures reads_back { (s : State) → HoldsState self.now s → 0 < result
             → IsNewRecord s (take result to.new) }
         ensures rest { drop result to.new ≡ drop result to.old }
     {
@@ -121,9 +122,9 @@ impl Progress {
 
     // Writes the new record, for this key that has signed.
     fn write_new_record(&self, signer: [u8; 32], to: &mut [u8]) -> usize
-        ensures written { (s : State) → IsKept self.now s → key_of s.signers ≡ signer
+        ensures written { (s : State) → HoldsState self.now s → key_of s.signers ≡ signer
             → IsWritten (new_record s) result to.old to.new }
-        ensures reads_back { (s : State) → IsKept self.now s → key_of s.signers ≡ signer
+        ensures reads_back { (s : State) → HoldsState self.now s → key_of s.signers ≡ signer
             → 0 < result → IsNewRecord s (take result to.new) }
         ensures rest { drop result to.new ≡ drop result to.old }
     {
@@ -137,7 +138,7 @@ impl Progress {
 
     // Returns the version number of the new record.
     fn new_version(&self) -> u64
-        ensures { (s : State) → IsKept self.now s → result ≡ new_version s }
+        ensures { (s : State) → HoldsState self.now s → result ≡ new_version s }
     {
         if self.is_rolling_back() {
             self.recorded.version
@@ -148,7 +149,7 @@ impl Progress {
 
     // Returns the key of the new record, if this one has signed.
     fn new_key(&self, signer: [u8; 32]) -> [u8; 32]
-        ensures { (s : State) → IsKept self.now s → key_of s.signers ≡ signer → result ≡ new_key s }
+        ensures { (s : State) → HoldsState self.now s → key_of s.signers ≡ signer → result ≡ new_key s }
     {
         if self.is_rolling_back() {
             self.recorded_key(signer)
@@ -159,7 +160,7 @@ impl Progress {
 
     // Returns the key that the record names, or else this one.
     fn recorded_key(&self, signer: [u8; 32]) -> [u8; 32]
-        ensures { (s : State) → IsKept self.now s → result ≡ unwrap_or s.recorded.key signer }
+        ensures { (s : State) → HoldsState self.now s → result ≡ unwrap_or s.recorded.key signer }
     {
         if self.recorded.has_key == 1 {
             self.recorded.key
@@ -170,11 +171,11 @@ impl Progress {
 
     // Returns the first key that may have signed, if there is one.
     fn signer(&self) -> Option<[u8; 32]>
-        ensures { (s : State) → IsKept self.now s → result ≡ first_key s.signers }
+        ensures { (s : State) → HoldsState self.now s → result ≡ first_key s.signers }
     {
         if self.by_key == 1 {
             Some(self.chosen.key.key)
-        } else if self.by_other == 1 {
+        } else if self.by_other_key == 1 {
             Some(self.chosen.other.key)
         } else {
             None

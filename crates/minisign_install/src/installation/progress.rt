@@ -1,4 +1,4 @@
-//! What an installation knows, and the step that follows each event. Nothing here allocates.
+//! The state of an installation, and the step that follows each event. Nothing here allocates.
 
 ghost use Rattle.std.specs.Prelude.{◌≡◌, ◌≢◌, ◌++◌, ℕ, List, Err, IfErr, None, true, false, if◌then◌else◌};
 ghost use Rattle.std.specs.Prelude.{◌==◌};
@@ -6,7 +6,7 @@ ghost use Rattle.minisign_hash.specs.Blake2b.{blake2b_digest};
 ghost use Rattle.minisign_hash.specs.Stored.{WasFed};
 ghost use Rattle.minisign_external.specs.declared.state.Misuse.TheVariants.{NotDue};
 ghost use Rattle.minisign_external.specs.declared.state.Refusal.TheVariants.{Refused, WrongUse};
-ghost use Rattle.minisign_install.specs.Installations.{IsKept, Leads, Steps, operation_of};
+ghost use Rattle.minisign_install.specs.Installations.{HoldsState, RunLeadsTo, Steps, operation_of};
 ghost use Rattle.minisign_install.specs.Installations.{end_event, options_by, piece_event};
 ghost use Rattle.minisign_install.specs.Step.{Answered, CheckComment, CheckData, CheckTarget, Done, Failed};
 ghost use Rattle.minisign_install.specs.Step.{InUse, Lock, ReadRecord};
@@ -25,7 +25,7 @@ use minisign_external::state::{Misuse, Refusal};
 use minisign_hash::blake2b::Blake2b;
 use minisign_hash::blake2b::stored::StoredBlake2b;
 
-/// What the application chose at the beginning, 128 bytes. An option is 1 or 0.
+/// The options that the application chose at the beginning, 128 bytes. An option is 1 or 0.
 #[repr(C)]
 #[derive(Clone, Copy)]
 pub struct Chosen {
@@ -41,7 +41,7 @@ pub struct Chosen {
     pub(crate) reserved: u32,
 }
 
-/// What counts of the record, 120 bytes. Each value counts if its flag is 1.
+/// The part of the record that applies to this run, 120 bytes. Each value is valid if its flag is 1.
 #[repr(C)]
 #[derive(Clone, Copy)]
 pub struct RecordedValue {
@@ -54,8 +54,8 @@ pub struct RecordedValue {
     pub(crate) reserved: u32,
 }
 
-/// What the signature file says, 160 bytes. `fault` is the number of the error for which the trusted comment
-/// is rejected, or 0.
+/// The contents of the signature file, 160 bytes. `fault` is the number of the error for which the trusted
+/// comment is rejected, or 0.
 #[repr(C)]
 #[derive(Clone, Copy)]
 pub struct Judged {
@@ -69,25 +69,25 @@ pub struct Judged {
     pub(crate) reserved: u32,
 }
 
-/// What an installation knows, 792 bytes with the layout of C.
+/// The state of an installation, 792 bytes with the layout of C.
 #[repr(C)]
 #[derive(Clone, Copy)]
 pub struct Progress {
     // The number of the operation that is due.
     pub(crate) due: u32,
-    // The number of the error for which the run is rejected, or 0.
+    // The number of the error with which the run is rejected, or 0.
     pub(crate) error: u32,
     pub(crate) chosen: Chosen,
     pub(crate) recorded: RecordedValue,
     pub(crate) judged: Judged,
-    // 1 if the key, or the other one, may have signed.
+    // 1 if the first key, and 1 if the other key, may have signed.
     pub(crate) by_key: u32,
-    pub(crate) by_other: u32,
+    pub(crate) by_other_key: u32,
     // 1 if the first of these keys has signed the comment.
     pub(crate) is_signed: u32,
     // 1 if the digest in the record is that of the update.
     pub(crate) is_recorded: u32,
-    // How many bytes of the signed size were not copied yet, if `has_left` is 1.
+    // The number of bytes of the signed size that were not copied yet, if `has_left` is 1.
     pub(crate) left: u64,
     pub(crate) has_left: u32,
     pub(crate) unused: u32,
@@ -105,14 +105,14 @@ impl Progress {
 
     // Makes this operation due.
     pub(crate) fn go(&mut self, due: Operation)
-        ensures { (s : State) → IsKept self.old s → IsKept self.new (go due s) }
+        ensures { (s : State) → HoldsState self.old s → HoldsState self.new (go due s) }
     {
         self.due = due.number();
     }
 
     // Rejects the run, and removes its temporary files first.
     pub(crate) fn reject(&mut self, fault: InstallFault) -> Result<(), Refusal<InstallFault>>
-        ensures leads { (s : State) → IsKept self.old s → Leads s (reject fault s) result self.new }
+        ensures leads { (s : State) → HoldsState self.old s → RunLeadsTo s (reject fault s) result self.new }
         ensures proper { IfErr result (λ r. r ≢ WrongUse NotDue) }
         ensures refused { IfErr result (λ r. r ≡ Refused fault) }
     {
@@ -128,7 +128,7 @@ impl Progress {
 
     // Reports that the operation was done.
     pub(crate) fn done(&mut self) -> Result<(), Refusal<InstallFault>>
-        ensures steps { (s : State) → IsKept self.old s → Steps Done s result self.new }
+        ensures steps { (s : State) → HoldsState self.old s → Steps Done s result self.new }
         ensures misuse { result ≡ Err (WrongUse NotDue) → self.new ≡ self.old }
     {
         let due = self.due();
@@ -146,7 +146,7 @@ impl Progress {
 
     // Reports the end of the file that is read.
     pub(crate) fn end_piece(&mut self) -> Result<(), Refusal<InstallFault>>
-        ensures steps { (s : State) → IsKept self.old s → Steps (end_event s.due) s result self.new }
+        ensures steps { (s : State) → HoldsState self.old s → Steps (end_event s.due) s result self.new }
         ensures misuse { result ≡ Err (WrongUse NotDue) → self.new ≡ self.old }
     {
         if !self.due().is_reading() {
@@ -157,7 +157,7 @@ impl Progress {
 
     // Reports that another process holds the lock.
     pub(crate) fn in_use(&mut self) -> Result<(), Refusal<InstallFault>>
-        ensures steps { (s : State) → IsKept self.old s → Steps InUse s result self.new }
+        ensures steps { (s : State) → HoldsState self.old s → Steps InUse s result self.new }
         ensures misuse { result ≡ Err (WrongUse NotDue) → self.new ≡ self.old }
     {
         if !self.due().is_locking() {
@@ -168,7 +168,7 @@ impl Progress {
 
     // Reports that the operation failed with this error.
     pub(crate) fn failed(&mut self, fault: NamedFault) -> Result<(), Refusal<InstallFault>>
-        ensures steps { (s : State) → IsKept self.old s → Steps (Failed fault) s result self.new }
+        ensures steps { (s : State) → HoldsState self.old s → Steps (Failed fault) s result self.new }
         ensures misuse { result ≡ Err (WrongUse NotDue) → self.new ≡ self.old }
     {
         if is_failure(fault) {
@@ -181,7 +181,7 @@ impl Progress {
     // Reports that the operation failed with one of the errors that an operation can fail with.
     fn fail(&mut self, fault: NamedFault) -> Result<(), Refusal<InstallFault>>
         requires { is_failure fault ≡ true }
-        ensures steps { (s : State) → IsKept self.old s → Steps (Failed fault) s result self.new }
+        ensures steps { (s : State) → HoldsState self.old s → Steps (Failed fault) s result self.new }
         ensures misuse { result ≡ Err (WrongUse NotDue) → self.new ≡ self.old }
     {
         let due = self.due();
@@ -195,9 +195,10 @@ impl Progress {
         }
     }
 
-    // All data was copied.
+    // Reports that all data was copied.
     fn end_copy(&mut self) -> Result<(), Refusal<InstallFault>>
-        ensures leads { (s : State) → IsKept self.old s → Leads s (after_copy s.left s) result self.new }
+        ensures leads { (s : State) → HoldsState self.old s
+            → RunLeadsTo s (after_copy s.left s) result self.new }
         ensures proper { IfErr result (λ r. r ≢ WrongUse NotDue) }
     {
         if self.has_left == 1 && self.left != 0 {
@@ -209,7 +210,7 @@ impl Progress {
 
     // Reports that `len` bytes were copied.
     pub(crate) fn copied(&mut self, len: u64) -> Result<(), Refusal<InstallFault>>
-        ensures steps { (s : State) → IsKept self.old s → Steps (PieceCopied len) s result self.new }
+        ensures steps { (s : State) → HoldsState self.old s → Steps (PieceCopied len) s result self.new }
         ensures misuse { result ≡ Err (WrongUse NotDue) → self.new ≡ self.old }
     {
         if !self.due().is_copying() {
@@ -218,9 +219,10 @@ impl Progress {
         self.count(len)
     }
 
-    // Counts a piece that was copied.
+    // Subtracts a copied piece from the signed size, and rejects the run if the data is longer.
     fn count(&mut self, len: u64) -> Result<(), Refusal<InstallFault>>
-        ensures leads { (s : State) → IsKept self.old s → Leads s (after_piece len s.left s) result self.new }
+        ensures leads { (s : State) → HoldsState self.old s
+            → RunLeadsTo s (after_piece len s.left s) result self.new }
         ensures proper { IfErr result (λ r. r ≢ WrongUse NotDue) }
     {
         if self.has_left != 1 {
@@ -233,9 +235,9 @@ impl Progress {
         Ok(())
     }
 
-    // The update is to be installed. What was read of the installed file is forgotten.
+    // Begins to install the update. The hash of the installed file is discarded.
     fn install(&mut self)
-        ensures { (s : State) → IsKept self.old s → IsKept self.new (install s) }
+        ensures { (s : State) → HoldsState self.old s → HoldsState self.new (install s) }
     {
         self.hash = StoredBlake2b::store(&Blake2b::new(64));
         let due = if self.chosen.is_check == 1 {
@@ -248,7 +250,7 @@ impl Progress {
 
     // Reports that there is no installed file.
     pub(crate) fn no_target(&mut self) -> Result<(), Refusal<InstallFault>>
-        ensures steps { (s : State) → IsKept self.old s → Steps TargetMissing s result self.new }
+        ensures steps { (s : State) → HoldsState self.old s → Steps TargetMissing s result self.new }
         ensures misuse { result ≡ Err (WrongUse NotDue) → self.new ≡ self.old }
     {
         if !self.due().is_reading_target() {
@@ -260,7 +262,7 @@ impl Progress {
 
     // Reports the next bytes of the file that is read.
     pub(crate) fn piece(&mut self, bytes: &[u8]) -> Result<(), Refusal<InstallFault>>
-        ensures steps { (s : State) → IsKept self.old s → Steps (PieceRead bytes.now) s result self.new }
+        ensures steps { (s : State) → HoldsState self.old s → Steps (PieceRead bytes.now) s result self.new }
         ensures misuse { result ≡ Err (WrongUse NotDue) → self.new ≡ self.old }
     {
         if !self.due().is_reading() {
@@ -272,7 +274,7 @@ impl Progress {
 
     // Reports the next bytes of the file that is read, or its end.
     pub(crate) fn bytes(&mut self, bytes: &[u8]) -> Result<(), Refusal<InstallFault>>
-        ensures steps { (s : State) → IsKept self.old s
+        ensures steps { (s : State) → HoldsState self.old s
             → Steps (piece_event s.due bytes.now) s result self.new }
         ensures misuse { result ≡ Err (WrongUse NotDue) → self.new ≡ self.old }
     {
@@ -283,9 +285,9 @@ impl Progress {
         }
     }
 
-    // Continues after the comment was found to be signed and good.
+    // Continues after the trusted comment was found to be signed and accepted.
     fn compare(&mut self)
-        ensures { (s : State) → IsKept self.old s → IsKept self.new (compare s) }
+        ensures { (s : State) → HoldsState self.old s → HoldsState self.new (compare s) }
     {
         if self.is_newer() {
             self.install();
@@ -300,21 +302,21 @@ impl Progress {
 
     // Returns true if the update is newer than the recorded version, or there is none.
     fn is_newer(&self) -> bool
-        ensures { (s : State) → IsKept self.now s → result ≡ is_newer s }
+        ensures { (s : State) → HoldsState self.now s → result ≡ is_newer s }
     {
         self.recorded.has_version != 1 || self.recorded.version < self.judged.version
     }
 
     // Returns true if the update is older than the recorded version.
     pub(crate) fn is_rolling_back(&self) -> bool
-        ensures { (s : State) → IsKept self.now s → result ≡ is_rolling_back s }
+        ensures { (s : State) → HoldsState self.now s → result ≡ is_rolling_back s }
     {
         self.recorded.has_version == 1 && self.judged.version < self.recorded.version
     }
 
     // Reports what Ed25519 answered.
     pub(crate) fn answer(&mut self, accepted: bool) -> Result<(), Refusal<InstallFault>>
-        ensures steps { (s : State) → IsKept self.old s → Steps (Answered accepted) s result self.new }
+        ensures steps { (s : State) → HoldsState self.old s → Steps (Answered accepted) s result self.new }
         ensures misuse { result ≡ Err (WrongUse NotDue) → self.new ≡ self.old }
     {
         match self.due() {
@@ -332,7 +334,7 @@ impl Progress {
     // Reports what Ed25519 answered about the comment.
     fn answer_comment(&mut self, accepted: bool) -> Result<(), Refusal<InstallFault>>
         requires { operation_of self.old.due ≡ CheckComment }
-        ensures steps { (s : State) → IsKept self.old s → Steps (Answered accepted) s result self.new }
+        ensures steps { (s : State) → HoldsState self.old s → Steps (Answered accepted) s result self.new }
         ensures proper { IfErr result (λ r. r ≢ WrongUse NotDue) }
     {
         if accepted {
@@ -345,7 +347,7 @@ impl Progress {
     // Reports what Ed25519 answered about the digest of the installed file.
     fn answer_target(&mut self, accepted: bool) -> Result<(), Refusal<InstallFault>>
         requires { operation_of self.old.due ≡ CheckTarget }
-        ensures steps { (s : State) → IsKept self.old s → Steps (Answered accepted) s result self.new }
+        ensures steps { (s : State) → HoldsState self.old s → Steps (Answered accepted) s result self.new }
         ensures proper { IfErr result (λ r. r ≢ WrongUse NotDue) }
     {
         if accepted {
@@ -359,7 +361,7 @@ impl Progress {
     // Reports what Ed25519 answered about the digest of the temporary file.
     fn answer_data(&mut self, accepted: bool) -> Result<(), Refusal<InstallFault>>
         requires { operation_of self.old.due ≡ CheckData }
-        ensures steps { (s : State) → IsKept self.old s → Steps (Answered accepted) s result self.new }
+        ensures steps { (s : State) → HoldsState self.old s → Steps (Answered accepted) s result self.new }
         ensures proper { IfErr result (λ r. r ≢ WrongUse NotDue) }
     {
         if accepted {
@@ -370,10 +372,10 @@ impl Progress {
         }
     }
 
-    // The comment is signed.
+    // Continues after a key was found to have signed the comment.
     fn accept_comment(&mut self) -> Result<(), Refusal<InstallFault>>
-        ensures leads { (s : State) → IsKept self.old s
-            → Leads s (after_comment s.fault (record s { is_signed = true })) result self.new }
+        ensures leads { (s : State) → HoldsState self.old s
+            → RunLeadsTo s (after_comment s.fault (record s { is_signed = true })) result self.new }
         ensures proper { IfErr result (λ r. r ≢ WrongUse NotDue) }
     {
         self.is_signed = 1;
@@ -386,28 +388,29 @@ impl Progress {
         }
     }
 
-    // Returns why the comment is rejected.
+    // Returns the error with which the comment is rejected, if there is one.
     fn fault(&self) -> Option<InstallFault>
-        ensures { (s : State) → IsKept self.now s → result ≡ s.fault }
+        ensures { (s : State) → HoldsState self.now s → result ≡ s.fault }
     {
         InstallFault::of_number(self.judged.fault)
     }
 
-    // This key has not signed the comment.
+    // Continues after the key was found not to have signed the comment: with the next key, if there is one.
     fn next_key(&mut self) -> Result<(), Refusal<InstallFault>>
-        ensures leads { (s : State) → IsKept self.old s → Leads s (next_key s.signers s) result self.new }
+        ensures leads { (s : State) → HoldsState self.old s
+            → RunLeadsTo s (next_key s.signers s) result self.new }
         ensures proper { IfErr result (λ r. r ≢ WrongUse NotDue) }
     {
-        if self.by_key == 1 && self.by_other == 1 {
+        if self.by_key == 1 && self.by_other_key == 1 {
             self.by_key = 0;
             return Ok(());
         }
         self.reject(NamedFault::CommentSignatureRefused.into())
     }
 
-    // The digest in the record is that of the update, or not.
+    // Continues after Ed25519 was asked whether the digest in the record is that of the update.
     fn answer_record(&mut self, accepted: bool)
-        ensures { (s : State) → IsKept self.old s → IsKept self.new (after_digest accepted s) }
+        ensures { (s : State) → HoldsState self.old s → HoldsState self.new (after_digest accepted s) }
     {
         if accepted {
             self.is_recorded = 1;
@@ -420,9 +423,9 @@ impl Progress {
         }
     }
 
-    // The installed file is the update.
+    // Continues after the installed file was found to be the update.
     fn accept_target(&mut self)
-        ensures { (s : State) → IsKept self.old s → IsKept self.new (after_target true s) }
+        ensures { (s : State) → HoldsState self.old s → HoldsState self.new (after_target true s) }
     {
         if self.chosen.is_check == 1 {
             self.go(Operation::AlreadyInstalled);
@@ -431,9 +434,10 @@ impl Progress {
         }
     }
 
-    // The installed file is not the update.
+    // Continues after the installed file was found not to be the update.
     fn replace_target(&mut self) -> Result<(), Refusal<InstallFault>>
-        ensures leads { (s : State) → IsKept self.old s → Leads s (after_target false s) result self.new }
+        ensures leads { (s : State) → HoldsState self.old s
+            → RunLeadsTo s (after_target false s) result self.new }
         ensures proper { IfErr result (λ r. r ≢ WrongUse NotDue) }
     {
         if self.is_recorded == 1 || self.chosen.again == 1 {
@@ -445,7 +449,7 @@ impl Progress {
 
     // Returns the version number of the update if a key has signed the comment.
     pub(crate) fn version(&self) -> u64
-        ensures { (s : State) → IsKept self.now s → result ≡ (if s.is_signed then s.version else 0) }
+        ensures { (s : State) → HoldsState self.now s → result ≡ (if s.is_signed then s.version else 0) }
     {
         if self.is_signed == 1 {
             self.judged.version
@@ -456,7 +460,7 @@ impl Progress {
 
     // Returns the signed size if a key has signed the comment.
     pub(crate) fn size(&self) -> Option<u64>
-        ensures { (s : State) → IsKept self.now s → result ≡ (if s.is_signed then s.size else None) }
+        ensures { (s : State) → HoldsState self.now s → result ≡ (if s.is_signed then s.size else None) }
     {
         if self.is_signed == 1 && self.judged.has_size == 1 {
             Some(self.judged.size)
@@ -478,7 +482,8 @@ impl Progress {
 
     // Begins an installation.
     pub(crate) fn begin(key: &PublicKeyValue, other: &PublicKeyValue, choices: &Choices) -> Progress
-        ensures { (file : List ℕ) → IsKept result (begin (options_by key.now other.now choices.now file)) }
+        ensures { (file : List ℕ)
+            → HoldsState result (begin (options_by key.now other.now choices.now file)) }
     {
         let due = first_operation(choices).number();
         let hash = StoredBlake2b::store(&Blake2b::new(64));
@@ -517,7 +522,7 @@ impl Progress {
                 reserved: 0,
             },
             by_key: 0,
-            by_other: 0,
+            by_other_key: 0,
             is_signed: 0,
             is_recorded: 0,
             left: 0,
@@ -552,7 +557,7 @@ fn first_operation(choices: &Choices) -> Operation
     }
 }
 
-// Returns the hash of what the old one was fed, followed by these bytes.
+// Feeds these bytes to a hash and returns the new hash.
 fn fed(hash: &StoredBlake2b, bytes: &[u8]) -> StoredBlake2b
     ensures { (m : List ℕ) → WasFed hash.now m → WasFed result (m ++ bytes.now) }
 {

@@ -1,4 +1,4 @@
-//! What the record decides. Nothing here allocates.
+//! Checks the record. Nothing here allocates.
 
 ghost use Rattle.std.specs.Prelude.{◌≡◌, ◌==◌, ◌||◌, ◌&&◌, List, ℕ, Some, None, Err, IfErr};
 ghost use Rattle.std.specs.Prelude.{◌≢◌};
@@ -6,7 +6,8 @@ ghost use Rattle.minisign_external.specs.declared.state.Misuse.TheVariants.{NotD
 ghost use Rattle.minisign_external.specs.declared.state.Refusal.TheVariants.{WrongUse};
 ghost use Rattle.minisign_install.specs.Decisions.{judge_record, judge_version, names_other_key};
 ghost use Rattle.minisign_install.specs.Decisions.{nothing_recorded, record_fault, recorded_version};
-ghost use Rattle.minisign_install.specs.Installations.{IsKept, Leads, Steps, judgment_of, numbering_of};
+ghost use Rattle.minisign_install.specs.Installations.{HoldsState, RunLeadsTo, Steps, judgment_of};
+ghost use Rattle.minisign_install.specs.Installations.{numbering_of};
 ghost use Rattle.minisign_install.specs.Installations.{numbered, options_of, recorded_of};
 ghost use Rattle.minisign_install.specs.Step.{ReadSignature, RecordRead, State, after_record};
 
@@ -14,13 +15,13 @@ use crate::comments::Numbering;
 use crate::faults::InstallFault;
 use crate::installation::Operation;
 use crate::installation::progress::{Chosen, Progress, RecordedValue};
-use crate::recording::{is_other, number_for, record_digest, record_key, unfit};
+use crate::recording::{is_foreign_key, number_for, record_digest, record_key, unfit_record_fault};
 use minisign_external::state::{Misuse, Refusal};
 
 impl Progress {
     // Reports the bytes of the record.
     pub(crate) fn record(&mut self, bytes: &[u8]) -> Result<(), Refusal<InstallFault>>
-        ensures steps { (s : State) → IsKept self.old s
+        ensures steps { (s : State) → HoldsState self.old s
             → Steps (RecordRead (Some bytes.now)) s result self.new }
         ensures misuse { result ≡ Err (WrongUse NotDue) → self.new ≡ self.old }
     {
@@ -33,23 +34,23 @@ impl Progress {
 
     // Reports that there is no record.
     pub(crate) fn no_record(&mut self) -> Result<(), Refusal<InstallFault>>
-        ensures steps { (s : State) → IsKept self.old s → Steps (RecordRead None) s result self.new }
+        ensures steps { (s : State) → HoldsState self.old s → Steps (RecordRead None) s result self.new }
         ensures misuse { result ≡ Err (WrongUse NotDue) → self.new ≡ self.old }
     {
         if !self.due().is_reading_record() {
             return Err(Refusal::WrongUse(Misuse::NotDue));
         }
-        let judged = judge_none(&self.chosen);
+        let judged = judge_missing_record(&self.chosen);
         self.take_record(judged)
     }
 
-    // Continues with what counts of the record, or rejects the run.
+    // Continues with the contents of the record, or rejects the run.
     fn take_record(
         &mut self,
         judged: Result<RecordedValue, InstallFault>,
     ) -> Result<(), Refusal<InstallFault>>
-        ensures leads { (s : State) → IsKept self.old s
-            → Leads s (after_record (judgment_of judged) s) result self.new }
+        ensures leads { (s : State) → HoldsState self.old s
+            → RunLeadsTo s (after_record (judgment_of judged) s) result self.new }
         ensures proper { IfErr result (λ r. r ≢ WrongUse NotDue) }
     {
         match judged {
@@ -61,17 +62,17 @@ impl Progress {
         }
     }
 
-    // Keeps what counts of the record. The signature file is due next.
+    // Stores the contents of the record. Reading the signature file is due next.
     fn keep_record(&mut self, recorded: RecordedValue)
-        ensures { (s : State) → IsKept self.old s
-            → IsKept self.new (record s { due = ReadSignature; recorded = recorded_of recorded }) }
+        ensures { (s : State) → HoldsState self.old s
+            → HoldsState self.new (record s { due = ReadSignature; recorded = recorded_of recorded }) }
     {
         self.recorded = recorded;
         self.go(Operation::ReadSignature);
     }
 }
 
-// Returns what counts of a record of these bytes, or why it is rejected.
+// Returns the contents of a record, or the error with which it is rejected.
 fn judge_record(chosen: &Chosen, bytes: &[u8]) -> Result<RecordedValue, InstallFault>
     ensures { (file : List ℕ) → judge_record (options_of chosen.now file) (Some bytes.now)
         ≡ judgment_of result }
@@ -82,7 +83,7 @@ fn judge_record(chosen: &Chosen, bytes: &[u8]) -> Result<RecordedValue, InstallF
     }
 }
 
-// Returns what counts of a record without a version number for the field.
+// Ignores a record without a version number for the field if `is_first` is set, else returns an error.
 fn judge_unnumbered(chosen: &Chosen, bytes: &[u8]) -> Result<RecordedValue, InstallFault>
     ensures { (file : List ℕ) → judge_version (options_of chosen.now file) bytes.now None
         ≡ judgment_of result }
@@ -94,8 +95,8 @@ fn judge_unnumbered(chosen: &Chosen, bytes: &[u8]) -> Result<RecordedValue, Inst
     }
 }
 
-// Returns what counts if there is no record.
-fn judge_none(chosen: &Chosen) -> Result<RecordedValue, InstallFault>
+// Ignores that there is no record if `is_first` is set, else returns an error.
+fn judge_missing_record(chosen: &Chosen) -> Result<RecordedValue, InstallFault>
     ensures { (file : List ℕ) → judge_record (options_of chosen.now file) None ≡ judgment_of result }
 {
     if chosen.is_first == 1 {
@@ -105,7 +106,7 @@ fn judge_none(chosen: &Chosen) -> Result<RecordedValue, InstallFault>
     }
 }
 
-// Returns what counts of a record with this version.
+// Returns the contents of a record with this version, or nothing if the record is ignored.
 fn counted(chosen: &Chosen, bytes: &[u8], version: u64) -> RecordedValue
     ensures { (file : List ℕ) → judge_version (options_of chosen.now file) bytes.now (Some version)
         ≡ Ok (recorded_of result) }
@@ -123,7 +124,7 @@ fn is_ignored(chosen: &Chosen, bytes: &[u8]) -> bool
         && names_other_key (options_of chosen.now file) bytes.now) }
 {
     (chosen.is_first == 1 || chosen.new_key == 1)
-        && is_other(bytes, &chosen.key.key, &chosen.other.key)
+        && is_foreign_key(bytes, &chosen.key.key, &chosen.other.key)
 }
 
 // Returns the version number of a record, if it has one for this field.
@@ -134,15 +135,15 @@ fn version_for(bytes: &[u8], numbering: Numbering) -> Option<u64>
     number_for(bytes, numbering)
 }
 
-// Returns why a record without a version number for this field is rejected.
+// Returns the error with which a record without a version number for this field is rejected.
 fn fault_for(bytes: &[u8], numbering: Numbering) -> InstallFault
     ensures { result ≡ record_fault numbering bytes.now }
 {
-    unfit(bytes, numbering)
+    unfit_record_fault(bytes, numbering)
 }
 
 impl RecordedValue {
-    // Returns the version number that counts.
+    // Returns the version number of the record, unless it is ignored.
     pub(crate) fn version(&self) -> Option<u64>
         ensures { result ≡ (recorded_of self.now).version }
     {
@@ -153,7 +154,7 @@ impl RecordedValue {
         }
     }
 
-    // Nothing of the record counts.
+    // Returns the contents of an ignored record: none.
     fn nothing() -> RecordedValue
         ensures { recorded_of result ≡ nothing_recorded }
     {
@@ -168,7 +169,7 @@ impl RecordedValue {
         }
     }
 
-    // This version counts, and the key and the digest that the record names.
+    // Returns this version with the key and the digest that the record names.
     fn of(version: u64, bytes: &[u8]) -> RecordedValue
         ensures { recorded_of result ≡ numbered version bytes.now }
     {

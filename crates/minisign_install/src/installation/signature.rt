@@ -10,7 +10,8 @@ ghost use Rattle.minisign_external.specs.declared.state.Misuse.TheVariants.{NoRo
 ghost use Rattle.minisign_external.specs.declared.state.Refusal.TheVariants.{Refused, WrongUse};
 ghost use Rattle.minisign_install.specs.Decisions.{judge_keys};
 ghost use Rattle.minisign_install.specs.Faults.{Library, Named, NotUtf8, is_own};
-ghost use Rattle.minisign_install.specs.Installations.{IsKept, Leads, SignatureLeads, SignatureSteps, given};
+ghost use Rattle.minisign_install.specs.Installations.{HoldsState, RunLeadsTo, SignatureLeads};
+ghost use Rattle.minisign_install.specs.Installations.{SignatureSteps, given};
 ghost use Rattle.minisign_install.specs.Installations.{IsJudgedAs, IsReadAs, judge_form, options_of, plain};
 ghost use Rattle.minisign_install.specs.Installations.{IsOwnNumber, first_key, reads_into};
 ghost use Rattle.minisign_external.specs.declared.public_keys.PublicKeyValue.{PublicKeyValue};
@@ -36,9 +37,9 @@ impl Progress {
         time: Option<u64>,
         message: &mut [u8],
     ) -> Result<usize, Refusal<InstallFault>>
-        ensures steps { (s : State) → IsKept self.old s → s.options.file ≡ file.now
-            → SignatureSteps sig_text.now time s result (IsKept self.new) message.old message.new }
-        ensures kept { OnErr result (message.new ≡ message.old) }
+        ensures steps { (s : State) → HoldsState self.old s → s.options.file ≡ file.now
+            → SignatureSteps sig_text.now time s result (HoldsState self.new) message.old message.new }
+        ensures unchanged { OnErr result (message.new ≡ message.old) }
         ensures misuse { result ≡ Err (WrongUse NotDue) → self.new ≡ self.old }
         ensures short { result ≡ Err (WrongUse NoRoom) → self.new ≡ self.old }
     {
@@ -48,7 +49,7 @@ impl Progress {
         self.judge_text(sig_text, file, time, message)
     }
 
-    // Judges the signature file.
+    // Checks the signature file and writes the message of the question about its comment.
     fn judge_text(
         &mut self,
         sig_text: &[u8],
@@ -56,9 +57,9 @@ impl Progress {
         time: Option<u64>,
         message: &mut [u8],
     ) -> Result<usize, Refusal<InstallFault>>
-        ensures leads { (s : State) → IsKept self.old s → s.options.file ≡ file.now
+        ensures leads { (s : State) → HoldsState self.old s → s.options.file ≡ file.now
             → SignatureLeads (reads_into s sig_text.now) time s result self.new message.old message.new }
-        ensures kept { OnErr result (message.new ≡ message.old) }
+        ensures unchanged { OnErr result (message.new ≡ message.old) }
         ensures proper { IfErr result (λ r. r ≢ WrongUse NotDue) }
         ensures short { result ≡ Err (WrongUse NoRoom) → self.new ≡ self.old }
     {
@@ -71,7 +72,7 @@ impl Progress {
         }
     }
 
-    // Judges a signature file that was parsed.
+    // Checks a parsed signature file.
     fn judge_view(
         &mut self,
         view: &SignatureView<'_>,
@@ -79,11 +80,11 @@ impl Progress {
         time: Option<u64>,
         message: &mut [u8],
     ) -> Result<usize, Refusal<InstallFault>>
-        ensures leads { (s : State) (t : SignatureTextRecord) → IsKept self.old s
+        ensures leads { (s : State) (t : SignatureTextRecord) → HoldsState self.old s
             → s.options.file ≡ file.now → view.now ≡ view_of t
             → SignatureLeads (judge_keys s.options (given self.old.chosen t) t) time s result self.new
             message.old message.new }
-        ensures kept { OnErr result (message.new ≡ message.old) }
+        ensures unchanged { OnErr result (message.new ≡ message.old) }
         ensures proper { IfErr result (λ r. r ≢ WrongUse NotDue) }
         ensures short { result ≡ Err (WrongUse NoRoom) → self.new ≡ self.old }
     {
@@ -93,10 +94,10 @@ impl Progress {
         }
     }
 
-    // Rejects the run for this error.
+    // Rejects the run with this error.
     fn refuse(&mut self, fault: PError) -> Result<usize, Refusal<InstallFault>>
-        ensures leads { (s : State) → IsKept self.old s
-            → Leads s (reject (Library fault) s) (plain result) self.new }
+        ensures leads { (s : State) → HoldsState self.old s
+            → RunLeadsTo s (reject (Library fault) s) (plain result) self.new }
         ensures none { IfOk result (λ n. n ≡ 0) }
         ensures refused { IfErr result (λ r. r ≡ Refused (Library fault)) }
     {
@@ -106,7 +107,7 @@ impl Progress {
         }
     }
 
-    // The signature file is accepted by the checks that need no Ed25519.
+    // Continues after the signature file has passed the checks that need no Ed25519.
     fn accept_text(
         &mut self,
         view: &SignatureView<'_>,
@@ -115,11 +116,11 @@ impl Progress {
         time: Option<u64>,
         message: &mut [u8],
     ) -> Result<usize, Refusal<InstallFault>>
-        ensures leads { (s : State) (t : SignatureTextRecord) → IsKept self.old s
+        ensures leads { (s : State) (t : SignatureTextRecord) → HoldsState self.old s
             → s.options.file ≡ file.now → view.now ≡ view_of t → second.now ≡ take 64 t.comments.signature
             → SignatureLeads (Ok (t, given self.old.chosen t)) time s result self.new
             message.old message.new }
-        ensures kept { OnErr result (message.new ≡ message.old) }
+        ensures unchanged { OnErr result (message.new ≡ message.old) }
         ensures proper { IfErr result (λ r. r ≢ WrongUse NotDue) }
         ensures short { result ≡ Err (WrongUse NoRoom) → self.new ≡ self.old }
     {
@@ -133,7 +134,7 @@ impl Progress {
         }
     }
 
-    // Keeps what the signature file says. The question about its comment is due next.
+    // Stores the contents of the signature file. The question about its comment is due next.
     fn keep_signature(
         &mut self,
         view: &SignatureView<'_>,
@@ -141,22 +142,22 @@ impl Progress {
         file: &str,
         time: Option<u64>,
     )
-        ensures { (s : State) (t : SignatureTextRecord) → IsKept self.old s → s.options.file ≡ file.now
+        ensures { (s : State) (t : SignatureTextRecord) → HoldsState self.old s → s.options.file ≡ file.now
             → view.now ≡ view_of t → second.now ≡ take 64 t.comments.signature
-            → IsKept self.new (after_signature (Ok (t, given self.old.chosen t)) time s) }
+            → HoldsState self.new (after_signature (Ok (t, given self.old.chosen t)) time s) }
     {
         let recorded = self.recorded.version();
         self.judged = Judged::of(&self.chosen, view, second, file, recorded, time);
         self.left = self.judged.size;
         self.has_left = self.judged.has_size;
         self.by_key = flag(has_key_id(view, &self.chosen.key));
-        self.by_other = flag(has_key_id(view, &self.chosen.other));
+        self.by_other_key = flag(has_key_id(view, &self.chosen.other));
         self.go(Operation::CheckComment);
     }
 }
 
 impl Judged {
-    // What the signature file says, whose comment is judged.
+    // Returns the contents of a signature file, and checks its comment.
     fn of(
         chosen: &Chosen,
         view: &SignatureView<'_>,
@@ -183,7 +184,7 @@ impl Judged {
     }
 }
 
-// Returns the number of an error that installing adds, or 0.
+// Returns the number of an installation error, or 0.
 fn number_of(fault: Option<InstallFault>) -> u32
     requires { IfSome fault (λ e. is_own e ≡ true) }
     ensures { IsOwnNumber result fault }
@@ -194,7 +195,7 @@ fn number_of(fault: Option<InstallFault>) -> u32
     }
 }
 
-// Returns 1 if this is true, otherwise 0.
+// Returns 1 if `holds` is true, otherwise 0.
 fn flag(holds: bool) -> u32
     ensures { (result == 1) ≡ holds }
 {
@@ -250,7 +251,8 @@ fn has_key_id(view: &SignatureView<'_>, key: &PublicKeyValue) -> bool
     view.signature().keynum == key.key_id
 }
 
-// Returns the signature of the comment, if both signatures have the form that is accepted.
+// Returns the signature of the comment, or an error if the data signature is a legacy one or the comment
+// signature is too short.
 fn judge_form(view: &SignatureView<'_>) -> Result<[u8; 64], PError>
     ensures { (t : SignatureTextRecord) (signers : List PublicKeyValue) → view.now ≡ view_of t
         → IsJudgedAs (judge_form t signers) t signers result }

@@ -13,5 +13,5 @@ returns c = record {
   check = check_decides_alike;
   rejected = rejected_changes_nothing;
   met = good_update_has_run;
-  there = good_update_exists;
+  present = good_update_exists;
 }

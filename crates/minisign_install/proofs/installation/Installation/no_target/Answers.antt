@@ -1,5 +1,5 @@
 use Rattle.std.proofs.Common.{◌∙◌, refl, sym}
-use Rattle.minisign_install.proofs.Kept.{begun_steps, stored, unbegun_steps}
+use Rattle.minisign_install.proofs.HeldStates.{begun_steps, stored, unbegun_steps}
 use Rattle.minisign_install.proofs.installation.Installation.no_target.Goals as goal
 
 pub returns-then-is_begun-clause-steps : goal.returns-then-is_begun-clause-steps

@@ -1,5 +1,5 @@
 use Rattle.std.proofs.Common.{◌∙◌, sym}
-use Rattle.minisign_install.proofs.Kept.{nothing_asked, stored, unbegun}
+use Rattle.minisign_install.proofs.HeldStates.{nothing_asked, stored, unbegun}
 use Rattle.minisign_install.proofs.installation.Installation.question.Goals as goal
 
 pub returns-then-is_begun : goal.returns-then-is_begun

@@ -1,6 +1,6 @@
 use Rattle.std.proofs.Common.{◌∙◌, refl, sym}
 use Rattle.minisign_install.specs.Step as due
-use Rattle.minisign_install.proofs.Kept.{not_writing, stored, unbegun}
+use Rattle.minisign_install.proofs.HeldStates.{not_writing, stored, unbegun}
 use Rattle.minisign_install.proofs.installation.Installation.record_text.Goals as goal
 
 pub returns-then-is_begun-clause-written : goal.returns-then-is_begun-clause-written

@@ -1,5 +1,5 @@
 use Rattle.std.proofs.Common.{◌∙◌, sym}
-use Rattle.minisign_install.proofs.Kept.{stored}
+use Rattle.minisign_install.proofs.HeldStates.{stored}
 use Rattle.minisign_install.proofs.SignatureFiles.{begun_signature, unbegun_signature}
 use Rattle.minisign_install.proofs.installation.Installation.signature.Goals as goal
 

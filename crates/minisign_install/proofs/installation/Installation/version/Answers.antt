@@ -1,12 +1,12 @@
 use Rattle.std.proofs.Common.{◌∙◌, ap, sym, if◌then◌else◌}
-use Rattle.minisign_install.proofs.Kept.{stored, unbegun}
+use Rattle.minisign_install.proofs.HeldStates.{stored, unbegun}
 use Rattle.minisign_install.proofs.installation.Installation.version.Goals as goal
 
 pub returns-then-is_begun : goal.returns-then-is_begun
 returns-then-is_begun c = λ s held.
     let is = sym c.is_begun.ensures ∙ c.if-is_begun.true in
-    let kept = stored c.args.self.now s is held in
-    c.version.ensures s kept
+    let state_held = stored c.args.self.now s is held in
+    c.version.ensures s state_held
 
 pub returns-else-is_begun : goal.returns-else-is_begun
 returns-else-is_begun c = λ s held.

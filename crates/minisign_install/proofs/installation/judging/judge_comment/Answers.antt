@@ -6,7 +6,7 @@ pub returns-in-Ok-from_utf8 : goal.returns-in-Ok-from_utf8
 returns-in-Ok-from_utf8 c =
     let (comment, utf8) = c.in-Ok.ensures.cases in
     let (file, named) = c.in-Ok-from_utf8.ensures.cases in
-    c.judge_alone.ensures
+    c.judge_comment_only.ensures
     ∙ both_utf8 c.args.numbering c.args.time c.args.least c.args.file.now c.args.comment.now _ _ comment utf8
     file named
 

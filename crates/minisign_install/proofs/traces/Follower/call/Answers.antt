@@ -2,24 +2,57 @@ use Rattle.std.proofs.Common.{◌∙◌, ap, rules, sym}
 use Rattle.std.proofs.Common.{if◌then◌else◌, [], List, ℕ}
 use Rattle.minisign_install.specs.Step.{step}
 use Rattle.minisign_install.specs.Traces.{event_of, installs, world_of}
+use Rattle.minisign_install.proofs.Noting.{can_grow, read_from}
 use Rattle.minisign_install.proofs.Tracing.{read_is}
 use Rattle.minisign_install.proofs.traces.Follower.call.Goals as goal
 
-pub returns : goal.returns
-returns c = λ done s m knows follows.
-    let w = world_of c.args.found.now in
+pub returns-clause-follows : goal.returns-clause-follows
+returns-clause-follows c = λ done s m knows follows.
+    let w = world_of c.args.inputs.now in
     let e = event_of c.args.report.now in
-    let opened = c.open_target.ensures w c.args.message.now s m follows in
-    let performs = c.has_performed.ensures (search rules) c.args.file.now s m knows opened in
+    let opened = c.open_target.ensures.follows w c.args.message.now s m follows in
+    let performs = c.has_performed.ensures.is (search rules) c.args.file.now s m knows opened in
     let taken = c.reports.ensures.taken (search rules) w s m _ knows opened performs in
     let t = (step s e).1 in (
       (taken.fits, performs),
       record {
-        stored = rw c.keep_read.ensures.kept.0 taken.stored;
+        stored = rw c.keep_read.ensures.unchanged.0 taken.stored;
         read = c.keep_read.ensures.read t taken.stored
             ∙ ap (λ (l : List ℕ). if installs t.due then [] else l)
-            (c.in-Some-now_read.ensures c.args.message.now s m opened) ∙ sym (read_is s e taken.fits);
-        seen = rw c.keep_read.ensures.kept.1 (c.in-Some.ensures c.args.message.now s m opened);
-        asked = rw c.keep_read.ensures.kept.2 taken.asked;
+            (c.in-Some-now_read.ensures.is c.args.message.now s m opened) ∙ sym (read_is s e taken.fits);
+        seen = rw c.keep_read.ensures.unchanged.1 (c.in-Some.ensures.is c.args.message.now s m opened);
+        asked = rw c.keep_read.ensures.unchanged.2 taken.asked;
+        whole = rw c.keep_read.ensures.unchanged.2 taken.whole;
       },
+      rw (c.keep_read.ensures.unchanged.3, c.reports.ensures.unchanged.2)
+          (c.open_target.ensures.source w c.args.message.now s m follows),
     )
+
+pub returns-then-not-has_performed-clause-finds : goal.returns-then-not-has_performed-clause-finds
+returns-then-not-has_performed-clause-finds c = λ s m knows follows room next noted.
+    let w = world_of c.args.inputs.now in
+    let source = c.open_target.ensures.source w c.args.message.now s m follows in
+    c.if-not-has_performed.ensures.finds c.args.file.now s m knows
+    (c.open_target.ensures.follows w c.args.message.now s m follows) next.1 (rw source noted)
+
+pub returns-in_default-clause-finds : goal.returns-in_default-clause-finds
+returns-in_default-clause-finds c = λ s m knows follows room next noted.
+    let w = world_of c.args.inputs.now in
+    let opened = c.open_target.ensures.follows w c.args.message.now s m follows in
+    c.in_default.ensures.finds s opened.stored
+    (can_grow c.args.inputs.now s c.open_target.new.self.files m _ c.args.report.now c.args.effect.now _
+    opened.seen next.1 noted)
+
+pub returns-in_default-now_read-clause-finds : goal.returns-in_default-now_read-clause-finds
+returns-in_default-now_read-clause-finds c = λ s m knows follows room next noted.
+    let w = world_of c.args.inputs.now in
+    let source = c.open_target.ensures.source w c.args.message.now s m follows in
+    c.in_default-now_read.ensures.finds c.args.message.now s m _
+    (c.open_target.ensures.follows w c.args.message.now s m follows) next.1
+    (rw source (read_from c.args.inputs.now s m _ c.args.report.now c.args.effect.now noted))
+
+pub returns-then-not-reports-clause-finds : goal.returns-then-not-reports-clause-finds
+returns-then-not-reports-clause-finds c = λ s m knows follows room next noted.
+    let w = world_of c.args.inputs.now in
+    c.if-not-reports.ensures.fits w s m _ knows
+    (c.open_target.ensures.follows w c.args.message.now s m follows) next.1 next.0 room

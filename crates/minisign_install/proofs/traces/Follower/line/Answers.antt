@@ -1,4 +1,4 @@
 use Rattle.minisign_install.proofs.traces.Follower.line.Goals as goal
 
-pub returns-in-Call : goal.returns-in-Call
-returns-in-Call c = rw c.in-Call.is c.call.ensures
+pub returns-in-Call-clause-follows : goal.returns-in-Call-clause-follows
+returns-in-Call-clause-follows c = rw c.in-Call.is c.call.ensures.follows

@@ -1,4 +1,6 @@
 use Rattle.std.proofs.Common.{sym}
+use Rattle.minisign_install.specs.Traces.{event_of}
+use Rattle.minisign_install.proofs.Noting.{other_reported, other_text, stays_asked}
 use Rattle.minisign_install.proofs.Tracing.{signature_is}
 use Rattle.minisign_install.proofs.traces.Follower.reports.Goals as goal
 
@@ -8,3 +10,24 @@ returns-in-Signature-clause-taken c = λ is w s m new knows follows performs.
     let (at, same) = signature_is w s s.due _ _ m new performed in
     rw c.in-Signature.is
     (c.report_signature.ensures.taken is w s follows.stored (knows.named at) (sym same))
+
+pub returns-in-Signature-clause-fits : goal.returns-in-Signature-clause-fits
+returns-in-Signature-clause-fits c = λ w s m new knows follows performs fitting room.
+    let performed = rw c.in-Signature.is at performs in
+    let (at, same) = signature_is w s s.due _ _ m new performed in
+    c.report_signature.ensures.fits w s follows.stored (knows.named at) (sym same) room at
+
+pub returns-in_default-clause-taken : goal.returns-in_default-clause-taken
+returns-in_default-clause-taken c = λ is w s m new knows follows performs.
+    let (stored, fitting) = c.has_reported.ensures.taken is s follows.stored in record {
+      stored = stored;
+      fits = fitting;
+      asked = follows.asked;
+      whole = λ asked. follows.whole (stays_asked s (event_of c.args.report.now) fitting
+          (other_text c.args.report.now c.in_default.not-Signature) asked);
+    }
+
+pub returns-in_default-clause-fits : goal.returns-in_default-clause-fits
+returns-in_default-clause-fits c = λ w s m new knows follows performs fitting room.
+    c.has_reported.ensures.fits s follows.stored fitting
+    (other_reported w s c.args.report.now m new c.in_default.not-Signature performs)

@@ -2,39 +2,40 @@ use Rattle.std.proofs.Common.{◌∙◌, Err, ap, subst, sym}
 use Rattle.std.specs.Str.{is_utf8}
 use Rattle.std.proofs.lemmas.Str.{is_utf8-from_IsUtf8}
 use Rattle.minisign_install.specs.Installations.{SignatureLeads}
-use Rattle.minisign_install.proofs.Kept.{options_are}
+use Rattle.minisign_install.proofs.HeldStates.{options_are}
 use Rattle.minisign_install.proofs.SignatureFiles.{failed, no_name, not_utf8, read_err, read_ok, reads_view}
 use Rattle.minisign_install.proofs.SignatureFiles.{refused}
 use Rattle.minisign_install.proofs.installation.progress.Progress.judge_text.Goals as goal
 
 pub returns-in-Ok-read_text-clause-leads : goal.returns-in-Ok-read_text-clause-leads
-returns-in-Ok-read_text-clause-leads c = λ s kept file.
+returns-in-Ok-read_text-clause-leads c = λ s state_held file.
     let (same, utf8) = c.in-Ok.ensures.cases in
     let (t, read, view) = reads_view c.args.sig_text.now _ c.in-Ok-read_text.ensures in
     subst (λ j.
     SignatureLeads j c.args.time s c.judge_view.result c.judge_view.new.self c.args.message.now
     c.judge_view.new.message)
     (sym
-    (read_ok s c.args.sig_text.now t c.args.self.now.chosen kept.file (options_are c.args.self.now s kept)
+    (read_ok s c.args.sig_text.now t c.args.self.now.chosen state_held.file
+    (options_are c.args.self.now s state_held)
     (ap is_utf8 file ∙ is_utf8-from_IsUtf8 c.args.file.now utf8) read))
-    (c.judge_view.ensures.leads s t kept (file ∙ sym same) view)
+    (c.judge_view.ensures.leads s t state_held (file ∙ sym same) view)
 
 pub returns-in-Err-read_text-clause-leads : goal.returns-in-Err-read_text-clause-leads
-returns-in-Err-read_text-clause-leads c = λ s kept file.
+returns-in-Err-read_text-clause-leads c = λ s state_held file.
     let (same, utf8) = c.in-Ok.ensures.cases in
     subst (λ j.
     SignatureLeads j c.args.time s c.refuse.result c.refuse.new.self c.args.message.now c.args.message.now)
     (sym (read_err s c.args.sig_text.now _ (ap is_utf8 file ∙ is_utf8-from_IsUtf8 c.args.file.now utf8)
     (failed _ _ c.in-Err-read_text.ensures)))
-    (refused _ _ s _ _ _ (c.refuse.ensures.leads s kept) c.refuse.ensures.none c.refuse.ensures.refused)
+    (refused _ _ s _ _ _ (c.refuse.ensures.leads s state_held) c.refuse.ensures.none c.refuse.ensures.refused)
 
 pub returns-in-Err-clause-leads : goal.returns-in-Err-clause-leads
-returns-in-Err-clause-leads c = λ s kept file.
+returns-in-Err-clause-leads c = λ s state_held file.
     subst (λ j.
     SignatureLeads j c.args.time s c.refuse-in-Err.result c.refuse-in-Err.new.self c.args.message.now
     c.args.message.now)
     (sym (no_name s c.args.sig_text.now
     (ap is_utf8 file ∙ not_utf8 c.args.file.now c.in-Err.ensures.cases.0)
     ∙ ap (λ e. Err e) (sym c.into.ensures)))
-    (refused _ _ s _ _ _ (c.refuse-in-Err.ensures.leads s kept) c.refuse-in-Err.ensures.none
+    (refused _ _ s _ _ _ (c.refuse-in-Err.ensures.leads s state_held) c.refuse-in-Err.ensures.none
     c.refuse-in-Err.ensures.refused)

@@ -1,14 +1,14 @@
 use Rattle.std.proofs.Common.{◌∙◌, ap, subst, sym}
 use Rattle.minisign_install.specs.Decisions.{judge_keys}
 use Rattle.minisign_install.specs.Installations.{SignatureLeads, given}
-use Rattle.minisign_install.proofs.Kept.{options_are}
+use Rattle.minisign_install.proofs.HeldStates.{options_are}
 use Rattle.minisign_install.proofs.installation.progress.Progress.judge_view.Goals as goal
 
 pub returns-in-Ok-clause-leads : goal.returns-in-Ok-clause-leads
-returns-in-Ok-clause-leads c = λ s t kept file view.
-    let (judged, whole) = c.in-Ok.ensures t kept.file view in
+returns-in-Ok-clause-leads c = λ s t state_held file view.
+    let (judged, whole) = c.in-Ok.ensures t state_held.file view in
     subst (λ j.
     SignatureLeads j c.args.time s c.accept_text.result c.accept_text.new.self c.args.message.now
     c.accept_text.new.message)
-    (sym (ap (λ o. judge_keys o (given c.args.self.now.chosen t) t) (options_are c.args.self.now s kept)
-    ∙ judged)) (c.accept_text.ensures.leads s t kept file view whole)
+    (sym (ap (λ o. judge_keys o (given c.args.self.now.chosen t) t) (options_are c.args.self.now s state_held)
+    ∙ judged)) (c.accept_text.ensures.leads s t state_held file view whole)

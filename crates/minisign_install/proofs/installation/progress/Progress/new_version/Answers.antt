@@ -1,13 +1,13 @@
 use Rattle.std.proofs.Common.{◌∙◌, sym}
-use Rattle.minisign_install.proofs.Kept.{version_back, version_on}
+use Rattle.minisign_install.proofs.HeldStates.{version_back, version_on}
 use Rattle.minisign_install.proofs.installation.progress.Progress.new_version.Goals as goal
 
 pub returns-then-is_rolling_back : goal.returns-then-is_rolling_back
-returns-then-is_rolling_back c = λ s kept.
-    let is = sym (c.is_rolling_back.ensures s kept) ∙ c.if-is_rolling_back.true in
-    sym (version_back c.args.self.now s kept is)
+returns-then-is_rolling_back c = λ s state_held.
+    let is = sym (c.is_rolling_back.ensures s state_held) ∙ c.if-is_rolling_back.true in
+    sym (version_back c.args.self.now s state_held is)
 
 pub returns-else-is_rolling_back : goal.returns-else-is_rolling_back
-returns-else-is_rolling_back c = λ s kept.
-    let is = sym (c.is_rolling_back.ensures s kept) ∙ c.if-is_rolling_back.false in
-    sym (version_on c.args.self.now s kept is)
+returns-else-is_rolling_back c = λ s state_held.
+    let is = sym (c.is_rolling_back.ensures s state_held) ∙ c.if-is_rolling_back.false in
+    sym (version_on c.args.self.now s state_held is)

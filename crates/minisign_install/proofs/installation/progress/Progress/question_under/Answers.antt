@@ -1,9 +1,10 @@
 use Rattle.std.proofs.Common.{◌∙◌, ap, sym}
 use Rattle.minisign_install.specs.Installations.{question_of}
-use Rattle.minisign_install.proofs.Kept.{due_is}
+use Rattle.minisign_install.proofs.HeldStates.{due_is}
 use Rattle.minisign_install.proofs.installation.progress.Progress.question_under.Goals as goal
 
 pub returns-in-CheckComment : goal.returns-in-CheckComment
-returns-in-CheckComment c = λ s kept.
-    c.comment_question.ensures s kept
-    ∙ ap (λ op. question_of op c.args.key s) (c.in-CheckComment.ensures ∙ sym (due_is c.args.self.now s kept))
+returns-in-CheckComment c = λ s state_held.
+    c.comment_question.ensures s state_held
+    ∙ ap (λ op. question_of op c.args.key s) (c.in-CheckComment.ensures
+    ∙ sym (due_is c.args.self.now s state_held))

@@ -1,5 +1,5 @@
 use Rattle.minisign_install.proofs.Judged.{found, last, passed}
-use Rattle.minisign_install.proofs.installation.judging.alone_fault.Goals as goal
+use Rattle.minisign_install.proofs.installation.judging.comment_only_fault.Goals as goal
 
 pub returns-in-Some-version_fault : goal.returns-in-Some-version_fault
 returns-in-Some-version_fault c =

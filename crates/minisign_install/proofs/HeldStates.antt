@@ -23,7 +23,8 @@ use Rattle.minisign_install.specs.Installations.{IsNewRecord, IsWritten}
 use Rattle.hex.specs.Hex.{IsBytes}
 use Rattle.minisign_hash.specs.Blake2b.{blake2b_digest}
 use Rattle.minisign_install.proofs.RecordTexts.{digest_bytes, length_digest, reads_back}
-use Rattle.minisign_install.specs.Installations.{IsKept, IsOwnNumber, IsStored, IsStoredIf, Leads, Steps}
+use Rattle.minisign_install.specs.Installations.{HoldsState, IsOwnNumber, IsStored, IsStoredIf, RunLeadsTo}
+use Rattle.minisign_install.specs.Installations.{Steps}
 use Rattle.minisign_install.specs.Installations.{begun_mark, error_number, is_copying}
 use Rattle.minisign_install.specs.Installations.{is_locking, is_over, is_reading, is_reading_target}
 use Rattle.minisign_install.specs.Installations.{is_reading_record, is_removing, operation_of, options_of}
@@ -45,23 +46,24 @@ use Rattle.minisign_install.specs.declared.installation.progress.RecordedValue.{
 
 -- == The struct ==
 
-pub due_is : (p : Progress) (s : State) → IsKept p s → s.due ≡ operation_of p.due
-due_is p s kept = ap (λ (x : State). x.due) kept.state
+pub due_is : (p : Progress) (s : State) → HoldsState p s → s.due ≡ operation_of p.due
+due_is p s state_held = ap (λ (x : State). x.due) state_held.state
 
-pub error_is : (p : Progress) (s : State) → IsKept p s → p.error ≡ error_number s.error
-error_is p s kept = kept.error_number ∙ ap error_number (sym (ap (λ (x : State). x.error) kept.state))
+pub error_is : (p : Progress) (s : State) → HoldsState p s → p.error ≡ error_number s.error
+error_is p s state_held = state_held.error_number
+    ∙ ap error_number (sym (ap (λ (x : State). x.error) state_held.state))
 
 pub with_error : (p : Progress) (s : State) (n : ℕ) (fault : InstallFault) → n ≡ install_number fault
-    → IsKept p s → IsKept (record p { error = n }) (record s { error = Some fault })
-with_error p s n fault is kept = record {
-  file = kept.file;
-  read = kept.read;
-  fault = kept.fault;
+    → HoldsState p s → HoldsState (record p { error = n }) (record s { error = Some fault })
+with_error p s n fault is state_held = record {
+  file = state_held.file;
+  read = state_held.read;
+  fault = state_held.fault;
   error = Some fault;
-  state = ap (λ (x : State). record x { error = Some fault }) kept.state;
-  fault_number = kept.fault_number;
+  state = ap (λ (x : State). record x { error = Some fault }) state_held.state;
+  fault_number = state_held.fault_number;
   error_number = is;
-  fed = kept.fed;
+  fed = state_held.fed;
 }
 
 -- == Results ==
@@ -94,13 +96,13 @@ pub calm : (e : Option InstallFault) → Ok tt ≡ result_of e e
 calm None = refl
 calm (Some f) = refl
 
-pub rejected : (p q : Progress) (s : State) (fault : InstallFault) (op : Operation) → IsKept p s
+pub rejected : (p q : Progress) (s : State) (fault : InstallFault) (op : Operation) → HoldsState p s
     → op ≡ (if has_files (operation_of p.due) then due.RemoveFiles else due.Rejected)
-    → IsKept q (go op (record s { error = Some fault })) → IsKept q (reject fault s)
-rejected p q s fault op kept is after_it =
-    subst (λ (d : Operation). IsKept q (record s { due = d; error = Some fault }))
+    → HoldsState q (go op (record s { error = Some fault })) → HoldsState q (reject fault s)
+rejected p q s fault op state_held is after_it =
+    subst (λ (d : Operation). HoldsState q (record s { due = d; error = Some fault }))
     (is ∙ ap (λ (d : Operation). if has_files d then due.RemoveFiles else due.Rejected)
-    (sym (due_is p s kept))) after_it
+    (sym (due_is p s state_held))) after_it
 
 -- A state that is reached without an error.
 pub quiet : (s t : State) → t.error ≡ s.error → Ok tt ≡ result_of s.error t.error
@@ -122,50 +124,51 @@ digest_error a s = pick_error (not a && is_rolling_back s) _ _ s.error refl refl
 
 -- == The record ==
 
-pub recorded_as : (p : Progress) (s : State) (n : ℕ) (b : Bool) → (n == 1) ≡ b → IsKept p s
-    → IsKept (record p { is_recorded = n }) (record s { is_recorded = b })
-recorded_as p s n b is kept = record {
-  file = kept.file;
-  read = kept.read;
-  fault = kept.fault;
-  error = kept.error;
-  state = ap (λ (x : State). record x { is_recorded = b }) kept.state
-      ∙ ap (λ (a : Bool). record (state_of p kept.file kept.read kept.fault kept.error) { is_recorded = a })
+pub recorded_as : (p : Progress) (s : State) (n : ℕ) (b : Bool) → (n == 1) ≡ b → HoldsState p s
+    → HoldsState (record p { is_recorded = n }) (record s { is_recorded = b })
+recorded_as p s n b is state_held = record {
+  file = state_held.file;
+  read = state_held.read;
+  fault = state_held.fault;
+  error = state_held.error;
+  state = ap (λ (x : State). record x { is_recorded = b }) state_held.state
+      ∙ ap (λ (a : Bool). record (state_of p state_held.file state_held.read state_held.fault
+      state_held.error) { is_recorded = a })
       (sym is);
-  fault_number = kept.fault_number;
-  error_number = kept.error_number;
-  fed = kept.fed;
+  fault_number = state_held.fault_number;
+  error_number = state_held.error_number;
+  fed = state_held.fed;
 }
 
 pub digest_yes : (q : Progress) (s : State) (a : Bool) → a ≡ true
-    → IsKept q (go due.ReadTarget (record s { is_recorded = true })) → IsKept q (after_digest a s)
-digest_yes q s a is kept = subst (λ (b : Bool). IsKept q (after_digest b s)) (sym is) kept
+    → HoldsState q (go due.ReadTarget (record s { is_recorded = true })) → HoldsState q (after_digest a s)
+digest_yes q s a is state_held = subst (λ (b : Bool). HoldsState q (after_digest b s)) (sym is) state_held
 
 pub digest_no : (q : Progress) (s : State) (a : Bool) → a ≡ false → is_rolling_back s ≡ false
-    → IsKept q (go due.ReadTarget (record s { is_recorded = false })) → IsKept q (after_digest a s)
-digest_no q s a is old kept =
-    subst (λ (b : Bool). IsKept q (after_digest b s)) (sym is)
+    → HoldsState q (go due.ReadTarget (record s { is_recorded = false })) → HoldsState q (after_digest a s)
+digest_no q s a is old state_held =
+    subst (λ (b : Bool). HoldsState q (after_digest b s)) (sym is)
     (subst (λ (b : Bool).
-    IsKept q (if b then install s else record s { due = due.ReadTarget; is_recorded = false }))
-    (sym old) kept)
+    HoldsState q (if b then install s else record s { due = due.ReadTarget; is_recorded = false }))
+    (sym old) state_held)
 
 -- The record was read.
-pub recorded_with : (p : Progress) (s : State) (r : RecordedValue) → IsKept p s
-    → IsKept (record p { recorded = r }) (record s { recorded = recorded_of r })
-recorded_with p s r kept = record {
-  file = kept.file;
-  read = kept.read;
-  fault = kept.fault;
-  error = kept.error;
-  state = ap (λ (x : State). record x { recorded = recorded_of r }) kept.state;
-  fault_number = kept.fault_number;
-  error_number = kept.error_number;
-  fed = kept.fed;
+pub recorded_with : (p : Progress) (s : State) (r : RecordedValue) → HoldsState p s
+    → HoldsState (record p { recorded = r }) (record s { recorded = recorded_of r })
+recorded_with p s r state_held = record {
+  file = state_held.file;
+  read = state_held.read;
+  fault = state_held.fault;
+  error = state_held.error;
+  state = ap (λ (x : State). record x { recorded = recorded_of r }) state_held.state;
+  fault_number = state_held.fault_number;
+  error_number = state_held.error_number;
+  fed = state_held.fed;
 }
 
-pub options_are : (p : Progress) (s : State) (kept : IsKept p s)
-    → s.options ≡ options_of p.chosen kept.file
-options_are p s kept = ap (λ (x : State). x.options) kept.state
+pub options_are : (p : Progress) (s : State) (state_held : HoldsState p s)
+    → s.options ≡ options_of p.chosen state_held.file
+options_are p s state_held = ap (λ (x : State). x.options) state_held.state
 
 pub record_at : (op : Operation) (found : Option (List ℕ)) (s : State) (r : Result Recorded InstallFault)
     → is_reading_record op ≡ true → judge_record s.options found ≡ r
@@ -212,15 +215,15 @@ below_when : (b : Bool) (v r : ℕ) → is_below (Some v) (when b r) ≡ true �
 below_when true v r is = refl
 below_when false v r is = absurd (true≢false (sym is))
 
-pub version_back : (p : Progress) (s : State) → IsKept p s → is_rolling_back s ≡ true
+pub version_back : (p : Progress) (s : State) → HoldsState p s → is_rolling_back s ≡ true
     → new_version s ≡ p.recorded.version
-version_back p s kept is =
-    rw is (rw kept.state (below_when (p.recorded.has_version == 1) p.judged.version p.recorded.version
-    (rw kept.state at is)))
+version_back p s state_held is =
+    rw is (rw state_held.state (below_when (p.recorded.has_version == 1) p.judged.version p.recorded.version
+    (rw state_held.state at is)))
 
-pub version_on : (p : Progress) (s : State) → IsKept p s → is_rolling_back s ≡ false
+pub version_on : (p : Progress) (s : State) → HoldsState p s → is_rolling_back s ≡ false
     → new_version s ≡ p.judged.version
-version_on p s kept is = rw is (ap (λ (x : State). x.version) kept.state)
+version_on p s state_held is = rw is (ap (λ (x : State). x.version) state_held.state)
 
 pub key_back : (s : State) (signer key : List ℕ) → key_of s.signers ≡ signer → is_rolling_back s ≡ true
     → key ≡ unwrap_or s.recorded.key signer → key ≡ new_key s
@@ -230,12 +233,12 @@ pub key_on : (s : State) (signer : List ℕ) → key_of s.signers ≡ signer →
     → signer ≡ new_key s
 key_on s signer first is = rw is (sym first)
 
-pub numbering_is : (p : Progress) (s : State) → IsKept p s
+pub numbering_is : (p : Progress) (s : State) → HoldsState p s
     → s.options.numbering ≡ numbering_of p.chosen.numbering
-numbering_is p s kept = ap (λ (x : State). x.options.numbering) kept.state
+numbering_is p s state_held = ap (λ (x : State). x.options.numbering) state_held.state
 
-pub read_is : (p : Progress) (s : State) (kept : IsKept p s) → s.read ≡ kept.read
-read_is p s kept = ap (λ (x : State). x.read) kept.state
+pub read_is : (p : Progress) (s : State) (state_held : HoldsState p s) → s.read ≡ state_held.read
+read_is p s state_held = ap (λ (x : State). x.read) state_held.state
 
 pub not_writing : (s : State) (op : Operation) (n : ℕ) (old new : List ℕ) → s.due ≡ op
     → is_writing_record op ≡ false → n ≡ 0 → new ≡ old → written_if (record_due s) n old new
@@ -277,17 +280,17 @@ new_record_is s numbering n key digest numbered version named fits bound whole a
 
 -- == The comment ==
 
-pub signed : (p : Progress) (s : State) → IsKept p s
-    → IsKept (record p { is_signed = 1 }) (record s { is_signed = true })
-signed p s kept = record {
-  file = kept.file;
-  read = kept.read;
-  fault = kept.fault;
-  error = kept.error;
-  state = ap (λ (x : State). record x { is_signed = true }) kept.state;
-  fault_number = kept.fault_number;
-  error_number = kept.error_number;
-  fed = kept.fed;
+pub signed : (p : Progress) (s : State) → HoldsState p s
+    → HoldsState (record p { is_signed = 1 }) (record s { is_signed = true })
+signed p s state_held = record {
+  file = state_held.file;
+  read = state_held.read;
+  fault = state_held.fault;
+  error = state_held.error;
+  state = ap (λ (x : State). record x { is_signed = true }) state_held.state;
+  fault_number = state_held.fault_number;
+  error_number = state_held.error_number;
+  fed = state_held.fed;
 }
 
 pub fault_found : (f : Option InstallFault) (n : ℕ) (r : Option InstallFault) → IsOwnNumber n f
@@ -300,17 +303,18 @@ fault_found (Some f) n r (is, own) found holds = found f own is
 -- == Steps ==
 
 abbrev StepsTo : Event → State → Result Unit (Refusal InstallFault) → Progress → Option State → Type 0
-StepsTo e s r q o = IsKept q (answer s o).1 × (r ≡ (answer s o).0)
+StepsTo e s r q o = HoldsState q (answer s o).1 × (r ≡ (answer s o).0)
 
 pub fits : (s t : State) (e : Event) (p q : Progress) (r : Result Unit (Refusal InstallFault))
-    → IsKept p s → after (operation_of p.due) e s ≡ Some t → Leads s t r q → Steps e s r q
-fits s t e p q r kept is leads =
-    subst (StepsTo e s r q) (sym (ap (λ (op : Operation). after op e s) (due_is p s kept) ∙ is)) leads
+    → HoldsState p s → after (operation_of p.due) e s ≡ Some t → RunLeadsTo s t r q → Steps e s r q
+fits s t e p q r state_held is leads =
+    subst (StepsTo e s r q) (sym (ap (λ (op : Operation). after op e s) (due_is p s state_held) ∙ is)) leads
 
-pub misfits : (s : State) (e : Event) (p : Progress) (r : Result Unit (Refusal InstallFault)) → IsKept p s
+pub misfits : (s : State) (e : Event) (p : Progress) (r : Result Unit (Refusal InstallFault)) → HoldsState p s
     → after (operation_of p.due) e s ≡ None → r ≡ Err (WrongUse NotDue) → Steps e s r p
-misfits s e p r kept is wrong =
-    subst (StepsTo e s r p) (sym (ap (λ (op : Operation). after op e s) (due_is p s kept) ∙ is)) (kept, wrong)
+misfits s e p r state_held is wrong =
+    subst (StepsTo e s r p) (sym (ap (λ (op : Operation). after op e s) (due_is p s state_held)
+    ∙ is)) (state_held, wrong)
 
 pub comment_yes : (op : Operation) (a : Bool) (s : State) → op ≡ due.CheckComment → a ≡ true
     → after op (Answered a) s ≡ Some (after_comment s.fault (record s { is_signed = true }))
@@ -348,7 +352,7 @@ no_answer_at _ a s comment recorded target data_is = refl
 -- == An installation ==
 
 pub stored : (i : Installation) (s : State) → (i.mark == begun_mark) ≡ true → IsStored i s
-    → IsKept i.progress s
+    → HoldsState i.progress s
 stored i s is held = subst (λ (b : Bool). IsStoredIf b i.progress s) is held
 
 pub unbegun : (i : Installation) (s : State) → (i.mark == begun_mark) ≡ false → IsStored i s
@@ -358,8 +362,8 @@ unbegun i s is held = subst (λ (b : Bool). IsStoredIf b i.progress s) is held
 pub begun_steps : (i : Installation) (p : Progress) (s : State) (e : Event)
     (r : Result Unit (Refusal InstallFault)) → (i.mark == begun_mark) ≡ true → Steps e s r p
     → IsStored (record i { progress = p }) (step s e).1 × (r ≡ (step s e).0)
-begun_steps i p s e r is (kept, result) =
-    (subst (λ (b : Bool). IsStoredIf b p (step s e).1) (sym is) kept, result)
+begun_steps i p s e r is (state_held, result) =
+    (subst (λ (b : Bool). IsStoredIf b p (step s e).1) (sym is) state_held, result)
 
 nothing_at : (e : Event) (s : State) → after due.Nothing e s ≡ None
 nothing_at Done s = refl

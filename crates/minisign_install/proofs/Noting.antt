@@ -1,0 +1,524 @@
+-- A trace that is recorded in full is accepted.
+use Rattle.std.specs.Prelude.{◌≡◌, ◌<◌, ◌≤◌, ◌==◌, ◌&&◌, ◌||◌, ◌++◌, ◌⊎◌, ◌-◌, ℕ, Bool, true, false, not}
+use Rattle.std.specs.Prelude.{List, [], ◌∷◌, Option, Some, None, option_map, is_some, Result, Ok, Err}
+use Rattle.std.specs.Prelude.{bytes_eq, length, nat_le, IfSome, if◌then◌else◌}
+use Rattle.std.proofs.Common.{append_assoc, drop, take, ◌+◌}
+use Rattle.std.proofs.Common.{refl, inl, inr, sym, ap, ◌∙◌, arith, true≢false, eq-eqb, Bor}
+use Rattle.std.proofs.Math.Seq.{drop-append_seam, take-append-add, take-append_seam}
+use Rattle.std.proofs.lemmas.Option.{none-some, same_Some}
+use Rattle.std.proofs.lemmas.Slice.Eq.{bytes_eq-Decides}
+use Rattle.minisign_external.specs.declared.public_keys.PublicKeyValue.{PublicKeyValue}
+use Rattle.minisign.specs.SignatureText.{SignatureTextRecord}
+use Rattle.minisign_install.specs.Applications.{File, Snapshot, Performs, content}
+use Rattle.minisign_install.specs.Decisions.{Recorded, judge_record, judge_text}
+use Rattle.minisign_base.specs.declared.faults.NamedFault.TheVariants as named
+use Rattle.minisign_install.specs.Faults.{Fault, InstallFault, Library, Named, OtherSize, SameNumber}
+use Rattle.minisign_install.specs.Faults.{TargetInUse}
+use Rattle.minisign_install.specs.Step.{Event, Operation, State, after, answer, step}
+use Rattle.minisign_install.specs.Step as due
+use Rattle.minisign_install.specs.StepRuns.{IsAnswer, World, asks}
+use Rattle.minisign_install.specs.Installations.{IsTooLong, comment_message, reads_into, signature_read}
+use Rattle.minisign_install.specs.Decisions.{Options}
+use Rattle.minisign.specs.SignatureText.{read_signature}
+use Rattle.minisign_external.specs.PublicKeys.{read_utf8}
+use Rattle.minisign_external.specs.declared.state.Misuse.TheVariants.{NotDue}
+use Rattle.minisign_install.specs.Installations.{about, first_key, question_by, question_due}
+use Rattle.minisign_install.specs.declared.installation.Question.{Question}
+use Rattle.minisign_external.specs.declared.state.Misuse.{Misuse}
+use Rattle.minisign_external.specs.declared.state.Refusal.{Refusal}
+use Rattle.minisign_external.specs.declared.state.Refusal.TheVariants.{WrongUse}
+use Rattle.minisign_hash.specs.Blake2b.{blake2b_digest}
+use Rattle.minisign_install.specs.Traces.{IsReadFrom, is_reported}
+use Rattle.minisign_install.specs.Traces.{MessageFits, IsAsked, IsWhole, StateKnows}
+use Rattle.std.specs.Prelude.{replicate, ◌≢◌}
+use Rattle.std.proofs.Common.{length-append}
+use Rattle.std.proofs.lemmas.Bool.{eqb-true, ne_eqb}
+use Rattle.minisign_install.specs.Traces.{CanGrow, IsDoneAs, IsNoted, IsPieceOf, IsSeen, Seen}
+use Rattle.minisign_install.specs.Traces.{affected, bytes_seen, event_of, has_failed, is_done, is_effect}
+use Rattle.minisign_install.specs.Traces.{is_read, seen, seen_as, world_of}
+use Rattle.minisign_install.specs.declared.traces.Effect.{Effect}
+use Rattle.minisign_install.specs.declared.traces.Effect.TheVariants as effect
+use Rattle.minisign_install.specs.declared.traces.FileView.{FileView}
+use Rattle.minisign_install.specs.declared.traces.Files.{Files}
+use Rattle.minisign_install.specs.declared.traces.RunInputs.{RunInputs}
+use Rattle.minisign_install.specs.declared.traces.Report.{Report}
+use Rattle.minisign_install.specs.declared.traces.Report.TheVariants as report
+use Rattle.minisign_install.proofs.StepSafety.{Passed, text_parsed}
+use Rattle.minisign_install.proofs.Tracing.{bytes_are}
+
+pub are_same : (one other : List ℕ) → one ≡ other → bytes_eq one other ≡ true
+are_same one other is = (bytes_eq-Decides one other).1 is
+
+both_are : (a b : Bool) → a ≡ true → b ≡ true → (a && b) ≡ true
+both_are true b one other = other
+both_are false b one other = absurd (true≢false (sym one))
+
+-- The front and the piece, as they are cut out of the bytes.
+pub piece_cut : (whole front piece : List ℕ) → IsPieceOf whole front piece
+    → (take (length front) (take (length front + length piece) whole) ≡ front)
+    × (drop (length front) (take (length front + length piece) whole) ≡ piece)
+piece_cut whole front piece (rest, is) =
+    let grown : take (length front + length piece) whole ≡ front ++ piece =
+    ap (take (length front + length piece)) (is ∙ append_assoc front piece rest)
+    ∙ take-append-add front (piece ++ rest) (length piece)
+    ∙ ap (λ (l : List ℕ). front ++ l) (take-append_seam piece rest) in (
+      ap (take (length front)) grown ∙ take-append_seam front piece,
+      ap (drop (length front)) grown ∙ drop-append_seam front piece,
+    )
+
+pub is_longer : {A : Type 0} (x : A) (l : List A) → x ∷ l ≡ l → ⊥
+is_longer x l is = omega (arith, ap length is)
+
+-- == Files ==
+
+read_found : (place : Option File) (v : Option FileView) (number : ℕ) (read : List ℕ) (file : File)
+    → option_map seen place ≡ option_map seen_as v → place ≡ Some file → file.bytes ≡ read
+    → number ≡ file.number → is_read number read v ≡ true
+read_found (Some found) (Some v) number read file is at holds one =
+    let same = same_Some (seen found) (seen_as v) is in
+    let present : found ≡ file = same_Some found file at in
+    both_are (v.number == number) (bytes_eq v.bytes.now read)
+    (eq-eqb v.number number (sym (ap (λ (x : Seen). x.number) same) ∙ ap (λ (x : File). x.number) present
+    ∙ sym one))
+    (are_same v.bytes.now read (sym (ap (λ (x : Seen). x.bytes) same) ∙ ap (λ (x : File). x.bytes) present
+    ∙ holds))
+read_found (Some found) None number read file is at holds one = absurd (none-some (seen found) (sym is))
+read_found None v number read file is at holds one = absurd (none-some file at)
+
+pub content_is : (place : Option File) (v : Option FileView)
+    → option_map seen place ≡ option_map seen_as v → content place ≡ option_map (λ x. x.bytes.now) v
+content_is (Some file) (Some v) is =
+    ap (λ (x : Seen). Some x.bytes) (same_Some (seen file) (seen_as v) is)
+content_is (Some file) None is = absurd (none-some (seen file) (sym is))
+content_is None (Some v) is = absurd (none-some (seen_as v) is)
+content_is None None is = refl
+
+pub none_seen : (place : Option File) (v : Option FileView) → option_map seen place ≡ option_map seen_as v
+    → place ≡ None → v ≡ None
+none_seen (Some file) v is at = absurd (none-some file (sym at))
+none_seen None (Some v) is at = absurd (none-some (seen_as v) is)
+none_seen None None is at = refl
+
+-- == Operations ==
+
+pub done_found : (w : World) (s : State) (op : Operation) (did : Effect) (f : Files) (m : Snapshot)
+    (read update : List ℕ) → IsSeen f m → read ≡ s.read → w.update ≡ update
+    → Performs w s op due.Done m (affected did m) → is_effect op did ≡ true
+    → is_done op did f read update ≡ true
+done_found w s due.Lock effect.Locked f m read update present same offered done is =
+    ap not (sym present.busy ∙ done.0)
+done_found w s due.ReadTarget (effect.TargetOpened number) f m read update present same offered
+    (file, at, holds, one) is =
+    read_found m.target f.target number read file present.target at (holds ∙ sym same)
+    (same_Some number file.number (ap (λ (x : Snapshot). x.opened) one))
+done_found w s due.CopyData effect.Nothing f m read update present same offered done is =
+    are_same _ update (sym (bytes_are m.data_file f.data_file present.data_file) ∙ done.0 ∙ offered)
+done_found w s due.ReadBack effect.Nothing f m read update present same offered done is =
+    are_same read _ (same ∙ done.0 ∙ bytes_are m.data_file f.data_file present.data_file)
+done_found w s op did f m read update present same offered done is = is
+
+pub done_as : (s : State) (op : Operation) (did : Effect) → (op ≡ due.WriteRecord → ⊥) → IsDoneAs s op did
+    → is_effect op did ≡ true
+done_as s due.WriteRecord did other is = absurd (other refl)
+done_as s op did other is = is
+
+pub in_use_found : (w : World) (s : State) (op : Operation) (old new : Snapshot)
+    → Performs w s op due.InUse old new → (op ≡ due.Lock) × (old.busy ≡ true)
+in_use_found w s due.Lock old new is = (refl, is.0)
+in_use_found w s op old new is = absurd is
+
+pub record_found : (w : World) (s : State) (op : Operation) (found : Option (List ℕ)) (old new : Snapshot)
+    → Performs w s op (due.RecordRead found) old new
+    → (op ≡ due.ReadRecord) × (found ≡ w.found_record) × (found ≡ content old.recorded)
+record_found w s due.ReadRecord found old new is = (refl, is.0, is.1)
+record_found w s op found old new is = absurd is
+
+pub target_missed : (w : World) (s : State) (op : Operation) (old new : Snapshot)
+    → Performs w s op due.TargetMissing old new → (op ≡ due.ReadTarget) × (old.target ≡ None)
+target_missed w s due.ReadTarget old new is = (refl, is.0)
+target_missed w s op old new is = absurd is
+
+pub copy_found : (w : World) (s : State) (op : Operation) (n : ℕ) (old new : Snapshot)
+    → Performs w s op (due.PieceCopied n) old new → op ≡ due.CopyData
+copy_found w s due.CopyData n old new is = refl
+copy_found w s op n old new is = absurd is
+
+pub answer_found : (w : World) (s : State) (op : Operation) (accepted : Bool) (old new : Snapshot)
+    → Performs w s op (due.Answered accepted) old new → IsAnswer w s op accepted
+answer_found w s due.CheckComment accepted old new is = is.0
+answer_found w s op accepted old new is = is.0
+
+pub answer_leaves : (w : World) (s : State) (op : Operation) (accepted : Bool) (old new : Snapshot)
+    → Performs w s op (due.Answered accepted) old new → Performs w s op (due.Answered accepted) old old
+answer_leaves w s due.CheckComment accepted old new is = (is.0, refl)
+answer_leaves w s op accepted old new is = (is.0, refl)
+
+pub piece_some : (w : World) (s : State) (op : Operation) (bytes : List ℕ) (old new : Snapshot)
+    → Performs w s op (due.PieceRead bytes) old new → 0 < length bytes
+piece_some w s due.ReadTarget bytes old new is = is.0
+piece_some w s due.ReadBack bytes old new is = is.0
+piece_some w s op bytes old new is = absurd is
+
+pub piece_leaves : (w : World) (s : State) (op : Operation) (bytes : List ℕ) (old new : Snapshot)
+    → Performs w s op (due.PieceRead bytes) old new → Performs w s op (due.PieceRead bytes) old old
+piece_leaves w s due.ReadTarget bytes old new is = (is.0, is.1, refl)
+piece_leaves w s due.ReadBack bytes old new is = (is.0, is.1, refl)
+piece_leaves w s op bytes old new is = absurd is
+
+pub piece_due : (w : World) (s : State) (op : Operation) (bytes : List ℕ) (old new : Snapshot)
+    → Performs w s op (due.PieceRead bytes) old new → (op ≡ due.ReadTarget) ⊎ (op ≡ due.ReadBack)
+piece_due w s due.ReadTarget bytes old new is = inl refl
+piece_due w s due.ReadBack bytes old new is = inr refl
+piece_due w s op bytes old new is = absurd is
+
+-- == Events ==
+
+-- The signature file is read by another event.
+abbrev pub is_text : Event → Bool
+is_text (due.SignatureRead text time) = true
+is_text e = false
+
+pub other_text : (reported : Report)
+    → ((text : Bor (List ℕ)) (time : Option ℕ) → reported ≢ report.Signature text time)
+    → is_text (event_of reported) ≡ false
+other_text (report.Signature text time) other = absurd (other text time refl)
+other_text reported other = refl
+
+some_bytes : (n : ℕ) → 0 < n → not (n == 0) ≡ true
+some_bytes n some = ap not (ne_eqb n 0 (λ none. omega (arith, some, none)))
+
+pub other_reported : (w : World) (s : State) (reported : Report) (old new : Snapshot)
+    → ((text : Bor (List ℕ)) (time : Option ℕ) → reported ≢ report.Signature text time)
+    → Performs w s s.due (event_of reported) old new → is_reported reported ≡ true
+other_reported w s (report.Signature text time) old new other is = absurd (other text time refl)
+other_reported w s (report.Piece bytes) old new other is =
+    some_bytes (length bytes.now) (piece_some w s s.due bytes.now old new is)
+other_reported w s reported old new other is = refl
+
+-- == Data that is appended ==
+
+not_grown : {P : Type 0} (s : State) (op : Operation) (piece : Bor (List ℕ))
+    → IsDoneAs s op (effect.DataGrown piece) → P
+not_grown s due.WriteRecord piece is = absurd is
+not_grown s op piece is = absurd (true≢false (sym is))
+
+not_failed : {P : Type 0} (op : Operation) (piece : Bor (List ℕ))
+    → has_failed op (effect.DataGrown piece) ≡ true → P
+not_failed due.RenameRecord piece is = absurd (true≢false (sym is))
+not_failed op piece is = absurd (true≢false (sym is))
+
+no : {P : Type 0} → false ≡ true → P
+no is = absurd (true≢false (sym is))
+
+grows : (g : RunInputs) (s : State) (f : Files) (m : Snapshot) (source : List ℕ) (reported : Report)
+    (piece : Bor (List ℕ)) (new : Snapshot) → IsSeen f m
+    → Performs (world_of g) s s.due (event_of reported) m new
+    → IsNoted g s m source reported (effect.DataGrown piece)
+    → CanGrow s g.update.now (bytes_seen f.data_file) (effect.DataGrown piece)
+grows g s f m source report.Done piece new present done is = not_grown s s.due piece is
+grows g s f m source (report.Failed fault) piece new present done is = not_failed s.due piece is
+grows g s f m source (report.Signature text time) piece new present done is = no is.0
+grows g s f m source (report.Answered accepted) piece new present done is = no is.0
+grows g s f m source (report.Piece bytes) piece new present done is = no is.0
+grows g s f m source (report.Copied n) piece new present done (some, long, next) = (
+  copy_found (world_of g) s s.due n m new done,
+  (rw long some, refl, rw (bytes_are m.data_file f.data_file present.data_file) at next),
+)
+grows g s f m source reported piece new present done is = no is
+
+pub can_grow : (g : RunInputs) (s : State) (f : Files) (m : Snapshot) (source : List ℕ) (reported : Report)
+    (did : Effect) (new : Snapshot) → IsSeen f m → Performs (world_of g) s s.due (event_of reported) m new
+    → IsNoted g s m source reported did → CanGrow s g.update.now (bytes_seen f.data_file) did
+can_grow g s f m source reported (effect.DataGrown piece) new present done is =
+    grows g s f m source reported piece new present done is
+can_grow g s f m source reported did new present done is = tt
+
+pub read_from : (g : RunInputs) (s : State) (m : Snapshot) (source : List ℕ) (reported : Report)
+    (did : Effect)
+    → IsNoted g s m source reported did → IsReadFrom s source reported
+read_from g s m source (report.Piece bytes) did is = is.1
+read_from g s m source reported did is = tt
+
+-- == The question about the comment ==
+
+pub not_at_first : (check : Bool) → (if check then due.ReadRecord else due.Lock) ≡ due.CheckComment → ⊥
+not_at_first true = λ at. cc at
+not_at_first false = λ at. cc at
+
+abbrev Not : Operation → Type 0
+Not op = op ≡ due.CheckComment → ⊥
+
+rejected : (is : Bool) → Not (if is then due.RemoveFiles else due.Rejected)
+rejected true = λ at. cc at
+rejected false = λ at. cc at
+
+reject : (fault : InstallFault) (s : State) → Not (due.reject fault s).due
+reject fault s = rejected (due.has_files s.due)
+
+begins : (check : Bool) → Not (if check then due.WouldInstall else due.RemoveLeftovers)
+begins true = λ at. cc at
+begins false = λ at. cc at
+
+install : (s : State) → Not (due.install s).due
+install s = begins s.options.check
+
+either : (is : Bool) (x y : State) → Not x.due → Not y.due → Not (if is then x else y).due
+either true x y one other = one
+either false x y one other = other
+
+after_record : (r : Result Recorded InstallFault) (s : State) → Not (due.after_record r s).due
+after_record (Ok r) s = λ at. cc at
+after_record (Err fault) s = reject fault s
+
+after_digest : (accepted : Bool) (s : State) → Not (due.after_digest accepted s).due
+after_digest accepted s =
+    either (not accepted && due.is_rolling_back s) (due.install s)
+    (record s { due = due.ReadTarget; is_recorded = accepted }) (install s) (λ at. cc at)
+
+target_is_update : (check : Bool) → Not (if check then due.AlreadyInstalled else due.SyncTarget)
+target_is_update true = λ at. cc at
+target_is_update false = λ at. cc at
+
+after_target : (accepted : Bool) (s : State) → Not (due.after_target accepted s).due
+after_target true s = target_is_update s.options.check
+after_target false s =
+    either (s.is_recorded || s.options.again) (due.install s) (due.reject SameNumber s) (install s)
+    (reject SameNumber s)
+
+after_piece : (n : ℕ) (left : Option ℕ) (s : State) → s.due ≡ due.CopyData
+    → Not (due.after_piece n left s).due
+after_piece n None s at = λ is. cc (at, is)
+after_piece n (Some left) s at =
+    either (nat_le n left) (record s { left = Some (left - n) }) (due.reject OtherSize s)
+    (λ is. cc (at, is)) (reject OtherSize s)
+
+after_copy : (left : Option ℕ) (s : State) → Not (due.after_copy left s).due
+after_copy None s = λ at. cc at
+after_copy (Some left) s =
+    either (left == 0) (due.go due.ReadBack s) (due.reject OtherSize s) (λ at. cc at) (reject OtherSize s)
+
+abbrev Stays : Operation → State → Type 0
+Stays op t = t.due ≡ due.CheckComment → op ≡ due.CheckComment
+
+never : (op : Operation) (t : State) → Not t.due → Stays op t
+never op t other = λ is. absurd (other is)
+
+maybe : (op : Operation) (is : Bool) (t : State) → Stays op t
+    → IfSome (if is then Some t else None) (Stays op)
+maybe op true t holds = holds
+maybe op false t holds = tt
+
+always : (r : Option State) → IfSome r (Stays due.CheckComment)
+always (Some t) = λ is. refl
+always None = tt
+
+stays : (op : Operation) (e : Event) (s : State) → s.due ≡ op → is_text e ≡ false
+    → IfSome (after op e s) (Stays op)
+stays due.CheckComment e s at other = always (after due.CheckComment e s)
+stays due.Nothing (due.Failed f) s at other = tt
+stays due.Installed (due.Failed f) s at other = tt
+stays due.AlreadyInstalled (due.Failed f) s at other = tt
+stays due.WouldInstall (due.Failed f) s at other = tt
+stays due.Rejected (due.Failed f) s at other = tt
+stays due.RemoveFiles (due.Failed f) s at other =
+    maybe due.RemoveFiles (due.is_failure f) (due.go due.Rejected s) (λ is. cc is)
+stays op (due.Failed f) s at other =
+    maybe op (due.is_failure f) (due.reject (due.failure s.due f) s)
+    (never op (due.reject (due.failure s.due f) s) (reject (due.failure s.due f) s))
+stays due.ReadSignature (due.SignatureRead text time) s at other = absurd (true≢false other)
+stays due.Lock due.InUse s at other = λ is. absurd (reject TargetInUse s is)
+stays due.ReadRecord (due.RecordRead found) s at other =
+    λ is. absurd (after_record (judge_record s.options found) s is)
+stays due.CheckRecord (due.Answered accepted) s at other = λ is. absurd (after_digest accepted s is)
+stays due.ReadTarget (due.PieceRead bytes) s at other = λ is. cc (at, is)
+stays due.ReadTarget due.TargetMissing s at other = λ is. absurd (install s is)
+stays due.CheckTarget (due.Answered accepted) s at other = λ is. absurd (after_target accepted s is)
+stays due.CopyData (due.PieceCopied n) s at other = λ is. absurd (after_piece n s.left s at is)
+stays due.CopyData due.Done s at other = λ is. absurd (after_copy s.left s is)
+stays due.ReadBack (due.PieceRead bytes) s at other = λ is. cc (at, is)
+stays due.CheckData (due.Answered true) s at other = λ is. cc is
+stays due.CheckData (due.Answered false) s at other =
+    λ is. absurd (reject (Library (Named named.SignatureRefused)) s is)
+stays due.Lock due.Done s at other = λ is. cc is
+stays due.ReadTarget due.Done s at other = λ is. cc is
+stays due.SyncTarget due.Done s at other = λ is. cc is
+stays due.SyncTargetName due.Done s at other = λ is. cc is
+stays due.RemoveLeftovers due.Done s at other = λ is. cc is
+stays due.CreateFile due.Done s at other = λ is. cc is
+stays due.ReadBack due.Done s at other = λ is. cc is
+stays due.SetPermissions due.Done s at other = λ is. cc is
+stays due.SyncFile due.Done s at other = λ is. cc is
+stays due.CreateRecord due.Done s at other = λ is. cc is
+stays due.WriteRecord due.Done s at other = λ is. cc is
+stays due.SyncRecord due.Done s at other = λ is. cc is
+stays due.RenameRecord due.Done s at other = λ is. cc is
+stays due.SyncRecordName due.Done s at other = λ is. cc is
+stays due.RenameFile due.Done s at other = λ is. cc is
+stays due.SyncFileName due.Done s at other = λ is. cc is
+stays due.RemoveFiles due.Done s at other = λ is. cc is
+stays op e s at other = tt
+
+moved : (s : State) (next : Option State) → is_some next ≡ true → IfSome next (Stays s.due)
+    → (answer s next).1.due ≡ due.CheckComment → s.due ≡ due.CheckComment
+moved s (Some t) is holds = holds
+moved s None is holds = absurd (true≢false (sym is))
+
+-- The question about the comment is due before each event but this one, if it is due afterwards.
+pub stays_asked : (s : State) (e : Event) → is_some (after s.due e s) ≡ true → is_text e ≡ false
+    → (step s e).1.due ≡ due.CheckComment → s.due ≡ due.CheckComment
+stays_asked s e fits other is = moved s (after s.due e s) fits (stays s.due e s refl other) is
+
+-- == Results ==
+
+result_proper : (before now : Option InstallFault) (m : Misuse)
+    → due.result_of before now ≡ Err (WrongUse m) → ⊥
+result_proper None (Some fault) m is = cc is
+result_proper before now m is = cc is
+
+taken_at : (s : State) (next : Option State) (r : Result Unit (Refusal InstallFault))
+    → r ≡ (answer s next).0 → is_some next ≡ true → (m : Misuse) → r ≡ Err (WrongUse m) → ⊥
+taken_at s (Some t) r same is m wrong = result_proper s.error t.error m (sym same ∙ wrong)
+taken_at s None r same is m wrong = true≢false (sym is)
+
+-- An event that fits is taken.
+pub taken_result : (s : State) (e : Event) (r : Result Unit (Refusal InstallFault)) → r ≡ (step s e).0
+    → is_some (after s.due e s) ≡ true → (m : Misuse) → r ≡ Err (WrongUse m) → ⊥
+taken_result s e r same is m wrong = taken_at s (after s.due e s) r same is m wrong
+
+taken_fits : (s : State) (next : Option State) (r : Result Unit (Refusal InstallFault))
+    → r ≡ (answer s next).0 → (r ≡ Err (WrongUse NotDue) → ⊥) → is_some next ≡ true
+taken_fits s (Some t) r same proper = refl
+taken_fits s None r same proper = absurd (proper same)
+
+text_due : (op : Operation) (text : Result SignatureTextRecord Fault) (time : Option ℕ) (s : State)
+    → is_some (after op (due.SignatureRead text time) s) ≡ true → op ≡ due.ReadSignature
+text_due due.ReadSignature text time s is = refl
+text_due op text time s is = absurd (true≢false (sym is))
+
+no_change : (e : Option InstallFault) (r : Refusal InstallFault) → due.result_of e e ≡ Err r → ⊥
+no_change None r is = cc is
+no_change (Some fault) r is = cc is
+
+not_whole : (judged : Passed) (time : Option ℕ) (s : State) (r : Refusal InstallFault)
+    → due.result_of s.error (due.after_signature judged time s).error ≡ Err r
+    → (due.after_signature judged time s).due ≡ due.CheckComment → ⊥
+not_whole (Ok (t, keys)) time s r is = absurd (no_change s.error r is)
+not_whole (Err fault) time s r is = reject (Library fault) s
+
+not_due : (op : Operation) (text : Result SignatureTextRecord Fault) (time : Option ℕ) (s : State)
+    (r : Refusal InstallFault) → op ≡ due.ReadSignature
+    → (answer s (after op (due.SignatureRead text time) s)).0 ≡ Err r
+    → (answer s (after op (due.SignatureRead text time) s)).1.due ≡ due.CheckComment → ⊥
+not_due due.ReadSignature text time s r at is = not_whole (judge_text s.options text) time s r is
+not_due op text time s r at is = cc at
+
+too_long : (w : World) (o : Options) (text : Result SignatureTextRecord Fault) (judged : Passed)
+    (m message : List ℕ) → text ≡ w.text → judge_text o text ≡ judged → MessageFits w message
+    → comment_message judged ≡ Some m → length message < length m → ⊥
+too_long w o text (Ok (t, keys)) m message is judged room at long =
+    let parsed = sym is ∙ text_parsed w o text t keys judged in
+    omega (arith, room t parsed, long, ap length (same_Some _ m at))
+too_long w o text (Err e) m message is judged room at long = absurd (none-some m at)
+
+-- The signature file was taken: the message was written, or the run is rejected.
+pub text_taken : (w : World) (s : State) (text : List ℕ) (time : Option ℕ)
+    (r : Result Unit (Refusal InstallFault)) → r ≡ (step s (signature_read text time)).0
+    → (r ≡ Err (WrongUse NotDue) → ⊥)
+    → (s.due ≡ due.ReadSignature) × (is_some (after s.due (signature_read text time) s) ≡ true)
+text_taken w s text time r same proper =
+    let fits = taken_fits s (after s.due (signature_read text time) s) r same proper in
+    (text_due s.due _ time s fits, fits)
+
+pub text_refused : (w : World) (s : State) (text : List ℕ) (time : Option ℕ) (r : Refusal InstallFault)
+    (n : ℕ) (message : List ℕ) → s.due ≡ due.ReadSignature
+    → (step s (signature_read text time)).0 ≡ Err r
+    → IsWhole w (step s (signature_read text time)).1.due n message
+text_refused w s text time r n message at is =
+    λ asked t parsed. absurd (not_due s.due _ time s r at is asked)
+
+-- The message fits into the buffer.
+pub room_enough : (w : World) (s : State) (text : List ℕ) (message : List ℕ)
+    → w.text ≡ read_utf8 read_signature text → MessageFits w message
+    → IsTooLong (comment_message (reads_into s text)) (length message) → ⊥
+room_enough w s text message is room (m, at, long) =
+    too_long w s.options (read_utf8 read_signature text) (reads_into s text) m message (sym is) refl room at
+    long
+
+pub same_room : (w : World) (one other : List ℕ) → length one ≡ length other → MessageFits w other
+    → MessageFits w one
+same_room w one other same room = λ t parsed. rw same (room t parsed)
+
+-- == Questions ==
+
+-- The question about the comment.
+abbrev question_about : List ℕ → List ℕ → Question
+question_about key signature =
+    record { key = key; signature = signature; digest = replicate 64 0; is_comment = 1 }
+
+about_data : (key signature : List ℕ) (digest : Option (List ℕ)) (q : Question)
+    → option_map (about key signature) digest ≡ Some q → q.is_comment ≡ 0
+about_data key signature (Some d) q is =
+    ap (λ (x : Question). x.is_comment) (sym (same_Some (about key signature d) q is))
+about_data key signature None q is = absurd (none-some q is)
+
+one_or_other : {P : Type 0} (n : ℕ) → n ≡ 0 → n ≡ 1 → P
+one_or_other n none one = absurd (omega (arith, none, one))
+
+comment_key : (s : State) (op : Operation) (is : Bool) (key : Option (List ℕ)) (q : Question)
+    → question_by is key op s ≡ Some q → q.is_comment ≡ 1
+    → (is ≡ true) × (op ≡ due.CheckComment) × (key ≡ Some q.key) × (q.signature ≡ s.comment_signature)
+comment_key s due.CheckComment true (Some k) q is one = (
+  refl,
+  refl,
+  ap (λ (x : Question). Some x.key) (same_Some (question_about k s.comment_signature) q is),
+  ap (λ (x : Question). x.signature) (sym (same_Some (question_about k s.comment_signature) q is)),
+)
+comment_key s due.CheckRecord true (Some k) q is one =
+    one_or_other q.is_comment (about_data k s.signature s.recorded.digest q is) one
+comment_key s due.CheckTarget true (Some k) q is one =
+    one_or_other q.is_comment (about_data k s.signature (Some (blake2b_digest 64 s.read)) q is) one
+comment_key s due.CheckData true (Some k) q is one =
+    one_or_other q.is_comment (about_data k s.signature (Some (blake2b_digest 64 s.read)) q is) one
+comment_key s op true (Some k) q is one = absurd (none-some q is)
+comment_key s op true None q is one = absurd (none-some q is)
+comment_key s op false key q is one = absurd (none-some q is)
+
+key_is : (signers : List PublicKeyValue) (key : List ℕ) → first_key signers ≡ Some key
+    → due.key_of signers ≡ key
+key_is [] key is = absurd (none-some key is)
+key_is (v ∷ more) key is = same_Some v.key key is
+
+answered_at : (w : World) (s : State) (op : Operation) (accepted : Bool) → op ≡ due.CheckComment
+    → IsAnswer w s op accepted → (t : SignatureTextRecord) → w.text ≡ Ok t
+    → accepted ≡ asks w (due.comment_question s t.comments.trusted)
+answered_at w s due.CheckComment accepted at is = is
+answered_at w s op accepted at is = cc at
+
+-- The question is about the comment: the message has been written, and the answer is about it.
+pub comment_asked : (w : World) (file : List ℕ) (s : State) (n : ℕ) (message : List ℕ) (q : Question)
+    (accepted : Bool) (old new : Snapshot) → StateKnows w file s → IsWhole w s.due n message
+    → IsAsked w n message
+    → question_due s ≡ Some q → q.is_comment ≡ 1 → Performs w s s.due (due.Answered accepted) old new
+    → (0 < n) × (n ≤ length message) × (accepted ≡ w.accepts (take n message) q.key q.signature)
+comment_asked w file s n message q accepted old new knows whole asked is one performs =
+    let (full, at, key, signature) =
+    comment_key s s.due (length s.signature == 64) (first_key s.signers) q is one in
+    let (t, parsed) = knows.parsed at in
+    let (long, fits) = whole at t parsed in
+    let same = knows.signature at t parsed in
+    let some : 0 < n =
+    omega (
+      arith,
+      long,
+      length-append t.signature.signature t.comments.trusted,
+      ap length same,
+      eqb-true (length s.signature) 64 full,
+    ) in (
+      some,
+      fits,
+      answered_at w s s.due accepted at (answer_found w s s.due accepted old new performs) t parsed
+          ∙ ap (λ (l : List ℕ). w.accepts l (due.key_of s.signers) s.comment_signature)
+          (ap (λ (l : List ℕ). l ++ t.comments.trusted) same ∙ sym (asked some t parsed))
+          ∙ ap (λ (l : List ℕ). w.accepts (take n message) l s.comment_signature) (key_is s.signers q.key key)
+          ∙ ap (λ (l : List ℕ). w.accepts (take n message) q.key l) (sym signature),
+    )

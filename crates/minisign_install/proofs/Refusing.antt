@@ -1,0 +1,121 @@
+-- A lawful application whose run is rejected although no operation failed leaves target and record as they
+-- were.
+use Rattle.std.specs.Prelude.{◌≡◌, ◌==◌, ℕ, Bool, true, false, List, [], ◌∷◌, Option, Some, None, map}
+use Rattle.std.specs.Prelude.{if◌then◌else◌}
+use Rattle.std.proofs.Common.{refl, sym, ap}
+use Rattle.std.proofs.lemmas.Option.{none-some}
+use Rattle.minisign_install.specs.Applications.{Applies, Call, File, Snapshot, Performs, content, synced_if}
+use Rattle.minisign_install.specs.Decisions.{Options}
+use Rattle.minisign_install.specs.Histories.{AllCalls, AllEvents, LeavesContent}
+use Rattle.minisign_install.specs.Step.{Answered, Done, Event, Failed, InUse, Operation, PieceCopied}
+use Rattle.minisign_install.specs.Step.{PieceRead, RecordRead, SignatureRead, State, TargetMissing, begin}
+use Rattle.minisign_install.specs.Step.{step}
+use Rattle.minisign_install.specs.Step.{new_record}
+use Rattle.minisign_install.specs.Step as due
+use Rattle.minisign_install.specs.StepRuns.{AllSucceed, Changes, Disk, IsRun, EventIsTrue, Runs, Succeeds}
+use Rattle.minisign_install.specs.StepRuns.{World}
+use Rattle.minisign_install.specs.StepRuns.{count}
+use Rattle.minisign_install.proofs.Applications.{event_of}
+use Rattle.minisign_install.proofs.SafeCalls.{true_run}
+use Rattle.minisign_install.proofs.StepRefusals.{rejected_changes_nothing}
+
+-- A rename puts something on this disk, and nothing takes it away.
+abbrev nothing : Disk
+nothing = record { target = None; record_bytes = None }
+
+abbrev disk_after : Operation → Event → State → Disk → Disk
+disk_after due.RenameRecord Done s d = record d { record_bytes = Some (new_record s) }
+disk_after due.RenameFile Done s d = record d { target = Some s.read }
+disk_after op e s d = d
+
+changes : (op : Operation) (e : Event) (s : State) (d : Disk) → Succeeds e
+    → Changes op s e d (disk_after op e s d)
+changes op (Failed f) s d fine = absurd fine
+changes op InUse s d fine = absurd fine
+changes due.RenameRecord Done s d fine = refl
+changes due.RenameFile Done s d fine = refl
+changes due.RenameRecord e s d fine = refl
+changes due.RenameFile e s d fine = refl
+changes op e s d fine = refl
+
+same_content : (is : Bool) (file : File)
+    → content (if is then Some (record file { synced = true }) else Some file) ≡ Some file.bytes
+same_content true file = refl
+same_content false file = refl
+
+synced_content : (opened : Option ℕ) (place : Option File) → content (synced_if opened place) ≡ content place
+synced_content (Some n) (Some file) = same_content (file.number == n) file
+synced_content (Some n) None = refl
+synced_content None place = refl
+
+unchanged : (old new : Snapshot) → new ≡ old → LeavesContent old new
+unchanged old new is = rw is (refl, refl)
+
+-- An operation that has succeeded renames, or leaves both.
+leaves : (w : World) (s : State) (op : Operation) (e : Event) (old new : Snapshot) (d : Disk)
+    → Performs w s op e old new → Succeeds e → disk_after op e s d ≡ nothing
+    → (d ≡ nothing) × LeavesContent old new
+leaves w s op (Failed f) old new d is fine none = absurd fine
+leaves w s op InUse old new d is fine none = absurd fine
+leaves w s due.RenameRecord Done old new d is fine none =
+    absurd (none-some (new_record s) (sym (ap (λ (x : Disk). x.record_bytes) none)))
+leaves w s due.RenameFile Done old new d is fine none =
+    absurd (none-some s.read (sym (ap (λ (x : Disk). x.target) none)))
+leaves w s due.Lock Done old new d is fine none = (none, rw is.1 (refl, refl))
+leaves w s due.ReadRecord (RecordRead found) old new d is fine none = (none, unchanged old new is.2)
+leaves w s due.ReadSignature (SignatureRead text time) old new d is fine none = (none, unchanged old new is.1)
+leaves w s due.ReadTarget (PieceRead bytes) old new d is fine none = (none, unchanged old new is.2)
+leaves w s due.ReadTarget Done old new d (file, at, holds, is) fine none = (none, rw is (refl, refl))
+leaves w s due.ReadTarget TargetMissing old new d is fine none = (none, unchanged old new is.1)
+leaves w s due.SyncTarget Done old new d is fine none =
+    (none, rw is (synced_content old.opened old.target, refl))
+leaves w s due.SyncTargetName Done old new d is fine none = (none, rw is (refl, refl))
+leaves w s due.RemoveLeftovers Done old new d is fine none = (none, rw is (refl, refl))
+leaves w s due.CreateFile Done old new d (number, is) fine none = (none, rw is (refl, refl))
+leaves w s due.CopyData (PieceCopied k) old new d (some, (piece, rest, long, part, is)) fine none =
+    (none, rw is (refl, refl))
+leaves w s due.CopyData Done old new d is fine none = (none, unchanged old new is.1)
+leaves w s due.ReadBack (PieceRead bytes) old new d is fine none = (none, unchanged old new is.2)
+leaves w s due.ReadBack Done old new d is fine none = (none, unchanged old new is.1)
+leaves w s due.SetPermissions Done old new d is fine none = (none, rw is (refl, refl))
+leaves w s due.SyncFile Done old new d is fine none = (none, rw is (refl, refl))
+leaves w s due.CreateRecord Done old new d (number, is) fine none = (none, rw is (refl, refl))
+leaves w s due.WriteRecord Done old new d is fine none = (none, rw is (refl, refl))
+leaves w s due.SyncRecord Done old new d is fine none = (none, rw is (refl, refl))
+leaves w s due.SyncRecordName Done old new d is fine none = (none, rw is (refl, refl))
+leaves w s due.SyncFileName Done old new d is fine none = (none, rw is (refl, refl))
+leaves w s due.RemoveFiles Done old new d is fine none = (none, rw is (refl, refl))
+leaves w s due.CheckComment (Answered accepted) old new d is fine none = (none, unchanged old new is.1)
+leaves w s op (Answered accepted) old new d is fine none = (none, unchanged old new is.1)
+leaves w s op e old new d is fine none = absurd is
+
+-- The run, with such a disk after each event. If nothing is on it at the end, each operation leaves both.
+from : (w : World) (n : ℕ) (s : State) (d : Disk) (m : Snapshot) (calls : List Call) (t : State)
+    (end : Snapshot)
+    → IsRun (EventIsTrue w) n s (map event_of calls) t → Applies w s m calls t end → AllEvents Succeeds calls
+    → (events : List (Event × Disk)) × (last : Disk) × Runs w n s d events t last × AllSucceed events
+    × (last ≡ nothing → (d ≡ nothing) × AllCalls LeavesContent calls)
+from w n s d m [] t end held run fine = ([], d, (held, refl), tt, λ none. (none, tt))
+from w n s d m (c ∷ more) t end (holds, later) (others, fits, is, run) (fine, rest) =
+    let (events, last, runs, succeed, back) =
+    from w (count n c.event) (step s c.event).1 (disk_after s.due c.event s d) c.after more t end later run
+    rest in (
+      (c.event, disk_after s.due c.event s d) ∷ events,
+      last,
+      (holds, changes s.due c.event s d fine, runs),
+      (fine, succeed),
+      λ none.
+          let (before, others_leave) = back none in
+          let (first, leave) = leaves w s s.due c.event c.before c.after d is fine before in
+          (first, (leave, others_leave)),
+    )
+
+-- If no operation fails, a run that is rejected leaves target and record as they were.
+pub rejected_leaves : (w : World) (o : Options) (m : Snapshot) (calls : List Call) (t : State)
+    (end : Snapshot)
+    → Applies w (begin o) m calls t end → AllEvents Succeeds calls → t.due ≡ due.Rejected
+    → AllCalls LeavesContent calls
+rejected_leaves w o m calls t end run fine rejected =
+    let (events, last, runs, succeed, back) =
+    from w 0 (begin o) nothing m calls t end (true_run w o m calls t end run) run fine in
+    (back (rejected_changes_nothing w o nothing last events t runs succeed rejected)).1

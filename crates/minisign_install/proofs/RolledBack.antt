@@ -1,0 +1,223 @@
+-- A run that is to undo a roll-back is rejected, and the error says that the version is the recorded one.
+use Rattle.std.specs.Prelude.{◌≡◌, ◌<◌, ◌++◌, ◌||◌, ◌⊎◌, ⊤, ℕ, Bool, true, false, List, [], ◌∷◌, Option, take}
+use Rattle.std.specs.Prelude.{Some, None, Ok, IfSome, is_some, if◌then◌else◌}
+use Rattle.std.proofs.Common.{refl, sym, ap, inl, inr, ◌∙◌, true≢false}
+use Rattle.std.proofs.lemmas.Option.{none-some}
+use Rattle.minisign_external.specs.declared.public_keys.PublicKeyValue.{PublicKeyValue}
+use Rattle.minisign_hash.specs.Blake2b.{blake2b_digest}
+use Rattle.minisign_install.specs.Applications.{Applies, Call, Snapshot, Performs}
+use Rattle.minisign_install.specs.Decisions.{Options, Recorded, comment_fault, judge_record, judge_text}
+use Rattle.minisign_install.specs.Faults.{InstallFault, SameNumber}
+use Rattle.minisign_install.specs.Histories.{AcceptsWholeKeys, AllEvents, IsFineAt, IsLaterRun, IsOtherUpdate}
+use Rattle.minisign_install.specs.Histories.{OthersLeaveTarget}
+use Rattle.minisign_install.specs.Step.{Event, Operation, State, after, answer, begin, has_ended, step}
+use Rattle.minisign_install.specs.Step as due
+use Rattle.minisign_install.specs.StepRuns.{IsSigned, IsUpdate, World, count, first_signer}
+use Rattle.minisign_install.proofs.RollBacks.{has_digest, not_newer, not_older, not_signed, same_ok}
+use Rattle.minisign_install.proofs.RollBacks.{version_reads_back}
+use Rattle.minisign_install.proofs.SafeCalls.{Invariant, begins, knows, next}
+use Rattle.minisign_install.proofs.StepSafety.{IsJudged, Known, Passed, text_parsed}
+
+module _ (v : World) (p : Options) (k : ℕ) (digest : List ℕ) (r : Recorded)
+    (record_applies : judge_record p v.found_record ≡ Ok r) (version : r.version ≡ Some k)
+    (written : r.digest ≡ Some digest) (whole : AcceptsWholeKeys v.accepts)
+    (update : IsOtherUpdate v p k digest) (once : p.again ≡ false) (g : IsSigned v p) where
+  abbrev IsInstalled : Snapshot → Type 0
+  IsInstalled m = is_some m.target ≡ true
+
+  -- The comment is not rejected, and one of the signers has signed it.
+  abbrev IsAcceptable : State → Type 0
+  IsAcceptable s = (s.fault ≡ None) × (first_signer v g.text s.signers ≡ Some g.key)
+      × (s.signature ≡ g.text.signature.signature)
+      × (s.comment_signature ≡ take 64 g.text.comments.signature)
+
+  -- What is so if the run is on its way to this error, or finds the update installed.
+  abbrev OnTrack : Operation → State → Snapshot → Type 0
+  OnTrack due.Lock s m = IsInstalled m
+  OnTrack due.ReadRecord s m = IsInstalled m
+  OnTrack due.ReadSignature s m = IsInstalled m
+  OnTrack due.CheckComment s m = IsInstalled m × IsAcceptable s
+  OnTrack due.CheckRecord s m = IsInstalled m
+  OnTrack due.ReadTarget s m = IsInstalled m × (s.is_recorded ≡ false)
+  OnTrack due.CheckTarget s m = s.is_recorded ≡ false
+  OnTrack due.SyncTarget s m = ⊤
+  OnTrack due.SyncTargetName s m = ⊤
+  OnTrack due.AlreadyInstalled s m = ⊤
+  OnTrack due.Rejected s m = s.error ≡ Some SameNumber
+  OnTrack op s m = ⊥
+
+  abbrev Holds : Snapshot → State → Type 0
+  Holds m s = OnTrack s.due s m
+
+  ended : (op : Operation) (s : State) (m : Snapshot) → OnTrack op s m → has_ended op ≡ true
+      → (op ≡ due.AlreadyInstalled) ⊎ ((op ≡ due.Rejected) × (s.error ≡ Some SameNumber))
+  ended due.AlreadyInstalled s m on is = inl refl
+  ended due.Rejected s m on is = inr (refl, on)
+  ended due.Installed s m on is = absurd on
+  ended due.WouldInstall s m on is = absurd on
+  ended op s m on is = absurd (true≢false (sym is))
+
+  compare : (s : State) (m : Snapshot) → IsJudged v p s → IsInstalled m → Holds m (due.compare s)
+  compare s m judged present = rw (
+    not_newer v p k digest r record_applies version written whole update once s judged,
+    has_digest v p k digest r record_applies version written whole update once s judged,
+  ) present
+
+  after_signature : (time : Option ℕ) (s : State) (m : Snapshot) → s.options ≡ p
+      → judge_record p v.found_record ≡ Ok s.recorded
+      → comment_fault p (Some k) time g.text.comments.trusted ≡ None → IsInstalled m
+      → Holds m (due.after_signature (Ok (g.text, g.keys)) time s)
+  after_signature time s m same judged fine present =
+      let one = same_ok s.recorded r (sym judged ∙ record_applies) in
+      (present, (rw (same, one, version) fine, g.signer, refl, refl))
+
+  after_text : (found : Passed) (time : Option ℕ) (s : State) (m : Snapshot) → found ≡ Ok (g.text, g.keys)
+      → s.options ≡ p → judge_record p v.found_record ≡ Ok s.recorded
+      → comment_fault p (Some k) time g.text.comments.trusted ≡ None → IsInstalled m
+      → Holds m (due.after_signature found time s)
+  after_text found time s m is same judged fine present =
+      rw is (after_signature time s m same judged fine present)
+
+  after_comment : (fault : Option InstallFault) (s : State) (m : Snapshot) → fault ≡ None → IsJudged v p s
+      → IsInstalled m → Holds m (due.after_comment fault (record s { is_signed = true }))
+  after_comment None s m none judged present = compare (record s { is_signed = true }) m judged present
+  after_comment (Some fault) s m none judged present = absurd (none-some fault (sym none))
+
+  next_key : (signers : List PublicKeyValue) (s : State) (m : Snapshot) → s.due ≡ due.CheckComment
+      → s.signers ≡ signers → IsAcceptable s
+      → false ≡ v.accepts (s.signature ++ g.text.comments.trusted) (due.key_of signers) s.comment_signature
+      → IsInstalled m → Holds m (due.next_key signers s)
+  next_key [] s m at is (fine, signer, one, two) wrong present = absurd (none-some g.key (rw is at signer))
+  next_key (x ∷ []) s m at is (fine, signer, one, two) wrong present =
+      let not = rw (one, two) at wrong in
+      absurd (none-some g.key (rw (is, sym not) at signer))
+  next_key (x ∷ y ∷ more) s m at is (fine, signer, one, two) wrong present =
+      let not = rw (one, two) at wrong in
+      rw at (present, (fine, rw (is, sym not) at signer, one, two))
+
+  after_digest : (accepted : Bool) (s : State) (m : Snapshot) → accepted ≡ false → IsJudged v p s
+      → IsInstalled m
+      → Holds m (due.after_digest accepted s)
+  after_digest true s m is judged present = absurd (true≢false is)
+  after_digest false s m is judged present =
+      rw (not_older v p k digest r record_applies version written whole update once s judged) (present, refl)
+
+  target_is_update : (check : Bool) (s : State) (m : Snapshot)
+      → Holds m (due.go (if check then due.AlreadyInstalled else due.SyncTarget) s)
+  target_is_update true s m = tt
+  target_is_update false s m = tt
+
+  otherwise : (recorded again : Bool) (s : State) (m : Snapshot) → s.due ≡ due.CheckTarget → recorded ≡ false
+      → again ≡ false → Holds m (if recorded || again then due.install s else due.reject SameNumber s)
+  otherwise true again s m at none not = absurd (true≢false none)
+  otherwise false true s m at none not = absurd (true≢false not)
+  otherwise false false s m at none not = rw at refl
+
+  after_target : (accepted : Bool) (s : State) (m : Snapshot) → s.due ≡ due.CheckTarget
+      → s.is_recorded ≡ false → s.options ≡ p → Holds m (due.after_target accepted s)
+  after_target true s m at is same = target_is_update s.options.check s m
+  after_target false s m at is same =
+      otherwise s.is_recorded s.options.again s m at is (ap (λ (x : Options). x.again) same ∙ once)
+
+  same_target : (old new : Snapshot) → new ≡ old → IsInstalled old → IsInstalled new
+  same_target old new is present = rw is present
+
+  keeps : (op : Operation) (e : Event) (s : State) (old new : Snapshot) → s.due ≡ op → Known v p op s
+      → OnTrack op s old → Performs v s op e old new → IsFineAt p k g.text e
+      → IfSome (after op e s) (Holds new)
+  keeps op (due.Failed f) s old new at known on is fine = absurd fine
+  keeps due.Lock due.InUse s old new at known on is fine = absurd fine
+  keeps due.Lock due.Done s old new at known on is fine = rw is.1 on
+  keeps due.ReadRecord (due.RecordRead found) s old new at known on is fine =
+      rw (known, is.0, record_applies) (same_target old new is.2 on)
+  keeps due.ReadSignature (due.SignatureRead text time) s old new at known on is fine =
+      after_text (judge_text s.options text) time s new (rw (known.0, is.0) g.passed) known.0 known.1 fine
+      (same_target old new is.1 on)
+  keeps due.CheckComment (due.Answered true) s old new at known on is fine =
+      after_comment s.fault s new on.1.0 known (same_target old new is.1 on.0)
+  keeps due.CheckComment (due.Answered false) s old new at known on is fine =
+      next_key s.signers s new at refl on.1 (is.0 g.text (text_parsed v p v.text g.text g.keys g.passed))
+      (same_target old new is.1 on.0)
+  keeps due.CheckRecord (due.Answered accepted) s old new at known on is fine =
+      let none =
+      is.0 ∙ rw (has_digest v p k digest r record_applies version written whole update once s known.0)
+      (not_signed v p k digest r record_applies version written whole update once s s.signers refl known) in
+      after_digest accepted s new none known.0 (same_target old new is.1 on)
+  keeps due.ReadTarget (due.PieceRead bytes) s old new at known on is fine =
+      rw at (same_target old new is.2 on.0, on.1)
+  keeps due.ReadTarget due.Done s old new at known on is fine = on.1
+  keeps due.ReadTarget due.TargetMissing s old new at known on is fine =
+      absurd (true≢false (sym on.0 ∙ ap is_some is.0))
+  keeps due.CheckTarget (due.Answered accepted) s old new at known on is fine =
+      after_target accepted s new at on known.0.4
+  keeps due.SyncTarget due.Done s old new at known on is fine = tt
+  keeps due.SyncTargetName due.Done s old new at known on is fine = tt
+  keeps due.Lock e s old new at known on is fine = tt
+  keeps due.ReadRecord e s old new at known on is fine = tt
+  keeps due.ReadSignature e s old new at known on is fine = tt
+  keeps due.CheckComment e s old new at known on is fine = tt
+  keeps due.CheckRecord e s old new at known on is fine = tt
+  keeps due.ReadTarget e s old new at known on is fine = tt
+  keeps due.CheckTarget e s old new at known on is fine = tt
+  keeps due.SyncTarget e s old new at known on is fine = tt
+  keeps due.SyncTargetName e s old new at known on is fine = tt
+  keeps due.AlreadyInstalled e s old new at known on is fine = tt
+  keeps due.Rejected e s old new at known on is fine = tt
+  keeps op e s old new at known on is fine = absurd on
+
+  moved : (s : State) (next : Option State) (m : Snapshot) → is_some next ≡ true → IfSome next (Holds m)
+      → Holds m (answer s next).1
+  moved s (Some t) m is holds = holds
+  moved s None m is holds = absurd (true≢false (sym is))
+
+  stays : (op : Operation) (s : State) (m new : Snapshot) → new.target ≡ m.target → OnTrack op s m
+      → OnTrack op s new
+  stays due.Lock s m new is on = rw is on
+  stays due.ReadRecord s m new is on = rw is on
+  stays due.ReadSignature s m new is on = rw is on
+  stays due.CheckComment s m new is on = (rw is on.0, on.1)
+  stays due.CheckRecord s m new is on = rw is on
+  stays due.ReadTarget s m new is on = (rw is on.0, on.1)
+  stays due.CheckTarget s m new is on = on
+  stays due.SyncTarget s m new is on = tt
+  stays due.SyncTargetName s m new is on = tt
+  stays due.AlreadyInstalled s m new is on = tt
+  stays due.Rejected s m new is on = on
+  stays op s m new is on = absurd on
+
+  on_from : (n : ℕ) (s : State) (m : Snapshot) (calls : List Call) (t : State) (end : Snapshot)
+      → Invariant v p ⊤ ⊥ n s m → Holds m s → Applies v s m calls t end → OthersLeaveTarget m calls
+      → AllEvents (IsFineAt p k g.text) calls → Holds end t
+  on_from n s m [] t end known on (is, same) leaves fine = rw (is, same) on
+  on_from n s m (c ∷ more) t end known on (others, fits, is, run) (leaves, rest) (fine, later) =
+      let before = stays s.due s m c.before leaves.0 on in
+      on_from (count n c.event) (step s c.event).1 c.after more t end
+      (next v p ⊤ ⊥ n s m c known others (λ q. absurd q) fits is (λ found. tt))
+      (moved s (after s.due c.event s) c.after fits
+      (keeps s.due c.event s c.before c.after refl (knows v p ⊤ ⊥ n s m known) before is fine)) run rest later
+
+  starts : (check : Bool) (m : Snapshot) → IsInstalled m
+      → OnTrack (if check then due.ReadRecord else due.Lock) (begin p) m
+  starts true m present = present
+  starts false m present = present
+
+  ends : (m : Snapshot) (calls : List Call) (t : State) (end : Snapshot) → Applies v (begin p) m calls t end
+      → OthersLeaveTarget m calls → IsInstalled m → AllEvents (IsFineAt p k g.text) calls
+      → has_ended t.due ≡ true
+      → (t.due ≡ due.AlreadyInstalled) ⊎ ((t.due ≡ due.Rejected) × (t.error ≡ Some SameNumber))
+  ends m calls t end run leaves present fine over =
+      ended t.due t end
+      (on_from 0 (begin p) m calls t end (begins v p ⊤ ⊥ m) (starts p.check m present) run leaves fine) over
+
+-- A later run with the version that was rolled back from ends with this error.
+pub roll_back_is_named : (w : World) (o : Options) → AcceptsWholeKeys w.accepts → (s : State)
+    → IsUpdate w o s → (k : ℕ) → s.recorded.version ≡ Some k → s.version < k → (v : World) (p : Options)
+    → AcceptsWholeKeys v.accepts → IsLaterRun v p o.numbering s
+    → IsOtherUpdate v p k (blake2b_digest 64 s.read) → (g : IsSigned v p) (m : Snapshot) (calls : List Call)
+    (t : State) (end : Snapshot) → Applies v (begin p) m calls t end → OthersLeaveTarget m calls
+    → is_some m.target ≡ true → AllEvents (IsFineAt p k g.text) calls → has_ended t.due ≡ true
+    → (t.due ≡ due.AlreadyInstalled) ⊎ ((t.due ≡ due.Rejected) × (t.error ≡ Some SameNumber))
+roll_back_is_named w o whole s update k is less v p whole_later later other g m calls t end run leaves present
+    fine over =
+    ends v p k (blake2b_digest 64 s.read) _ (version_reads_back w o whole s update k is less v p later) refl
+    refl whole_later other later.once g m calls t end run leaves present fine over
