@@ -1,7 +1,8 @@
 pub mod ListVerdicts
+pub mod ListedVerdicts
 pub mod MakingNumbers
 pub mod Positive
 pub mod PublicHalves
 pub mod Refusals
 pub mod StrictVerdicts
-pub mod ToldKeys
+pub mod OpeningErrors

@@ -37,12 +37,12 @@ use Rattle.minisign_lists.specs.Lines.{Entry}
 use Rattle.minisign_lists.specs.Lists.{listed_entry}
 use Rattle.minisign_lists.specs.Values.{found_entry, go_on, judged_list, list_verdict_under, of_lists}
 use Rattle.minisign_lists.specs.Values.{of_misuse}
-use Rattle.minisign_lists.specs.Values.{text_check, told_entry, utf8_text, verified_mark}
+use Rattle.minisign_lists.specs.Values.{text_check, entry_outcome, utf8_text, verified_mark}
 use Rattle.minisign_lists.specs.Verdicts.{check_digest, check_list_name}
 use Rattle.minisign_lists.specs.declared.values.EntryValue.{EntryValue}
 use Rattle.minisign_lists.specs.declared.values.ListValue.{ListValue}
 use Rattle.minisign_c.specs.ListCalls.{asking_list_number, finding_number, list_refusal, list_verdict_number}
-use Rattle.minisign_c.specs.ListCalls.{numbered_list, told_entry_number, told_list_number}
+use Rattle.minisign_c.specs.ListCalls.{numbered_list, entry_outcome_number, list_outcome_number}
 use Rattle.minisign_c.specs.ListsInARow.{Lookup, data_number, listed_number, listed_under, listed_with}
 use Rattle.minisign_c.specs.ListsInARow.{looked_up, meaning_of, strict_listed_number}
 use Rattle.minisign_c.proofs.Positive.{positive}
@@ -91,16 +91,16 @@ module _ (accepts : Verifier) (v : PublicKeyValue) (sig_text text : List ℕ) (n
         none ∙ of_strict (is_strict_text v u) _ (subst (λ (k : ℕ). 0 < k) none some)
     of_asked (Err e) is some = rw is refl
 
-    -- What asking rejects is what the verdict on the list rejects.
+    -- If asking fails, the verdict on the list is the same error.
     pub unasked_list : (n : ℕ) → is_public_key v ≡ true → n ≡ asking_list_number v sig_text t room → 0 < n
         → n ≡ strict_read v (read_under v false sig_text) (list_verdict_number strict_list)
     unasked_list n public is some =
-        let told : n ≡ asked_number (asked_strictly (is_strict_text v t)
+        let returned : n ≡ asked_number (asked_strictly (is_strict_text v t)
         (asked_under (read_under v false sig_text) room)) =
         is ∙ ap (λ (b : Bool). asked_number (asked_strictly (is_strict_text v t)
         (if b then asked_under (read_under v false sig_text) room else Err
         (WrongUse PublicKeyNotRead)))) public in
-        told ∙ of_asked (read_under v false sig_text) refl (subst (λ (k : ℕ). 0 < k) told some)
+        returned ∙ of_asked (read_under v false sig_text) refl (subst (λ (k : ℕ). 0 < k) returned some)
 
   -- The verdict of strict inputs is that of the scheme.
   pub strict_list_number : (t : SignatureTextRecord) → read_under v false sig_text ≡ Ok t
@@ -120,11 +120,11 @@ pub list_answered : (accepts : Verifier) (v : PublicKeyValue) (sig_text text roo
     → (first second : Bool) → first ≡ accepts q.digest q.public_key q.signature
     → second ≡ accepts (take q.message_len room) q.public_key q.comment_signature
     → Answers accepts v sig_text text first second
-list_answered accepts v sig_text text room t q opens are told first second to_first to_second =
+list_answered accepts v sig_text text room t q opens are returned first second to_first to_second =
     let p : Questions = questions_of v t in
     let len : q.message_len ≡ p.message_len = ap (λ (x : Questions). x.message_len) are.questions in
     let holds = subst (λ (n : ℕ). HoldsMessage t.signature t.comments.trusted room n) len are.message in
-    given accepts v sig_text text room q.digest t p opens (refl, holds) told first second
+    given accepts v sig_text text room q.digest t p opens (refl, holds) returned first second
     (to_first ∙ ap (λ (x : Questions). accepts q.digest x.public_key x.signature) are.questions)
     (to_second ∙ ap (λ (x : Questions). accepts (take x.message_len room) x.public_key x.comment_signature)
     are.questions)
@@ -134,11 +134,12 @@ verified_of : (a b : Bool) (r : Result ⊤ ListFault) (l new : ListValue) (n : �
     (if a then numbered_list (if b then judged_list r l else (Err (WrongUse NotAsked), l))
     else (misuse_number BadAnswer, l))
     → n ≡ 0 → new ≡ record l { mark = verified_mark }
-verified_of true true (Ok t) l new n told none = ap (λ p. p.1) told
-verified_of true true (Err e) l new n told none =
-    let is : n ≡ list_number e = ap (λ p. p.0) told in absurd (omega (arith, is, none, list_positive e))
-verified_of true false r l new n told none = let is : n ≡ 3 = ap (λ p. p.0) told in absurd (omega arith)
-verified_of false b r l new n told none = let is : n ≡ 4 = ap (λ p. p.0) told in absurd (omega arith)
+verified_of true true (Ok t) l new n returned none = ap (λ p. p.1) returned
+verified_of true true (Err e) l new n returned none =
+    let is : n ≡ list_number e = ap (λ p. p.0) returned in absurd (omega (arith, is, none, list_positive e))
+verified_of true false r l new n returned none = let is : n ≡ 3 = ap (λ p. p.0) returned in absurd
+    (omega arith)
+verified_of false b r l new n returned none = let is : n ≡ 4 = ap (λ p. p.0) returned in absurd (omega arith)
 
 same_bytes : (b : Bool) → b ≡ true → ◌≡◌ {A = Result ⊤ Misuse} (if b then Ok tt else Err NotAsked) (Ok tt)
 same_bytes true h = refl
@@ -146,11 +147,11 @@ same_bytes false h = cc h
 
 -- After success the list is verified, and this is its text.
 pub verified_text_of : (l new : ListValue) (first second n : ℕ) (text : List ℕ)
-    → ◌≡◌ {A = ℕ × ListValue} (n, new) (told_list_number l first second) → n ≡ 0
+    → ◌≡◌ {A = ℕ × ListValue} (n, new) (list_outcome_number l first second) → n ≡ 0
     → l.text_digest ≡ blake2b_digest 64 text → text_check new text ≡ Ok tt
-verified_text_of l new first second n text told none digest =
+verified_text_of l new first second n text returned none digest =
     let is : new ≡ record l { mark = verified_mark } =
-    verified_of (is_answer first && is_answer second) _ _ l new n told none in
+    verified_of (is_answer first && is_answer second) _ _ l new n returned none in
     let same : bytes_eq (blake2b_digest 64 text) l.text_digest ≡ true =
     (bytes_eq-Decides (blake2b_digest 64 text) l.text_digest).1 (sym digest) in
     ap (λ (x : ListValue). text_check x text) is ∙ rw same refl
@@ -221,23 +222,24 @@ module _ (l : ListValue) (x : Lookup) (verified : text_check l x.text ≡ Ok tt)
 
 error_of : (r : Result Entry (Refusal ListFault)) (text : List ℕ) (old new : EntryValue) (n line : ℕ)
     (m : List ℕ)
-    → ◌≡◌ {A = ℕ × (EntryValue × ℕ)} (n, (new, line)) (told_entry_number (told_entry r text old)) → 0 < n
+    → ◌≡◌ {A = ℕ × (EntryValue × ℕ)} (n, (new, line)) (entry_outcome_number (entry_outcome r text old))
+    → 0 < n
     → n ≡ data_number r m
-error_of (Ok e) text old new n line m told some =
-    let none : n ≡ 0 = ap (λ p. p.0) told in absurd (omega (arith, none, some))
-error_of (Err r) text old new n line m told some = ap (λ p. p.0) told
+error_of (Ok e) text old new n line m returned some =
+    let none : n ≡ 0 = ap (λ p. p.0) returned in absurd (omega (arith, none, some))
+error_of (Err r) text old new n line m returned some = ap (λ p. p.0) returned
 
--- What the lookup rejects is what the whole rejects.
+-- If the lookup fails, the whole check fails with the same error.
 pub unfound : (l : ListValue) (x : Lookup) → text_check l x.text ≡ Ok tt → (long : Option LongDigest)
     → x.long ≡ long → (old new : EntryValue) (n line : ℕ) (m : List ℕ)
     → ◌≡◌ {A = ℕ × (EntryValue × ℕ)} (n, (new, line)) (finding_number long l x.text x.name old) → 0 < n
     → n ≡ data_number (looked_up x) m
-unfound l x verified None is old new n line m told some =
-    ap (λ p. p.0) told
+unfound l x verified None is old new n line m returned some =
+    ap (λ p. p.0) returned
     ∙ sym (ap (λ (o : Option LongDigest). data_number (go_on (meaning_of o) (λ long. go_on (utf8_text x.text)
     (λ list. go_on (utf8_text x.name) (λ name. of_lists (listed_entry long list name))))) m) is)
-unfound l x verified (Some long) is old new n line m told some =
-    error_of (found_entry l x.text long x.name) x.text old new n line m told some
+unfound l x verified (Some long) is old new n line m returned some =
+    error_of (found_entry l x.text long x.name) x.text old new n line m returned some
     ∙ ap (λ r. data_number r m) (found_as l x verified long)
     ∙ sym (ap (λ (o : Option LongDigest). data_number (go_on (meaning_of o) (λ long. go_on (utf8_text x.text)
     (λ list. go_on (utf8_text x.name) (λ name. of_lists (listed_entry long list name))))) m) is)
@@ -250,20 +252,22 @@ pub record Found (l : ListValue) (x : Lookup) : Type 0 where
   pub found : found_entry l x.text long x.name ≡ Ok entry
 
 entry_found : (r : Result Entry (Refusal ListFault)) (text : List ℕ) (old new : EntryValue) (n line : ℕ)
-    → ◌≡◌ {A = ℕ × (EntryValue × ℕ)} (n, (new, line)) (told_entry_number (told_entry r text old)) → n ≡ 0
+    → ◌≡◌ {A = ℕ × (EntryValue × ℕ)} (n, (new, line)) (entry_outcome_number (entry_outcome r text old))
+    → n ≡ 0
     → (e : Entry) × (r ≡ Ok e)
-entry_found (Ok e) text old new n line told none = (e, refl)
-entry_found (Err r) text old new n line told none =
-    let is : n ≡ list_refusal r = ap (λ p. p.0) told in absurd (omega (arith, is, none, refusal_positive r))
+entry_found (Ok e) text old new n line returned none = (e, refl)
+entry_found (Err r) text old new n line returned none =
+    let is : n ≡ list_refusal r = ap (λ p. p.0) returned in absurd (omega
+    (arith, is, none, refusal_positive r))
 
 pub found : (l : ListValue) (x : Lookup) (long : Option LongDigest) → x.long ≡ long
     → (old new : EntryValue) (n line : ℕ)
     → ◌≡◌ {A = ℕ × (EntryValue × ℕ)} (n, (new, line)) (finding_number long l x.text x.name old) → n ≡ 0
     → Found l x
-found l x None is old new n line told none =
-    let number : n ≡ misuse_number BadHash = ap (λ p. p.0) told in absurd (omega (arith, number, none))
-found l x (Some long) is old new n line told none =
-    let (e, same) = entry_found (found_entry l x.text long x.name) x.text old new n line told none in
+found l x None is old new n line returned none =
+    let number : n ≡ misuse_number BadHash = ap (λ p. p.0) returned in absurd (omega (arith, number, none))
+found l x (Some long) is old new n line returned none =
+    let (e, same) = entry_found (found_entry l x.text long x.name) x.text old new n line returned none in
     record { long = long; meant = is; entry = e; found = same }
 
 number_of_digest : (b : Bool) → (if b then 0 else list_number DigestMismatch)

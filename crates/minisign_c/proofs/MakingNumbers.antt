@@ -1,4 +1,4 @@
--- Why the text of a secret key is not written, if nothing is wrong with the password and the sealing.
+-- The errors of writing a secret key file if the password and the sealing are allowed.
 use Rattle.std.proofs.Common.{◌≡◌, ℕ, List, Option, Some, None, refl}
 use Rattle.minisign_base.specs.Fault.{Fault}
 use Rattle.minisign.specs.declared.making.Sealing.{Sealing}

@@ -126,11 +126,12 @@ module _ (accepts : Verifier) (v : PublicKeyValue) (text message : List ℕ) whe
   read_of (Ok t) is = read_zero (is_strict_text v t) strict_verdict (not_accepted t is)
   read_of (Err e) is = number_zero strict_verdict
 
-  -- the number is 0 exactly where the scheme that rejects what strict Ed25519 rejects gives a verdict
+  -- The number is 0 exactly if the verdict is success for the scheme that also rejects weak public keys and
+  -- signatures.
   pub accepted : (strict_verdict_number accepts v text message false == 0) ≡ is_ok strict_verdict
   accepted = read_of (read_under v false text) refl
 
--- the same of a key that was read
+-- `accepted` for the result of parsing the public key.
 pub accepted_with : (accepts : Verifier) (text message : List ℕ) (r : Result PublicKeyRecord Fault)
     → (number_with r (λ k. strict_verdict_number accepts (value_of k) text message false) == 0)
     ≡ is_ok (and_then r (λ k. verdict_under (strict accepts) (value_of k) text message false))
@@ -173,11 +174,11 @@ module _ (accepts : Verifier) (v : PublicKeyValue) (text message : List ℕ) (ro
       → n ≡ strict_verdict_number accepts v text message false
   unasked s n public fed blank is some =
       let may : may_ask s ≡ true = rw (fed.mark, blank.asked) refl in
-      let told : n ≡ asked_number (asked_strictly (is_strict_text v t)
+      let returned : n ≡ asked_number (asked_strictly (is_strict_text v t)
       (asked_under (read_under v false text) room)) =
       is ∙ ap (λ (b : Bool). asked_number (asked_strictly (is_strict_text v t)
       (if b then with_public_key v (asked_under (read_under v false text) room) else
       Err (WrongUse (asking_misuse s))))) may
       ∙ ap (λ (b : Bool). asked_number (asked_strictly (is_strict_text v t)
       (if b then asked_under (read_under v false text) room else Err (WrongUse PublicKeyNotRead)))) public in
-      told ∙ of_asked (read_under v false text) refl (subst (λ (k : ℕ). 0 < k) told some)
+      returned ∙ of_asked (read_under v false text) refl (subst (λ (k : ℕ). 0 < k) returned some)

@@ -1,4 +1,4 @@
--- The calls of an installation with numbers for results and errors.
+-- The calls of an installation in C, whose results and errors are numbers.
 use Rattle.std.specs.Prelude.{◌≡◌, ◌==◌, ◌&&◌, ℕ, ℤ, pos, negsuc, nat_le, Bool, true, false, List}
 use Rattle.std.specs.Prelude.{if◌then◌else◌}
 use Rattle.std.specs.Prelude.{Option, None, Some, Result, Ok, Err, option_map}
@@ -27,13 +27,13 @@ abbrev pub step_number : Result Unit (Refusal InstallFault) → ℕ
 step_number (Ok t) = 0
 step_number (Err r) = refusal_number install_number r
 
--- For every state for which the old installation stands, the new one stands for the state after the step with
--- this event, and the number is that of the step's result.
+-- If the old installation represents a state, the new one represents the state after the step with this
+-- event, and the number is that of the step's result.
 abbrev pub NumberSteps : Event → Installation → Installation → ℕ → Type 0
 NumberSteps e old new n =
     (s : State) → IsStored old s → IsStored new (step s e).1 × (n ≡ step_number (step s e).0)
 
--- The error with this number, if an operation can fail for it.
+-- The error with this number, if an operation can fail with it.
 abbrev pub failure_of : ℕ → Option NamedFault
 failure_of n =
     if n == (fault_row OutOfMemory).number then Some OutOfMemory else
@@ -48,7 +48,8 @@ failure_event n =
     if n == install_number TargetInUse then Some InUse
     else option_map (λ f. Failed f) (failure_of n)
 
--- Why an installation is not begun: the options are rejected, or else a public key was not read.
+-- The API misuse if an installation is not begun: the options are rejected, or else a public key was not
+-- read.
 abbrev pub first_misuse : Option Misuse → Bool → Option Misuse
 first_misuse (Some m) are_read = Some m
 first_misuse None are_read = if are_read then None else Some PublicKeyNotRead
@@ -56,28 +57,28 @@ first_misuse None are_read = if are_read then None else Some PublicKeyNotRead
 abbrev pub starting_misuse : PublicKeyValue → PublicKeyValue → Choices → Option Misuse
 starting_misuse key other o = first_misuse (choices_misuse o) (is_public_key key && is_public_key other)
 
--- The time that counts for a clock that shows this many seconds since the beginning of 1970, or before it.
+-- The time that is passed to the step if the clock shows this many seconds since the beginning of 1970. None
+-- is a time before 1970.
 abbrev pub time_of : ℤ → Option ℕ
 time_of (pos n) = Some n
 time_of (negsuc n) = None
 
--- What a call returns that writes a length: 0 and the length, or the error number, and then the length is
--- unchanged.
-abbrev pub TellsLength : Result ℕ (Refusal InstallFault) → ℕ → ℕ → ℕ → Type 0
-TellsLength (Ok len) n old new = (n ≡ 0) × (new ≡ len)
-TellsLength (Err r) n old new = (n ≡ refusal_number install_number r) × (new ≡ old)
+-- The outcome of a call that writes a length: 0 and the length, or the error number. After an error the
+-- length is unchanged.
+abbrev pub ReturnsLength : Result ℕ (Refusal InstallFault) → ℕ → ℕ → ℕ → Type 0
+ReturnsLength (Ok len) n old new = (n ≡ 0) × (new ≡ len)
+ReturnsLength (Err r) n old new = (n ≡ refusal_number install_number r) × (new ≡ old)
 
--- The call has reported this signature file at this time: for every state for which the old installation
--- stands and that has this name of the file, the number, the length, the buffer and the new state are those
--- of the step.
+-- The call has reported this signature file at this time: if the old installation represents a state with
+-- this file name, the number, the length, the buffer and the new state are those of the step.
 abbrev pub NumberReads : List ℕ → List ℕ → Option ℕ → Installation → Installation → ℕ → ℕ → ℕ → List ℕ
     → List ℕ → Type 0
 NumberReads sig_text file time old new n len_before len_after before after =
     (s : State) → IsStored old s → s.options.file ≡ file
-    → (r : Result ℕ (Refusal InstallFault)) × TellsLength r n len_before len_after
+    → (r : Result ℕ (Refusal InstallFault)) × ReturnsLength r n len_before len_after
     × SignatureSteps sig_text time s r (IsStored new) before after
 
--- A call that writes a question: 0 and the question; or NotDue, and then nothing is written.
+-- The three buffers of the call that writes a question.
 pub record Buffers : Type 0 where
   pub key : List ℕ
   pub signature : List ℕ
@@ -86,22 +87,24 @@ pub record Buffers : Type 0 where
 abbrev pub question_buffers : Question → Buffers
 question_buffers q = record { key = q.key; signature = q.signature; digest = q.digest }
 
-abbrev pub TellsQuestion : Option Question → ℕ → Buffers → Buffers → Type 0
-TellsQuestion (Some q) n old new = (n ≡ 0) × (new ≡ question_buffers q)
-TellsQuestion None n old new = (n ≡ misuse_number NotDue) × (new ≡ old)
+-- The outcome of the call that writes a question: 0 and the question, or NotDue. After NotDue the buffers are
+-- unchanged.
+abbrev pub ReturnsQuestion : Option Question → ℕ → Buffers → Buffers → Type 0
+ReturnsQuestion (Some q) n old new = (n ≡ 0) × (new ≡ question_buffers q)
+ReturnsQuestion None n old new = (n ≡ misuse_number NotDue) × (new ≡ old)
 
--- What the call returns that judges a comment alone: 0 and the version number; or the error number, and then
--- the number is unchanged.
-abbrev pub TellsVersion : Result ℕ InstallFault → ℕ → ℕ → ℕ → Type 0
-TellsVersion (Ok version) n old new = (n ≡ 0) × (new ≡ version)
-TellsVersion (Err fault) n old new = (n ≡ install_number fault) × (new ≡ old)
+-- The outcome of the call that checks only a trusted comment: 0 and its version number, or the error number.
+-- After an error the version number is unchanged.
+abbrev pub ReturnsVersion : Result ℕ InstallFault → ℕ → ℕ → ℕ → Type 0
+ReturnsVersion (Ok version) n old new = (n ≡ 0) × (new ≡ version)
+ReturnsVersion (Err fault) n old new = (n ≡ install_number fault) × (new ≡ old)
 
--- There is a field with this number, or not.
-abbrev pub TellsVersionIf : Bool → Result ℕ InstallFault → ℕ → ℕ → ℕ → Type 0
-TellsVersionIf true judged n old new = TellsVersion judged n old new
-TellsVersionIf false judged n old new = (n ≡ misuse_number BadNumbering) × (new ≡ old)
+-- As ReturnsVersion if a field has this number, otherwise BadNumbering.
+abbrev pub ReturnsVersionIf : Bool → Result ℕ InstallFault → ℕ → ℕ → ℕ → Type 0
+ReturnsVersionIf true judged n old new = ReturnsVersion judged n old new
+ReturnsVersionIf false judged n old new = (n ≡ misuse_number BadNumbering) × (new ≡ old)
 
-abbrev pub TellsVersionOf : List ℕ → List ℕ → ℕ → ℕ → ℕ → ℕ → ℕ → ℕ → Type 0
-TellsVersionOf comment file numbering time least n old new =
-    TellsVersionIf (nat_le numbering 1) (judge_comment file (numbering_of numbering) time least comment) n
+abbrev pub ReturnsVersionOf : List ℕ → List ℕ → ℕ → ℕ → ℕ → ℕ → ℕ → ℕ → Type 0
+ReturnsVersionOf comment file numbering time least n old new =
+    ReturnsVersionIf (nat_le numbering 1) (judge_comment file (numbering_of numbering) time least comment) n
     old new

@@ -1,5 +1,5 @@
--- What a secret key file opens to, the error numbers of signing with it, and the API misuse in how a key is
--- to be encrypted.
+-- The key in a secret key file, the error numbers of signing with it, and the API misuse in the arguments for
+-- encrypting a key.
 use Rattle.std.specs.Prelude.{◌≡◌, ◌==◌, ◌&&◌, ◌||◌, not, nat_lt, ℕ, Bool, List, length, replicate}
 use Rattle.std.specs.Prelude.{if◌then◌else◌, bytes_eq, Option, None, Some, Result, option_copied}
 use Rattle.minisign_base.specs.Fault.{Fault}
@@ -18,11 +18,11 @@ use Rattle.minisign_external.specs.declared.state.Misuse.TheVariants.{WeakSealin
 use Rattle.minisign_external.specs.declared.state.Refusal.{Refusal}
 use Rattle.minisign_external.specs.declared.unopened_keys.KeyText.{KeyText}
 
--- The key that a secret key file opens to, with its password if there is one, within its bound on the work.
+-- The key in a secret key file, opened with its password if there is one, within its bound on the work.
 abbrev pub opened_by : KeyText → Result SecretKeyRecord Fault
 opened_by t = opened_text t.text.now (option_copied t.password) t.most_rows
 
--- The error number of why a message was not signed with the key of a secret key file.
+-- The error number if a message is not signed with the key of a secret key file.
 abbrev pub IsSigningNumber : {S : Type 0} → SchemeOf S → S → KeyText → ChosenComments → List ℕ → List ℕ → ℕ
     → Type 0
 IsSigningNumber s scheme t chosen message bytes n = (r : Refusal Fault) × (n ≡ refusal_number fault_number r)
@@ -51,7 +51,7 @@ abbrev pub sealing_misuse : ℕ → List ℕ → Sealing → Option Misuse
 sealing_misuse with_password password s = first_misuse (password_misuse with_password password)
     (if not (with_password == 0) && is_weak s then Some WeakSealing else None)
 
--- The error number of why a secret key file was not written: this API misuse, or else another error.
+-- The error number if a secret key file is not written: that of this API misuse, or else of another error.
 abbrev pub IsMakingNumber : Option Misuse → SecretKeyValue → Option (List ℕ) → Sealing → List ℕ → List ℕ → ℕ
     → Type 0
 IsMakingNumber (Some m) v password s comment bytes n = n ≡ misuse_number m

@@ -1,6 +1,7 @@
--- What the calls for lists give if they are made in a row: for a public key, a signature file, a list, a name
--- and data.
-use Rattle.std.specs.Prelude.{ℕ, false, List, [], Option, Some, None, Result, Ok, Err}
+-- The result of making the calls for lists one after another, for a public key, a signature file, a list, a
+-- name and data.
+use Rattle.std.specs.Prelude.{◌≡◌, ℕ, true, false, List, [], Option, Some, None, Result, Ok, Err}
+use Rattle.std.specs.Str.{is_utf8}
 use Rattle.minisign.specs.Acceptance.{Verifier}
 use Rattle.minisign.specs.Records.{PublicKeyRecord}
 use Rattle.minisign_base.specs.Fault.{Fault}
@@ -20,9 +21,8 @@ use Rattle.minisign_lists.specs.Values.{go_on, list_verdict_under, long_numbered
 use Rattle.minisign_lists.specs.Verdicts.{check_digest}
 use Rattle.minisign_c.specs.ListCalls.{list_refusal}
 
--- What an application looks up in a signed list: the name of the list, its text, what 128 digits mean, and
--- the
--- name of the file.
+-- The lookup of a file in a signed list: the name of the list, its text, the hash function that 128 digits
+-- stand for, and the name of the file.
 pub record Lookup : Type 0 where
   pub list_name : List ℕ
   pub text : List ℕ
@@ -33,7 +33,14 @@ abbrev pub lookup_of : List ℕ → List ℕ → ℕ → List ℕ → Lookup
 lookup_of list_name text long_digest name =
     record { list_name = list_name; text = text; long = long_numbered long_digest; name = name }
 
--- What 128 digits mean, if the number that the caller passed has a meaning.
+-- The public key file, the signature file, the list and the name are UTF-8.
+pub record AreUtf8 (pk_text sig_text list name : List ℕ) : Type 0 where
+  pub key : is_utf8 pk_text ≡ true
+  pub signature : is_utf8 sig_text ≡ true
+  pub text : is_utf8 list ≡ true
+  pub called : is_utf8 name ≡ true
+
+-- The hash function that 128 digits stand for, or BadHash if the caller passed an unknown number.
 abbrev pub meaning_of : Option LongDigest → Result LongDigest (Refusal ListFault)
 meaning_of None = Err (WrongUse BadHash)
 meaning_of (Some long) = Ok long
@@ -47,8 +54,7 @@ looked_up x =
     of_lists (listed_entry long list name))))
 
 -- The verdict on data under its name in a signed list: the trusted comment of the list, if its signature is
--- valid, the comment names the list, exactly one entry has the name, and the data has its digest. Otherwise
--- it
+-- valid, the comment names the list, exactly one entry has the name, and the data has its digest. If not, it
 -- is the first of these checks that fails.
 abbrev pub listed_under : Verifier → PublicKeyValue → List ℕ → Lookup → List ℕ
     → Result (List ℕ) (Refusal ListFault)
@@ -57,7 +63,7 @@ listed_under accepts v sig_text x m =
     go_on (looked_up x) (λ entry.
     go_on (of_lists (check_digest entry.digest m)) (λ _. Ok comment)))
 
--- The same with a public key file that was parsed.
+-- As listed_under, with the result of parsing the public key file, whose error comes first.
 abbrev pub listed_with : Verifier → Result PublicKeyRecord Fault → List ℕ → Lookup → List ℕ
     → Result (List ℕ) (Refusal ListFault)
 listed_with accepts key sig_text x m =
@@ -74,7 +80,7 @@ abbrev pub strict_listed_number : Verifier → PublicKeyValue → List ℕ → L
 strict_listed_number accepts v sig_text x m =
     strict_read v (read_under v false sig_text) (listed_number (listed_under (strict accepts) v sig_text x m))
 
--- The number of the data under the name in a list that was verified.
+-- The error number of checking the data under its name in a verified list, or 0.
 abbrev pub data_number : Result Entry (Refusal ListFault) → List ℕ → ℕ
 data_number (Ok entry) m = listed_number (go_on (of_lists (check_digest entry.digest m)) (λ _. Ok []))
 data_number (Err r) m = list_refusal r

@@ -234,7 +234,7 @@ pub fn sign_in_a_row<S: Scheme>(
     // buffer and the length are unchanged.
     ensures refused { 0 < result → IsSigningNumber S.Scheme scheme.now key_text.now
         (comments_of trusted.now untrusted.now) (joined pieces.now) text.old result }
-    ensures kept { 0 < result → (text.new ≡ text.old) × (text_len.new ≡ text_len.old) }
+    ensures unchanged { 0 < result → (text.new ≡ text.old) × (text_len.new ≡ text_len.old) }
 {
     let mut key = no_secret_key();
     let number = open(alloc, key_text, &mut key);
@@ -341,7 +341,7 @@ fn sign_with<S: Scheme>(
     ensures refused { 0 < result → (r : Refusal Fault) × (result ≡ refusal_number fault_number r)
         × IsOwnRefusal S.Scheme scheme.now key.now (comments_of trusted.now untrusted.now)
         (joined pieces.now) text.old r }
-    ensures kept { 0 < result → (text.new ≡ text.old) × (text_len.new ≡ text_len.old) }
+    ensures unchanged { 0 < result → (text.new ≡ text.old) × (text_len.new ≡ text_len.old) }
 {
     answers_decide();
     let mut public_key = no_public_key();
@@ -373,9 +373,9 @@ fn sign_with<S: Scheme>(
 }
 
 // Writes the public key of an open key.
-#[tactic(auto, using(crate::proofs::PublicHalves::told_half, crate::proofs::PublicHalves::untold_half))]
+#[tactic(auto, using(crate::proofs::PublicHalves::half_of_success, crate::proofs::PublicHalves::half_of_error))]
 fn public_half(key: &SecretKeyValue, public_key: &mut PublicKeyValue) -> u32
-    ensures told { result ≡ 0 → (is_opened key.now ≡ true) × (public_value_of key.now ≡ Ok public_key.new)
+    ensures success { result ≡ 0 → (is_opened key.now ≡ true) × (public_value_of key.now ≡ Ok public_key.new)
         × (public_key.new.key_id ≡ key.now.key_id) }
     ensures refused { 0 < result → (result ≡ misuse_number KeyNotOpened) × (is_opened key.now ≡ false) }
 {

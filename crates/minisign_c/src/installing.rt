@@ -9,7 +9,7 @@ ghost use Rattle.minisign_install.specs.Installations.{IsNewRecord, piece_event,
 ghost use Rattle.minisign_install.specs.Installations.{written_if};
 ghost use Rattle.minisign_install.specs.Step.{Answered, Done, PieceCopied, RecordRead, State, TargetMissing};
 ghost use Rattle.minisign_install.specs.Step.{begin, step};
-ghost use Rattle.minisign_c.specs.InstallCalls.{NumberReads, NumberSteps, TellsQuestion, TellsVersionOf};
+ghost use Rattle.minisign_c.specs.InstallCalls.{NumberReads, NumberSteps, ReturnsQuestion, ReturnsVersionOf};
 ghost use Rattle.minisign_c.specs.InstallCalls.{failure_event, failure_of, starting_misuse, step_number};
 ghost use Rattle.minisign_c.specs.InstallCalls.{time_of};
 
@@ -30,7 +30,8 @@ fn number_of(said: Result<(), Refusal<InstallFault>>) -> u32
     }
 }
 
-/// Begins an installation. Locking is due, or for a check reading the record.
+/// Begins an installation. The first operation that is due is to lock the target or, for a check, to read the
+/// record.
 #[unsafe(no_mangle)]
 pub extern "C" fn minisign_install_init(
     installation: &mut Installation,
@@ -38,7 +39,7 @@ pub extern "C" fn minisign_install_init(
     other: &PublicKeyValue,
     options: &Choices,
 ) -> u32
-    // On success, the installation stands for the first state of a run with these keys and options.
+    // On success, the installation represents the first state of a run with these keys and options.
     ensures begun { result ≡ 0 → (file : List ℕ)
         → IsStored installation.new (begin (options_by key.now other.now options.now file)) }
     // The errors are, in this order: an option is neither 0 nor 1, or two options must not be combined; there
@@ -46,7 +47,7 @@ pub extern "C" fn minisign_install_init(
     // unchanged.
     ensures number { MatchOption (starting_misuse key.now other.now options.now) (result ≡ 0)
         (λ m. result ≡ misuse_number m) }
-    ensures kept { 0 < result → installation.new ≡ installation.old }
+    ensures unchanged { 0 < result → installation.new ≡ installation.old }
 {
     match Installation::new(key, other, options) {
         Ok(begun) => {
@@ -60,10 +61,10 @@ pub extern "C" fn minisign_install_init(
     }
 }
 
-/// Returns the number of the operation that is due, or of how the run has ended.
+/// Returns the number of the operation that is due, or of the end of the run.
 #[unsafe(no_mangle)]
 pub extern "C" fn minisign_install_due(installation: &Installation) -> u32
-    // For every state for which the installation stands, the number is that of the operation that is due.
+    // If the installation represents a state, the number is that of the operation that is due.
     ensures { (s : State) → IsStored installation.now s → operation_of result ≡ s.due }
 {
     installation.due().number()
@@ -72,7 +73,8 @@ pub extern "C" fn minisign_install_due(installation: &Installation) -> u32
 /// Reports that the operation that is due was done.
 #[unsafe(no_mangle)]
 pub extern "C" fn minisign_install_done(installation: &mut Installation) -> u32
-    // For every state for which the installation stands, the result and the new state are those of the step.
+    // If the installation represents a state, the result and the new state are those that `step` computes
+    // from this state and this event.
     ensures steps { NumberSteps Done installation.old installation.new result }
     // After `NotDue` the installation is unchanged.
     ensures misuse { result ≡ misuse_number NotDue → installation.new ≡ installation.old }
@@ -83,7 +85,8 @@ pub extern "C" fn minisign_install_done(installation: &mut Installation) -> u32
 /// Reports that a piece of this many bytes was copied.
 #[unsafe(no_mangle)]
 pub extern "C" fn minisign_install_copied(installation: &mut Installation, piece_len: usize) -> u32
-    // For every state for which the installation stands, the result and the new state are those of the step.
+    // If the installation represents a state, the result and the new state are those that `step` computes
+    // from this state and this event.
     ensures steps { NumberSteps (PieceCopied piece_len) installation.old installation.new result }
     // After `NotDue` the installation is unchanged.
     ensures misuse { result ≡ misuse_number NotDue → installation.new ≡ installation.old }
@@ -91,11 +94,11 @@ pub extern "C" fn minisign_install_copied(installation: &mut Installation, piece
     number_of(installation.copied(piece_len as u64))
 }
 
-/// Reports that the operation that is due failed for the error with this number.
+/// Reports that the operation that is due failed with the error that has this number.
 #[unsafe(no_mangle)]
 pub extern "C" fn minisign_install_failed(installation: &mut Installation, why: u32) -> u32
-    // If an operation can fail for this error: for every state for which the installation stands, the result
-    // and the new state are those of the step. Otherwise the result is `NotDue`.
+    // If an operation can fail with this error and the installation represents a state, the result and the
+    // new state are those that `step` computes. If no operation can fail with it, the result is `NotDue`.
     ensures steps { MatchOption (failure_event why) (result ≡ misuse_number NotDue)
         (λ e. NumberSteps e installation.old installation.new result) }
     // After `NotDue` the installation is unchanged.
@@ -110,7 +113,7 @@ pub extern "C" fn minisign_install_failed(installation: &mut Installation, why: 
     }
 }
 
-// Returns the error with this number, if an operation can fail for it.
+// Returns the error with this number, if an operation can fail with it.
 fn failure_of(number: u32) -> Option<NamedFault>
     ensures { result ≡ failure_of number }
 {
@@ -130,7 +133,8 @@ fn failure_of(number: u32) -> Option<NamedFault>
 /// Reports the bytes of the record.
 #[unsafe(no_mangle)]
 pub extern "C" fn minisign_install_record(installation: &mut Installation, record: &[u8]) -> u32
-    // For every state for which the installation stands, the result and the new state are those of the step.
+    // If the installation represents a state, the result and the new state are those that `step` computes
+    // from this state and this event.
     ensures steps { NumberSteps (RecordRead (Some «record».now)) installation.old installation.new result }
     // After `NotDue` the installation is unchanged.
     ensures misuse { result ≡ misuse_number NotDue → installation.new ≡ installation.old }
@@ -141,7 +145,8 @@ pub extern "C" fn minisign_install_record(installation: &mut Installation, recor
 /// Reports that there is no record.
 #[unsafe(no_mangle)]
 pub extern "C" fn minisign_install_no_record(installation: &mut Installation) -> u32
-    // For every state for which the installation stands, the result and the new state are those of the step.
+    // If the installation represents a state, the result and the new state are those that `step` computes
+    // from this state and this event.
     ensures steps { NumberSteps (RecordRead None) installation.old installation.new result }
     // After `NotDue` the installation is unchanged.
     ensures misuse { result ≡ misuse_number NotDue → installation.new ≡ installation.old }
@@ -149,10 +154,11 @@ pub extern "C" fn minisign_install_no_record(installation: &mut Installation) ->
     number_of(installation.no_record())
 }
 
-/// Reports the next bytes of the file that is read. No bytes report its end.
+/// Reports the next bytes of the file that is being read, or its end, if `piece` is empty.
 #[unsafe(no_mangle)]
 pub extern "C" fn minisign_install_piece(installation: &mut Installation, piece: &[u8]) -> u32
-    // For every state for which the installation stands, the result and the new state are those of the step.
+    // If the installation represents a state, the result and the new state are those that `step` computes
+    // from this state and this event.
     ensures steps { (s : State) → IsStored installation.old s
         → IsStored installation.new (step s (piece_event s.due piece.now)).1
         × (result ≡ step_number (step s (piece_event s.due piece.now)).0) }
@@ -165,7 +171,8 @@ pub extern "C" fn minisign_install_piece(installation: &mut Installation, piece:
 /// Reports that there is no file at the target.
 #[unsafe(no_mangle)]
 pub extern "C" fn minisign_install_no_target(installation: &mut Installation) -> u32
-    // For every state for which the installation stands, the result and the new state are those of the step.
+    // If the installation represents a state, the result and the new state are those that `step` computes
+    // from this state and this event.
     ensures steps { NumberSteps TargetMissing installation.old installation.new result }
     // After `NotDue` the installation is unchanged.
     ensures misuse { result ≡ misuse_number NotDue → installation.new ≡ installation.old }
@@ -184,15 +191,16 @@ pub extern "C" fn minisign_install_signature(
     message: &mut [u8],
     message_len: &mut usize,
 ) -> u32
-    // For every state for which the installation stands and that has this name of the file, the result, the
-    // message, its length and the new state are those of the step. A time before 1970 counts as none.
+    // If the installation represents a state with the file name `file` in its options, the result, the
+    // message, its length and the new state are those that `step` computes from it and this event. A time
+    // before 1970 is passed on as no time.
     ensures steps { NumberReads sig_text.now file.now (time_of now) installation.old installation.new result
         message_len.old message_len.new message.old message.new }
-    // After `NotDue` and `NoRoom` the installation is unchanged, and after every error the buffer and the
-    // length.
+    // After `NotDue` and `NoRoom` the installation is unchanged. After every error the buffer and the length
+    // are unchanged.
     ensures misuse { (result ≡ misuse_number NotDue) ⊎ (result ≡ misuse_number NoRoom)
         → installation.new ≡ installation.old }
-    ensures kept { 0 < result → (message_len.new ≡ message_len.old) × (message.new ≡ message.old) }
+    ensures unchanged { 0 < result → (message_len.new ≡ message_len.old) × (message.new ≡ message.old) }
 {
     match installation.signature(sig_text, file, time_of(now), message) {
         Ok(len) => {
@@ -203,7 +211,7 @@ pub extern "C" fn minisign_install_signature(
     }
 }
 
-// Returns the time that counts: none if the clock shows a time before 1970.
+// Returns the time that is passed to the step, or `None` if the clock shows a time before 1970.
 fn time_of(now: i64) -> Option<u64>
     ensures { result ≡ time_of now }
 {
@@ -219,12 +227,12 @@ pub extern "C" fn minisign_install_question(
     signature: &mut [u8; 64],
     digest: &mut [u8; 64],
 ) -> u32
-    // For every state for which the installation stands, the question is the one that is due. If none is due,
+    // If the installation represents a state, the question is the one that is due. If none is due,
     // the result is `NotDue`, and nothing is written.
-    ensures asked { (s : State) → IsStored installation.now s → TellsQuestion (question_due s) result
+    ensures asked { (s : State) → IsStored installation.now s → ReturnsQuestion (question_due s) result
         (record { key = key.old; signature = signature.old; digest = digest.old })
         (record { key = key.new; signature = signature.new; digest = digest.new }) }
-    ensures kept { 0 < result → (result ≡ misuse_number NotDue) × (key.new ≡ key.old)
+    ensures unchanged { 0 < result → (result ≡ misuse_number NotDue) × (key.new ≡ key.old)
         × (signature.new ≡ signature.old) × (digest.new ≡ digest.old) }
 {
     match installation.question() {
@@ -243,10 +251,11 @@ pub extern "C" fn minisign_install_question(
     }
 }
 
-/// Reports what Ed25519 answered: `ANSWER_YES` or `ANSWER_NO`.
+/// Reports the result of Ed25519: `ANSWER_YES` or `ANSWER_NO`.
 #[unsafe(no_mangle)]
 pub extern "C" fn minisign_install_answer(installation: &mut Installation, answer: u32) -> u32
-    // For every state for which the installation stands, the result and the new state are those of the step.
+    // If the installation represents a state, the result and the new state are those that `step` computes
+    // from this state and this event.
     ensures steps { is_answer answer ≡ true
         → NumberSteps (Answered (answer == answer_yes)) installation.old installation.new result }
     // Any other number is rejected, and the installation is unchanged.
@@ -258,7 +267,7 @@ pub extern "C" fn minisign_install_answer(installation: &mut Installation, answe
     number_of(installation.answer(answer))
 }
 
-/// Returns 1 if a key was found to have signed the trusted comment, otherwise 0.
+/// Returns 1 once one of the keys has been found to have signed the trusted comment, otherwise 0.
 #[unsafe(no_mangle)]
 pub extern "C" fn minisign_install_is_signed(installation: &Installation) -> u32
     ensures { (s : State) → IsStored installation.now s → result ≡ (if s.is_signed then 1 else 0) }
@@ -299,9 +308,9 @@ pub extern "C" fn minisign_install_record_text(
     installation: &Installation,
     text: &mut [u8],
 ) -> usize
-    // For every state for which the installation stands, what is written is the record that is due, and is
-    // read as the version number, the key and the digest that the run records. If none is due, or it is
-    // longer than the buffer, the result is 0, and nothing is written.
+    // If a record is due in the state that the installation represents, and fits the buffer, the call writes
+    // it. It parses to the version number, the key and the digest that the run records. If none is due, or
+    // it is longer than the buffer, the result is 0, and nothing is written.
     ensures written { (s : State) → IsStored installation.now s
         → written_if (record_due s) result text.old text.new }
     ensures reads_back { (s : State) → IsStored installation.now s → 0 < result
@@ -312,7 +321,7 @@ pub extern "C" fn minisign_install_record_text(
     installation.record_text(text)
 }
 
-/// Returns the number of the error for which the run is rejected, or 0.
+/// Returns the number of the error because of which the run is rejected, or 0.
 #[unsafe(no_mangle)]
 pub extern "C" fn minisign_install_error(installation: &Installation) -> u32
     ensures { (s : State) → IsStored installation.now s → result ≡ error_number s.error }
@@ -320,7 +329,7 @@ pub extern "C" fn minisign_install_error(installation: &Installation) -> u32
     installation.error()
 }
 
-/// Judges a signed comment by itself, and writes its version number.
+/// Checks only what a signed comment says, and writes its version number.
 #[unsafe(no_mangle)]
 pub extern "C" fn minisign_judge_comment(
     comment: &[u8],
@@ -332,7 +341,7 @@ pub extern "C" fn minisign_judge_comment(
 ) -> u32
     // If all checks pass, the result is 0, and `number` is the version number. Otherwise the result is the
     // number of the first check that fails, and `number` is unchanged. There are only the fields 0 and 1.
-    ensures { TellsVersionOf comment.now file.now numbering now kept result number.old number.new }
+    ensures { ReturnsVersionOf comment.now file.now numbering now kept result number.old number.new }
 {
     let Some(numbering) = Numbering::of_number(numbering) else {
         return Misuse::BadNumbering.number();

@@ -18,7 +18,7 @@ ghost use Rattle.minisign_external.specs.Questions.{IsKeyText, comment_verdict_u
 ghost use Rattle.minisign_external.specs.Questions.{verdict_under};
 ghost use Rattle.minisign_external.specs.Numbers.{WritesCut, misuse_number, IsAnswer, answer_yes};
 ghost use Rattle.minisign_external.specs.Numbers.{IsKindOf, fault_number, refusal_number};
-ghost use Rattle.minisign_external.specs.PublicKeys.{is_public_key, read_utf8, told_key_number};
+ghost use Rattle.minisign_external.specs.PublicKeys.{is_public_key, read_utf8, key_outcome_number};
 ghost use Rattle.minisign_external.specs.Making.{HoldsPublicKey, HoldsSecretKey, IsKeyComment};
 ghost use Rattle.minisign_external.specs.Making.{HoldsReadPublicKey, HoldsReadSecretKey, IsEncodingNumber};
 ghost use Rattle.minisign_external.specs.Making.{IsMakingRefusal};
@@ -26,10 +26,10 @@ ghost use Rattle.minisign_external.specs.Making.{IsPublicKeyNumber};
 ghost use Rattle.minisign_external.specs.SecretKeys.{DerivesWithin, OpensAs, is_opened, opened_in_place};
 ghost use Rattle.minisign_external.specs.SecretKeys.{opened_sealed, opened_unsealed, passed_in};
 ghost use Rattle.minisign_external.specs.SecretKeys.{public_value_of, read_value, reading_number};
-ghost use Rattle.minisign_external.specs.SecretKeys.{unopened_record, taken_key, told_opened};
+ghost use Rattle.minisign_external.specs.SecretKeys.{unopened_record, taken_key, opened_outcome};
 ghost use Rattle.minisign_external.specs.SecretKeys.{is_read, tested_sealed};
-ghost use Rattle.minisign_external.specs.SecretKeys.{told_public_key, value_memory};
-ghost use Rattle.minisign_external.specs.Signatures.{IsReadFrom, read_signature_value, told_signature_value};
+ghost use Rattle.minisign_external.specs.SecretKeys.{public_key_outcome, value_memory};
+ghost use Rattle.minisign_external.specs.Signatures.{IsReadFrom, read_signature_value, signature_outcome};
 ghost use Rattle.minisign_external.specs.Signatures.{signature_of_value};
 ghost use Rattle.minisign_external.specs.Signing.{AreReadByMinisign, HoldsText, IsWritingNumber};
 ghost use Rattle.minisign_external.specs.declared.public_keys.PublicKeyValue.{PublicKeyValue};
@@ -40,15 +40,18 @@ ghost use Rattle.minisign_external.specs.declared.state.Misuse.TheVariants.{BadA
 ghost use Rattle.minisign_external.specs.declared.state.Misuse.TheVariants.{EntryNotRead, NotBegun};
 ghost use Rattle.minisign_external.specs.declared.state.Misuse.TheVariants.{KeyNotRead, NoRoom};
 ghost use Rattle.minisign_external.specs.declared.state.Misuse.TheVariants.{PublicKeyNotRead};
-ghost use Rattle.minisign_external.specs.States.{AreAsked, GivesNumber, HasAsked, HasToldDigest, IsAnswered};
-ghost use Rattle.minisign_external.specs.States.{IsBlank, IsFedState, IsMarkedFed, IsMarkedTold, KeepsAsked};
+ghost use Rattle.minisign_external.specs.States.{AreAsked, GivesNumber, HasAsked, HasReturnedDigest};
+ghost use Rattle.minisign_external.specs.States.{IsAnswered};
+ghost use Rattle.minisign_external.specs.States.{IsBlank, IsFedState, IsMarkedFed, IsMarkedFinalized};
+ghost use Rattle.minisign_external.specs.States.{KeepsAsked};
 ghost use Rattle.minisign_external.specs.States.{asking_under, comment_number, feeding_misuse};
-ghost use Rattle.minisign_external.specs.States.{result_number, told_verdict_number, verdict_number};
+ghost use Rattle.minisign_external.specs.States.{result_number, verdict_outcome_number, verdict_number};
 ghost use Rattle.minisign_external.specs.Bare.{AnswersBare, HasAskedBare, bare_verdict_under, judged_number};
-ghost use Rattle.minisign_external.specs.Bare.{told_bare_asking_number, told_bare_verdict_number};
+ghost use Rattle.minisign_external.specs.Bare.{bare_asking_outcome_number, bare_verdict_outcome_number};
 ghost use Rattle.minisign_external.specs.ValueRecords.{public_key_in, public_key_record, read_bare_value};
 ghost use Rattle.minisign_external.specs.ValueRecords.{secret_key_record, signature_record};
-ghost use Rattle.minisign_external.specs.ValueRecords.{told_record_number, told_unopened_number, unopened_in};
+ghost use Rattle.minisign_external.specs.ValueRecords.{record_outcome_number, unopened_outcome_number};
+ghost use Rattle.minisign_external.specs.ValueRecords.{unopened_in};
 ghost use Rattle.minisign_external.specs.ValueRecords.{written_public_key};
 ghost use Rattle.minisign.specs.Records.{SignatureRecord};
 ghost use Rattle.minisign_external.specs.StrictCalls.{asked_number, asked_strictly, strict_asking_number};
@@ -59,7 +62,7 @@ ghost use Rattle.minisign_c.specs.ListCalls.{IsCallKind, IsCallMeaning, all_entr
 ghost use Rattle.minisign_c.specs.ListCalls.{appending_number, finding_number, line_at_fault, list_result};
 ghost use Rattle.minisign_c.specs.ListCalls.{AreListQuestions, IsAnsweredList, asking_list_number};
 ghost use Rattle.minisign_c.specs.ListCalls.{list_verdict_number};
-ghost use Rattle.minisign_c.specs.ListCalls.{told_list_number};
+ghost use Rattle.minisign_c.specs.ListCalls.{list_outcome_number};
 ghost use Rattle.minisign_lists.specs.Digests.{has_digest};
 ghost use Rattle.minisign_lists.specs.declared.digests.ListedDigest.{ListedDigest};
 ghost use Rattle.minisign_lists.specs.Faults.{is_own, list_number, list_row};
@@ -83,7 +86,7 @@ use minisign_external::making::{
 use minisign_external::numbers::{
     ANSWER_YES, Numbered, WEAK_ED25519, error_kind, is_answer, kind_number, write_cut,
 };
-use minisign_external::public_keys::{PublicKeyValue, tell_bare_public_key, tell_public_key};
+use minisign_external::public_keys::{PublicKeyValue, store_bare_public_key, store_public_key};
 use minisign_external::secrets::SecretKeyValue;
 use minisign_external::signatures::SignatureValue;
 use minisign_external::signed_texts::{write_comment_message, write_signed_text};
@@ -116,8 +119,8 @@ macro_rules! number_of {
     };
 }
 
-/// Writes what an error number means: the text, cut where there is no room for more, and a 0.
-/// Returns the length of the whole text.
+/// Writes the text of an error number, truncated if the buffer is too short, and a 0. Returns the length of
+/// the whole text.
 #[unsafe(no_mangle)]
 pub extern "C" fn minisign_error_text(error: u32, text: &mut [u8]) -> usize
     // The text is that of the API misuse, of the error of an installation or a list, or of the library's
@@ -135,7 +138,7 @@ pub extern "C" fn minisign_error_text(error: u32, text: &mut [u8]) -> usize
     }
 }
 
-// Writes the text of an error of lists.
+// Writes the text of a list error.
 fn write_list_error(fault: &ListFault, text: &mut [u8]) -> usize
     requires { is_own fault.now ≡ true }
     ensures written { (result ≡ length (list_row fault.now).summary)
@@ -151,8 +154,8 @@ fn write_list_error(fault: &ListFault, text: &mut [u8]) -> usize
 /// Returns the number of the kind of an error.
 #[unsafe(no_mangle)]
 pub extern "C" fn minisign_error_kind(error: u32) -> u32
-    // The result is 1 for API misuse, the number of the kind for an error of the library or of lists, and 0
-    // for 0 and for a number without a meaning here.
+    // The result is 1 for API misuse, the number of the kind for an error of the library or a list error, and
+    // 0 for 0 and for a number without a meaning here.
     ensures { IsCallKind error result }
 {
     match ListFault::of_number(error) {
@@ -161,7 +164,7 @@ pub extern "C" fn minisign_error_kind(error: u32) -> u32
     }
 }
 
-/// Begins: the state was fed nothing.
+/// Initializes a state, which has been fed no data.
 #[unsafe(no_mangle)]
 pub extern "C" fn minisign_init(state: &mut State)
     // The state has been fed no data and nothing was asked, whatever it held before.
@@ -187,7 +190,7 @@ pub extern "C" fn minisign_update(state: &mut State, piece: &[u8]) -> u32
     number_of!(state.update(piece))
 }
 
-/// Tells the digest of the data that was fed. The state then takes no more.
+/// Writes the digest of the data that the state was fed. The state then accepts no more data.
 #[unsafe(no_mangle)]
 pub extern "C" fn minisign_digest(state: &mut State, digest: &mut [u8; 64]) -> u32
     // On success, the digest is the Blake2b digest (64 bytes) of all data that the state was fed, and the
@@ -195,24 +198,24 @@ pub extern "C" fn minisign_digest(state: &mut State, digest: &mut [u8; 64]) -> u
     // returned, or if the state was never initialized or was finished by a verdict. Then the result is the
     // number of that error, and the state and the digest are unchanged.
     ensures digest { (m : List ℕ) → IsFedState state.old m
-        → (result ≡ 0) × (digest.new ≡ blake2b_digest 64 m) × HasToldDigest state.new m }
+        → (result ≡ 0) × (digest.new ≡ blake2b_digest 64 m) × HasReturnedDigest state.new m }
     ensures asked { KeepsAsked state.old state.new }
-    ensures told { result ≡ 0 → IsMarkedFed state.old × IsMarkedTold state.new }
+    ensures finalized { result ≡ 0 → IsMarkedFed state.old × IsMarkedFinalized state.new }
     ensures refused { 0 < result → (result ≡ misuse_number (feeding_misuse state.old))
         × (state.new ≡ state.old) × (digest.new ≡ digest.old) }
 {
     number_of!(state.digest(digest))
 }
 
-/// Reads the text of a public key, two lines. Does not allocate.
+/// Reads a public key file of two lines. Does not allocate.
 #[unsafe(no_mangle)]
 pub extern "C" fn minisign_read_public_key(pk_text: &[u8], key: &mut PublicKeyValue) -> u32
     // On success, `key` holds the key and the key ID of the public key file, and is marked as read. The file
     // must be UTF-8. Otherwise, or if it does not parse, the result is the number of the first check that
     // fails, and `key` is unchanged.
-    ensures { (result, key.new) ≡ told_key_number (read_utf8 read_public_key pk_text.now) key.old }
+    ensures { (result, key.new) ≡ key_outcome_number (read_utf8 read_public_key pk_text.now) key.old }
 {
-    number_of!(tell_public_key(pk_text, key))
+    number_of!(store_public_key(pk_text, key))
 }
 
 /// Reads the bare base64 of a public key, as updaters embed it. Does not allocate.
@@ -221,9 +224,9 @@ pub extern "C" fn minisign_read_bare_public_key(base64: &[u8], key: &mut PublicK
     // On success, `key` holds the key and the key ID of the base64 text, and is marked as read. The text must
     // be UTF-8. Otherwise, or if it does not parse, the result is the number of the first check that fails,
     // and `key` is unchanged.
-    ensures { (result, key.new) ≡ told_key_number (read_utf8 read_bare_public_key base64.now) key.old }
+    ensures { (result, key.new) ≡ key_outcome_number (read_utf8 read_bare_public_key base64.now) key.old }
 {
-    number_of!(tell_bare_public_key(base64, key))
+    number_of!(store_bare_public_key(base64, key))
 }
 
 /// Reads a public key from its record. Does not allocate.
@@ -231,7 +234,7 @@ pub extern "C" fn minisign_read_bare_public_key(base64: &[u8], key: &mut PublicK
 pub extern "C" fn minisign_read_public_key_record(bytes: &[u8], key: &mut PublicKeyValue) -> u32
     // On success, `key` holds the key and the key ID in the first 42 bytes, and is marked as read. If there
     // are fewer bytes, the result is the number of that error, and `key` is unchanged.
-    ensures { (result, key.new) ≡ told_key_number (public_key_in bytes.now) key.old }
+    ensures { (result, key.new) ≡ key_outcome_number (public_key_in bytes.now) key.old }
 {
     number_of!(read_public_key_record(bytes, key))
 }
@@ -241,19 +244,19 @@ pub extern "C" fn minisign_read_public_key_record(bytes: &[u8], key: &mut Public
 pub extern "C" fn minisign_public_key_record(key: &PublicKeyValue, bytes: &mut [u8; 42]) -> u32
     // If the public key was read, the record is its 42 bytes, with the algorithm `Ed`. Otherwise the result
     // is the number of that error, and the record is unchanged.
-    ensures { (result, bytes.new) ≡ told_record_number (public_key_record key.now) bytes.old }
+    ensures { (result, bytes.new) ≡ record_outcome_number (public_key_record key.now) bytes.old }
 {
     number_of!(write_public_key_record(key, bytes))
 }
 
-/// Reads the signature of a text. Does not allocate.
+/// Reads a signature file. Does not allocate.
 #[unsafe(no_mangle)]
 pub extern "C" fn minisign_read_signature(sig_text: &[u8], signature: &mut SignatureValue) -> u32
     // On success, `signature` holds the key ID, the algorithm and both signatures of the text, and the
     // position at which the trusted comment is in the text. The text must be UTF-8. Otherwise, or if it does
     // not parse, the result is the number of the first check that fails, and `signature` is unchanged.
     ensures number { (result, signature.new)
-        ≡ told_signature_value (read_signature_value sig_text.now) signature.old }
+        ≡ signature_outcome (read_signature_value sig_text.now) signature.old }
     ensures read { result ≡ 0 → (t : SignatureTextRecord) × IsReadFrom signature.new sig_text.now t }
 {
     match SignatureValue::read(sig_text) {
@@ -274,7 +277,7 @@ pub extern "C" fn minisign_read_signature_record(
     // On success, `signature` holds the key ID, the algorithm and the signature in the first 74 bytes, and
     // nothing about comments. Otherwise the result is the number of the first check that fails, fewer bytes
     // and then an algorithm other than `Ed` and `ED`, and `signature` is unchanged.
-    ensures { (result, signature.new) ≡ told_signature_value (read_bare_value bytes.now) signature.old }
+    ensures { (result, signature.new) ≡ signature_outcome (read_bare_value bytes.now) signature.old }
 {
     match SignatureValue::read_record(bytes) {
         Ok(read) => {
@@ -290,13 +293,13 @@ pub extern "C" fn minisign_read_signature_record(
 pub extern "C" fn minisign_signature_record(signature: &SignatureValue, bytes: &mut [u8; 74]) -> u32
     // If the signature was read, from a text or from a record, the record is its 74 bytes. Otherwise the
     // result is the number of that error, and the record is unchanged.
-    ensures { (result, bytes.new) ≡ told_record_number (signature_record signature.now) bytes.old }
+    ensures { (result, bytes.new) ≡ record_outcome_number (signature_record signature.now) bytes.old }
 {
     number_of!(signature.write_record(bytes))
 }
 
-/// Asks what Ed25519 has to answer before it is known whether the key and the signature vouch for the data.
-/// Does not allocate.
+/// Writes the inputs of the two Ed25519 checks that decide whether the signature is valid for the data. Does
+/// not allocate.
 #[unsafe(no_mangle)]
 pub extern "C" fn minisign_ask(
     state: &mut State,
@@ -308,8 +311,8 @@ pub extern "C" fn minisign_ask(
     message: &mut [u8],
 ) -> u32
     // Errors are checked in this order: `allow_legacy` is above 1; those of `State::ask`; the key or a
-    // signature is weak. The comment signature counts if it has its 64 bytes. If none of them applies, the
-    // result is 0.
+    // signature is weak. The comment signature is only tested if it has at least 64 bytes. If none of them
+    // applies, the result is 0.
     ensures number { result ≡ strict_asking_number state.old key.now signature.now sig_text.now allow_legacy
         (length message.old) }
 
@@ -328,7 +331,7 @@ pub extern "C" fn minisign_ask(
     ensures fed { (m : List ℕ) → IsFedState state.old m → IsFedState state.new m }
 
     // On success, if the signature was read from this text, neither the key nor a signature in the text is
-    // weak. The comment signature counts if it has its 64 bytes.
+    // weak. The comment signature is only tested if it has at least 64 bytes.
     ensures strict { result ≡ 0 → (t : SignatureTextRecord) → IsReadFrom signature.now sig_text.now t
         → is_strict_text key.now t ≡ true }
 
@@ -336,7 +339,7 @@ pub extern "C" fn minisign_ask(
     // buffer are unchanged.
     ensures rest { result ≡ 0 → drop questions.new.message_len message.new
         ≡ drop questions.new.message_len message.old }
-    ensures kept { 0 < result → (state.new ≡ state.old) × (questions.new ≡ questions.old)
+    ensures unchanged { 0 < result → (state.new ≡ state.old) × (questions.new ≡ questions.old)
         × (message.new ≡ message.old) }
 {
     if allow_legacy > 1 {
@@ -356,7 +359,8 @@ pub extern "C" fn minisign_ask(
     }
 }
 
-/// What the answer to the second question, `ANSWER_YES` or `ANSWER_NO`, is worth by itself.
+/// Returns the verdict on the trusted comment, from the result of only the second check, `ANSWER_YES` or
+/// `ANSWER_NO`.
 #[unsafe(no_mangle)]
 pub extern "C" fn minisign_comment_verdict(state: &State, second: u32) -> u32
     // After a successful `minisign_ask`, for every scheme for which `second` is the result of the second
@@ -368,7 +372,7 @@ pub extern "C" fn minisign_comment_verdict(state: &State, second: u32) -> u32
 
     // It is API misuse if `second` is neither 7955827 (yes) nor 28271 (no), if nothing was asked, or if the
     // state was never initialized or was finished by a verdict. Otherwise the result is 0 exactly if the
-    // comment signature has its 64 bytes and `second` is yes.
+    // comment signature has at least 64 bytes and `second` is yes.
     ensures number { result ≡ comment_number state.now second }
 {
     if !is_answer(second) {
@@ -377,8 +381,8 @@ pub extern "C" fn minisign_comment_verdict(state: &State, second: u32) -> u32
     number_of!(state.comment_verdict(second == ANSWER_YES))
 }
 
-/// The verdict from what Ed25519 answered to the two questions, `ANSWER_YES` or `ANSWER_NO`. It ends the
-/// state.
+/// Returns the verdict from the results of the two Ed25519 checks, `ANSWER_YES` or `ANSWER_NO`, and finishes
+/// the state.
 #[unsafe(no_mangle)]
 pub extern "C" fn minisign_verdict(state: &mut State, first: u32, second: u32) -> u32
     // **After a successful `minisign_ask` and `minisign_digest`, for every scheme and every message for which
@@ -397,8 +401,8 @@ pub extern "C" fn minisign_verdict(state: &mut State, first: u32, second: u32) -
 
     // It is API misuse if a result is neither 7955827 (yes) nor 28271 (no), if nothing was asked or if the
     // digest was not returned; then the state is unchanged. Otherwise the state is finished, and the result
-    // is 0 exactly if `first` is yes, the comment signature has its 64 bytes and `second` is yes.
-    ensures number { (result, state.new) ≡ told_verdict_number state.old first second }
+    // is 0 exactly if `first` is yes, the comment signature has at least 64 bytes and `second` is yes.
+    ensures number { (result, state.new) ≡ verdict_outcome_number state.old first second }
 {
     if !is_answer(first) || !is_answer(second) {
         return Misuse::BadAnswer.number();
@@ -406,7 +410,7 @@ pub extern "C" fn minisign_verdict(state: &mut State, first: u32, second: u32) -
     number_of!(state.verdict(first == ANSWER_YES, second == ANSWER_YES))
 }
 
-/// Asks what Ed25519 has to answer before it is known whether a bare signature is valid. Does not allocate.
+/// Writes the inputs of the Ed25519 check that decides whether a bare signature is valid. Does not allocate.
 #[unsafe(no_mangle)]
 pub extern "C" fn minisign_ask_bare(
     state: &mut State,
@@ -415,15 +419,14 @@ pub extern "C" fn minisign_ask_bare(
     allow_legacy: u32,
     questions: &mut Questions,
 ) -> u32
-    // If the result is 0, `questions` holds the question about the key and the signature, with zeros in
-    // place of the digest and of everything about a comment, and the state records that it was asked about
-    // a bare signature. Otherwise the state and the questions are unchanged, and the result is the number
-    // of the first error that applies: `allow_legacy` is above 1; the state was asked before or its digest
-    // returned, or it was never initialized; the public key was not read; the signature was not read; the
-    // key IDs differ; the signature is a legacy one and these are not allowed; the key or the signature is
-    // weak.
+    // If the result is 0, `questions` holds the question about the key and the signature, with zeros in place
+    // of the digest and in the fields about a comment, and the state records that it was asked about a bare
+    // signature. Otherwise the state and the questions are unchanged, and the result is the number of the
+    // first error that applies: `allow_legacy` is above 1; the state was asked before or its digest returned,
+    // or it was never initialized; the public key was not read; the signature was not read; the key IDs
+    // differ; the signature is a legacy one and these are not allowed; the key or the signature is weak.
     ensures value { (result, state.new, questions.new)
-        ≡ told_bare_asking_number state.old key.now signature.now allow_legacy questions.old }
+        ≡ bare_asking_outcome_number state.old key.now signature.now allow_legacy questions.old }
 
     // The data that the state was fed is unchanged. If the result is 0, the state was asked about this key
     // and this signature.
@@ -440,22 +443,23 @@ pub extern "C" fn minisign_ask_bare(
     }
 }
 
-/// Returns the verdict on a bare signature from the answer, `ANSWER_YES` or `ANSWER_NO`, and finishes the
-/// state. Does not allocate.
+/// Returns the verdict on a bare signature from the result of the check, `ANSWER_YES` or `ANSWER_NO`, and
+/// finishes the state. Does not allocate.
 #[unsafe(no_mangle)]
 pub extern "C" fn minisign_bare_verdict(state: &mut State, first: u32) -> u32
     // **After a successful `minisign_ask_bare` and the digest, for every scheme and every message for which
     // `first` is the result of the check: the result is 0 exactly if the bare signature is valid for the
     // message under the key. Otherwise it is the number of the first check that fails.**
     ensures verdict { (v : PublicKeyValue) (s : SignatureRecord) (message : List ℕ) (legacy : Bool)
-        (accepts : Verifier) → HasAskedBare state.old v s legacy → IsMarkedTold state.old → IsAnswer first
+        (accepts : Verifier) → HasAskedBare state.old v s legacy → IsMarkedFinalized state.old
+        → IsAnswer first
         → AnswersBare accepts v s message (first == answer_yes)
         → result ≡ judged_number (bare_verdict_under accepts v s message legacy) }
 
     // It is API misuse, and the state is unchanged, if `first` is neither 7955827 (yes) nor 28271 (no), if
     // the state was not asked about a bare signature, or if the digest was not returned. Otherwise the
     // state is finished, and the result is 0 exactly if `first` is yes.
-    ensures value { (result, state.new) ≡ told_bare_verdict_number state.old first }
+    ensures value { (result, state.new) ≡ bare_verdict_outcome_number state.old first }
 {
     if !is_answer(first) {
         return Misuse::BadAnswer.number();
@@ -463,19 +467,19 @@ pub extern "C" fn minisign_bare_verdict(state: &mut State, first: u32) -> u32
     number_of!(state.bare_verdict(first == ANSWER_YES))
 }
 
-/// Reads the text of a secret key, which is not opened yet. Does not allocate.
+/// Reads a secret key file, without opening (decrypting) the key. Does not allocate.
 #[unsafe(no_mangle)]
 pub extern "C" fn minisign_read_secret_key(sk_text: &[u8], unopened: &mut UnopenedKeyValue) -> u32
     // The result is 0 exactly if the text is UTF-8 and a well-formed secret key file. Otherwise it is the
     // number of the first check that fails, and `unopened` is unchanged.
     ensures number { result ≡ reading_number (read_utf8 read_secret_key sk_text.now) }
-    ensures kept { 0 < result → unopened.new ≡ unopened.old }
+    ensures unchanged { 0 < result → unopened.new ≡ unopened.old }
 
     // On success, `unopened` holds the key of the file and says how much work opening it takes: if it needs a
     // password, how many rows scrypt uses, and how many times it computes them. Opening it gives the same
     // result as opening the file, for every password and every bound on the work.
     ensures read { result ≡ 0 → read_utf8 read_secret_key sk_text.now ≡ Ok (unopened_record unopened.new) }
-    ensures told { result ≡ 0 → unopened.new ≡ read_value unopened.new.bytes }
+    ensures success { result ≡ 0 → unopened.new ≡ read_value unopened.new.bytes }
     ensures opens { result ≡ 0 → OpensAs unopened.new sk_text.now }
 {
     number_of!(read_unopened_key(sk_text, unopened))
@@ -489,12 +493,12 @@ pub extern "C" fn minisign_read_secret_key_record(
 ) -> u32
     // On success, `unopened` holds the first 158 bytes and says how much work opening the key takes. If
     // there are fewer bytes, the result is the number of that error, and `unopened` is unchanged.
-    ensures { (result, unopened.new) ≡ told_unopened_number (unopened_in bytes.now) unopened.old }
+    ensures { (result, unopened.new) ≡ unopened_outcome_number (unopened_in bytes.now) unopened.old }
 {
     number_of!(read_unopened_record(bytes, unopened))
 }
 
-/// Writes the text of a secret key that was read, as it is.
+/// Writes the secret key file of a key that was read, without encrypting or decrypting it.
 #[unsafe(no_mangle)]
 pub extern "C" fn minisign_encode_unopened_key(
     alloc: Global,
@@ -517,7 +521,7 @@ pub extern "C" fn minisign_encode_unopened_key(
     // and the length are unchanged.
     ensures refused { 0 < result
         → IsEncodingNumber (is_read unopened.now) KeyNotRead 233 comment.now text.old result }
-    ensures kept { 0 < result → (text.new ≡ text.old) × (text_len.new ≡ text_len.old) }
+    ensures unchanged { 0 < result → (text.new ≡ text.old) × (text_len.new ≡ text_len.old) }
 {
     match encode_unopened_key(alloc, unopened, comment, text) {
         Ok(encoded_len) => {
@@ -538,7 +542,7 @@ pub extern "C" fn minisign_test_sealed_key(unopened: &UnopenedKeyValue, most_row
     number_of!(test_sealed_key(unopened, most_rows))
 }
 
-/// Opens a secret key that was read and was never sealed. Does not allocate.
+/// Opens a secret key that was read and is not sealed (encrypted). Does not allocate.
 #[unsafe(no_mangle)]
 pub extern "C" fn minisign_open_unsealed_key(
     unopened: &UnopenedKeyValue,
@@ -547,7 +551,7 @@ pub extern "C" fn minisign_open_unsealed_key(
     // The result is 0 exactly if the key was read, is not encrypted, and has a checksum that matches or is 32
     // zeros. Then `key` holds it and is marked as open. Otherwise the result is the number of the first check
     // that fails, and `key` is unchanged.
-    ensures { (result, key.new) ≡ told_opened (opened_unsealed unopened.now) key.old }
+    ensures { (result, key.new) ≡ opened_outcome (opened_unsealed unopened.now) key.old }
 {
     number_of!(open_unsealed_key(unopened, key))
 }
@@ -562,18 +566,18 @@ pub extern "C" fn minisign_open_sealed_key(
     most_rows: u64,
     key: &mut SecretKeyValue,
 ) -> u32
-    // If the result is 0, the key was read, the password decrypts it within `most_rows`, and `key` holds the
-    // decrypted key and is marked as open. Otherwise the result is the number of the first check that fails
-    // or, once a key is derived from the password, possibly out of memory; and `key` is unchanged. Apart from
-    // out of memory, the result does not depend on `keep_every`.
-    ensures { ((result, key.new) ≡ told_opened (opened_sealed unopened.now password.now most_rows) key.old)
-        ⊎ (((result, key.new) ≡ told_opened (Err (Refused (Named OutOfMemory))) key.old)
+    // If the result is 0, the key was read, the password decrypts it with at most `most_rows` rows, and `key`
+    // holds the decrypted key and is marked as open. Otherwise the result is the number of the first check
+    // that fails or, once a key is derived from the password, possibly out of memory; and `key` is unchanged.
+    // Apart from out of memory, the result does not depend on `keep_every`.
+    ensures { ((result, key.new) ≡ opened_outcome (opened_sealed unopened.now password.now most_rows) key.old)
+        ⊎ (((result, key.new) ≡ opened_outcome (Err (Refused (Named OutOfMemory))) key.old)
         × DerivesWithin unopened.now password.now most_rows) }
 {
     number_of!(open_sealed_key(alloc, unopened, password, keep_every, most_rows, key))
 }
 
-/// Returns how much memory of the caller's opening a secret key in place takes.
+/// Writes the sizes of the memory that opening a secret key in place needs.
 #[unsafe(no_mangle)]
 pub extern "C" fn minisign_opening_memory(
     unopened: &UnopenedKeyValue,
@@ -592,7 +596,8 @@ pub extern "C" fn minisign_opening_memory(
     *bytes_wanted = bytes;
 }
 
-/// Opens a sealed secret key that was read, with its password, in memory of the caller's. Does not allocate.
+/// Opens a sealed secret key that was read, with its password, in memory that the caller passes. Does not
+/// allocate.
 #[unsafe(no_mangle)]
 pub extern "C" fn minisign_open_sealed_key_in_place(
     unopened: &UnopenedKeyValue,
@@ -606,7 +611,7 @@ pub extern "C" fn minisign_open_sealed_key_in_place(
     // The result and the key are those of `minisign_open_sealed_key`, except that the result is never out of
     // memory. If the memory is smaller than `minisign_opening_memory` says, the result is the error of a
     // buffer that is too short, and no key is derived. What the memory held before makes no difference.
-    ensures opened { (result, key.new) ≡ told_opened
+    ensures opened { (result, key.new) ≡ opened_outcome
         (opened_in_place unopened.now password.now keep_every most_rows (length words.old) (length bytes.old))
         key.old }
 
@@ -629,7 +634,7 @@ pub struct NewKey {
     pub secret: [u8; 64],
 }
 
-/// Takes in a new secret key. Does not allocate.
+/// Makes an open secret key from the key ID and the secret bytes of a new key. Does not allocate.
 #[unsafe(no_mangle)]
 pub extern "C" fn minisign_take_secret_key(new_key: &NewKey, key: &mut SecretKeyValue)
     // `key` has this key ID and these secret bytes, and is marked as open. Nothing checks that the second
@@ -639,12 +644,12 @@ pub extern "C" fn minisign_take_secret_key(new_key: &NewKey, key: &mut SecretKey
     *key = SecretKeyValue::take(&new_key.key_id, &new_key.secret);
 }
 
-/// Writes the record of an open secret key, as one that is not sealed. Does not allocate.
+/// Writes the unencrypted record of an open secret key. Does not allocate.
 #[unsafe(no_mangle)]
 pub extern "C" fn minisign_secret_key_record(key: &SecretKeyValue, bytes: &mut [u8; 158]) -> u32
     // If the key is open, the record is the 158 bytes of the unencrypted secret key with its key ID and its
     // 64 secret bytes. Otherwise the result is the number of that error, and the record is unchanged.
-    ensures { (result, bytes.new) ≡ told_record_number (secret_key_record key.now) bytes.old }
+    ensures { (result, bytes.new) ≡ record_outcome_number (secret_key_record key.now) bytes.old }
 {
     number_of!(write_secret_key_record(key, bytes))
 }
@@ -658,7 +663,7 @@ pub extern "C" fn minisign_clear(value: &mut [u8])
     value.fill(0);
 }
 
-/// Tells the public key of a secret key. Does not allocate.
+/// Writes the public key of an open secret key. Does not allocate.
 #[unsafe(no_mangle)]
 pub extern "C" fn minisign_public_key_of(
     key: &SecretKeyValue,
@@ -666,7 +671,7 @@ pub extern "C" fn minisign_public_key_of(
 ) -> u32
     // If the secret key is open, the public key is the last 32 of its secret bytes, with its key ID.
     // Otherwise the result is the number of that error, and the public key is unchanged.
-    ensures { (result, public_key.new) ≡ told_public_key (public_value_of key.now) public_key.old }
+    ensures { (result, public_key.new) ≡ public_key_outcome (public_value_of key.now) public_key.old }
 {
     match key.public_key() {
         Ok(value) => {
@@ -724,8 +729,8 @@ fn is_weak(sealing: &Sealing) -> bool
         || sealing.memory_limit < LEAST_MEMORY_LIMIT
 }
 
-/// Writes the text of a secret key, which is sealed if there is a password. Limits below the minimum of
-/// Minisign and a salt of zeros are rejected.
+/// Writes a secret key file, in which the key is encrypted if there is a password. Limits below the minimum
+/// of Minisign and a salt of zeros are rejected.
 #[unsafe(no_mangle)]
 pub extern "C" fn minisign_secret_key_text(
     alloc: Global,
@@ -760,7 +765,7 @@ pub extern "C" fn minisign_secret_key_text(
     ensures refused { 0 < result
         → IsMakingNumber (sealing_misuse with_password password.now sealing.now) key.now
         (passed_in with_password password.now) sealing.now comment.now text.old result }
-    ensures kept { 0 < result → (text.new ≡ text.old) × (text_len.new ≡ text_len.old) }
+    ensures unchanged { 0 < result → (text.new ≡ text.old) × (text_len.new ≡ text_len.old) }
 {
     if let Some(misuse) = sealing_misuse(with_password, password, sealing) {
         return misuse.number();
@@ -771,8 +776,8 @@ pub extern "C" fn minisign_secret_key_text(
     )
 }
 
-/// Writes the text of a secret key as `minisign_secret_key_text` does, with any salt and any limits that
-/// sealing allows.
+/// Writes a secret key file as `minisign_secret_key_text` does, with any salt and any limits that encryption
+/// allows.
 #[unsafe(no_mangle)]
 pub extern "C" fn minisign_secret_key_text_with_any_limits(
     alloc: Global,
@@ -795,7 +800,7 @@ pub extern "C" fn minisign_secret_key_text_with_any_limits(
     ensures rest { result ≡ 0 → drop text_len.new text.new ≡ drop text_len.new text.old }
     ensures refused { 0 < result → IsMakingNumber (password_misuse with_password password.now) key.now
         (passed_in with_password password.now) sealing.now comment.now text.old result }
-    ensures kept { 0 < result → (text.new ≡ text.old) × (text_len.new ≡ text_len.old) }
+    ensures unchanged { 0 < result → (text.new ≡ text.old) × (text_len.new ≡ text_len.old) }
 {
     if let Some(misuse) = password_misuse(with_password, password) {
         return misuse.number();
@@ -824,7 +829,7 @@ fn secret_key_text(
     ensures rest { result ≡ 0 → drop text_len.new text.new ≡ drop text_len.new text.old }
     ensures refused { 0 < result → (r : Refusal Fault) × (result ≡ refusal_number fault_number r)
         × IsMakingRefusal key.now (option_copied password.entry) sealing.now comment.now text.old r }
-    ensures kept { 0 < result → (text.new ≡ text.old) × (text_len.new ≡ text_len.old) }
+    ensures unchanged { 0 < result → (text.new ≡ text.old) × (text_len.new ≡ text_len.old) }
 {
     match write_secret_key(alloc, key, password, sealing, keep_every, comment, text) {
         Ok(secret_key_len) => {
@@ -835,7 +840,7 @@ fn secret_key_text(
     }
 }
 
-/// Writes the text of the public key of a secret key.
+/// Writes the public key file of an open secret key.
 #[unsafe(no_mangle)]
 pub extern "C" fn minisign_public_key_text(
     alloc: Global,
@@ -856,7 +861,7 @@ pub extern "C" fn minisign_public_key_text(
     // The errors are those of `minisign_secret_key_text` that do not concern a password, in the same order.
     // After an error the buffer and the length are unchanged.
     ensures refused { 0 < result → IsPublicKeyNumber key.now comment.now text.old result }
-    ensures kept { 0 < result → (text.new ≡ text.old) × (text_len.new ≡ text_len.old) }
+    ensures unchanged { 0 < result → (text.new ≡ text.old) × (text_len.new ≡ text_len.old) }
 {
     match write_public_key(alloc, key, comment, text) {
         Ok(public_key_len) => {
@@ -867,7 +872,7 @@ pub extern "C" fn minisign_public_key_text(
     }
 }
 
-/// Writes the text of a public key that was read, or told of a secret key.
+/// Writes the public key file of a public key that was read, or obtained from a secret key.
 #[unsafe(no_mangle)]
 pub extern "C" fn minisign_encode_public_key(
     alloc: Global,
@@ -890,7 +895,7 @@ pub extern "C" fn minisign_encode_public_key(
     // and the length are unchanged.
     ensures refused { 0 < result
         → IsEncodingNumber (is_public_key key.now) PublicKeyNotRead 77 comment.now text.old result }
-    ensures kept { 0 < result → (text.new ≡ text.old) × (text_len.new ≡ text_len.old) }
+    ensures unchanged { 0 < result → (text.new ≡ text.old) × (text_len.new ≡ text_len.old) }
 {
     match encode_public_key(alloc, key, comment, text) {
         Ok(encoded_len) => {
@@ -923,7 +928,7 @@ pub extern "C" fn minisign_comment_message(
     }
 }
 
-/// Writes the text of the signature that the two signatures make, under the key ID of a public key.
+/// Writes the signature file of two signatures, with the key ID of a public key.
 #[unsafe(no_mangle)]
 pub extern "C" fn minisign_signed_text(
     alloc: Global,
@@ -953,7 +958,7 @@ pub extern "C" fn minisign_signed_text(
     // of memory is possible too. After an error the buffer and the length are unchanged.
     ensures refused { 0 < result → IsWritingNumber key.now (comments_of trusted.now untrusted.now)
         first.now second.now text.old result }
-    ensures kept { 0 < result → (text.new ≡ text.old) × (text_len.new ≡ text_len.old) }
+    ensures unchanged { 0 < result → (text.new ≡ text.old) × (text_len.new ≡ text_len.old) }
 {
     match write_signed_text(alloc, key, first, second, trusted, untrusted, text) {
         Ok(len) => {
@@ -975,8 +980,8 @@ fn asked_number(answer: Result<bool, Refusal>) -> u32
     }
 }
 
-/// Asks what Ed25519 has to answer before it is known whether the signature of a list is valid. Its trusted
-/// comment must name the list. Does not allocate.
+/// Writes the inputs of the two Ed25519 checks that decide whether the signature of a list is valid. Its
+/// trusted comment must name the list. Does not allocate.
 #[unsafe(no_mangle)]
 pub extern "C" fn minisign_list_ask(
     list: &mut ListValue,
@@ -1001,14 +1006,14 @@ pub extern "C" fn minisign_list_ask(
 
     // **On success, if the signature was read from this text, `questions` holds the two questions about the
     // key and the text, with the digest of the list, and `list` records that digest, whether the comment
-    // signature has its 64 bytes, and whether the trusted comment names the list.**
+    // signature has at least 64 bytes, and whether the trusted comment names the list.**
     ensures asked { result ≡ 0 → (t : SignatureTextRecord) → IsReadFrom signature.now sig_text.now t
         → (read_under key.now false sig_text.now ≡ Ok t)
         × AreListQuestions questions.new message.new key.now t text.now
         × (list.new ≡ asked_list key.now signature.now (Some list_name.now) text.now t.comments.trusted) }
 
     // On success, if the signature was read from this text, neither the key nor a signature in the text is
-    // weak. The comment signature counts if it has its 64 bytes.
+    // weak. The comment signature is only tested if it has at least 64 bytes.
     ensures strict { result ≡ 0 → (t : SignatureTextRecord) → IsReadFrom signature.now sig_text.now t
         → is_strict_text key.now t ≡ true }
 
@@ -1016,7 +1021,7 @@ pub extern "C" fn minisign_list_ask(
     // buffer are unchanged.
     ensures rest { result ≡ 0 → drop questions.new.message_len message.new
         ≡ drop questions.new.message_len message.old }
-    ensures kept { 0 < result → (list.new ≡ list.old) × (questions.new ≡ questions.old)
+    ensures unchanged { 0 < result → (list.new ≡ list.old) × (questions.new ≡ questions.old)
         × (message.new ≡ message.old) }
 {
     asked_number(list.ask(
@@ -1054,13 +1059,13 @@ pub extern "C" fn minisign_list_ask_any(
         → is_strict_text key.now t ≡ true }
     ensures rest { result ≡ 0 → drop questions.new.message_len message.new
         ≡ drop questions.new.message_len message.old }
-    ensures kept { 0 < result → (list.new ≡ list.old) × (questions.new ≡ questions.old)
+    ensures unchanged { 0 < result → (list.new ≡ list.old) × (questions.new ≡ questions.old)
         × (message.new ≡ message.old) }
 {
     asked_number(list.ask(key, signature, sig_text, None, text, questions, message))
 }
 
-/// The verdict on a list from what Ed25519 answered to the two questions.
+/// Returns the verdict on a list from the results of the two Ed25519 checks.
 #[unsafe(no_mangle)]
 pub extern "C" fn minisign_list_verdict(list: &mut ListValue, first: u32, second: u32) -> u32
     // **After a successful `minisign_list_ask` or `minisign_list_ask_any`, for every scheme for which `first`
@@ -1073,9 +1078,9 @@ pub extern "C" fn minisign_list_verdict(list: &mut ListValue, first: u32, second
 
     // It is API misuse if a result is neither 7955827 (yes) nor 28271 (no), or if nothing was asked; then the
     // list is unchanged. Otherwise the result is 0 and the list is verified exactly if `first` is yes, the
-    // comment signature has its 64 bytes and `second` is yes, and the trusted comment names the list if it
-    // must. After an error the list is not verified.
-    ensures number { (result, list.new) ≡ told_list_number list.old first second }
+    // comment signature has at least 64 bytes and `second` is yes, and the trusted comment names the list if
+    // it must. After an error the list is not verified.
+    ensures number { (result, list.new) ≡ list_outcome_number list.old first second }
 {
     if !is_answer(first) || !is_answer(second) {
         return Misuse::BadAnswer.number();
@@ -1100,7 +1105,7 @@ pub extern "C" fn minisign_list_find(
     ensures number { (result, (entry.new, line.new))
         ≡ finding_number (long_numbered long_digest) list.now text.now name.now entry.old }
 
-    // On success, `minisign_list_begin` with the entry compares with the digest in the list.
+    // On success, the digest that `minisign_list_begin` takes from the entry is the one in the list.
     ensures digest { result ≡ 0 → (long : LongDigest) (e : Entry) → long_numbered long_digest ≡ Some long
         → found_entry list.now text.now long name.now ≡ Ok e → entry_digest entry.new ≡ Ok e.digest }
 {
@@ -1128,9 +1133,10 @@ pub extern "C" fn minisign_list_entries(
     line: &mut u64,
 ) -> u32
     // The result is 0 exactly if the list was verified and this is its text, every line is well formed, and
-    // the buffer has room for all entries. Then the buffer begins with them, in the order of their lines, its
-    // rest is unchanged, and `count` is their number. Otherwise the result is the number of the first check
-    // that fails, and the buffer and `count` are unchanged. `line` is the number of the line at fault, or 0.
+    // the buffer is long enough for all entries. Then the buffer begins with them, in the order of their
+    // lines, its rest is unchanged, and `count` is their number. Otherwise the result is the number of the
+    // first check that fails, and the buffer and `count` are unchanged. `line` is the number of the line at
+    // fault, or 0.
     ensures { (result, (entries.new, (count.new, line.new)))
         ≡ all_entries_number (long_numbered long_digest) list.now text.now entries.old count.old }
 {
@@ -1163,8 +1169,8 @@ fn line_of(refusal: &Refusal<ListFault>) -> u64
 /// Begins a check of data against the digest of an entry.
 #[unsafe(no_mangle)]
 pub extern "C" fn minisign_list_begin(entry: &EntryValue, file: &mut FileValue) -> u32
-    // If the entry was read, the result is 0, and the state compares with the digest of the entry and was fed
-    // no data. Otherwise the result is the number of that error, and the state is unchanged.
+    // If the entry was read, the result is 0, the state has the digest of the entry to compare with, and was
+    // fed no data. Otherwise the result is the number of that error, and the state is unchanged.
     ensures begun { (d : ListedDigest) → entry_digest entry.now ≡ Ok d
         → (result ≡ 0) × IsFedValue file.new d [] }
     ensures refused { 0 < result → (entry_digest entry.now ≡ Err EntryNotRead)
@@ -1192,7 +1198,8 @@ pub extern "C" fn minisign_list_update(file: &mut FileValue, piece: &[u8]) -> u3
     number_of!(file.update(piece))
 }
 
-/// Returns whether the data that was fed has the digest of the entry. It finishes the state.
+/// Returns 0 if the data that was fed has the digest of the entry, otherwise an error number. Finishes the
+/// state.
 #[unsafe(no_mangle)]
 pub extern "C" fn minisign_list_finish(file: &mut FileValue) -> u32
     // **The result is 0 exactly if all data that the state was fed has the digest of the entry. Otherwise it
@@ -1208,7 +1215,7 @@ pub extern "C" fn minisign_list_finish(file: &mut FileValue) -> u32
     number_of!(file.finish())
 }
 
-/// Compares the digest of an entry with one that the caller computed, which is trusted.
+/// Compares the digest of an entry with one that the caller computed, without checking the caller's digest.
 #[unsafe(no_mangle)]
 pub extern "C" fn minisign_list_compare_trusting_your_hash(
     entry: &EntryValue,
@@ -1231,7 +1238,7 @@ pub extern "C" fn minisign_list_append(
     text: &mut [u8],
     text_len: &mut usize,
 ) -> u32
-    // On success, the line of the entry is written behind the list, the rest of the buffer is unchanged, and
+    // On success, the line of the entry is written after the list, the rest of the buffer is unchanged, and
     // `text_len` is the new length of the list. Otherwise the result is the number of the first check that
     // fails, and the buffer and `text_len` are unchanged.
     ensures { (result, (text.new, text_len.new))

@@ -3,6 +3,7 @@
 
 ghost use Rattle.std.specs.Prelude.{◌≡◌, ◌==◌, ◌≤◌, ◌+◌, ℕ, List, [], Some, Ok, false, true, is_ok, length};
 ghost use Rattle.std.specs.Prelude.{if◌then◌else◌};
+ghost use Rattle.minisign.specs.Acceptance.{Verifier};
 ghost use Rattle.minisign.specs.KeyTexts.{read_public_key};
 ghost use Rattle.minisign.specs.SignatureText.{SignatureTextRecord};
 ghost use Rattle.minisign_external.specs.PublicKeys.{is_public_key, read_utf8, value_of};
@@ -14,10 +15,13 @@ ghost use Rattle.minisign_lists.specs.Digests.{has_digest};
 ghost use Rattle.minisign_lists.specs.declared.digests.ListedDigest.{ListedDigest};
 ghost use Rattle.minisign_lists.specs.Faults.{list_number};
 ghost use Rattle.minisign_lists.specs.declared.faults.ListFault.TheVariants.{DigestMismatch};
-ghost use Rattle.minisign_lists.specs.Values.{IsFedValue, entry_digest, list_verdict_under};
-ghost use Rattle.minisign_lists.specs.Values.{text_check};
+ghost use Rattle.minisign_lists.specs.declared.lines.LongDigest.{LongDigest};
+ghost use Rattle.minisign_lists.specs.Values.{IsFedValue, entry_digest, list_verdict_under, long_numbered};
+ghost use Rattle.minisign_lists.specs.Values.{of_lists, text_check};
+ghost use Rattle.minisign_lists.specs.Verdicts.{listed_verdict};
 ghost use Rattle.minisign_c.specs.ListCalls.{list_verdict_number};
-ghost use Rattle.minisign_c.specs.ListsInARow.{data_number, listed_with, lookup_of, looked_up};
+ghost use Rattle.minisign_c.specs.ListsInARow.{AreUtf8, Lookup, data_number, listed_with, lookup_of};
+ghost use Rattle.minisign_c.specs.ListsInARow.{looked_up};
 ghost use Rattle.minisign_c.specs.ListsInARow.{strict_listed_number};
 
 use crate::in_a_row::{answer_of, no_public_key, no_signature};
@@ -62,6 +66,13 @@ pub fn check_listed_in_a_row<S: Scheme>(
     ensures accepted { (result == 0) ≡ is_ok (listed_with (strict (S.accepts scheme.now))
         (read_utf8 read_public_key pk_text.now) sig_text.now
         (lookup_of list_name.now list.now long_digest name.now) (joined pieces.now)) }
+
+    // **If the two files, the list and the name are UTF-8 and `long_digest` has a meaning, this verdict is
+    // `listed_verdict`, which `verify_listed` of `minisign_lists` returns.**
+    ensures verdict { (long : LongDigest) → long_numbered long_digest ≡ Some long
+        → AreUtf8 pk_text.now sig_text.now list.now name.now
+        → (result == 0) ≡ is_ok (listed_verdict (strict (S.accepts scheme.now)) pk_text.now sig_text.now
+        (Some list_name.now) long list.now name.now (joined pieces.now)) }
 {
     let mut key = no_public_key();
     let number = minisign_read_public_key(pk_text, &mut key);
@@ -80,6 +91,19 @@ pub fn check_listed_in_a_row<S: Scheme>(
         room,
     )
 }
+
+/// States that the verdict of the calls for lists is that of `verify_listed`. This function is a law: it does
+/// nothing, and its contract is what it is for.
+#[tactic(auto, using(crate::proofs::ListedVerdicts::agree))]
+pub fn listed_verdicts_agree()
+    // If the two files, the list and the name are UTF-8 and 128 digits have a meaning, then the verdict that
+    // the sequence of calls is compared with equals `listed_verdict`: the trusted comment, or the first check
+    // that fails.
+    ensures { (accepts : Verifier) (pk_text sig_text : List ℕ) (x : Lookup) (long : LongDigest) (m : List ℕ)
+        → x.long ≡ Some long → AreUtf8 pk_text sig_text x.text x.name
+        → listed_with accepts (read_utf8 read_public_key pk_text) sig_text x m
+        ≡ of_lists (listed_verdict accepts pk_text sig_text (Some x.list_name) long x.text x.name m) }
+{}
 
 // Checks the concatenated pieces with a public key that was read.
 fn check_under<S: Scheme>(

@@ -5,7 +5,7 @@ use Rattle.minisign.specs.Fault.{Fault, Named}
 use Rattle.minisign.specs.NamedFaults.{OutOfMemory}
 use Rattle.minisign.specs.Texts.{IsGivenOrNoMemory}
 
--- What holds for an error holds for the result that passes it on.
+-- If a statement holds for an error, it holds for the result that passes this error on.
 pub passed_up : {T E : Type 0} (r : Result T E) (e : E) (P : E → Type 0) → IsErrAnd r (λ y. y ≡ e) → P e
     → IfErr r P
 passed_up (Ok x) e P is p = tt

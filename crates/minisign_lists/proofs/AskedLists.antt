@@ -29,7 +29,7 @@ use Rattle.minisign_external.proofs.Laws.{decided}
 use Rattle.minisign_lists.specs.Comments.{names_list}
 use Rattle.minisign_lists.specs.Faults.{ListFault, OtherList, and_then, of_library}
 use Rattle.minisign_lists.specs.Values.{HasAskedList, asked_list, given_list, judged_list, list_verdict_under}
-use Rattle.minisign_lists.specs.Values.{named_number, told_list_verdict}
+use Rattle.minisign_lists.specs.Values.{named_number, list_verdict_outcome}
 use Rattle.minisign_lists.specs.Verdicts.{check_list_name}
 use Rattle.minisign_lists.specs.declared.values.ListValue.{ListValue}
 
@@ -122,17 +122,17 @@ judged_as (Ok t) (Some n) trusted l = named_as (names_list n trusted) trusted l
 -- The results of the two checks decide the verdict on the list.
 pub list_decided : (l : ListValue) (v : PublicKeyValue) (sig_text text : List ℕ) (name : Option (List ℕ))
     (accepts : Verifier) (first second : Bool) (r : Result ⊤ (Refusal ListFault)) (new : ListValue)
-    → ◌≡◌ {A = Result ⊤ (Refusal ListFault) × ListValue} (r, new) (told_list_verdict l first second)
+    → ◌≡◌ {A = Result ⊤ (Refusal ListFault) × ListValue} (r, new) (list_verdict_outcome l first second)
     → HasAskedList l v sig_text name text → Answers accepts v sig_text text first second
     → r ≡ given_list (list_verdict_under accepts v sig_text name text)
-list_decided l v sig_text text name accepts first second r new told has answers =
+list_decided l v sig_text text name accepts first second r new returned has answers =
     let s : SignatureValue = has.signature in
     let t : SignatureTextRecord = has.signed in
     let asked : ListValue = asked_list v s name text t.comments.trusted in
     let whole : (s.whole == 1) ≡ has_whole_signature t.comments =
     ap (λ (x : SignatureValue). x.whole == 1) has.from.value ∙ one_or_zero (has_whole_signature t.comments) in
-    ap (λ p. p.0) told
-    ∙ ap (λ (x : ListValue). (told_list_verdict x first second).0) has.is
+    ap (λ p. p.0) returned
+    ∙ ap (λ (x : ListValue). (list_verdict_outcome x first second).0) has.is
     ∙ judged_as (judge_answers first ((s.whole == 1) && second)) name t.comments.trusted asked
     ∙ ap (λ r. given_list (and_then (of_library r)
     (λ comment. and_then (check_list_name name comment) (λ _. Ok comment))))

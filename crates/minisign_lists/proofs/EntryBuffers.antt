@@ -59,7 +59,7 @@ pub record IsWritten (long : LongDigest) (text : List ℕ) (old new : List Entry
   pub counted : count ≡ length done
   pub written : new ≡ map (value_in text) done ++ drop (length done) old
 
--- What remains after a line.
+-- The entries after a line.
 abbrev rest_of : Result (List Entry) ListFault → List Entry
 rest_of (Ok es) = es
 rest_of (Err f) = []
@@ -133,7 +133,7 @@ module _ (long : LongDigest) (text : List ℕ) (old new : List EntryValue) (n co
       let begins : start ≡ line_start e.line text =
       ap (λ l. length text - length l) (at ∙ ap (λ k. without_lines k text) number) in
       let same : v ≡ f e = ap (λ k. entry_value e ((k + e.start) % 2 ^ 64)) begins in
-      let told : (next, to) ≡ (count + 1, slice_set new count v) = put
+      let returned : (next, to) ≡ (count + 1, slice_set new count v) = put
       ∙ ap (λ b. cond b (count + 1, slice_set new count v) (count, new)) (lt-ltb count (length new) below) in
       let more_done : count + 1 ≡ length (w.done ++ e ∷ []) = omega (arith, w.counted, longer) in
       let after_done : length xs + 1 ≡ length (w.done ++ e ∷ []) = omega (arith, size, longer) in
@@ -142,8 +142,8 @@ module _ (long : LongDigest) (text : List ℕ) (old new : List EntryValue) (n co
         more = behind.tail;
         all = whole;
         ahead = behind.is;
-        counted = ap (λ p. p.0) told ∙ more_done;
-        written = ap (λ p. p.1) told
+        counted = ap (λ p. p.0) returned ∙ more_done;
+        written = ap (λ p. p.1) returned
             ∙ ap (λ k. slice_set new k v) (w.counted ∙ sym size)
             ∙ ap (λ l. slice_set l (length xs) v) (w.written ∙ ap (λ k. xs ++ drop k old) (sym size))
             ∙ set_next xs old v fits

@@ -130,8 +130,8 @@ no_feed (b ∷ x) h = All-cons (λ c. is_feed c ≡ false) b x (not_feed b (or_l
     (list_any is_control x) h))
     (no_feed x (or_right (is_control b) (list_any is_control x) h))
 
-kept : (x : List ℕ) → 0 < length x → list_any is_control x ≡ false → strip_carriage_return x ≡ x
-kept x some h = elim (cases_Bool (slice_index x (length x - 1) == 13)) [
+not_stripped : (x : List ℕ) → 0 < length x → list_any is_control x ≡ false → strip_carriage_return x ≡ x
+not_stripped x some h = elim (cases_Bool (slice_index x (length x - 1) == 13)) [
   | inl is ↦ absurd (no_control x (length x - 1) 13 h refl (eqb-true (slice_index x (length x - 1)) 13 is)
       (omega (arith, some)))
   | inr is ↦ rw is refl
@@ -147,7 +147,7 @@ lines_more list x is some clean =
     ≡ x ∷ [] ∷ [] = slice_split_at is_feed x 10 [] (no_feed x clean) refl in
     let whole : lines (list ++ (x ++ 10 ∷ [])) ≡ front ++ x ∷ [] =
     ap lines_of_parts (e.more (x ++ 10 ∷ []) ∙ ap (λ l. e.front ++ l) part) ∙ lines_front e.front x ([] ∷ [])
-    ∙ ap (λ l. front ++ l ∷ []) (kept x some clean) in
+    ∙ ap (λ l. front ++ l ∷ []) (not_stripped x some clean) in
     let old : lines list ≡ front = ap lines_of_parts e.parts ∙ lines_front e.front [] [] ∙ append-nil front in
     whole ∙ ap (λ l. l ++ x ∷ []) (sym old)
 

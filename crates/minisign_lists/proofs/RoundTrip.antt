@@ -124,7 +124,7 @@ free list name true (Ok es) named read found h = record {
   none = nothing (filter (is_of (without_dot name)) es) h;
 }
 
--- What a successful check of appending shows.
+-- The facts that follow from a successful check of appending.
 record Checked (buffer : List ℕ) (len : ℕ) (name : List ℕ) : Type 0 where
   pub fits : nat_le len (length buffer) ≡ true
   pub ended : is_ended (take len buffer) ≡ true
@@ -222,12 +222,12 @@ module _ (l : LongDigest) (list name : List ℕ) (d : ListedDigest) (are : IsByt
         found = rw (given.named, new) (ap the_only only);
       }
 
--- What a successful result of appending says.
+-- The length in a successful result of appending.
 abbrev number_in : Result ℕ (Refusal ListFault) → ℕ
 number_in (Ok n) = n
 number_in (Err r) = 0
 
-record Told (c : Result ⊤ (Refusal ListFault)) (buffer : List ℕ) (len : ℕ) (line : List ℕ) (n : ℕ)
+record IsAppended (c : Result ⊤ (Refusal ListFault)) (buffer : List ℕ) (len : ℕ) (line : List ℕ) (n : ℕ)
     (new : List ℕ)
     : Type 0 where
   pub checked : ok_in c ≡ true
@@ -245,7 +245,7 @@ module _ (buffer : List ℕ) (len : ℕ) (line : List ℕ) (n : ℕ) (new : List
   of_room false = refl
 
   with_room : (b : Bool) → nat_le (len + length line) (length buffer) ≡ b
-      → room_result b ≡ (Ok n, new) → Told (Ok tt) buffer len line n new
+      → room_result b ≡ (Ok n, new) → IsAppended (Ok tt) buffer len line n new
   with_room false is h = absurd (cc (ap (λ p. ok_in p.0) h))
   with_room true is h = record {
     checked = refl;
@@ -254,10 +254,10 @@ module _ (buffer : List ℕ) (len : ℕ) (line : List ℕ) (n : ℕ) (new : List
     whole = sym (ap (λ p. p.1) h);
   }
 
-  told : (c : Result ⊤ (Refusal ListFault)) → appended_line c buffer len line ≡ (Ok n, new)
-      → Told c buffer len line n new
-  told (Err r) h = absurd (cc (ap (λ p. ok_in p.0) h))
-  told (Ok t) h =
+  returned : (c : Result ⊤ (Refusal ListFault)) → appended_line c buffer len line ≡ (Ok n, new)
+      → IsAppended c buffer len line n new
+  returned (Err r) h = absurd (cc (ap (λ p. ok_in p.0) h))
+  returned (Ok t) h =
       let room = nat_le (len + length line) (length buffer) in
       with_room room refl (sym (of_room room) ∙ h)
 
@@ -268,7 +268,7 @@ pub appended_is_read_back : (l : LongDigest) (buffer : List ℕ) (len n : ℕ) (
 appended_is_read_back l buffer len n d name new are size h =
     let line = written_line d (without_dot name) in
     let list = take len buffer in
-    let t = told buffer len line n new (append_check buffer len name) h in
+    let t = returned buffer len line n new (append_check buffer len name) h in
     let c = checked buffer len name t.checked in
     let within : len + length line ≤ length buffer = leb-true (len + length line) (length buffer) t.room in
     let short : length list ≡ len = length-take-le len buffer (omega (arith, within)) in

@@ -212,11 +212,11 @@ pub line_read : (l : LongDigest) (n : ℕ) (d : ListedDigest) (m : List ℕ) →
     → length (bytes_of d) ≡ digest_size d → list_any is_control m ≡ false → is_path m ≡ true
     → read_line l n (line_text d m) ≡ Ok (Some (written_entry n d m))
 line_read l n d m are size clean path =
-    let kept = path_kept m path in
+    let same_path = path_kept m path in
     let begin = length (label (algorithm_of d)) in
     let at : 0 + begin + (length m - length m) ≡ begin = omega arith in
     rw (line_clean d m are clean, not_comment d m, not_marked d m, written l d m are size)
-    (rw (kept, path) (ap (λ k. Ok (Some (record {
+    (rw (same_path, path) (ap (λ k. Ok (Some (record {
       line = n;
       digest = d;
       name = m;

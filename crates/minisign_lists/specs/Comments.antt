@@ -1,4 +1,4 @@
--- When a trusted comment names a list.
+-- The condition under which a trusted comment names a list.
 use Rattle.std.specs.Prelude.{◌==◌, ℕ, Bool, false, List, Option, Some, None, codes, bytes_eq, ◌++◌, find}
 use Rattle.std.specs.Prelude.{take}
 use Rattle.std.specs.Prelude.{length}

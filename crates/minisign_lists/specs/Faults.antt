@@ -1,4 +1,4 @@
--- The errors of checking a file against a signed list, and results with these errors.
+-- The errors of checking a file against a signed list, and functions on results with these errors.
 use Rattle.std.specs.Prelude.{Bool, ℕ, ◌==◌, codes, false, true, Option, Some, None, Result, Ok, Err}
 use Rattle.std.specs.Prelude.{if◌then◌else◌}
 use Rattle.minisign_base.specs.Fault.{Fault, kind_of, text_of}
@@ -11,16 +11,17 @@ pub use Rattle.minisign_lists.specs.declared.faults.ListFault.TheVariants.{Malfo
 pub use Rattle.minisign_lists.specs.declared.faults.ListFault.TheVariants.{ListedTwice}
 pub use Rattle.minisign_lists.specs.declared.faults.ListFault.TheVariants.{DigestMismatch}
 
--- Goes on with the value, or passes on the error.
+-- Applies a function that may fail to the value, or returns the error.
 abbrev pub and_then : {V W : Type 0} → Result V ListFault → (V → Result W ListFault) → Result W ListFault
 and_then (Ok v) more = more v
 and_then (Err e) more = Err e
 
--- A result of the library, with its error as an error of this crate.
+-- Wraps the error of the library in an error of this crate.
 abbrev pub of_library : {V : Type 0} → Result V Fault → Result V ListFault
 of_library (Ok v) = Ok v
 of_library (Err e) = Err (Library e)
 
+-- Applies a function to the value, or returns the error.
 abbrev pub map_ok : {V W : Type 0} → (V → W) → Result V ListFault → Result W ListFault
 map_ok f (Ok v) = Ok (f v)
 map_ok f (Err e) = Err e
@@ -44,7 +45,7 @@ list_row DigestMismatch = row 94 Verify (codes "the data does not have the liste
 abbrev pub list_number : ListFault → ℕ
 list_number e = (list_row e).number
 
--- The error of lists with this number, with 0 as its line.
+-- The list error with this number. Its line is 0.
 abbrev pub list_fault_numbered : ℕ → Option ListFault
 list_fault_numbered n =
     if n == 89 then Some OtherList
@@ -54,7 +55,7 @@ list_fault_numbered n =
     else if n == 93 then Some (ListedTwice 0)
     else if n == 94 then Some DigestMismatch else None
 
--- The error is one of lists, and none of the library.
+-- The error is a list error, not one of the library.
 abbrev pub is_own : ListFault → Bool
 is_own (Library fault) = false
 is_own e = true

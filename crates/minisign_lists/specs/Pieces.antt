@@ -27,6 +27,10 @@ IsUsable (check.Sha256 hasher digest) = ⊤
 IsUsable (check.Sha512 hasher digest) = ⊤
 IsUsable (check.Blake2b hasher digest) = (output_length hasher ≡ 64) × (has_finalized hasher ≡ false)
 
+-- The file accepts more data.
+abbrev pub IsOpen : ListedFile → Type 0
+IsOpen file = IsUsable file.check
+
 -- The file was fed this data, and its verdict on data is this function.
 unfoldable pub IsFedFile : ListedFile → (List ℕ → Result (List ℕ) ListFault) → List ℕ → Type 0
 IsFedFile file verdict m =

@@ -7,7 +7,7 @@ use Rattle.minisign_lists.specs.Pieces.{is_feed}
 abbrev pub after_line : List ℕ → List ℕ
 after_line text = drop (position_or_len is_feed text + 1) text
 
--- The text without so many lines.
+-- The text without its first n lines.
 abbrev pub without_lines : ℕ → List ℕ → List ℕ
 without_lines zero text = text
 without_lines (suc n) text = without_lines n (after_line text)

@@ -1,4 +1,4 @@
--- The values that a program in another language holds: what each call makes of them.
+-- The structs that a program in another language holds, and the effect of each call on them.
 use Rattle.std.specs.Prelude.{◌≡◌, ⊤, ◌==◌, ◌&&◌, ℕ, Bool, false, List, ◌++◌, length}
 use Rattle.std.specs.Prelude.{replicate}
 use Rattle.std.specs.Prelude.{Option, Some, None, Result, Ok, Err, bytes_eq, if◌then◌else◌, take, drop}
@@ -36,7 +36,7 @@ use Rattle.minisign_lists.specs.declared.values.ListValue.{ListValue}
 use Rattle.minisign_lists.specs.declared.values.EntryValue.{EntryValue}
 use Rattle.minisign_lists.specs.declared.values.FileValue.{FileValue}
 
--- The marks: "minilask", "minilist", "minientr" and "minifile".
+-- The marks (magic numbers): "minilask", "minilist", "minientr" and "minifile".
 abbrev pub asked_list_mark : ℕ
 asked_list_mark = 7742639302633220461
 
@@ -51,7 +51,7 @@ file_mark = 7308332183891896685
 
 -- == The list ==
 
--- 1 if no name of the list is given, or the comment names the list so, otherwise 0.
+-- 1 if no name of the list is given or the comment gives the list this name, otherwise 0.
 abbrev pub named_number : Option (List ℕ) → List ℕ → ℕ
 named_number None comment = 1
 named_number (Some list_name) comment = if names_list list_name comment then 1 else 0
@@ -77,17 +77,15 @@ pub record HasAskedList (l : ListValue) (v : PublicKeyValue) (sig_text : List �
   pub is : l ≡ asked_list v signature list_name text signed.comments.trusted
 
 -- The verdict on a list: the trusted comment, if the signature file is a valid prehashed signature of the
--- list
--- under the key, and the comment names the list, if a name is given. Otherwise it is the first of these
--- checks
--- that fails.
+-- list under the key, and the comment names the list, if a name is given; otherwise the first of these
+-- checks that fails.
 abbrev pub list_verdict_under : Verifier → PublicKeyValue → List ℕ → Option (List ℕ) → List ℕ
     → Result (List ℕ) ListFault
 list_verdict_under accepts v sig_text list_name text =
     and_then (of_library (verdict_under accepts v sig_text text false)) (λ comment.
     and_then (check_list_name list_name comment) (λ _. Ok comment))
 
--- A verdict without the trusted comment, which the caller already has.
+-- The verdict without the trusted comment, which the caller already has.
 abbrev pub given_list : Result (List ℕ) ListFault → Result ⊤ (Refusal ListFault)
 given_list (Ok trusted) = Ok tt
 given_list (Err e) = Err (Refused e)
@@ -103,9 +101,10 @@ abbrev pub judged_list : Result ⊤ ListFault → ListValue → Result ⊤ (Refu
 judged_list (Ok t) l = (Ok tt, record l { mark = verified_mark })
 judged_list (Err e) l = (Err (Refused e), record l { mark = 0 })
 
--- The same for a list that must have been asked about. Otherwise the list is unchanged.
-abbrev pub told_list_verdict : ListValue → Bool → Bool → Result ⊤ (Refusal ListFault) × ListValue
-told_list_verdict l first second =
+-- The outcome of the call that returns the verdict. If the list was not asked about, this is API misuse, and
+-- the list is unchanged.
+abbrev pub list_verdict_outcome : ListValue → Bool → Bool → Result ⊤ (Refusal ListFault) × ListValue
+list_verdict_outcome l first second =
     if l.mark == asked_list_mark then judged_list (list_judgement l first second) l
     else (Err (WrongUse NotAsked), l)
 
@@ -113,7 +112,7 @@ told_list_verdict l first second =
 abbrev pub not_utf8 : Refusal ListFault
 not_utf8 = Refused (Library (Named NotUtf8))
 
--- Goes on with the value, or passes on the error.
+-- Applies a function that may fail to the value, or returns the error.
 abbrev pub go_on : {V W : Type 0} → Result V (Refusal ListFault) → (V → Result W (Refusal ListFault))
     → Result W (Refusal ListFault)
 go_on (Ok v) more = more v
@@ -133,8 +132,8 @@ abbrev pub of_lists : {V : Type 0} → Result V ListFault → Result V (Refusal 
 of_lists (Ok v) = Ok v
 of_lists (Err e) = Err (Refused e)
 
--- The list was verified, and this is its text, by the digest. Two texts with the same digest are not
--- told apart.
+-- The list was verified, and this text has its digest. Two texts with the same digest cannot be
+-- distinguished.
 abbrev pub text_check : ListValue → List ℕ → Result ⊤ Misuse
 text_check l text =
     if l.mark == verified_mark
@@ -197,19 +196,19 @@ abbrev pub value_in : List ℕ → Entry → EntryValue
 value_in text e = entry_value e ((line_start e.line text + e.start) % 2 ^ 64)
 
 -- The result of looking up a name, and the struct after it. An error leaves the struct unchanged.
-abbrev pub told_entry : Result Entry (Refusal ListFault) → List ℕ → EntryValue
+abbrev pub entry_outcome : Result Entry (Refusal ListFault) → List ℕ → EntryValue
     → Result ⊤ (Refusal ListFault) × EntryValue
-told_entry (Ok e) text old = (Ok tt, value_in text e)
-told_entry (Err r) text old = (Err r, old)
+entry_outcome (Ok e) text old = (Ok tt, value_in text e)
+entry_outcome (Err r) text old = (Err r, old)
 
 -- The result of asking for all entries, and the buffer after it. An error leaves the buffer unchanged.
-abbrev pub told_entries : Result (List Entry) (Refusal ListFault) → List ℕ → List EntryValue
+abbrev pub entries_outcome : Result (List Entry) (Refusal ListFault) → List ℕ → List EntryValue
     → Result ℕ (Refusal ListFault) × List EntryValue
-told_entries (Ok es) text old =
+entries_outcome (Ok es) text old =
     if nat_le (length es) (length old)
     then (Ok (length es), map (value_in text) es ++ drop (length es) old)
     else (Err (WrongUse NoRoom), old)
-told_entries (Err r) text old = (Err r, old)
+entries_outcome (Err r) text old = (Err r, old)
 
 -- The number of entries in the buffer, and the buffer, after a line that begins at this position.
 abbrev pub put_entry : Result (Option Entry) ListFault → ℕ → List EntryValue → ℕ → ℕ × List EntryValue
@@ -270,7 +269,8 @@ abbrev pub compared_given : EntryValue → Option ListedDigest → Result ⊤ (R
 compared_given v None = Err (WrongUse BadHash)
 compared_given v (Some given) = compared_digest v given
 
--- The same for the bytes of a digest, of the hash function with this number.
+-- The result of comparing the digest of an entry with these bytes, as a digest of the hash function with this
+-- number.
 abbrev pub compared : EntryValue → ℕ → List ℕ → Result ⊤ (Refusal ListFault)
 compared v hash bytes = compared_given v (given_digest hash bytes)
 
@@ -289,8 +289,8 @@ IsFedValue v (listed.Blake2b digest) m =
 abbrev pub IsFinished : FileValue → FileValue → Type 0
 IsFinished old new = (old.mark ≡ file_mark) × (new ≡ record old { mark = 0 })
 
--- Why finishing fails: the data has another digest, and the state is finished; or no check was begun, and
--- the state is unchanged.
+-- The error of finishing a check: the data has another digest, and the state is finished; or no check was
+-- begun, and the state is unchanged.
 abbrev pub IsFinishRefusal : FileValue → FileValue → Refusal ListFault → Type 0
 IsFinishRefusal old new (WrongUse m) = (m ≡ NotBegun) × (new ≡ old)
     × ((d : ListedDigest) (m : List ℕ) → ¬ (IsFedValue old d m))

@@ -41,8 +41,8 @@ free_name (Ok e) list = Err (ListedTwice e.line)
 free_name (Err NotListed) list = if is_ended list then Ok tt else Err (MalformedLine 0)
 free_name (Err e) list = Err e
 
--- Succeeds if an entry of this name can be appended to the list, which is the first len bytes of a
--- buffer, as far as the room for it is not concerned.
+-- The checks before appending an entry of this name to the list, which is the first len bytes of a buffer.
+-- They do not include the space that the new line needs.
 abbrev pub append_check : List ℕ → ℕ → List ℕ → Result ⊤ (Refusal ListFault)
 append_check buffer len name =
     if nat_le len (length buffer)
@@ -60,7 +60,7 @@ appended_line (Ok t) buffer len line =
     else (Err (WrongUse NoRoom), buffer)
 appended_line (Err r) buffer len line = (Err r, buffer)
 
--- The same for an entry: its checks come first.
+-- The outcome of appending an entry: the new length or the first check that fails, and the buffer.
 abbrev pub appended : List ℕ → ℕ → ListedDigest → List ℕ → Result ℕ (Refusal ListFault) × List ℕ
 appended buffer len digest name =
     appended_line (append_check buffer len name) buffer len (written_line digest (without_dot name))

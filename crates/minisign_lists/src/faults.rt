@@ -11,10 +11,10 @@ use minisign_base::{NamedFault, PError};
 use minisign_external::numbers::Numbered;
 use std::fmt;
 
-/// The reason for which a file is rejected. `Display` writes the text.
+/// The error with which a file or a list is rejected. `Display` writes the text.
 #[derive(Debug, Drop)]
 pub enum ListFault {
-    /// An error of the library: the public key, the signature, or the verdict on the list.
+    /// An error of the library: a key file or signature file is invalid, or the signature of the list is.
     Library(PError),
     /// The trusted comment does not name the list.
     OtherList,
@@ -34,10 +34,10 @@ pub enum ListFault {
 pub type Result<T> = std::result::Result<T, ListFault>;
 
 impl ListFault {
-    /// What the error concerns.
+    /// Returns the kind of the error.
     pub fn kind(&self) -> &ErrorKind
-        // The result is the kind that the table gives for an error of lists, and for an error of the library
-        // that error's own kind.
+        // The result is the kind in the table of list errors (`list_row`), or the kind of the library's
+        // error.
         ensures { result.now ≡ (list_row self.now).kind }
     {
         match self.row() {
@@ -59,9 +59,9 @@ impl ListFault {
         }
     }
 
-    /// Returns the error of lists that has this number, with 0 as its line.
+    /// Returns the list error with this number. Its line is 0.
     pub fn of_number(number: u32) -> Option<ListFault>
-        // The result is the error of lists with this number, if there is one.
+        // The result is the list error with this number, if there is one.
         ensures { result ≡ list_fault_numbered number }
     {
         use ListFault::*;
@@ -76,8 +76,7 @@ impl ListFault {
         })
     }
 
-    /// Returns the number, the kind and the text of an error of lists, and for an error of the
-    /// library that error.
+    /// Returns the number, the kind and the text of a list error, or `Err` with the error of the library.
     pub fn row(&self) -> std::result::Result<&'static (u32, ErrorKind, &'static str), &PError>
         ensures row { MatchResult result
             (λ r. (is_own self.now ≡ true) × (row r.now.0 r.now.1 r.now.2.now ≡ list_row self.now))
@@ -97,8 +96,7 @@ impl ListFault {
     }
 }
 
-/// Returns the number that the table gives for an error of lists, and for an error of the library
-/// that error's own number.
+/// Returns the number in the table of list errors, or the number of the library's error.
 impl Numbered for ListFault {
     ghost number_of = { list_number };
 
@@ -110,8 +108,7 @@ impl Numbered for ListFault {
     }
 }
 
-/// Writes the text that the table gives for an error of lists, and for an error of the library that
-/// error's own text.
+/// Writes the text in the table of list errors, or the text of the library's error.
 impl fmt::Display for ListFault {
     ghost output = { λ e. Some (list_row e).summary };
 

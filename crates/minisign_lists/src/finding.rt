@@ -13,8 +13,8 @@ use crate::faults::{ListFault, Result};
 use crate::lines::{EntryView, LongDigest};
 use crate::names::{is_name, same, without_dot};
 
-/// States that the function that looks up a name agrees with the relation that defines this. This
-/// function is a law: it does nothing, and its contract is what it is for.
+/// States that the function that looks up a name agrees with the relation that defines this. This function is
+/// a law: it does nothing, and exists only for its contract.
 #[tactic(auto, using(crate::proofs::Deciding::decided))]
 pub fn lists_are_decided()
     // A lookup succeeds with an entry exactly if the name can be looked up, every line of the list is well
@@ -62,7 +62,6 @@ fn read_to_end(entries: &mut Entries<'_>, name: &[u8]) -> Result<()>
 /// Errors come in this order: `BadName`, if the name is not such a path, or contains a control
 /// character or a backslash; `MalformedLine`, if a line has none of these forms or contains a
 /// control character; `NotListed`; `ListedTwice`.
-/// `ListedTwice`.
 #[tactic(auto, unfolding(crate::specs::Lists::listed_entry))]
 pub fn find_listed<'a>(long: LongDigest, list: &'a str, name: &str) -> Result<EntryView<'a>>
     // The result is the entry with this name if the name can be looked up, every line of the list is well

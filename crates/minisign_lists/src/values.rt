@@ -34,8 +34,9 @@ ghost use Rattle.minisign_lists.specs.Values.{asked_list, compared, compared_dig
 ghost use Rattle.minisign_lists.specs.Values.{digest_of_padded, entry_digest, entry_value, file_mark};
 ghost use Rattle.minisign_lists.specs.Values.{found_entry};
 ghost use Rattle.minisign_lists.specs.Values.{given_digest, long_numbered, mapped, named_number};
-ghost use Rattle.minisign_lists.specs.Values.{padded_digest, put_entry, text_check, told_entries, told_entry};
-ghost use Rattle.minisign_lists.specs.Values.{told_list_verdict, utf8_text, value_in, verified_text};
+ghost use Rattle.minisign_lists.specs.Values.{padded_digest, put_entry, text_check, entries_outcome};
+ghost use Rattle.minisign_lists.specs.Values.{entry_outcome};
+ghost use Rattle.minisign_lists.specs.Values.{list_verdict_outcome, utf8_text, value_in, verified_text};
 
 use crate::comments::field_names_list;
 use crate::digests::{Algorithm, FileCheck, ListedDigest};
@@ -55,9 +56,9 @@ use minisign_sha2::stored::{StoredSha256, StoredSha512};
 use minisign_sha2::{Sha256, Sha512};
 use std::mem::forget;
 
-// The marks of a list that was asked about (the letters `minilask`), of one that was verified
-// (`minilist`), of an entry that was read (`minientr`), and of a file whose check was begun
-// (`minifile`).
+// The marks (magic numbers), as eight letters in little endian: of a list that was asked about (`minilask`),
+// of a list that was verified (`minilist`), of an entry that was read (`minientr`), and of a file check that
+// was begun (`minifile`).
 const ASKED: u64 = 7742639302633220461;
 
 const VERIFIED: u64 = 8391166445067594093;
@@ -142,8 +143,8 @@ impl Algorithm {
 }
 
 impl LongDigest {
-    /// Returns the meaning of 128 digits with this number: 0 if they are rejected, and otherwise the
-    /// number of the hash function.
+    /// Returns how 128 digits are read, for this number: 0 rejects them, and another number is that of their
+    /// hash function.
     pub fn of_number(number: u32) -> Option<LongDigest>
         ensures { result ≡ long_numbered number }
     {
@@ -283,7 +284,7 @@ impl ListValue {
 
         // **If the result is true and the signature was read from this text, the questions are those about
         // the key and the text, with the digest of the list, and the list records the digest, whether the
-        // comment signature has its 64 bytes, and whether the trusted comment names the list.**
+        // comment signature has at least 64 bytes, and whether the trusted comment names the list.**
         ensures asked { result ≡ Ok true → (t : SignatureTextRecord) → IsReadFrom signature.now sig_text.now t
             → (read_under key.now false sig_text.now ≡ Ok t)
             × AreQuestions questions.new message.new key.now t
@@ -294,7 +295,7 @@ impl ListValue {
         // and the buffer are unchanged.
         ensures rest { result ≡ Ok true
             → drop questions.new.message_len message.new ≡ drop questions.new.message_len message.old }
-        ensures kept { result ≢ Ok true
+        ensures unchanged { result ≢ Ok true
             → (self.new ≡ self.old) × (questions.new ≡ questions.old) × (message.new ≡ message.old) }
     {
         match ask_once(key, signature, sig_text, questions, message) {
@@ -325,16 +326,17 @@ impl ListValue {
             → result ≡ given_list (list_verdict_under accepts v sig_text name text) }
 
         // The list is verified exactly if it was asked about, both checks succeed, the comment signature has
-        // its 64 bytes, and the trusted comment names the list if it must. Otherwise the error is the first
-        // check that fails. After `NotAsked` the list is unchanged, and after any other error it is finished.
-        ensures value { (result, self.new) ≡ told_list_verdict self.old first second }
+        // at least 64 bytes, and the trusted comment names the list if it must. Otherwise the error is the
+        // first check that fails. After `NotAsked` the list is unchanged, and after any other error it is
+        // finished.
+        ensures value { (result, self.new) ≡ list_verdict_outcome self.old first second }
     {
         self.decide(first, second)
     }
 
     // Decides from the results of the two checks whether the list is verified.
     fn decide(&mut self, first: bool, second: bool) -> std::result::Result<(), Refusal<ListFault>>
-        ensures { (result, self.new) ≡ told_list_verdict self.old first second }
+        ensures { (result, self.new) ≡ list_verdict_outcome self.old first second }
     {
         if self.mark != ASKED {
             return Err(Refusal::WrongUse(Misuse::NotAsked));
@@ -402,9 +404,9 @@ impl ListValue {
         // the list is well formed. Otherwise the error is the first check that fails, and the entry is
         // unchanged.
         ensures value { (result, entry.new)
-            ≡ told_entry (found_entry self.now text.now long name.now) text.now entry.old }
+            ≡ entry_outcome (found_entry self.now text.now long name.now) text.now entry.old }
 
-        // On success, a check that begins with the entry compares with the digest in the list.
+        // On success, the digest that a check takes from the entry is the one in the list.
         ensures digest { OnOk result ((e : Entry) → found_entry self.now text.now long name.now ≡ Ok e
             → entry_digest entry.new ≡ Ok e.digest) }
     {
@@ -428,7 +430,7 @@ impl ListValue {
         // On success, every line of the list that was verified is well formed, the buffer begins with all
         // entries, in the order of their lines, and its rest is unchanged. Otherwise the error is the first
         // check that fails, and the buffer is unchanged.
-        ensures { (result, to.new) ≡ told_entries (all_entries self.now text.now long) text.now to.old }
+        ensures { (result, to.new) ≡ entries_outcome (all_entries self.now text.now long) text.now to.old }
     {
         match self.count(text, long) {
             Ok(count) => {
@@ -472,7 +474,7 @@ fn ask_once(
     ensures room { result ≡ Ok true → 64 + signature.now.comment_len ≤ length message.old }
     ensures rest { result ≡ Ok true
         → drop questions.new.message_len message.new ≡ drop questions.new.message_len message.old }
-    ensures kept { result ≢ Ok true → (questions.new ≡ questions.old) × (message.new ≡ message.old) }
+    ensures unchanged { result ≢ Ok true → (questions.new ≡ questions.old) × (message.new ≡ message.old) }
 {
     let mut state = State::new();
     state.ask_strictly(key, signature, sig_text, false, questions, message)
@@ -544,7 +546,7 @@ fn count_entries(long: LongDigest, list: &str) -> Result<usize>
     Ok(count)
 }
 
-// Writes the entries of a well-formed list, as long as there is room.
+// Writes the entries of a well-formed list, as many as fit into the buffer.
 fn write_entries(long: LongDigest, text: &[u8], to: &mut [EntryValue])
     ensures { (es : List Entry) → read_list long text.now ≡ Ok es → length es ≤ length to.old
         → to.new ≡ map (value_in text.now) es ++ drop (length es) to.old }
@@ -560,7 +562,7 @@ fn write_entries(long: LongDigest, text: &[u8], to: &mut [EntryValue])
     }
 }
 
-// Writes the entry of a line that begins at this position, if there is one and there is room.
+// Writes the entry of a line that begins at this position, if the line has one and it fits into the buffer.
 fn put_entry(
     read: Result<Option<EntryView<'_>>>,
     start: usize,
@@ -677,7 +679,7 @@ pub fn given_digest(hash: u32, bytes: &[u8]) -> Option<ListedDigest>
 impl FileValue {
     /// Returns a state whose check was not begun, for `begin` to overwrite. Does not allocate.
     pub fn none() -> FileValue
-        // No check was begun.
+        // The state stands for no check: `begin` has not been called.
         ensures { result.mark ≡ 0 }
     {
         FileValue {
@@ -792,8 +794,8 @@ impl FileValue {
 
     /// Begins a check of data against the digest of an entry.
     pub fn begin(entry: &EntryValue) -> std::result::Result<FileValue, Misuse>
-        // On success, the state compares with the digest of the entry and was fed no data. The only error is
-        // that the entry was not read.
+        // On success, the state has the digest of the entry to compare with, and was fed no data. The only
+        // error is that the entry was not read.
         ensures { MatchResult result
             (λ f. (d : ListedDigest) × (entry_digest entry.now ≡ Ok d) × IsFedValue f d [])
             (λ e. entry_digest entry.now ≡ Err e) }

@@ -4,7 +4,7 @@ ghost use Rattle.std.specs.Prelude.{◌≡◌, ◌≤◌, ◌++◌, length, [], 
 ghost use Rattle.std.specs.Prelude.{Result};
 ghost use Rattle.std.specs.Prelude.{Err};
 ghost use Rattle.minisign_lists.specs.Faults.{ListFault, map_ok};
-ghost use Rattle.minisign_lists.specs.Pieces.{IsFedFile, IsUsable};
+ghost use Rattle.minisign_lists.specs.Pieces.{IsFedFile, IsOpen};
 ghost use Rattle.minisign_lists.specs.Verdicts.{check_list_name, listed_verdict};
 
 use crate::comments::names_list;
@@ -87,7 +87,7 @@ impl<'a> ListedFile<'a> {
         // `verify_listed`.
         ensures fed { IfOk result (λ file. IsFedFile file (listed_verdict (S.accepts scheme.now) pk_text.now
             sig_text.now (option_map (λ n. n.now) list_name.entry) long list.now name.now) []) }
-        ensures usable { IfOk result (λ file. IsUsable file.check) }
+        ensures usable { IfOk result IsOpen }
 
         // After an error, `verify_listed` would return the same error for all data.
         ensures refused { IfErr result (λ e. (m : List ℕ) → listed_verdict (S.accepts scheme.now)
@@ -105,18 +105,18 @@ impl<'a> ListedFile<'a> {
 
     /// Feeds the next piece of the data.
     pub fn update(&mut self, piece: &[u8])
-        requires { IsUsable self.old.check }
+        requires { IsOpen self.old }
         // The piece is appended to the data that the file was fed.
         ensures fed { (verdict : List ℕ → Result (List ℕ) ListFault) (m : List ℕ)
             → IsFedFile self.old verdict m → IsFedFile self.new verdict (m ++ piece.now) }
-        ensures usable { IsUsable self.new.check }
+        ensures usable { IsOpen self.new }
     {
         self.check.update(piece);
     }
 
     /// Returns the verdict on the data that was fed.
     pub fn finish(self) -> Result<&'a str>
-        requires { IsUsable self.check }
+        requires { IsOpen self }
         // The result is the verdict on all data that the file was fed.
         ensures { (verdict : List ℕ → Result (List ℕ) ListFault) (m : List ℕ)
             → IsFedFile self.entry verdict m → map_ok (λ t. t.now) result ≡ verdict m }

@@ -33,7 +33,7 @@ fn extra_size(digest: ListedDigest) -> usize
     }
 }
 
-// Returns the length of the line of an entry, if there is room for it.
+// Returns the length of the line of an entry, if it fits into `room` bytes.
 fn line_size(digest: ListedDigest, name: &[u8], room: usize) -> Option<usize>
     ensures { result ≡ (if nat_le (length (written_line digest name.now)) room
         then Some (length (written_line digest name.now)) else None) }
@@ -132,7 +132,7 @@ pub fn append_entry(
     digest: ListedDigest,
     name: &[u8],
 ) -> std::result::Result<usize, Refusal<ListFault>>
-    // On success, the line of the entry is written behind the list, and the rest of the buffer is unchanged.
+    // On success, the line of the entry is written after the list, and the rest of the buffer is unchanged.
     // Otherwise the error is the first check that fails, and the buffer is unchanged.
     ensures { (result, text.new) ≡ appended text.old len digest name.now }
 {
@@ -149,13 +149,13 @@ pub fn append_entry(
     Ok(len + size)
 }
 
-/// States that an appended entry can be read back. This function is a law: it does nothing, and its
-/// contract is what it is for.
+/// States that an appended entry can be read back. This function is a law: it does nothing, and exists only
+/// for its contract.
 #[tactic(auto, using(crate::proofs::RoundTrip::appended_is_read_back))]
 pub fn appended_entries_are_read_back()
     // After a successful `append_entry` of a digest with the bytes of its hash function, the list parses to
-    // the entries that it had and one more, with this digest and this name, whatever 128 digits mean. No
-    // other entry has the name, so looking it up finds the new entry.
+    // the entries that it had and one more, with this digest and this name, for every hash function that 128
+    // digits may stand for. No other entry has the name, so looking it up finds the new entry.
     ensures { (long : LongDigest) (buffer : List ℕ) (len n : ℕ) (digest : ListedDigest) (name new : List ℕ)
         → IsBytes (bytes_of digest) → length (bytes_of digest) ≡ digest_size digest
         → appended buffer len digest name ≡ (Ok n, new)

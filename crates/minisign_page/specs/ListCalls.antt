@@ -20,8 +20,9 @@ use Rattle.minisign_external.specs.declared.state.Refusal.TheVariants.{Refused, 
 use Rattle.minisign_lists.specs.declared.faults.ListFault.{ListFault}
 use Rattle.minisign_lists.specs.declared.lines.LongDigest.{LongDigest}
 use Rattle.minisign_lists.specs.Faults.{list_fault_numbered, list_number, list_row, with_line}
-use Rattle.minisign_lists.specs.Values.{HasAskedList, all_entries, found_entry, told_entries, told_entry}
-use Rattle.minisign_lists.specs.Values.{told_list_verdict}
+use Rattle.minisign_lists.specs.Values.{HasAskedList, all_entries, found_entry, entries_outcome}
+use Rattle.minisign_lists.specs.Values.{entry_outcome}
+use Rattle.minisign_lists.specs.Values.{list_verdict_outcome}
 use Rattle.minisign_lists.specs.declared.values.EntryValue.{EntryValue}
 use Rattle.minisign_lists.specs.declared.values.ListValue.{ListValue}
 
@@ -80,10 +81,10 @@ numbered_list p = (list_result p.0, p.1)
 
 -- The number of the verdict on a list, and the list after it. The results of the two checks must be
 -- numbers that mean yes or no.
-abbrev pub told_list_number : ListValue → ℕ → ℕ → ℕ × ListValue
-told_list_number l first second =
+abbrev pub list_outcome_number : ListValue → ℕ → ℕ → ℕ × ListValue
+list_outcome_number l first second =
     if is_answer first && is_answer second
-    then numbered_list (told_list_verdict l (first == answer_yes) (second == answer_yes))
+    then numbered_list (list_verdict_outcome l (first == answer_yes) (second == answer_yes))
     else (misuse_number BadAnswer, l)
 
 -- == Entries ==
@@ -93,15 +94,16 @@ abbrev pub found_number : Result ⊤ (Refusal ListFault) → EntryValue → ℕ 
 found_number (Ok t) entry = (0, (entry, 0))
 found_number (Err r) entry = (list_refusal r, (entry, line_at_fault r))
 
-abbrev pub told_entry_number : Result ⊤ (Refusal ListFault) × EntryValue → ℕ × (EntryValue × ℕ)
-told_entry_number p = found_number p.0 p.1
+abbrev pub entry_outcome_number : Result ⊤ (Refusal ListFault) × EntryValue → ℕ × (EntryValue × ℕ)
+entry_outcome_number p = found_number p.0 p.1
 
--- The same, unless the number of the meaning of 128 digits is none.
+-- The outcome of this call for other languages. First, the number that the caller passes for the meaning of
+-- 128 digits must be valid.
 abbrev pub finding_number : Option LongDigest → ListValue → List ℕ → List ℕ → EntryValue
     → ℕ × (EntryValue × ℕ)
 finding_number None l text name old = (misuse_number BadHash, (old, 0))
 finding_number (Some long) l text name old =
-    told_entry_number (told_entry (found_entry l text long name) text old)
+    entry_outcome_number (entry_outcome (found_entry l text long name) text old)
 
 -- The number of asking for all entries, the buffer after it, the number of entries, and the line at fault.
 abbrev pub entries_number : Result ℕ (Refusal ListFault) → List EntryValue → ℕ
@@ -109,13 +111,14 @@ abbrev pub entries_number : Result ℕ (Refusal ListFault) → List EntryValue �
 entries_number (Ok n) to count = (0, (to, (n, 0)))
 entries_number (Err r) to count = (list_refusal r, (to, (count, line_at_fault r)))
 
-abbrev pub told_entries_number : Result ℕ (Refusal ListFault) × List EntryValue → ℕ
+abbrev pub entries_outcome_number : Result ℕ (Refusal ListFault) × List EntryValue → ℕ
     → ℕ × (List EntryValue × (ℕ × ℕ))
-told_entries_number p count = entries_number p.0 p.1 count
+entries_outcome_number p count = entries_number p.0 p.1 count
 
--- The same, unless the number of the meaning of 128 digits is none.
+-- The outcome of this call for other languages. First, the number that the caller passes for the meaning of
+-- 128 digits must be valid.
 abbrev pub all_entries_number : Option LongDigest → ListValue → List ℕ → List EntryValue → ℕ
     → ℕ × (List EntryValue × (ℕ × ℕ))
 all_entries_number None l text old count = (misuse_number BadHash, (old, (count, 0)))
 all_entries_number (Some long) l text old count =
-    told_entries_number (told_entries (all_entries l text long) text old) count
+    entries_outcome_number (entries_outcome (all_entries l text long) text old) count

@@ -16,12 +16,14 @@ ghost use Rattle.minisign.specs.Acceptance.{Verifier};
 ghost use Rattle.minisign_external.specs.Questions.{IsKeyText, read_under, verdict_under};
 ghost use Rattle.minisign_external.specs.Numbers.{WritesCut, fault_number, misuse_number};
 ghost use Rattle.minisign_external.specs.Numbers.{refusal_number};
-ghost use Rattle.minisign_external.specs.PublicKeys.{read_utf8, told_key_number};
-ghost use Rattle.minisign_external.specs.Signatures.{IsReadFrom, read_signature_value, told_signature_value};
-ghost use Rattle.minisign_external.specs.States.{AreAsked, GivesNumber, HasAsked, HasToldDigest, IsAnswered};
-ghost use Rattle.minisign_external.specs.States.{IsBlank, IsFedState, IsMarkedFed, IsMarkedTold, KeepsAsked};
+ghost use Rattle.minisign_external.specs.PublicKeys.{read_utf8, key_outcome_number};
+ghost use Rattle.minisign_external.specs.Signatures.{IsReadFrom, read_signature_value, signature_outcome};
+ghost use Rattle.minisign_external.specs.States.{AreAsked, GivesNumber, HasAsked, HasReturnedDigest};
+ghost use Rattle.minisign_external.specs.States.{IsAnswered};
+ghost use Rattle.minisign_external.specs.States.{IsBlank, IsFedState, IsMarkedFed, IsMarkedFinalized};
+ghost use Rattle.minisign_external.specs.States.{KeepsAsked};
 ghost use Rattle.minisign_external.specs.States.{asked_of, asking_under, feeding_misuse};
-ghost use Rattle.minisign_external.specs.States.{told_verdict_number, verdict_number};
+ghost use Rattle.minisign_external.specs.States.{verdict_outcome_number, verdict_number};
 ghost use Rattle.minisign_external.specs.StrictCalls.{asked_number, asked_strictly, strict_asking_number};
 ghost use Rattle.minisign_external.specs.StrictCalls.{is_strict_text, is_strict_value};
 ghost use Rattle.minisign_external.specs.declared.public_keys.PublicKeyValue.{PublicKeyValue};
@@ -29,7 +31,7 @@ ghost use Rattle.minisign_page.specs.ListCalls.{all_entries_number, finding_numb
 ghost use Rattle.minisign_page.specs.ListCalls.{list_refusal};
 ghost use Rattle.minisign_page.specs.ListCalls.{AreListQuestions, IsAnsweredList, IsListMeaning};
 ghost use Rattle.minisign_page.specs.ListCalls.{asking_list_number, list_result};
-ghost use Rattle.minisign_page.specs.ListCalls.{list_verdict_number, told_list_number};
+ghost use Rattle.minisign_page.specs.ListCalls.{list_verdict_number, list_outcome_number};
 ghost use Rattle.minisign_lists.specs.Faults.{is_own, list_row};
 ghost use Rattle.minisign_lists.specs.Values.{asked_list, compared, list_verdict_under, long_numbered};
 ghost use Rattle.minisign_lists.specs.Lines.{Entry};
@@ -41,7 +43,7 @@ ghost use Rattle.minisign_sha2.specs.Hashers.{WasFed256, WasFed512};
 use minisign_external::numbers::{
     ANSWER_YES, WEAK_ED25519, is_answer, write_cut, write_error_text,
 };
-use minisign_external::public_keys::{PublicKeyValue, tell_bare_public_key, tell_public_key};
+use minisign_external::public_keys::{PublicKeyValue, store_bare_public_key, store_public_key};
 use minisign_external::signatures::SignatureValue;
 use minisign_external::state::{Misuse, Questions, Refusal, State};
 use minisign_lists::values::{EntryValue, ListValue};
@@ -50,8 +52,8 @@ use minisign_sha2::stored::{StoredSha256, StoredSha512};
 use minisign_sha2::{Sha256, Sha512};
 use std::mem::forget;
 
-/// Writes what an error number means: the text, cut where there is no room for more, and a 0.
-/// Returns the length of the whole text.
+/// Writes the text of an error number, truncated if the buffer is too short, and a 0. Returns the length of
+/// the whole text.
 #[unsafe(no_mangle)]
 pub extern "C" fn page_error_text(error: u32, text: &mut [u8]) -> usize
     // The text is that of the API misuse, of the error of a list, or of the library's
@@ -73,7 +75,7 @@ pub extern "C" fn page_error_text(error: u32, text: &mut [u8]) -> usize
     }
 }
 
-/// Begins: the state was fed nothing.
+/// Initializes a state, which has been fed no data.
 #[unsafe(no_mangle)]
 pub extern "C" fn page_init(state: &mut State)
     // The state has been fed no data and nothing was asked, whatever it held before.
@@ -102,7 +104,7 @@ pub extern "C" fn page_update(state: &mut State, piece: &[u8]) -> u32
     }
 }
 
-/// Tells the digest of the data that was fed. The state then takes no more.
+/// Writes the digest of the data that the state was fed. The state then accepts no more data.
 #[unsafe(no_mangle)]
 pub extern "C" fn page_digest(state: &mut State, digest: &mut [u8; 64]) -> u32
     // On success, the digest is the Blake2b digest (64 bytes) of all data that the state was fed, and the
@@ -110,9 +112,9 @@ pub extern "C" fn page_digest(state: &mut State, digest: &mut [u8; 64]) -> u32
     // returned, or if the state was never initialized or was finished by a verdict. Then the result is the
     // number of that error, and the state and the digest are unchanged.
     ensures digest { (m : List ℕ) → IsFedState state.old m
-        → (result ≡ 0) × (digest.new ≡ blake2b_digest 64 m) × HasToldDigest state.new m }
+        → (result ≡ 0) × (digest.new ≡ blake2b_digest 64 m) × HasReturnedDigest state.new m }
     ensures asked { KeepsAsked state.old state.new }
-    ensures told { result ≡ 0 → IsMarkedFed state.old × IsMarkedTold state.new }
+    ensures finalized { result ≡ 0 → IsMarkedFed state.old × IsMarkedFinalized state.new }
     ensures refused { 0 < result → (result ≡ misuse_number (feeding_misuse state.old))
         × (state.new ≡ state.old) × (digest.new ≡ digest.old) }
 {
@@ -122,15 +124,15 @@ pub extern "C" fn page_digest(state: &mut State, digest: &mut [u8; 64]) -> u32
     }
 }
 
-/// Reads the text of a public key, two lines. Does not allocate.
+/// Reads a public key file of two lines. Does not allocate.
 #[unsafe(no_mangle)]
 pub extern "C" fn page_read_public_key(pk_text: &[u8], key: &mut PublicKeyValue) -> u32
     // On success, `key` holds the key and the key ID of the public key file, and is marked as read. The file
     // must be UTF-8. Otherwise, or if it does not parse, the result is the number of the first check that
     // fails, and `key` is unchanged.
-    ensures { (result, key.new) ≡ told_key_number (read_utf8 read_public_key pk_text.now) key.old }
+    ensures { (result, key.new) ≡ key_outcome_number (read_utf8 read_public_key pk_text.now) key.old }
 {
-    match tell_public_key(pk_text, key) {
+    match store_public_key(pk_text, key) {
         Ok(()) => 0,
         Err(fault) => number_of(Refusal::Refused(fault)),
     }
@@ -142,22 +144,22 @@ pub extern "C" fn page_read_bare_public_key(base64: &[u8], key: &mut PublicKeyVa
     // On success, `key` holds the key and the key ID of the base64 text, and is marked as read. The text must
     // be UTF-8. Otherwise, or if it does not parse, the result is the number of the first check that fails,
     // and `key` is unchanged.
-    ensures { (result, key.new) ≡ told_key_number (read_utf8 read_bare_public_key base64.now) key.old }
+    ensures { (result, key.new) ≡ key_outcome_number (read_utf8 read_bare_public_key base64.now) key.old }
 {
-    match tell_bare_public_key(base64, key) {
+    match store_bare_public_key(base64, key) {
         Ok(()) => 0,
         Err(fault) => number_of(Refusal::Refused(fault)),
     }
 }
 
-/// Reads the signature of a text. Does not allocate.
+/// Reads a signature file. Does not allocate.
 #[unsafe(no_mangle)]
 pub extern "C" fn page_read_signature(sig_text: &[u8], signature: &mut SignatureValue) -> u32
     // On success, `signature` holds the key ID, the algorithm and both signatures of the text, and the
     // position at which the trusted comment is in the text. The text must be UTF-8. Otherwise, or if it does
     // not parse, the result is the number of the first check that fails, and `signature` is unchanged.
     ensures number { (result, signature.new)
-        ≡ told_signature_value (read_signature_value sig_text.now) signature.old }
+        ≡ signature_outcome (read_signature_value sig_text.now) signature.old }
     ensures read { result ≡ 0 → (t : SignatureTextRecord) × IsReadFrom signature.new sig_text.now t }
 {
     match SignatureValue::read(sig_text) {
@@ -169,8 +171,8 @@ pub extern "C" fn page_read_signature(sig_text: &[u8], signature: &mut Signature
     }
 }
 
-/// Asks what Ed25519 has to answer before it is known whether the key and the signature vouch for the data.
-/// Does not allocate.
+/// Writes the inputs of the two Ed25519 checks that decide whether the signature is valid for the data. Does
+/// not allocate.
 #[unsafe(no_mangle)]
 pub extern "C" fn page_ask(
     state: &mut State,
@@ -182,8 +184,8 @@ pub extern "C" fn page_ask(
     message: &mut [u8],
 ) -> u32
     // Errors are checked in this order: `allow_legacy` is above 1; those of `State::ask`; the key or a
-    // signature is weak. The comment signature counts if it has its 64 bytes. If none of them applies, the
-    // result is 0.
+    // signature is weak. The comment signature is only tested if it has at least 64 bytes. If none of them
+    // applies, the result is 0.
     ensures number { result ≡ strict_asking_number state.old key.now signature.now sig_text.now allow_legacy
         (length message.old) }
 
@@ -202,7 +204,7 @@ pub extern "C" fn page_ask(
     ensures fed { (m : List ℕ) → IsFedState state.old m → IsFedState state.new m }
 
     // On success, if the signature was read from this text, neither the key nor a signature in the text is
-    // weak. The comment signature counts if it has its 64 bytes.
+    // weak. The comment signature is only tested if it has at least 64 bytes.
     ensures strict { result ≡ 0 → (t : SignatureTextRecord) → IsReadFrom signature.now sig_text.now t
         → is_strict_text key.now t ≡ true }
 
@@ -210,7 +212,7 @@ pub extern "C" fn page_ask(
     // buffer are unchanged.
     ensures rest { result ≡ 0 → drop questions.new.message_len message.new
         ≡ drop questions.new.message_len message.old }
-    ensures kept { 0 < result → (state.new ≡ state.old) × (questions.new ≡ questions.old)
+    ensures unchanged { 0 < result → (state.new ≡ state.old) × (questions.new ≡ questions.old)
         × (message.new ≡ message.old) }
 {
     if allow_legacy > 1 {
@@ -230,8 +232,8 @@ pub extern "C" fn page_ask(
     }
 }
 
-/// The verdict from what Ed25519 answered to the two questions, `ANSWER_YES` or `ANSWER_NO`. It ends the
-/// state.
+/// Returns the verdict from the results of the two Ed25519 checks, `ANSWER_YES` or `ANSWER_NO`, and finishes
+/// the state.
 #[unsafe(no_mangle)]
 pub extern "C" fn page_verdict(state: &mut State, first: u32, second: u32) -> u32
     // **After a successful `page_ask` and `page_digest`, for every scheme and every message for which
@@ -250,8 +252,8 @@ pub extern "C" fn page_verdict(state: &mut State, first: u32, second: u32) -> u3
 
     // It is API misuse if a result is neither 7955827 (yes) nor 28271 (no), if nothing was asked or if the
     // digest was not returned; then the state is unchanged. Otherwise the state is finished, and the result
-    // is 0 exactly if `first` is yes, the comment signature has its 64 bytes and `second` is yes.
-    ensures number { (result, state.new) ≡ told_verdict_number state.old first second }
+    // is 0 exactly if `first` is yes, the comment signature has at least 64 bytes and `second` is yes.
+    ensures number { (result, state.new) ≡ verdict_outcome_number state.old first second }
 {
     if !is_answer(first) || !is_answer(second) {
         return Misuse::BadAnswer.number();
@@ -272,8 +274,8 @@ fn number_of(refusal: Refusal) -> u32
     number
 }
 
-/// Asks what Ed25519 has to answer before it is known whether the signature of a list is valid. Its trusted
-/// comment must name the list. Does not allocate.
+/// Writes the inputs of the two Ed25519 checks that decide whether the signature of a list is valid. Its
+/// trusted comment must name the list. Does not allocate.
 #[unsafe(no_mangle)]
 pub extern "C" fn page_list_ask(
     list: &mut ListValue,
@@ -298,14 +300,14 @@ pub extern "C" fn page_list_ask(
 
     // **On success, if the signature was read from this text, `questions` holds the two questions about the
     // key and the text, with the digest of the list, and `list` records that digest, whether the comment
-    // signature has its 64 bytes, and whether the trusted comment names the list.**
+    // signature has at least 64 bytes, and whether the trusted comment names the list.**
     ensures asked { result ≡ 0 → (t : SignatureTextRecord) → IsReadFrom signature.now sig_text.now t
         → (read_under key.now false sig_text.now ≡ Ok t)
         × AreListQuestions questions.new message.new key.now t text.now
         × (list.new ≡ asked_list key.now signature.now (Some list_name.now) text.now t.comments.trusted) }
 
     // On success, if the signature was read from this text, neither the key nor a signature in the text is
-    // weak. The comment signature counts if it has its 64 bytes.
+    // weak. The comment signature is only tested if it has at least 64 bytes.
     ensures strict { result ≡ 0 → (t : SignatureTextRecord) → IsReadFrom signature.now sig_text.now t
         → is_strict_text key.now t ≡ true }
 
@@ -313,7 +315,7 @@ pub extern "C" fn page_list_ask(
     // buffer are unchanged.
     ensures rest { result ≡ 0 → drop questions.new.message_len message.new
         ≡ drop questions.new.message_len message.old }
-    ensures kept { 0 < result → (list.new ≡ list.old) × (questions.new ≡ questions.old)
+    ensures unchanged { 0 < result → (list.new ≡ list.old) × (questions.new ≡ questions.old)
         × (message.new ≡ message.old) }
 {
     asked_number(list.ask(
@@ -351,13 +353,13 @@ pub extern "C" fn page_list_ask_any(
         → is_strict_text key.now t ≡ true }
     ensures rest { result ≡ 0 → drop questions.new.message_len message.new
         ≡ drop questions.new.message_len message.old }
-    ensures kept { 0 < result → (list.new ≡ list.old) × (questions.new ≡ questions.old)
+    ensures unchanged { 0 < result → (list.new ≡ list.old) × (questions.new ≡ questions.old)
         × (message.new ≡ message.old) }
 {
     asked_number(list.ask(key, signature, sig_text, None, text, questions, message))
 }
 
-/// The verdict on a list from what Ed25519 answered to the two questions.
+/// Returns the verdict on a list from the results of the two Ed25519 checks.
 #[unsafe(no_mangle)]
 pub extern "C" fn page_list_verdict(list: &mut ListValue, first: u32, second: u32) -> u32
     // **After a successful `page_list_ask` or `page_list_ask_any`, for every scheme for which `first`
@@ -370,9 +372,9 @@ pub extern "C" fn page_list_verdict(list: &mut ListValue, first: u32, second: u3
 
     // It is API misuse if a result is neither 7955827 (yes) nor 28271 (no), or if nothing was asked; then the
     // list is unchanged. Otherwise the result is 0 and the list is verified exactly if `first` is yes, the
-    // comment signature has its 64 bytes and `second` is yes, and the trusted comment names the list if it
-    // must. After an error the list is not verified.
-    ensures number { (result, list.new) ≡ told_list_number list.old first second }
+    // comment signature has at least 64 bytes and `second` is yes, and the trusted comment names the list if
+    // it must. After an error the list is not verified.
+    ensures number { (result, list.new) ≡ list_outcome_number list.old first second }
 {
     if !is_answer(first) || !is_answer(second) {
         return Misuse::BadAnswer.number();
@@ -400,7 +402,7 @@ pub extern "C" fn page_list_find(
     ensures number { (result, (entry.new, line.new))
         ≡ finding_number (long_numbered long_digest) list.now text.now name.now entry.old }
 
-    // On success, `minisign_list_begin` with the entry compares with the digest in the list.
+    // On success, the digest that `minisign_list_begin` takes from the entry is the one in the list.
     ensures digest { result ≡ 0 → (long : LongDigest) (e : Entry) → long_numbered long_digest ≡ Some long
         → found_entry list.now text.now long name.now ≡ Ok e → entry_digest entry.new ≡ Ok e.digest }
 {
@@ -428,9 +430,10 @@ pub extern "C" fn page_list_entries(
     line: &mut u64,
 ) -> u32
     // The result is 0 exactly if the list was verified and this is its text, every line is well formed, and
-    // the buffer has room for all entries. Then the buffer begins with them, in the order of their lines, its
-    // rest is unchanged, and `count` is their number. Otherwise the result is the number of the first check
-    // that fails, and the buffer and `count` are unchanged. `line` is the number of the line at fault, or 0.
+    // the buffer is long enough for all entries. Then the buffer begins with them, in the order of their
+    // lines, its rest is unchanged, and `count` is their number. Otherwise the result is the number of the
+    // first check that fails, and the buffer and `count` are unchanged. `line` is the number of the line at
+    // fault, or 0.
     ensures { (result, (entries.new, (count.new, line.new)))
         ≡ all_entries_number (long_numbered long_digest) list.now text.now entries.old count.old }
 {
@@ -450,7 +453,7 @@ pub extern "C" fn page_list_entries(
     }
 }
 
-/// Compares the digest of an entry with one that the caller computed, which is trusted.
+/// Compares the digest of an entry with one that the caller computed, without checking the caller's digest.
 #[unsafe(no_mangle)]
 pub extern "C" fn page_list_compare_trusting_your_hash(
     entry: &EntryValue,
@@ -544,7 +547,7 @@ fn list_number_of(refusal: Refusal<ListFault>) -> u32
     number
 }
 
-// Writes the text of an error of lists.
+// Writes the text of a list error.
 fn write_list_error(fault: &ListFault, text: &mut [u8]) -> usize
     requires { is_own fault.now ≡ true }
     ensures written { (result ≡ length (list_row fault.now).summary)

@@ -1,9 +1,9 @@
-//! Tests of the calls for callers and of the example callers, with precomputed texts and the toy
+//! Tests of the simple calls and of the example callers, with precomputed texts and the toy
 //! scheme.
 
 use crate::passwords::sign_with_password;
-use crate::signatures::calls::{SIGNED_BY_DEFAULT, key_a, key_of, tells};
-use crate::tables::holds_at;
+use crate::signatures::calls::{SIGNED_BY_DEFAULT, gives_comment, key_a, key_of};
+use crate::tables::assert_row;
 use minisign::{
     ErrorKind, PublicKey, Result, SecretKey, copy_verified, sign_bytes, verify_bytes,
     verify_in_place,
@@ -22,7 +22,7 @@ use minisign_examples::small_device::open_in_little_memory;
 use minisign_examples::updating::check_update;
 use minisign_fixtures::keys::{KEY_ID, PUBLIC_BYTES, public_record};
 use minisign_fixtures::outcomes::Outcome::{self, Accepted, Refused};
-use minisign_fixtures::outcomes::{comes_to, ends_in, gives_record, gives_text};
+use minisign_fixtures::outcomes::{gives_record, gives_text, is_outcome, matches_outcome};
 use minisign_fixtures::texts::{KEY_TEXT, LEGACY_TEXT, SEALED, SECRET_TEXT, SIGNATURE_TEXT};
 use std::alloc::Global;
 
@@ -38,9 +38,9 @@ fn verified(alloc: Global, texts: (&str, &str), message: &[u8]) -> Result<String
 
 // The texts of a key and of a signature, the message, whether legacy signatures are allowed, and
 // the expected outcome.
-type Told = (&'static str, &'static str, &'static str, bool, Outcome);
+type Verification = (&'static str, &'static str, &'static str, bool, Outcome);
 
-const TOLD: [Told; 7] = [
+const VERIFICATIONS: [Verification; 7] = [
     (KEY_TEXT, SIGNATURE_TEXT, "abc", false, Accepted),
     (KEY_TEXT, SIGNATURE_TEXT, "abd", false, REFUSED),
     (
@@ -63,13 +63,13 @@ const TOLD: [Told; 7] = [
 ];
 
 // Hides the table from proofs, which would otherwise unfold all of it.
-fn told() -> &'static [Told] {
-    &TOLD
+fn verifications() -> &'static [Verification] {
+    &VERIFICATIONS
 }
 
 // Returns true if `verify_in_place` has the expected outcome, with a buffer as long as the text of
 // the signature.
-fn is_told_in_place(alloc: Global, row: &Told) -> bool {
+fn verifies_in_place(alloc: Global, row: &Verification) -> bool {
     let (pk_text, sig_text, message, allow_legacy, expected) = *row;
     let Ok(mut room) = vec![in alloc; 0u8; sig_text.len()] else {
         return false;
@@ -78,28 +78,28 @@ fn is_told_in_place(alloc: Global, row: &Told) -> bool {
     let answer = verify_in_place(&toy, pk_text, sig_text, data, allow_legacy, &mut room);
     match answer {
         Ok(comment) => expected == Accepted && comment == "t",
-        Err(_) => comes_to(&answer, expected),
+        Err(_) => matches_outcome(&answer, expected),
     }
 }
 
 // Returns true if all calls for this row have the expected outcome. `verify_bytes` always rejects
 // legacy signatures.
-fn is_told(alloc: Global, row: &Told) -> bool {
-    let in_place = is_told_in_place(alloc, row);
+fn verifies_as_expected(alloc: Global, row: &Verification) -> bool {
+    let in_place = verifies_in_place(alloc, row);
     let (pk_text, sig_text, message, allow_legacy, expected) = *row;
     if allow_legacy {
         return in_place;
     }
     let answer = verified(alloc, (pk_text, sig_text), message.as_bytes());
-    let told = tells(&answer, "t", expected);
-    in_place && told
+    let has_comment = gives_comment(&answer, "t", expected);
+    in_place && has_comment
 }
 
 // Verifying data in memory returns the trusted comment, or the expected error.
 #[test]
-fn the_comment_of_bytes_is_told(rt: HostRuntime) {
-    for row in told() {
-        holds_at(&rt, is_told(rt.alloc(), row), row);
+fn returns_comment_if_signature_is_valid(rt: HostRuntime) {
+    for row in verifications() {
+        assert_row(&rt, verifies_as_expected(rt.alloc(), row), row);
     }
 }
 
@@ -108,13 +108,13 @@ fn is_copied<R: Rereader>(alloc: Global, data: &mut R, expected: Outcome, left: 
     let mut out = VecSink::new(alloc);
     let toy = ToyScheme::new();
     let answer = copy_verified(alloc, &toy, KEY_TEXT, SIGNATURE_TEXT, data, &mut out);
-    let told = tells(&answer, "t", expected);
-    told && out.as_slice() == left
+    let has_comment = gives_comment(&answer, "t", expected);
+    has_comment && out.as_slice() == left
 }
 
 // A source that cannot go back is rejected.
 #[test]
-fn what_is_vouched_for_is_copied(rt: HostRuntime) {
+fn copies_only_valid_data(rt: HostRuntime) {
     let alloc = rt.alloc();
     let copied = is_copied(alloc, &mut SliceSource::new(b"abc"), Accepted, b"abc");
     let rejected = is_copied(alloc, &mut SliceSource::new(b"abd"), REFUSED, b"");
@@ -123,8 +123,8 @@ fn what_is_vouched_for_is_copied(rt: HostRuntime) {
     assert!(rt; copied && rejected && unmarked);
 }
 
-// Signs the bytes with the key in a text, with random bytes that are all zero.
-fn signed_with(
+/// Signs the bytes with the key in a text, with random bytes that are all zero.
+pub fn signed_with(
     alloc: Global,
     (sk_text, password): (&str, &str),
     message: &[u8],
@@ -145,7 +145,7 @@ fn signs(alloc: Global, sk_text: &str) -> bool {
 
 // A key that was never encrypted and a decrypted one make the same signature.
 #[test]
-fn opened_keys_sign_bytes(rt: HostRuntime) {
+fn signs_bytes_with_each_open_key(rt: HostRuntime) {
     assert!(rt; signs(rt.alloc(), SECRET_TEXT));
     assert!(rt; signs(rt.alloc(), SEALED));
 }
@@ -168,11 +168,11 @@ fn is_opened_alike(alloc: Global) -> bool {
 
 // A wrong password gives the same error.
 #[test]
-fn keys_are_opened_alike_in_little_memory(rt: HostRuntime) {
+fn opens_same_key_in_little_memory(rt: HostRuntime) {
     let alloc = rt.alloc();
     assert!(rt; is_opened_alike(alloc));
-    assert!(rt; ends_in(key_of(alloc, SEALED, "passwore"), Refused(WrongPassword)));
-    assert!(rt; ends_in(opened_in_little(alloc, "passwore"), Refused(WrongPassword)));
+    assert!(rt; is_outcome(key_of(alloc, SEALED, "passwore"), Refused(WrongPassword)));
+    assert!(rt; is_outcome(opened_in_little(alloc, "passwore"), Refused(WrongPassword)));
 }
 
 /// Checks the update under this name.
@@ -181,8 +181,8 @@ pub fn checked(alloc: Global, texts: (&str, &str), update: &[u8], name: &str) ->
     check_update(alloc, &ToyScheme::new(), pk_text, sig_text, update, name)
 }
 
-// The update, its name and the expected outcome. `None` stands for the caller's own error, which
-// has no name.
+// The update, its name and the expected outcome. `None` is the error that the caller makes itself, which has
+// no name.
 type Update = (&'static str, &'static str, Option<Outcome>);
 
 const UPDATES: [Update; 6] = [
@@ -199,7 +199,7 @@ fn updates() -> &'static [Update] {
     &UPDATES
 }
 
-// Returns true if the update is rejected because of its name, by the caller's own error.
+// Returns true if the update is rejected because of its name, with the error that the caller makes itself.
 fn is_refused_for_its_name(answer: &Result<()>) -> bool {
     match answer {
         Ok(()) => false,
@@ -212,16 +212,16 @@ fn is_taken(alloc: Global, row: &Update) -> bool {
     let (update, name, expected) = *row;
     let answer = checked(alloc, WORKED, update.as_bytes(), name);
     match expected {
-        Some(outcome) => comes_to(&answer, outcome),
+        Some(outcome) => matches_outcome(&answer, outcome),
         None => is_refused_for_its_name(&answer),
     }
 }
 
 // An update is accepted only under the name that its trusted comment gives.
 #[test]
-fn an_update_is_taken_under_its_name_alone(rt: HostRuntime) {
+fn accepts_update_only_under_its_name(rt: HostRuntime) {
     for row in updates() {
-        holds_at(&rt, is_taken(rt.alloc(), row), row);
+        assert_row(&rt, is_taken(rt.alloc(), row), row);
     }
 }
 
@@ -234,7 +234,7 @@ fn is_checked(alloc: Global, sig_text: &str, update: &[u8], expected: Outcome) -
     };
     let toy = ToyScheme::new();
     let answer = check_with_new_key(alloc, &toy, KEY_TEXT, new_key, SIGNATURE_TEXT, update);
-    comes_to(&answer, expected)
+    matches_outcome(&answer, expected)
 }
 
 // Returns true if checking the update with a new key that the old one signed has this outcome.
@@ -249,7 +249,7 @@ fn is_vouched_by_the_old(alloc: Global, update: &[u8], expected: Outcome) -> boo
 
 // A new key is accepted only if the old key signed its text.
 #[test]
-fn a_new_key_is_vouched_for_by_the_old_one(rt: HostRuntime) {
+fn accepts_new_key_only_if_old_key_signed_it(rt: HostRuntime) {
     assert!(rt; is_vouched_by_the_old(rt.alloc(), b"abc", Accepted));
     assert!(rt; is_vouched_by_the_old(rt.alloc(), b"abd", REFUSED));
     assert!(rt; is_checked(rt.alloc(), SIGNATURE_TEXT, b"abc", REFUSED));
@@ -275,9 +275,9 @@ fn is_signed_to_verify(alloc: Global) -> bool {
 
 // A wrong password signs nothing.
 #[test]
-fn what_a_sealed_key_signs_verifies(rt: HostRuntime) {
+fn signature_of_encrypted_key_is_valid(rt: HostRuntime) {
     assert!(rt; is_signed_to_verify(rt.alloc()));
-    assert!(rt; ends_in(signed_under(rt.alloc(), "passwore"), Refused(WrongPassword)));
+    assert!(rt; is_outcome(signed_under(rt.alloc(), "passwore"), Refused(WrongPassword)));
 }
 
 /// Runs the example caller on `abc` with key A and these bytes of a public key.
@@ -302,8 +302,8 @@ const EXAMPLE_TEXT: &str =
 
 // The example succeeds with the matching public key and fails with another one.
 #[test]
-fn the_example_signs_and_verifies(rt: HostRuntime) {
+fn example_accepts_only_the_matching_key(rt: HostRuntime) {
     let alloc = rt.alloc();
     assert!(rt; gives_text(example(alloc, &PUBLIC_BYTES), EXAMPLE_TEXT));
-    assert!(rt; ends_in(example(alloc, &[0x5b; 32]), REFUSED));
+    assert!(rt; is_outcome(example(alloc, &[0x5b; 32]), REFUSED));
 }

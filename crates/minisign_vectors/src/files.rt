@@ -1,6 +1,6 @@
 //! Tests of verifying and signing files by their paths.
 
-use crate::signatures::calls::{SIGNED_BY_DEFAULT, key_of, tells};
+use crate::signatures::calls::{SIGNED_BY_DEFAULT, gives_comment, key_of};
 use crate::unasked::sealed_pair_key;
 use minisign::{Result, SecretKey, sign_file, verify_file};
 use minisign_base::devices::random_sources::FixedRandom;
@@ -10,14 +10,14 @@ use minisign_base::faults::NamedFault::{
 use minisign_base::toy::ToyScheme;
 use minisign_fixtures::files::path_of;
 use minisign_fixtures::outcomes::Outcome::{self, Accepted, Refused};
-use minisign_fixtures::outcomes::{front, is_so};
+use minisign_fixtures::outcomes::{check_holds, front};
 use minisign_fixtures::texts::{KEY_TEXT, SEALED, SECRET_TEXT, SIGNATURE_TEXT};
 use std::{fs, io};
 
 const ZEROS: [u8; 128] = [0; 128];
 
 // The files of a signature and of the data, and the expected outcome of verifying.
-const TOLD: [(&str, &str, Outcome); 4] = [
+const VERIFICATIONS: [(&str, &str, Outcome); 4] = [
     ("abc.sig", "abc", Accepted),
     ("missing", "abc", Refused(ReadingFailed)),
     ("abc.sig", "missing", Refused(ReadingFailed)),
@@ -25,8 +25,8 @@ const TOLD: [(&str, &str, Outcome); 4] = [
 ];
 
 // Hides the table from proofs, which would otherwise unfold all of it.
-fn told() -> &'static [(&'static str, &'static str, Outcome)] {
-    &TOLD
+fn verifications() -> &'static [(&'static str, &'static str, Outcome)] {
+    &VERIFICATIONS
 }
 
 // Verifies a file with key A and the signature in another file.
@@ -44,10 +44,10 @@ fn file_verified(rt: &HostRuntime, sig: &str, data: &str) -> Result<String> {
     )
 }
 
-fn is_told(rt: &HostRuntime, row: &(&str, &str, Outcome)) -> bool {
+fn verifies_as_expected(rt: &HostRuntime, row: &(&str, &str, Outcome)) -> bool {
     let (sig, data, expected) = *row;
     let answer = file_verified(rt, sig, data);
-    tells(&answer, "t", expected)
+    gives_comment(&answer, "t", expected)
 }
 
 // The text of a secret key, empty for an encrypted key that was generated; the file to sign; the
@@ -90,13 +90,13 @@ fn file_signed(rt: &HostRuntime, sk_text: &str, name: &str, random: &[u8]) -> Re
 fn is_signed(rt: &HostRuntime, row: &Signed) -> bool {
     let (sk_text, name, drawn, expected) = *row;
     let answer = file_signed(rt, sk_text, name, front(&ZEROS, drawn));
-    tells(&answer, SIGNED_BY_DEFAULT, expected)
+    gives_comment(&answer, SIGNED_BY_DEFAULT, expected)
 }
 
 // Returns true if all rows have the expected outcomes.
-fn come_out(rt: &HostRuntime) -> bool {
-    for row in told() {
-        if !is_told(rt, row) {
+fn all_rows_hold(rt: &HostRuntime) -> bool {
+    for row in verifications() {
+        if !verifies_as_expected(rt, row) {
             return false;
         }
     }
@@ -113,15 +113,15 @@ fn come_out(rt: &HostRuntime) -> bool {
 fn are_right(rt: &HostRuntime, sig_path: &str, path: &str, beside: &str) -> io::Result<bool> {
     fs::write(rt, sig_path, SIGNATURE_TEXT)?;
     fs::write(rt, path, "abc")?;
-    let right = come_out(rt);
-    let stands = fs::exists(rt, beside)?;
+    let right = all_rows_hold(rt);
+    let still_exists = fs::exists(rt, beside)?;
     fs::remove_file(rt, sig_path)?;
     fs::remove_file(rt, path)?;
-    Ok(right && !stands)
+    Ok(right && !still_exists)
 }
 
 // Runs this check in the directory for temporary files.
-fn are_right_in_passing(rt: &HostRuntime) -> Result<bool> {
+fn are_right_in_temporary_directory(rt: &HostRuntime) -> Result<bool> {
     let sig_path = path_of(rt, "abc.sig")?;
     let path = path_of(rt, "abc")?;
     let beside = path_of(rt, "abc.minisig")?;
@@ -130,6 +130,6 @@ fn are_right_in_passing(rt: &HostRuntime) -> Result<bool> {
 }
 
 #[test]
-fn files_are_verified_and_signed_by_their_names(rt: HostRuntime) {
-    assert!(rt; is_so(are_right_in_passing(&rt)));
+fn verifies_and_signs_files_by_path(rt: HostRuntime) {
+    assert!(rt; check_holds(are_right_in_temporary_directory(&rt)));
 }

@@ -11,7 +11,7 @@ use std::alloc::Global;
 use std::io;
 
 #[test]
-fn numbers_are_little_endian(rt: HostRuntime) {
+fn writes_numbers_in_little_endian(rt: HostRuntime) {
     let mut four = [9u8; 4];
     write_u32_le(&mut four, 0x01020304);
     let is_four = four == [4, 3, 2, 1];
@@ -48,7 +48,7 @@ fn are_taken(alloc: Global) -> bool {
 }
 
 #[test]
-fn writers_take_numbers(rt: HostRuntime) {
+fn writers_receive_numbers_in_little_endian(rt: HostRuntime) {
     assert!(rt; are_taken(rt.alloc()));
 }
 
@@ -65,14 +65,14 @@ fn is_full(answer: &io::Result<()>) -> bool {
 }
 
 // Returns true if the writer accepts a number of one byte and one of four bytes, and then no more.
-fn has_room_for_two(writer: &mut &mut [u8]) -> bool {
+fn accepts_two_numbers(writer: &mut &mut [u8]) -> bool {
     let first = writer.write_u8(1);
     let second = writer.write_u32_le(2);
-    first.is_ok() && second.is_ok() && has_no_room(writer)
+    first.is_ok() && second.is_ok() && rejects_each_number(writer)
 }
 
 // Returns true if the writer is full for numbers of each width.
-fn has_no_room(writer: &mut &mut [u8]) -> bool {
+fn rejects_each_number(writer: &mut &mut [u8]) -> bool {
     let one = is_full(&writer.write_u8(3));
     let four = is_full(&writer.write_u32_le(3));
     let eight = is_full(&writer.write_u64_le(3));
@@ -81,15 +81,15 @@ fn has_no_room(writer: &mut &mut [u8]) -> bool {
 
 // The writer has space for five bytes.
 #[test]
-fn full_writers_take_no_numbers(rt: HostRuntime) {
+fn full_writer_rejects_numbers(rt: HostRuntime) {
     let mut room = [9u8; 5];
-    assert!(rt; has_room_for_two(&mut room.as_mut_slice()));
+    assert!(rt; accepts_two_numbers(&mut room.as_mut_slice()));
     assert!(rt; room == [1, 2, 0, 0, 0]);
 }
 
 // RFC 7693, sections 2.1 and 2.5.
 #[test]
-fn sizes_of_blake2b(rt: HostRuntime) {
+fn blake2b_sizes_are_those_of_the_rfc(rt: HostRuntime) {
     assert!(rt; BLAKE2B_BLOCKBYTES == 128 && BLAKE2B_KEYBYTES == 64 && BLAKE2B_OUTBYTES == 64);
     assert!(rt; BLAKE2B_SALTBYTES == 16 && BLAKE2B_PERSONALBYTES == 16);
 }

@@ -14,6 +14,8 @@ mod base;
 #[cfg(test)]
 mod callers;
 #[cfg(test)]
+mod downloads;
+#[cfg(test)]
 mod files;
 #[cfg(test)]
 mod hash;

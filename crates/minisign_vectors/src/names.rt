@@ -3,9 +3,9 @@
 //! called and gives a precomputed value. `hash` tests those of `minisign_hash`, and
 //! `signatures::calls` those that sign and verify.
 
-use crate::shown::says;
+use crate::shown::displays_as;
 use crate::signatures::calls::{signed_text, verified_texts};
-use crate::tables::holds_at;
+use crate::tables::assert_row;
 use minisign::minisign_base::{
     KeyId, fill_from, get_password, load_u64_le, put_and_flush, put_line, raw_scrypt_params,
     store_u64_le, unix_timestamp, write_all,
@@ -18,7 +18,7 @@ use minisign::{
 };
 use minisign_fixtures::keys::KEY_ID;
 use minisign_fixtures::outcomes::Outcome::Accepted;
-use minisign_fixtures::outcomes::{ends_in, gives_text};
+use minisign_fixtures::outcomes::{gives_text, is_outcome};
 use minisign_fixtures::texts::{KEY_TEXT, SAID, SECRET_TEXT, SIGNATURE_TEXT};
 use std::alloc::Global;
 use std::io::Cursor;
@@ -42,9 +42,9 @@ fn names() -> &'static [(&'static str, &'static str)] {
 }
 
 #[test]
-fn the_names_of_files_and_of_a_folder(rt: HostRuntime) {
+fn default_file_names_are_those_of_rsign(rt: HostRuntime) {
     for row in names() {
-        holds_at(&rt, row.0 == row.1, row);
+        assert_row(&rt, row.0 == row.1, row);
     }
 }
 
@@ -56,14 +56,14 @@ fn signed<R: Source, Z: RandomSource>(alloc: Global, data: &mut R, random: &mut 
 }
 
 #[test]
-fn data_is_signed_over_each_source(rt: HostRuntime) {
+fn signs_data_of_each_source(rt: HostRuntime) {
     let alloc = rt.alloc();
     let mut read = ReaderSource::new(b"abc".as_slice());
     let by_reader = signed(alloc, &mut read, &mut FixedRandom::new(&ZEROS));
-    holds_at(&rt, by_reader, &"a reader");
+    assert_row(&rt, by_reader, &"a reader");
     let mut drawn = SourceRandom::new(SliceSource::new(&ZEROS));
     let by_source = signed(alloc, &mut SliceSource::new(b"abc"), &mut drawn);
-    holds_at(&rt, by_source, &"random bytes of a source");
+    assert_row(&rt, by_source, &"random bytes of a source");
 }
 
 // Status lines are written, the data is copied, and legacy signatures are rejected.
@@ -85,14 +85,14 @@ fn copied(alloc: Global, said: &mut Vec<u8>, out: &mut VecSink) -> Result<()> {
 fn is_copied(alloc: Global) -> bool {
     let mut said = Vec::new(alloc);
     let mut out = VecSink::new(alloc);
-    let came = ends_in(copied(alloc, &mut said, &mut out), Accepted);
+    let came = is_outcome(copied(alloc, &mut said, &mut out), Accepted);
     let is_said = said.as_slice() == SAID;
     let is_out = out.as_slice() == b"abc".as_slice();
     came && is_said && is_out
 }
 
 #[test]
-fn data_is_verified_and_copied(rt: HostRuntime) {
+fn verifies_and_copies_data(rt: HostRuntime) {
     assert!(rt; is_copied(rt.alloc()));
 }
 
@@ -110,7 +110,7 @@ fn is_in_the_table() -> bool {
 }
 
 #[test]
-fn a_table_and_a_reader(rt: HostRuntime) {
+fn toy_scheme_accepts_table_and_reader_has_no_mark(rt: HostRuntime) {
     let marked = ReaderSource::new(b"abc".as_slice()).mark();
     assert!(rt; is_in_the_table() && marked == Err(DeviceFault));
 }
@@ -130,11 +130,11 @@ fn is_stored() -> bool {
 }
 
 #[test]
-fn the_helpers_through_the_library(rt: HostRuntime) {
+fn library_reexports_helpers(rt: HostRuntime) {
     let numbers = limits_are_usual() && is_stored() && is_filled();
     assert!(rt; numbers);
     assert!(rt; is_past(&unix_timestamp(&rt)));
-    assert!(rt; says(rt.alloc(), &KeyId(KEY_ID), "0807060504030201"));
+    assert!(rt; displays_as(rt.alloc(), &KeyId(KEY_ID), "0807060504030201"));
     assert!(rt; is_asked(rt.alloc()));
 }
 
@@ -162,6 +162,6 @@ fn is_asked(alloc: Global) -> bool {
     let written = write_all(&mut asked, b"a").is_ok();
     let flushed = put_and_flush(&mut asked, b"b").is_ok();
     let ended = put_line(alloc, &mut asked, b"c", b"d").is_ok();
-    let told = asked.as_slice() == b"Password: abcd\n".as_slice();
-    is_typed && written && flushed && ended && told
+    let prompted = asked.as_slice() == b"Password: abcd\n".as_slice();
+    is_typed && written && flushed && ended && prompted
 }

@@ -8,7 +8,7 @@ use minisign_base::faults::NamedFault::{RandomSourceFailed, SignatureRefused};
 use minisign_base::toy::ToyScheme;
 use minisign_examples::releasing::{Release, sign_release};
 use minisign_fixtures::outcomes::Outcome::{Accepted, Refused};
-use minisign_fixtures::outcomes::{counted, ends_in, is_so};
+use minisign_fixtures::outcomes::{check_holds, counted, is_outcome};
 use minisign_fixtures::texts::COUNTED_PUBLIC_TEXT;
 use std::alloc::Global;
 
@@ -27,11 +27,11 @@ fn released(alloc: Global, random: &[u8]) -> Result<Release> {
 // Returns true if the two texts are those of the release: default comments with the time 0, and
 // valid for the update only.
 fn are_released(alloc: Global, texts: (&str, &str)) -> bool {
-    let dated = is_so(text_has_comments(alloc, texts.1, "timestamp:0"));
+    let dated = check_holds(text_has_comments(alloc, texts.1, "timestamp:0"));
     let taken = checked(alloc, texts, b"lorem ipsum", "timestamp:0");
     let other = checked(alloc, texts, b"lorem ipsun", "timestamp:0");
-    let is_taken = ends_in(taken, Accepted);
-    let is_refused = ends_in(other, Refused(SignatureRefused));
+    let is_taken = is_outcome(taken, Accepted);
+    let is_refused = is_outcome(other, Refused(SignatureRefused));
     dated && is_taken && is_refused && texts.0 == COUNTED_PUBLIC_TEXT
 }
 
@@ -45,8 +45,8 @@ fn are_made(alloc: Global, made: &Result<Release>) -> bool {
 
 // The release is valid with its texts. Too few random bytes are an error.
 #[test]
-fn a_release_is_made(rt: HostRuntime) {
+fn makes_valid_release(rt: HostRuntime) {
     let made = released(rt.alloc(), &counted());
     assert!(rt; are_made(rt.alloc(), &made));
-    assert!(rt; ends_in(released(rt.alloc(), &[7; 199]), Refused(RandomSourceFailed)));
+    assert!(rt; is_outcome(released(rt.alloc(), &[7; 199]), Refused(RandomSourceFailed)));
 }

@@ -11,7 +11,7 @@ pub fn shows(alloc: Global, bytes: &[u8], expected: &str) -> bool {
 }
 
 /// Returns true if `Display` writes this text.
-pub fn says<T: Display>(alloc: Global, value: &T, expected: &str) -> bool {
+pub fn displays_as<T: Display>(alloc: Global, value: &T, expected: &str) -> bool {
     let shown = format!(in alloc; "{value}");
     is_text(&shown, expected)
 }

@@ -1,10 +1,10 @@
-//! Tests of the calls for callers that never prompt: signing data from a reader, generating pairs
-//! under a password, and the silent prompt. `files` has signing of files.
+//! Tests of the simple calls that never prompt: signing data from a reader, generating pairs under
+//! a password, and the silent prompt. `files` has signing of files.
 
 use crate::keys::refused_allocations::{has_sealed_text, public_text};
 use crate::keys::sealed::calls::{Way, opened};
 use crate::signatures::calls::{SIGNED_BY_DEFAULT, key_of};
-use crate::tables::holds_at;
+use crate::tables::assert_row;
 use minisign::{KeyPair, Result, SecretKey, SecretKeyBox, sign_reader};
 use minisign_base::devices::random_sources::FixedRandom;
 use minisign_base::devices::sinks::Sink;
@@ -15,9 +15,11 @@ use minisign_base::faults::NamedFault::{
 use minisign_base::helpers::get_password;
 use minisign_base::prompt::Prompt;
 use minisign_base::toy::ToyScheme;
-use minisign_fixtures::devices::sources::{FailingSource, OneByOne};
+use minisign_fixtures::devices::sources::{FailingSource, OneBytePerRead};
 use minisign_fixtures::outcomes::Outcome::{self, Accepted, Refused};
-use minisign_fixtures::outcomes::{comes_to, counted, ends_in, front, gives_text, is_so};
+use minisign_fixtures::outcomes::{
+    check_holds, counted, front, gives_text, is_outcome, matches_outcome,
+};
 use minisign_fixtures::texts::{COUNTED_PUBLIC_TEXT, SEALED, SECRET_TEXT};
 use std::alloc::Global;
 
@@ -45,11 +47,11 @@ fn reader_signed<R: Source>(alloc: Global, data: &mut R) -> Result<String> {
 
 // A reader that returns one byte for each read is signed as precomputed.
 #[test]
-fn what_a_reader_has_is_signed(rt: HostRuntime) {
-    let whole = reader_signed(rt.alloc(), &mut OneByOne::new(b"abc"));
+fn signs_all_data_of_reader(rt: HostRuntime) {
+    let whole = reader_signed(rt.alloc(), &mut OneBytePerRead::new(b"abc"));
     assert!(rt; gives_text(whole, SIGNED_BY_DEFAULT));
     let cut = reader_signed(rt.alloc(), &mut FailingSource::for_good(b"abc", 1));
-    assert!(rt; ends_in(cut, Refused(ReadingFailed)));
+    assert!(rt; is_outcome(cut, Refused(ReadingFailed)));
 }
 
 // Returns true if the texts of the pair with the empty password are the precomputed ones.
@@ -58,12 +60,12 @@ fn is_known_pair(alloc: Global) -> bool {
         return false;
     };
     let public = gives_text(public_text(alloc, &pair.pk), COUNTED_PUBLIC_TEXT);
-    let sealed = is_so(has_sealed_text(alloc, &pair.sk));
+    let sealed = check_holds(has_sealed_text(alloc, &pair.sk));
     public && sealed
 }
 
 #[test]
-fn a_pair_under_a_password_has_the_known_texts(rt: HostRuntime) {
+fn encrypted_pair_has_precomputed_texts(rt: HostRuntime) {
     assert!(rt; is_known_pair(rt.alloc()));
 }
 
@@ -94,16 +96,16 @@ fn is_made(alloc: Global, row: &Made) -> bool {
         return false;
     };
     let random = counted();
-    ends_in(
+    is_outcome(
         pair_under(alloc, password.as_str(), front(&random, drawn)),
         expected,
     )
 }
 
 #[test]
-fn a_password_of_a_pair_has_1024_bytes_at_most(rt: HostRuntime) {
+fn rejects_password_over_1024_bytes(rt: HostRuntime) {
     for row in &MADE {
-        holds_at(&rt, is_made(rt.alloc(), row), row);
+        assert_row(&rt, is_made(rt.alloc(), row), row);
     }
 }
 
@@ -126,15 +128,15 @@ fn is_not_answered<R: Source, W: Sink>(
     question: &str,
 ) -> bool {
     let answer = get_password(alloc, prompt, question);
-    comes_to(&answer, Refused(EndOfInput))
+    matches_outcome(&answer, Refused(EndOfInput))
 }
 
 #[test]
-fn a_silent_prompt_gives_no_password(rt: HostRuntime) {
+fn silent_prompt_gives_no_password(rt: HostRuntime) {
     let alloc = rt.alloc();
     let mut silent = Prompt::silent();
     assert!(rt; is_not_answered(alloc, &mut silent, "Password: "));
     assert!(rt; is_not_answered(alloc, &mut silent, ""));
-    assert!(rt; ends_in(opened_silently(alloc, None), Refused(EndOfInput)));
-    assert!(rt; ends_in(opened_silently(alloc, Some("password")), Accepted));
+    assert!(rt; is_outcome(opened_silently(alloc, None), Refused(EndOfInput)));
+    assert!(rt; is_outcome(opened_silently(alloc, Some("password")), Accepted));
 }

@@ -3,16 +3,17 @@ use Rattle.minisign_base.specs.Fault.{Named}
 use Rattle.minisign_base.specs.declared.faults.NamedFault.TheVariants.{OutOfMemory}
 use Rattle.minisign_external.specs.SecretKeys.{opened_sealed}
 use Rattle.minisign_external.specs.declared.state.Refusal.TheVariants.{Refused}
-use Rattle.minisign_c.proofs.ToldKeys.{told_refusal}
+use Rattle.minisign_c.proofs.OpeningErrors.{opening_refusal}
 use Rattle.minisign_c.proofs.minisign_open_sealed_key.Goals as goal
 
 pub returns-in-Err : goal.returns-in-Err
 returns-in-Err c = elim c.in-Err.ensures [
-  | inl told ↦ inl (told_refusal (opened_sealed c.args.unopened.now c.args.password.now c.args.most_rows)
-      c.in-Err.error c.args.key.now c.open_sealed_key.new.value c.number.result c.number.ensures told)
-  | inr (told, derives) ↦ inr (
-    told_refusal (Err (Refused (Named OutOfMemory))) c.in-Err.error c.args.key.now
-        c.open_sealed_key.new.value c.number.result c.number.ensures told,
+  | inl returned ↦ inl (opening_refusal (opened_sealed c.args.unopened.now c.args.password.now
+      c.args.most_rows)
+      c.in-Err.error c.args.key.now c.open_sealed_key.new.value c.number.result c.number.ensures returned)
+  | inr (returned, derives) ↦ inr (
+    opening_refusal (Err (Refused (Named OutOfMemory))) c.in-Err.error c.args.key.now
+        c.open_sealed_key.new.value c.number.result c.number.ensures returned,
     derives,
   )
 ]

@@ -37,7 +37,7 @@ const READ_ONCE: [Call; 5] = [
 const FAILING: [Call; 3] = [Reads(1, [1, 0]), FailsToRead, Reads(1, [3, 0])];
 
 #[test]
-fn slices_and_files_are_read_again_from_the_mark(rt: HostRuntime) {
+fn slices_and_files_go_back_to_the_mark(rt: HostRuntime) {
     assert!(rt; follows(&mut SliceSource::new(b"abcde"), &READ_AGAIN));
     let mut file = FileSource::new(Cursor::new(b"abcde".as_slice()));
     assert!(rt; follows(&mut file, &READ_AGAIN));
@@ -45,7 +45,7 @@ fn slices_and_files_are_read_again_from_the_mark(rt: HostRuntime) {
 
 // A reader can still be read after an error.
 #[test]
-fn readers_are_read_and_never_go_back(rt: HostRuntime) {
+fn readers_cannot_go_back(rt: HostRuntime) {
     assert!(rt; follows(&mut ReaderSource::new(b"abc".as_slice()), &READ_ONCE));
     assert!(rt; follows(&mut ReaderSource::new(FailsOnce::new(None)), &FAILING));
 }
@@ -57,7 +57,7 @@ fn is_reached(place: Option<u64>, reached: bool) -> bool {
 }
 
 #[test]
-fn a_place_that_is_not_reached_is_a_fault(rt: HostRuntime) {
+fn wrong_seek_position_is_an_error(rt: HostRuntime) {
     let is_sought = is_reached(None, false);
     let is_other = is_reached(Some(4), false);
     let is_place = is_reached(Some(5), true);
@@ -75,12 +75,12 @@ fn takes<S: Sink>(sink: &mut S, parts: &[&[u8]]) -> bool {
 }
 
 // Returns true if the buffer returns the bytes that it received.
-fn is_kept(alloc: Global) -> bool {
+fn keeps_bytes(alloc: Global) -> bool {
     let mut sink = VecSink::new(alloc);
     let taken = takes(&mut sink, &[b"abc", b"", b"de"]);
     let shown = sink.as_slice() == b"abcde".as_slice();
-    let kept = sink.into_vec();
-    let given = kept.as_slice() == b"abcde".as_slice();
+    let collected = sink.into_vec();
+    let given = collected.as_slice() == b"abcde".as_slice();
     taken && shown && given
 }
 
@@ -95,13 +95,13 @@ fn is_written(alloc: Global) -> bool {
 }
 
 #[test]
-fn sinks_take_all_that_is_put(rt: HostRuntime) {
-    assert!(rt; is_kept(rt.alloc()));
+fn sinks_receive_all_bytes(rt: HostRuntime) {
+    assert!(rt; keeps_bytes(rt.alloc()));
     assert!(rt; is_written(rt.alloc()));
 }
 
-// Expected fills of a source of five bytes, up to three bytes each. An empty one is a fill of three
-// bytes that fails.
+// The bytes that fills of at most three bytes return from a source of five bytes. An empty entry is
+// a fill of three bytes that fails.
 const OF_FIVE: [&[u8]; 3] = [b"abc", b"", b"de"];
 
 const OF_FOUR: [&[u8]; 2] = [b"abc", b""];
@@ -112,7 +112,7 @@ const BEHIND_A_FAULT: [&[u8]; 2] = [b"", &[3, 4, 5]];
 // Returns true if the fills are as expected.
 fn draws<R: RandomSource>(random: &mut R, draws: &[&[u8]]) -> bool {
     for expected in draws {
-        if !is_drawn(random, expected) {
+        if !fills_as_expected(random, expected) {
             return false;
         }
     }
@@ -120,7 +120,7 @@ fn draws<R: RandomSource>(random: &mut R, draws: &[&[u8]]) -> bool {
 }
 
 // Returns true if these bytes are returned, or if they are empty and a fill of three bytes fails.
-fn is_drawn<R: RandomSource>(random: &mut R, expected: &[u8]) -> bool {
+fn fills_as_expected<R: RandomSource>(random: &mut R, expected: &[u8]) -> bool {
     let len = if expected.is_empty() {
         3
     } else {
@@ -132,7 +132,7 @@ fn is_drawn<R: RandomSource>(random: &mut R, expected: &[u8]) -> bool {
 }
 
 #[test]
-fn random_bytes_come_in_order(rt: HostRuntime) {
+fn random_bytes_are_taken_in_order(rt: HostRuntime) {
     assert!(rt; draws(&mut FixedRandom::new(b"abcde"), &OF_FIVE));
     let mut drawn = SourceRandom::new(SliceSource::new(b"abcd"));
     assert!(rt; draws(&mut drawn, &OF_FOUR));

@@ -1,8 +1,8 @@
 //! Tests of the texts of errors, and of the conversions from errors of other crates.
 //! `tests/rows/named_errors.txt` has every named error with its number, its kind and its text.
 
-use crate::shown::says;
-use crate::tables::holds_at;
+use crate::shown::displays_as;
+use crate::tables::assert_row;
 use base64::{DecodeAllocError, DecodeError};
 use minisign_base::errors::ErrorKind::Io;
 use minisign_base::errors::PError;
@@ -14,7 +14,7 @@ use minisign_base::faults::NamedFault::{
 use minisign_base::faults::TEXT_ROOM;
 use minisign_fixtures::keys::{KEY_ID, OTHER_KEY_ID};
 use minisign_fixtures::outcomes::Outcome::Refused;
-use minisign_fixtures::outcomes::comes_to;
+use minisign_fixtures::outcomes::matches_outcome;
 use minisign_kdf::{InvalidOutputLen, InvalidParams, KdfError};
 use std::alloc::{AllocError, AllocFailed, Global};
 use std::{fmt, io};
@@ -51,21 +51,20 @@ fn is_text(fault: &PError, text: &str) -> bool {
     fault.text(&mut room) == text.as_bytes()
 }
 
-// Returns true if the named error and the error made from it have the same text, and the latter
-// still has its name.
+// Returns true if a named error has this text, and an error made from it has the same text and the same name.
 fn is_shown(alloc: Global, row: &(NamedFault, &str)) -> bool {
     let (named, text) = *row;
-    let named_says = says(alloc, &named, text);
+    let named_says = displays_as(alloc, &named, text);
     let fault = PError::from(named);
-    let says_so = says(alloc, &fault, text);
+    let says_text = displays_as(alloc, &fault, text);
     let has_text = is_text(&fault, text);
-    named_says && says_so && has_text && fault.named() == Some(named)
+    named_says && says_text && has_text && fault.named() == Some(named)
 }
 
 #[test]
-fn named_errors_are_shown(rt: HostRuntime) {
+fn named_errors_display_their_text(rt: HostRuntime) {
     for row in shown() {
-        holds_at(&rt, is_shown(rt.alloc(), row), row);
+        assert_row(&rt, is_shown(rt.alloc(), row), row);
     }
 }
 
@@ -74,7 +73,7 @@ fn is(fault: PError, named: NamedFault) -> bool {
 }
 
 #[test]
-fn faults_of_std_become_named_ones(rt: HostRuntime) {
+fn errors_of_std_convert_to_named_errors(rt: HostRuntime) {
     let device = io::Error::from(io::ErrorKind::Other);
     let refused = is(PError::from(AllocError), OutOfMemory);
     let given_back = is(PError::from(AllocFailed { value: 0u8 }), OutOfMemory);
@@ -84,7 +83,7 @@ fn faults_of_std_become_named_ones(rt: HostRuntime) {
     assert!(rt; is_no_text(rt.alloc()));
 }
 
-// Returns true if the error for the byte 0xff as a text becomes the expected one.
+// Returns true if the error of converting the byte 0xff to a text becomes `InvalidUtf8`.
 fn is_no_text(alloc: Global) -> bool {
     let Ok(bytes) = vec![in alloc; 0xffu8; 1] else {
         return false;
@@ -96,7 +95,7 @@ fn is_no_text(alloc: Global) -> bool {
 }
 
 #[test]
-fn faults_of_key_derivation_and_of_base64_become_named_ones(rt: HostRuntime) {
+fn errors_of_kdf_and_base64_convert_to_named_errors(rt: HostRuntime) {
     let params = is(PError::from(InvalidParams), InvalidParameters);
     let len = is(PError::from(InvalidOutputLen), InvalidOutputLength);
     let len_of_key = is(
@@ -113,11 +112,11 @@ fn faults_of_key_derivation_and_of_base64_become_named_ones(rt: HostRuntime) {
 
 // Returns true if the error has the text of `ReadingFailed` but not its name.
 fn is_only_worded(alloc: Global, fault: PError) -> bool {
-    let worded = says(alloc, &fault, "reading failed");
-    let is_so = *fault.kind() == Io && fault.named() == None;
+    let worded = displays_as(alloc, &fault, "reading failed");
+    let check_holds = *fault.kind() == Io && fault.named() == None;
     let answer: Result<(), PError> = Err(fault);
-    let named = comes_to(&answer, Refused(ReadingFailed));
-    worded && is_so && !named
+    let named = matches_outcome(&answer, Refused(ReadingFailed));
+    worded && check_holds && !named
 }
 
 // Returns true for an error that the caller makes with a text of its own.
@@ -130,7 +129,7 @@ fn is_only_worded_by_a_caller(alloc: Global) -> bool {
 
 // The text of a named error does not make an error a named one.
 #[test]
-fn callers_make_faults_without_a_name(rt: HostRuntime) {
+fn errors_of_callers_have_no_name(rt: HostRuntime) {
     assert!(rt; is_only_worded_by_a_caller(rt.alloc()));
     assert!(rt; is_only_worded(rt.alloc(), PError::fixed(Io, "reading failed")));
 }

@@ -1,9 +1,9 @@
-//! Tests of writing lines to a sink, also over a writer that accepts nothing.
+//! Tests of writing lines to a sink, and to one over a writer that accepts nothing.
 
 use minisign_base::devices::sinks::{Sink, VecSink, WriterSink, put_line, write_all};
 use minisign_base::faults::NamedFault::WritingFailed;
 use minisign_fixtures::outcomes::Outcome::{self, Accepted, Refused};
-use minisign_fixtures::outcomes::comes_to;
+use minisign_fixtures::outcomes::matches_outcome;
 use std::alloc::Global;
 use std::io;
 use std::io::Write;
@@ -41,7 +41,7 @@ impl Write for Counting {
     }
 }
 
-// Returns a writer without calls so far, which allows this many.
+// Returns a writer that fails after this number of calls.
 fn uncalled(allowed: u8, takes: bool) -> Counting {
     Counting {
         calls: 0,
@@ -59,7 +59,7 @@ fn is_put<W: Sink>(
     expected: Outcome,
 ) -> bool {
     let answer = put_line(alloc, sink, label.as_bytes(), text.as_bytes());
-    comes_to(&answer, expected)
+    matches_outcome(&answer, expected)
 }
 
 // Returns true if three lines are written one after another.
@@ -68,8 +68,8 @@ fn lines_are_put(alloc: Global) -> bool {
     let first = is_put(alloc, &mut sink, ("error: ", "reading failed"), Accepted);
     let second = is_put(alloc, &mut sink, ("", ""), Accepted);
     let third = is_put(alloc, &mut sink, ("warning", ""), Accepted);
-    let told = sink.as_slice() == b"error: reading failed\n\nwarning\n".as_slice();
-    first && second && third && told
+    let are_written = sink.as_slice() == b"error: reading failed\n\nwarning\n".as_slice();
+    first && second && third && are_written
 }
 
 // Returns true if a line is written in one write: a writer that fails at its second call receives
@@ -84,14 +84,14 @@ fn is_one_write(alloc: Global) -> bool {
 }
 
 #[test]
-fn lines_are_put_at_once(rt: HostRuntime) {
+fn writes_each_line_in_a_single_call(rt: HostRuntime) {
     assert!(rt; lines_are_put(rt.alloc()));
     assert!(rt; is_one_write(rt.alloc()));
 }
 
 // Returns true if a sink over a writer that accepts nothing fails for every write that is not
 // empty, and for a flush.
-fn is_a_fault() -> bool {
+fn fails_for_each_write() -> bool {
     let mut nothing = WriterSink::new(uncalled(9, false));
     let unwritten = write_all(&mut nothing, b"a").is_err();
     let empty = nothing.write(b"") == Ok(0);
@@ -100,6 +100,6 @@ fn is_a_fault() -> bool {
 }
 
 #[test]
-fn a_writer_that_takes_nothing_is_a_fault(rt: HostRuntime) {
-    assert!(rt; is_a_fault());
+fn writer_that_takes_nothing_is_an_error(rt: HostRuntime) {
+    assert!(rt; fails_for_each_write());
 }

@@ -1,16 +1,16 @@
 //! Tests of passwords without a line feed and of lines that are not UTF-8.
 //! `tests/rows/passwords.py` has all other lines.
 
-use crate::tables::holds_at;
+use crate::tables::assert_row;
 use minisign_base::devices::sinks::{Sink, VecSink};
 use minisign_base::devices::sources::{SliceSource, Source};
 use minisign_base::errors::Result;
 use minisign_base::faults::NamedFault::{NotUtf8, PasswordTooLong};
 use minisign_base::helpers::get_password;
 use minisign_base::prompt::Prompt;
-use minisign_fixtures::devices::sources::OneByOne;
+use minisign_fixtures::devices::sources::OneBytePerRead;
 use minisign_fixtures::outcomes::Outcome::{self, Accepted, Refused};
-use minisign_fixtures::outcomes::comes_to;
+use minisign_fixtures::outcomes::matches_outcome;
 use minisign_fixtures::prompts::bytes_left;
 use std::alloc::{AllocError, Global};
 
@@ -50,12 +50,12 @@ fn is_expected(answer: &Result<String>, row: &Line) -> bool {
     let (count, _, _, expected) = *row;
     match answer {
         Ok(password) => expected == Accepted && password.len() == count,
-        Err(_) => comes_to(answer, expected),
+        Err(_) => matches_outcome(answer, expected),
     }
 }
 
 // Returns true if the result is as expected and all of the input was read.
-fn comes_so<R: Source + Drop>(alloc: Global, reader: R, row: &Line) -> bool {
+fn reads_as_expected<R: Source + Drop>(alloc: Global, reader: R, row: &Line) -> bool {
     let mut prompt = Prompt::new(reader, VecSink::new(alloc));
     let answer = asked(alloc, &mut prompt);
     let came = is_expected(&answer, row);
@@ -63,20 +63,20 @@ fn comes_so<R: Source + Drop>(alloc: Global, reader: R, row: &Line) -> bool {
     came && is_read && prompt.writer.as_slice() == b"Password: ".as_slice()
 }
 
-// Does the same with a reader that returns the whole line and with one that returns one byte for
-// each read.
-fn both_come_so(alloc: Global, row: &Line) -> bool {
+// Returns true if the result is as expected with a reader that returns the whole line, and with one
+// that returns one byte for each read.
+fn both_read_as_expected(alloc: Global, row: &Line) -> bool {
     let Ok(line) = typed(alloc, row) else {
         return false;
     };
-    let at_once = comes_so(alloc, SliceSource::new(&line), row);
-    let by_bytes = comes_so(alloc, OneByOne::new(&line), row);
+    let at_once = reads_as_expected(alloc, SliceSource::new(&line), row);
+    let by_bytes = reads_as_expected(alloc, OneBytePerRead::new(&line), row);
     at_once && by_bytes
 }
 
 #[test]
-fn lines_are_read_to_their_end(rt: HostRuntime) {
+fn reads_typed_lines_to_their_end(rt: HostRuntime) {
     for row in lines() {
-        holds_at(&rt, both_come_so(rt.alloc(), row), row);
+        assert_row(&rt, both_read_as_expected(rt.alloc(), row), row);
     }
 }

@@ -4,8 +4,8 @@ use minisign_base::devices::sources::{Rereader, Source};
 use std::io;
 use std::io::{Read, Seek, SeekFrom};
 
-/// A reader that returns one byte for each read, fails at its second read, and then goes on. It says
-/// that its position is 5. Seeking to a position reports `place`, or fails if there is none.
+/// A reader that returns one byte for each read. Its second read fails; later reads succeed. It says that its
+/// position is 5. Seeking to a position reports `place`, or fails if there is none.
 #[derive(Drop)]
 pub struct FailsOnce {
     reads: u8,
@@ -13,7 +13,7 @@ pub struct FailsOnce {
 }
 
 impl FailsOnce {
-    /// Returns a reader of which nothing was read.
+    /// Returns a reader before its first read.
     pub fn new(place: Option<u64>) -> FailsOnce {
         FailsOnce { reads: 0, place }
     }
@@ -62,7 +62,7 @@ pub enum Call {
 pub fn follows<R: Rereader>(source: &mut R, calls: &[Call]) -> bool {
     let mut buf = [0u8; 2];
     for call in calls {
-        if !comes_so(source, &mut buf, *call) {
+        if !returns_as_expected(source, &mut buf, *call) {
             return false;
         }
     }
@@ -70,7 +70,7 @@ pub fn follows<R: Rereader>(source: &mut R, calls: &[Call]) -> bool {
 }
 
 // Returns true if the call has the expected result.
-fn comes_so<R: Rereader>(source: &mut R, buf: &mut [u8; 2], call: Call) -> bool {
+fn returns_as_expected<R: Rereader>(source: &mut R, buf: &mut [u8; 2], call: Call) -> bool {
     match call {
         Call::Reads(count, left) => reads(source, buf, count, left),
         Call::FailsToRead => source.read(buf).is_err(),

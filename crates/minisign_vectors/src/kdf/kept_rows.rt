@@ -8,7 +8,7 @@ ghost use Rattle.std.specs.Prelude.{◌≡◌, ◌≤◌, length};
 
 use crate::kdf::passed_memory::{OF_NOTHING, OF_PASSWORD};
 use crate::shown::shows;
-use crate::tables::holds_at;
+use crate::tables::assert_row;
 use minisign_kdf::KdfError::{self, InvalidOutputLen, OutOfMemory};
 use minisign_kdf::{Params, Rows, mix_kept, scrypt_keeping};
 use std::alloc::Global;
@@ -70,22 +70,22 @@ fn keys() -> &'static [Key] {
 }
 
 // Returns true if the key and the number of kept rows are as expected.
-fn keeps(alloc: Global, row: &Key) -> bool {
+fn keeps_expected_rows(alloc: Global, row: &Key) -> bool {
     let (password, salt, (n_log2, r, p), k, count, expected) = *row;
     let Ok(params) = Params::new(n_log2, r, p) else {
         return false;
     };
     let mut key = [0u8; 64];
     let (password, salt) = (password.as_bytes(), salt.as_bytes());
-    let kept = scrypt_keeping(alloc, password, salt, &params, k.max(1), &mut key);
-    kept == Ok(count) && shows(alloc, &key, expected)
+    let rows_kept = scrypt_keeping(alloc, password, salt, &params, k.max(1), &mut key);
+    rows_kept == Ok(count) && shows(alloc, &key, expected)
 }
 
 // The key is the same for every k, and the expected number of rows is kept.
 #[test]
-fn keys_where_rows_are_left_out(rt: HostRuntime) {
+fn same_key_for_every_number_of_kept_rows(rt: HostRuntime) {
     for row in keys() {
-        holds_at(&rt, keeps(rt.alloc(), row), row);
+        assert_row(&rt, keeps_expected_rows(rt.alloc(), row), row);
     }
 }
 
@@ -104,9 +104,9 @@ fn mixes(alloc: Global, k: u64) -> bool
 }
 
 #[test]
-fn rows_of_rfc_7914(rt: HostRuntime) {
+fn mixing_gives_rows_of_rfc_7914(rt: HostRuntime) {
     for k in 1..18u64 {
-        holds_at(&rt, mixes(rt.alloc(), k), &k);
+        assert_row(&rt, mixes(rt.alloc(), k), &k);
     }
 }
 
@@ -138,8 +138,7 @@ fn are_first(alloc: Global, words: &[u32], count: u64) -> bool {
     count == 2 && bytes_of(first) == BLOCK && shows(alloc, &bytes_of(second), MIXED)
 }
 
-// The base-2 logarithm of N, k, and the number of kept rows. 0 stands for rows that do not fit into
-// memory.
+// The base-2 logarithm of N, k, and the number of kept rows. 0 means that the rows do not fit into memory.
 type Filled = (u8, u64, u64);
 
 // Rows that do not fit into memory are rejected before any mixing. If only one row is kept, nothing
@@ -162,9 +161,9 @@ fn fills(alloc: Global, row: &Filled) -> bool {
 }
 
 #[test]
-fn rows_of_the_least_and_the_greatest_cost(rt: HostRuntime) {
+fn fills_rows_at_least_and_greatest_cost(rt: HostRuntime) {
     for row in &FILLED {
-        holds_at(&rt, fills(rt.alloc(), row), row);
+        assert_row(&rt, fills(rt.alloc(), row), row);
     }
 }
 
@@ -194,8 +193,8 @@ fn is_refused(alloc: Global, row: &Refused) -> bool {
 }
 
 #[test]
-fn refusals_do_not_depend_on_the_number(rt: HostRuntime) {
+fn errors_do_not_depend_on_kept_rows(rt: HostRuntime) {
     for row in &REFUSED {
-        holds_at(&rt, is_refused(rt.alloc(), row), row);
+        assert_row(&rt, is_refused(rt.alloc(), row), row);
     }
 }

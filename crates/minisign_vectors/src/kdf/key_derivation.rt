@@ -3,7 +3,7 @@
 //! hashlib (OpenSSL).
 
 use crate::shown::shows;
-use crate::tables::holds_at;
+use crate::tables::assert_row;
 use minisign_fixtures::outcomes::front;
 use minisign_kdf::{Params, hmac_sha256, pbkdf2_once};
 use std::alloc::Global;
@@ -94,9 +94,9 @@ fn is_code(alloc: Global, row: &Code) -> bool {
 }
 
 #[test]
-fn hmac_of_rfc_4231(rt: HostRuntime) {
+fn hmac_matches_rfc_4231(rt: HostRuntime) {
     for row in codes() {
-        holds_at(&rt, is_code(rt.alloc(), row), &row.0);
+        assert_row(&rt, is_code(rt.alloc(), row), &row.0);
     }
 }
 
@@ -105,7 +105,7 @@ const OF_PASSWD: &str =
     "55ac046e56e3089fec1691c22544b605f94185216dde0465e68b9d57c20dacbc49ca9cccf179b645991664b39d77ef317c71b845b1e30bd509112041d3a19783";
 
 #[test]
-fn pbkdf2_of_rfc_7914(rt: HostRuntime) {
+fn pbkdf2_matches_rfc_7914(rt: HostRuntime) {
     let mut key = [0u8; 64];
     pbkdf2_once(b"passwd", b"salt", &mut key);
     assert!(rt; shows(rt.alloc(), &key, OF_PASSWD));
@@ -140,8 +140,8 @@ fn parameters() -> &'static [(u8, u32, u32)] {
 }
 
 #[test]
-fn accepted_parameters(rt: HostRuntime) {
+fn accepts_exactly_the_allowed_parameters(rt: HostRuntime) {
     for row in parameters() {
-        holds_at(&rt, is_accepted(row.0, row.1, row.2), row);
+        assert_row(&rt, is_accepted(row.0, row.1, row.2), row);
     }
 }

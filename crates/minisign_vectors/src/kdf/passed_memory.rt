@@ -6,7 +6,7 @@
 ghost use Rattle.std.specs.Prelude.{◌≡◌, IfOk, vec_len};
 
 use crate::shown::shows;
-use crate::tables::holds_at;
+use crate::tables::assert_row;
 use minisign_kdf::{Params, scrypt_in};
 use std::alloc::{AllocError, Global};
 
@@ -74,10 +74,10 @@ fn derives(alloc: Global, row: &Row) -> bool {
         return false;
     };
     let k = k.max(1);
-    let Ok(mut words) = words(alloc, params.wanted_words(k) as usize) else {
+    let Ok(mut words) = words(alloc, params.words_needed(k) as usize) else {
         return false;
     };
-    let Ok(mut bytes) = bytes(alloc, params.wanted_bytes() as usize) else {
+    let Ok(mut bytes) = bytes(alloc, params.bytes_needed() as usize) else {
         return false;
     };
     let mut key = [0u8; 64];
@@ -89,8 +89,8 @@ fn derives(alloc: Global, row: &Row) -> bool {
 }
 
 #[test]
-fn keys_in_passed_memory(rt: HostRuntime) {
+fn derives_keys_in_passed_memory(rt: HostRuntime) {
     for row in rows() {
-        holds_at(&rt, derives(rt.alloc(), row), row);
+        assert_row(&rt, derives(rt.alloc(), row), row);
     }
 }

@@ -12,7 +12,7 @@ const FRONT: [u8; 8] = [0x77, 0xd6, 0x57, 0x62, 0x38, 0x65, 0x7b, 0x20];
 
 // There are two requests: one for all rows, and one for the buffers for mixing.
 #[test]
-fn rows_are_reserved_in_one_request(rt: HostRuntime) {
+fn reserves_all_rows_in_a_single_request(rt: HostRuntime) {
     match Rows::fill(rt.alloc(), &[7; 128], 10, 3) {
         Ok(rows) => assert!(rt; rows.len() == 342),
         Err(fault) => assert!(rt; fault == KdfError::OutOfMemory),
@@ -27,7 +27,7 @@ fn is_right(fault: Option<KdfError>, key: &[u8; 8]) -> bool {
     }
 }
 
-// Does this check for scrypt.
+// Returns true if `scrypt` derives the key or fails without changing the output.
 fn is_derived(alloc: Global) -> bool {
     let Ok(params) = Params::new(4, 1, 1) else {
         return false;
@@ -37,19 +37,20 @@ fn is_derived(alloc: Global) -> bool {
     is_right(derived.err(), &key)
 }
 
-// Does this check for scrypt with every third row kept, which is six rows.
+// Returns true if `scrypt_keeping` with every third row, which is six rows, derives the key or
+// fails without changing the output.
 fn is_derived_with_every_third_row(alloc: Global) -> bool {
     let Ok(params) = Params::new(4, 1, 1) else {
         return false;
     };
     let mut key = [0xa5u8; 8];
-    let kept = scrypt_keeping(alloc, b"", b"", &params, 3, &mut key);
-    let is_counted = kept == Ok(6) || kept.is_err();
-    is_counted && is_right(kept.err(), &key)
+    let rows_kept = scrypt_keeping(alloc, b"", b"", &params, 3, &mut key);
+    let is_counted = rows_kept == Ok(6) || rows_kept.is_err();
+    is_counted && is_right(rows_kept.err(), &key)
 }
 
 #[test]
-fn deriving_keys(rt: HostRuntime) {
+fn derives_key_or_reports_out_of_memory(rt: HostRuntime) {
     assert!(rt; is_derived(rt.alloc()));
     assert!(rt; is_derived_with_every_third_row(rt.alloc()));
 }

@@ -2,7 +2,7 @@
 //! they accept one byte at a time, or fail at each byte, each read and each flush in turn.
 //! `tests/rows/made_pairs.py` and `tests/rows/failing_devices.py` have all other cases.
 
-use crate::tables::holds_at;
+use crate::tables::assert_row;
 use minisign::{KeyPair, Result};
 use minisign_base::devices::random_sources::FixedRandom;
 use minisign_base::devices::sinks::Sink;
@@ -13,7 +13,7 @@ use minisign_base::toy::ToyScheme;
 use minisign_fixtures::devices::sinks::LimitedSink;
 use minisign_fixtures::devices::sources::FailingSource;
 use minisign_fixtures::outcomes::Outcome::{self, Accepted, Refused};
-use minisign_fixtures::outcomes::{counted, ends_in, front};
+use minisign_fixtures::outcomes::{counted, front, is_outcome};
 use minisign_fixtures::texts::COUNTED_PUBLIC_TEXT;
 use std::alloc::Global;
 
@@ -62,15 +62,15 @@ fn is_taken(alloc: Global) -> bool {
     let mut secret = LimitedSink::new(alloc, 259).by(1).flushed(1);
     let mut prompt = prompt_of(b"p\np\n", 4, LimitedSink::new(alloc, 300));
     let answer = wrote_sealed_over(alloc, &mut prompt, &mut public, &mut secret);
-    let came = ends_in(answer, Accepted);
+    let came = is_outcome(answer, Accepted);
     let has_public = public.as_slice() == COUNTED_PUBLIC_TEXT.as_bytes();
     let has_secret = secret.as_slice() == SECRET_TEXT.as_bytes();
-    let is_told = prompt.writer.as_slice() == SHOWN.as_bytes();
-    came && has_public && has_secret && is_told
+    let is_prompted = prompt.writer.as_slice() == SHOWN.as_bytes();
+    came && has_public && has_secret && is_prompted
 }
 
 #[test]
-fn key_sinks_that_take_one_byte_a_write(rt: HostRuntime) {
+fn writes_pair_to_sinks_of_one_byte_per_write(rt: HostRuntime) {
     assert!(rt; is_taken(rt.alloc()));
 }
 
@@ -112,23 +112,23 @@ fn is_refused(alloc: Global, row: &Fails) -> bool {
     let mut public = LimitedSink::new(alloc, 300);
     let mut secret = LimitedSink::new(alloc, 300);
     let answer = wrote_sealed_over(alloc, &mut prompt, &mut public, &mut secret);
-    let came = ends_in(answer, expected);
+    let came = is_outcome(answer, expected);
     let shown = prompt.writer.as_slice() == front(SHOWN.as_bytes(), length);
     came && shown && public.as_slice().is_empty() && secret.as_slice().is_empty()
 }
 
 #[test]
-fn prompts_that_fail(rt: HostRuntime) {
+fn rejects_pair_if_prompt_fails(rt: HostRuntime) {
     for row in failing() {
-        holds_at(&rt, is_refused(rt.alloc(), row), row);
+        assert_row(&rt, is_refused(rt.alloc(), row), row);
     }
 }
 
 // The prompt's writer fails at each byte before the derivation, and holds the bytes before that.
 #[test]
-fn prompts_that_cannot_be_written_to(rt: HostRuntime) {
+fn stops_at_the_byte_where_the_prompt_fails(rt: HostRuntime) {
     for room in 0..158usize {
         let row = (b"p\np\n".as_slice(), 9, room, 9, room, UNWRITTEN);
-        holds_at(&rt, is_refused(rt.alloc(), &row), &room);
+        assert_row(&rt, is_refused(rt.alloc(), &row), &room);
     }
 }

@@ -1,7 +1,7 @@
 //! Tests that calls on keys give the right result or out of memory, whichever allocation fails.
 //! With enough memory each call succeeds. `tests/library/refused_memory.py` runs each test with
-//! each of its allocations failing in turn. A buffer that cannot grow is a sink that fails, so a
-//! call with one may also return `WritingFailed`.
+//! each of its allocations failing in turn. A call that writes to a buffer may also return
+//! `WritingFailed`, because a buffer that cannot grow fails like any other sink.
 
 use crate::keys::generated::wrote_sealed_over;
 use crate::keys::sealed::calls::{Way, opened};
@@ -15,7 +15,9 @@ use minisign_base::prompt::Prompt;
 use minisign_base::toy::ToyScheme;
 use minisign_fixtures::devices::sinks::Counting;
 use minisign_fixtures::keys::{CHECKSUM, secret_record};
-use minisign_fixtures::outcomes::{counted, is_so_or_out_of_memory, is_so_or_unwritten};
+use minisign_fixtures::outcomes::{
+    check_holds_or_out_of_memory, check_holds_or_unwritten, counted,
+};
 use minisign_fixtures::texts::{
     COUNTED_PUBLIC_TEXT, COUNTED_SEALED_UNDER_NOTHING, KEY_TEXT, SEALED, SECRET_TEXT,
 };
@@ -38,7 +40,8 @@ pub fn secret_text(alloc: Global, key: &SecretKey) -> Result<String> {
     Ok(sk_box.into_string())
 }
 
-// Returns true if an unencrypted pair is generated as expected and its copy has the same keys.
+// Returns true if an unencrypted pair is generated with the precomputed public key, and its copy
+// has the same keys.
 fn made_raw(alloc: Global) -> Result<bool> {
     let scheme = ToyScheme::new();
     let pair = KeyPair::generate_unencrypted_keypair(&scheme, &mut FixedRandom::new(&counted()))?;
@@ -47,7 +50,8 @@ fn made_raw(alloc: Global) -> Result<bool> {
     Ok(public && copy.sk == pair.sk)
 }
 
-// Does the same with the pair written to two buffers.
+// Returns true if an unencrypted pair is generated and written to two buffers, and the buffers hold
+// the records of its keys.
 fn wrote_raw(alloc: Global) -> Result<bool> {
     let mut public = VecSink::new(alloc);
     let mut secret = VecSink::new(alloc);
@@ -68,12 +72,13 @@ fn has_records(pair: &KeyPair, public: &[u8], secret: &[u8]) -> Result<bool> {
     Ok(pk == pair.pk && sk == pair.sk)
 }
 
-/// Returns true if the key has the text of the pair that is encrypted under the empty password.
+/// Returns true if the key has the precomputed text of the pair that is encrypted with the empty
+/// password.
 pub fn has_sealed_text(alloc: Global, key: &SecretKey) -> Result<bool> {
     has_text(secret_text(alloc, key), COUNTED_SEALED_UNDER_NOTHING)
 }
 
-// Returns true if an encrypted pair is generated with an empty password that is typed.
+// Returns true if an encrypted pair is generated when an empty password is typed.
 fn made_sealed(alloc: Global) -> Result<bool> {
     let pair = KeyPair::generate_encrypted_keypair(
         alloc,
@@ -85,7 +90,8 @@ fn made_sealed(alloc: Global) -> Result<bool> {
     has_sealed_text(alloc, &pair.sk)
 }
 
-// Does the same with the pair written to two buffers.
+// Returns true if an encrypted pair is generated when an empty password is typed, and the
+// precomputed texts are written to two buffers.
 fn wrote_sealed(alloc: Global) -> Result<bool> {
     let mut public = VecSink::new(alloc);
     let mut secret = VecSink::new(alloc);
@@ -107,7 +113,7 @@ fn opens(alloc: Global, text: &str, way: Way) -> Result<bool> {
     is_opened(&key)
 }
 
-// Returns true if the text of key A's public key is as precomputed.
+// Returns true if the text of key A's public key is the precomputed one.
 fn public_written(alloc: Global) -> Result<bool> {
     let secret = SecretKey::from_bytes(&secret_record(&[0, 0], &CHECKSUM))?;
     let public = PublicKey::from_secret_key(&secret)?;
@@ -122,30 +128,30 @@ fn secret_written_again(alloc: Global) -> Result<bool> {
 }
 
 #[test]
-fn raw_pairs_and_texts_of_keys(rt: HostRuntime) {
-    let made = is_so_or_out_of_memory(made_raw(rt.alloc()));
-    let wrote = is_so_or_unwritten(wrote_raw(rt.alloc()));
-    let public = is_so_or_out_of_memory(public_written(rt.alloc()));
-    let secret = is_so_or_out_of_memory(secret_written_again(rt.alloc()));
+fn makes_raw_pair_or_reports_out_of_memory(rt: HostRuntime) {
+    let made = check_holds_or_out_of_memory(made_raw(rt.alloc()));
+    let wrote = check_holds_or_unwritten(wrote_raw(rt.alloc()));
+    let public = check_holds_or_out_of_memory(public_written(rt.alloc()));
+    let secret = check_holds_or_out_of_memory(secret_written_again(rt.alloc()));
     assert!(rt; made && wrote && public && secret);
 }
 
 #[test]
-fn making_a_sealed_pair(rt: HostRuntime) {
-    assert!(rt; is_so_or_out_of_memory(made_sealed(rt.alloc())));
+fn makes_encrypted_pair_or_reports_out_of_memory(rt: HostRuntime) {
+    assert!(rt; check_holds_or_out_of_memory(made_sealed(rt.alloc())));
 }
 
 #[test]
-fn writing_a_sealed_pair(rt: HostRuntime) {
-    assert!(rt; is_so_or_unwritten(wrote_sealed(rt.alloc())));
+fn writes_encrypted_pair_or_reports_out_of_memory(rt: HostRuntime) {
+    assert!(rt; check_holds_or_unwritten(wrote_sealed(rt.alloc())));
 }
 
 #[test]
-fn opening_with_every_third_row(rt: HostRuntime) {
-    assert!(rt; is_so_or_out_of_memory(opens(rt.alloc(), SEALED, Way::Keeping(3))));
+fn opens_with_every_third_row_or_reports_out_of_memory(rt: HostRuntime) {
+    assert!(rt; check_holds_or_out_of_memory(opens(rt.alloc(), SEALED, Way::Keeping(3))));
 }
 
 #[test]
-fn opening_in_many_parts(rt: HostRuntime) {
-    assert!(rt; is_so_or_out_of_memory(opens(rt.alloc(), SEALED_IN_PARTS, Way::AnyParts)));
+fn opens_in_many_parts_or_reports_out_of_memory(rt: HostRuntime) {
+    assert!(rt; check_holds_or_out_of_memory(opens(rt.alloc(), SEALED_IN_PARTS, Way::AnyParts)));
 }

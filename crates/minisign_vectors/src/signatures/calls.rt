@@ -7,7 +7,7 @@ use minisign::{
 use minisign_fixtures::devices::sinks::LimitedSink;
 use minisign_fixtures::keys::{CHECKSUM, KEY_ID, PUBLIC_BYTES, public_record, secret_record};
 use minisign_fixtures::outcomes::Outcome::{self, Accepted};
-use minisign_fixtures::outcomes::{comes_to, ends_in};
+use minisign_fixtures::outcomes::{is_outcome, matches_outcome};
 use std::alloc::Global;
 
 /// The precomputed text of the signature of `abc`, with the default untrusted comment.
@@ -23,7 +23,7 @@ pub const COPYING: VerifyOptions = VerifyOptions {
 
 /// The expected result of verifying: the outcome, the status lines, and the copy.
 #[derive(Clone, Copy)]
-pub struct Wanted<'a> {
+pub struct Expected<'a> {
     pub outcome: Outcome,
     pub said: &'a [u8],
     pub copied: &'a [u8],
@@ -45,9 +45,10 @@ pub fn ample(alloc: Global) -> Sinks {
 }
 
 /// Returns true if the outcome and the contents of the sinks are as expected.
-fn is_wanted(answer: Result<()>, sinks: &Sinks, wanted: Wanted) -> bool {
-    let came = ends_in(answer, wanted.outcome);
-    came && sinks.status.as_slice() == wanted.said && sinks.out.as_slice() == wanted.copied
+fn has_expected_result(answer: Result<()>, sinks: &Sinks, expected_result: Expected) -> bool {
+    let came = is_outcome(answer, expected_result.outcome);
+    came && sinks.status.as_slice() == expected_result.said
+        && sinks.out.as_slice() == expected_result.copied
 }
 
 /// Verifies the data with two texts.
@@ -75,13 +76,13 @@ pub fn verified_texts<R: Rereader, W: Sink, O: Sink>(
 }
 
 /// Returns true if verifying the data with two texts has the expected result.
-pub fn texts_come_out<R: Rereader>(
+pub fn texts_give_expected<R: Rereader>(
     alloc: Global,
     texts: (&str, &str),
     data: &mut R,
     options: VerifyOptions,
     sinks: Sinks,
-    wanted: Wanted,
+    expected_result: Expected,
 ) -> bool {
     let mut sinks = sinks;
     let answer = verified_texts(
@@ -92,21 +93,21 @@ pub fn texts_come_out<R: Rereader>(
         &mut sinks.status,
         &mut sinks.out,
     );
-    is_wanted(answer, &sinks, wanted)
+    has_expected_result(answer, &sinks, expected_result)
 }
 
 /// Returns true if verifying the data under key A with the box in a text has the expected result.
 /// The data is copied, and legacy signatures are accepted.
-pub fn box_comes_out<R: Rereader>(
+pub fn box_gives_expected<R: Rereader>(
     alloc: Global,
     text: &str,
     data: &mut R,
     sinks: Sinks,
-    wanted: Wanted,
+    expected_result: Expected,
 ) -> bool {
     let mut sinks = sinks;
     let answer = verified_box(alloc, text, data, &mut sinks);
-    is_wanted(answer, &sinks, wanted)
+    has_expected_result(answer, &sinks, expected_result)
 }
 
 // Verifies the data under key A with the box in a text.
@@ -210,14 +211,14 @@ pub fn read_box(alloc: Global, text: &str) -> Result<SignatureBox> {
 }
 
 /// Returns true if the result is the expected one: this text, or an error.
-pub fn tells(answer: &Result<String>, text: &str, expected: Outcome) -> bool {
+pub fn gives_comment(answer: &Result<String>, text: &str, expected: Outcome) -> bool {
     match answer {
-        Ok(told) => expected == Accepted && told.as_str() == text,
-        Err(_) => comes_to(answer, expected),
+        Ok(given_comment) => expected == Accepted && given_comment.as_str() == text,
+        Err(_) => matches_outcome(answer, expected),
     }
 }
 
-/// Returns whether a call returned this text, or its error.
+/// Returns true if a call returned this text, or its error if it failed.
 pub fn has_text(returned: Result<String>, text: &str) -> Result<bool> {
     let returned = returned?;
     Ok(returned.as_str() == text)

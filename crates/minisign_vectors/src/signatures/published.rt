@@ -2,13 +2,13 @@
 //! signature is kept in memory, so it is copied without a second reading.
 
 use crate::signatures::calls::{Sinks, ample};
-use crate::tables::holds_at;
+use crate::tables::assert_row;
 use minisign::{Result, verify_texts};
 use minisign_base::devices::sources::ReaderSource;
 use minisign_base::faults::NamedFault::{LegacyNotAccepted, SignatureRefused};
 use minisign_base::toy::{ToyScheme, Triple};
 use minisign_fixtures::outcomes::Outcome::{self, Accepted, Refused};
-use minisign_fixtures::outcomes::ends_in;
+use minisign_fixtures::outcomes::is_outcome;
 use std::alloc::Global;
 
 // The public key of this signature, as the upstream crate publishes it.
@@ -101,12 +101,12 @@ fn verified(alloc: Global, row: &Row, sinks: &mut Sinks) -> Result<()> {
     )
 }
 
-// Returns true if the outcome, the status lines and the copy are those of the row.
-fn comes_out(alloc: Global, row: &Row) -> bool {
+// Returns true if the outcome, the status lines and the copy are the expected ones.
+fn gives_expected(alloc: Global, row: &Row) -> bool {
     let (_, _, _, outcome, copied) = *row;
     let mut sinks = ample(alloc);
     let answer = verified(alloc, row, &mut sinks);
-    let came = ends_in(answer, outcome);
+    let came = is_outcome(answer, outcome);
     let said = if outcome == Accepted { SAID } else { b"" };
     came && sinks.status.as_slice() == said && sinks.out.as_slice() == copied.as_bytes()
 }
@@ -114,6 +114,6 @@ fn comes_out(alloc: Global, row: &Row) -> bool {
 #[test]
 fn copies_published_legacy_signature_without_seeking(rt: HostRuntime) {
     for row in rows() {
-        holds_at(&rt, comes_out(rt.alloc(), row), row);
+        assert_row(&rt, gives_expected(rt.alloc(), row), row);
     }
 }

@@ -2,7 +2,7 @@
 //! what the prompt shows.
 
 use crate::signatures::calls::signed_text;
-use crate::tables::holds_at;
+use crate::tables::assert_row;
 use minisign_base::devices::random_sources::FixedRandom;
 use minisign_base::devices::sinks::Sink;
 use minisign_base::devices::sources::Source;
@@ -14,8 +14,8 @@ use minisign_base::faults::NamedFault::{
 use minisign_base::prompt::Prompt;
 use minisign_fixtures::devices::sources::FailingSource;
 use minisign_fixtures::outcomes::Outcome::Refused;
-use minisign_fixtures::outcomes::ends_in;
-use minisign_fixtures::prompts::{bytes_left, handed, typed};
+use minisign_fixtures::outcomes::is_outcome;
+use minisign_fixtures::prompts::{bytes_left, password_copy, typed};
 use minisign_fixtures::texts::SEALED;
 use std::alloc::Global;
 
@@ -63,7 +63,7 @@ fn signed<P: Source, Q: Sink>(
     prompt: &mut Prompt<P, Q>,
     reads: usize,
 ) -> Result<String> {
-    let password = handed(alloc, password)?;
+    let password = password_copy(alloc, password)?;
     let mut data = FailingSource::for_good(b"abc", reads);
     let mut random = FixedRandom::new(&ZEROS);
     signed_text(alloc, sk_text, password, prompt, &mut data, &mut random)
@@ -72,27 +72,27 @@ fn signed<P: Source, Q: Sink>(
 // Returns true if signing fails as expected. The prompt must show this text, and be unread if it
 // shows nothing.
 fn is_refused(alloc: Global, password: Option<&str>, row: &Row) -> bool {
-    let (sk_text, reads, fault, told) = *row;
+    let (sk_text, reads, fault, prompted) = *row;
     let mut prompt = typed(alloc, b"password\n");
     let answer = signed(alloc, sk_text, password, &mut prompt, reads);
-    let came = ends_in(answer, Refused(fault));
-    let unread = if told.is_empty() { 9 } else { 0 };
+    let came = is_outcome(answer, Refused(fault));
+    let unread = if prompted.is_empty() { 9 } else { 0 };
     let left = bytes_left(&mut prompt.reader) == unread;
-    came && left && prompt.writer.as_slice() == told.as_bytes()
+    came && left && prompt.writer.as_slice() == prompted.as_bytes()
 }
 
 // A text is rejected before anything is read, and the error of a failing source comes after the
 // prompt.
 #[test]
-fn refusals_come_in_their_order(rt: HostRuntime) {
+fn returns_the_first_error(rt: HostRuntime) {
     for row in rows() {
-        holds_at(&rt, is_refused(rt.alloc(), None, row), &row.2);
+        assert_row(&rt, is_refused(rt.alloc(), None, row), &row.2);
     }
 }
 
 // A wrong password that is given is rejected before the data is read.
 #[test]
-fn a_wrong_password_is_refused_before_the_data(rt: HostRuntime) {
+fn rejects_wrong_password_before_reading_data(rt: HostRuntime) {
     let row = (SEALED, 0, WrongPassword, "");
     assert!(rt; is_refused(rt.alloc(), Some("another"), &row));
 }

@@ -3,13 +3,13 @@
 //!
 //! The expected base64 is from Python's base64 module.
 
-use crate::shown::says;
+use crate::shown::displays_as;
 use crate::signatures::calls::copy_text;
 use minisign::{Result, Signature, SignatureBones, SignatureBox};
 use minisign_base::faults::NamedFault::SignatureBoxIncomplete;
 use minisign_fixtures::keys::{KEY_ID, TIED_TO_ABC, signature_record};
 use minisign_fixtures::outcomes::Outcome::{self, Refused};
-use minisign_fixtures::outcomes::{ends_in, gives_record, gives_text};
+use minisign_fixtures::outcomes::{gives_record, gives_text, is_outcome};
 use minisign_fixtures::texts::SIGNATURE_TEXT;
 use std::alloc::Global;
 
@@ -29,13 +29,13 @@ fn is_shown(alloc: Global, record: &[u8; 74], letters: &str) -> bool {
     let Ok(signature) = Signature::from_bytes(record) else {
         return false;
     };
-    says(alloc, &signature, letters)
+    displays_as(alloc, &signature, letters)
 }
 
 // A signature is written as in the second line, and the characters of base64 are in the right
 // order.
 #[test]
-fn a_signature_is_shown_in_base64(rt: HostRuntime) {
+fn signature_displays_as_base64(rt: HostRuntime) {
     let alloc = rt.alloc();
     let record = signature_record(b"ED", &KEY_ID, &TIED_TO_ABC);
     assert!(rt; is_shown(alloc, &record, SIGNED));
@@ -53,7 +53,7 @@ fn taken(alloc: Global) -> Result<SignatureBox> {
 }
 
 // Returns true if this box gives its text as bytes and from a copy.
-fn is_its_text(alloc: Global) -> bool {
+fn is_given_text(alloc: Global) -> bool {
     let Ok(read) = taken(alloc) else {
         return false;
     };
@@ -71,13 +71,13 @@ fn has_no_text(alloc: Global) -> bool {
         return false;
     };
     let bare = SignatureBox::from_bones(bones);
-    let bytes = ends_in(bare.to_bytes(alloc), INCOMPLETE);
-    let copied = ends_in(copy_text(alloc, &bare), INCOMPLETE);
+    let bytes = is_outcome(bare.to_bytes(alloc), INCOMPLETE);
+    let copied = is_outcome(copy_text(alloc, &bare), INCOMPLETE);
     bytes && copied
 }
 
 #[test]
-fn texts_are_given_as_bytes_and_by_copies(rt: HostRuntime) {
-    assert!(rt; is_its_text(rt.alloc()));
+fn converts_texts_to_bytes_and_copies(rt: HostRuntime) {
+    assert!(rt; is_given_text(rt.alloc()));
     assert!(rt; has_no_text(rt.alloc()));
 }

@@ -1,8 +1,8 @@
 //! Tests of verifying with two texts: data that cannot be read again, outputs with a buffer, and
 //! data that is unread if a text is rejected.
 
-use crate::signatures::calls::{COPYING, Wanted, ample, texts_come_out, verified_texts};
-use crate::tables::holds_at;
+use crate::signatures::calls::{COPYING, Expected, ample, texts_give_expected, verified_texts};
+use crate::tables::assert_row;
 use minisign::VerifyOptions;
 use minisign::reading::read_to_end;
 use minisign_base::devices::sources::ReaderSource;
@@ -13,7 +13,7 @@ use minisign_base::faults::NamedFault::{
 use minisign_fixtures::devices::sinks::BufferedSink;
 use minisign_fixtures::devices::sources::Changes;
 use minisign_fixtures::outcomes::Outcome::{self, Accepted, Refused};
-use minisign_fixtures::outcomes::{ends_in, gives_record};
+use minisign_fixtures::outcomes::{gives_record, is_outcome};
 use minisign_fixtures::texts::{
     KEY_TEXT as KEY, LEGACY_TEXT as LEGACY, SAID, SIGNATURE_TEXT as SIGNED,
 };
@@ -25,13 +25,13 @@ const OTHER_KEY: &str =
 
 const CHANGED: Outcome = Refused(DataChanged);
 
-// Returns true if verifying `abc` has this outcome with a buffered output, when the second reading
-// gives `second`. These are the bytes of the copy that were flushed, and those that were not.
+// Returns true if verifying `abc` has this outcome with a buffered output, when the second reading gives
+// `second`. `flushed_bytes` are the bytes of the copy that were flushed, and `waiting` those that were not.
 fn is_buffered(
     alloc: Global,
     second: &[u8],
     outcome: Outcome,
-    passed_on: &[u8],
+    flushed_bytes: &[u8],
     waiting: &[u8],
 ) -> bool {
     let texts = (KEY, SIGNED);
@@ -39,20 +39,20 @@ fn is_buffered(
     let mut status = BufferedSink::new(alloc);
     let mut out = BufferedSink::new(alloc);
     let answer = verified_texts(alloc, texts, &mut data, COPYING, &mut status, &mut out);
-    let came = ends_in(answer, outcome);
+    let came = is_outcome(answer, outcome);
     let unsaid = has_taken(&status, b"", SAID);
-    let copied = has_taken(&out, passed_on, waiting);
+    let copied = has_taken(&out, flushed_bytes, waiting);
     came && unsaid && copied
 }
 
-// Returns true if the sink flushed these bytes and still holds those.
-fn has_taken(sink: &BufferedSink, passed_on: &[u8], waiting: &[u8]) -> bool {
-    sink.passed_on() == passed_on && sink.waiting() == waiting
+// Returns true if the sink has passed on the bytes `flushed_bytes` and still holds the bytes `waiting`.
+fn has_taken(sink: &BufferedSink, flushed_bytes: &[u8], waiting: &[u8]) -> bool {
+    sink.flushed_bytes() == flushed_bytes && sink.waiting() == waiting
 }
 
 // The copy is flushed only after the digests were compared, and the status is never flushed.
 #[test]
-fn data_that_changed_is_not_flushed(rt: HostRuntime) {
+fn does_not_flush_changed_data(rt: HostRuntime) {
     let alloc = rt.alloc();
     assert!(rt; is_buffered(alloc, b"abc", Accepted, b"abc", b""));
     assert!(rt; is_buffered(alloc, b"abd", CHANGED, b"", b"abd"));
@@ -119,20 +119,27 @@ fn is_read_once(alloc: Global, row: &ReadOnce) -> bool {
         allow_legacy,
     };
     let said = if outcome == Accepted { SAID } else { b"" };
-    let wanted = Wanted {
+    let expected_result = Expected {
         outcome,
         said,
         copied: copied.as_bytes(),
     };
     let texts = (pk_text, sig_text);
-    let came = texts_come_out(alloc, texts, &mut data, options, ample(alloc), wanted);
+    let came = texts_give_expected(
+        alloc,
+        texts,
+        &mut data,
+        options,
+        ample(alloc),
+        expected_result,
+    );
     let rest = gives_record(read_to_end(alloc, &mut data), left.as_bytes());
     came && rest
 }
 
 #[test]
-fn data_that_cannot_be_read_again(rt: HostRuntime) {
+fn rejects_copying_from_reader_without_mark(rt: HostRuntime) {
     for row in read_once() {
-        holds_at(&rt, is_read_once(rt.alloc(), row), row);
+        assert_row(&rt, is_read_once(rt.alloc(), row), row);
     }
 }

@@ -29,7 +29,7 @@ returns-clause-verifies g c = λ none seed w pair public signs.
     (c.sign_first-first.ensures.accepted seed pair) in
     let second_holds = both_hold _ _ (ap (is_strict public_key) second_is ∙ signs.1)
     (c.sign_second-number.ensures.accepted seed pair) in
-    let (opened, half, same_id) = c.public_half-number.ensures.told (omega arith) in
+    let (opened, half, same_id) = c.public_half-number.ensures.success (omega arith) in
     let (read, holds) = c.minisign_signed_text.ensures.text none in
     let chosen = comments_of trusted c.args.untrusted.now in
     let holds_own = subst (λ (id : List ℕ). HoldsText id chosen c.sign_first-first.result
@@ -53,7 +53,7 @@ returns-clause-refused g c = λ some.
     let second_is : c.sign_second-number.new.second ≡ second_signature sign secret message trusted =
     c.sign_second-number.ensures.made.1
     ∙ ap (λ (first : List ℕ). sign (first ++ trusted) secret None) first_is in
-    let (opened, half, same_id) = c.public_half-number.ensures.told (omega arith) in
+    let (opened, half, same_id) = c.public_half-number.ensures.success (omega arith) in
     let (r, number, refused) = c.minisign_signed_text.ensures.refused some in (
       r,
       number,

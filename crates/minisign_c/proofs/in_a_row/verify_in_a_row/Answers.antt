@@ -9,9 +9,9 @@ use Rattle.minisign_c.proofs.in_a_row.verify_in_a_row.Goals as goal
 pub returns-clause-accepted : goal.returns-clause-accepted
 returns-clause-accepted g c =
     let accepts = g.S.Scheme.accepts c.args.scheme.now in
-    let told : c.verify_under.result ≡ number_with (read_utf8 read_public_key c.args.pk_text.now)
+    let returned : c.verify_under.result ≡ number_with (read_utf8 read_public_key c.args.pk_text.now)
     (λ k. strict_verdict_number accepts (value_of k) c.args.sig_text.now (joined c.args.pieces.now) false) =
     search rules in
-    ap (λ (n : ℕ). n == 0) told
+    ap (λ (n : ℕ). n == 0) returned
     ∙ accepted_with accepts c.args.sig_text.now (joined c.args.pieces.now)
     (read_utf8 read_public_key c.args.pk_text.now)

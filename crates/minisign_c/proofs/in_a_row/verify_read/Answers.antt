@@ -20,7 +20,7 @@ returns g c =
     let (t, from) = c.requires.read in
     let none : c.minisign_ask-number.result ≡ 0 = omega arith in
     let (read, asked, has_asked) = c.minisign_ask-number.ensures.asked none t from in
-    let told : c.answer.result ≡ verdict_number (verdict_under (g.S.Scheme.accepts c.args.scheme.now)
+    let returned : c.answer.result ≡ verdict_number (verdict_under (g.S.Scheme.accepts c.args.scheme.now)
     c.args.key.now c.args.sig_text.now (joined c.args.pieces.now) false) = search rules in
-    told ∙ strict_number (g.S.Scheme.accepts c.args.scheme.now) c.args.key.now c.args.sig_text.now
+    returned ∙ strict_number (g.S.Scheme.accepts c.args.scheme.now) c.args.key.now c.args.sig_text.now
     (joined c.args.pieces.now) t read (c.minisign_ask-number.ensures.strict none t from)

@@ -5,12 +5,12 @@ use minisign::{Result, SecretKey, SecretKeyBox};
 use minisign_base::devices::sinks::Sink;
 use minisign_base::devices::sources::Source;
 use minisign_base::prompt::Prompt;
-use minisign_fixtures::outcomes::{Outcome, ends_in, gives_text};
-use minisign_fixtures::prompts::{bytes_left, handed, typed};
+use minisign_fixtures::outcomes::{Outcome, gives_text, is_outcome};
+use minisign_fixtures::prompts::{bytes_left, password_copy, typed};
 use std::alloc::Global;
 
-/// How a key is decrypted: without a bound on the parallelization, with one, or with only every
-/// k-th row kept.
+/// The way in which a key is decrypted: without a bound on the parallelization, with a bound, or
+/// with only every k-th row kept.
 #[derive(Clone, Copy)]
 pub enum Way {
     AnyParts,
@@ -21,9 +21,9 @@ pub enum Way {
 /// The expected result of decrypting: the outcome, what the prompt shows, and the number of unread
 /// typed bytes, counted up to ten.
 #[derive(Clone, Copy)]
-pub struct Wanted<'a> {
+pub struct Expected<'a> {
     pub outcome: Outcome,
-    pub told: &'a str,
+    pub prompted: &'a str,
     pub unread: usize,
 }
 
@@ -36,7 +36,7 @@ pub fn opened<R: Source, W: Sink>(
     way: Way,
 ) -> Result<SecretKey> {
     let sk_box = sk_box?;
-    let password = handed(alloc, password)?;
+    let password = password_copy(alloc, password)?;
     match way {
         Way::AnyParts => SecretKey::from_box(alloc, sk_box, password, prompt),
         Way::Within(max_p) => SecretKey::from_box_within(alloc, sk_box, password, prompt, max_p),
@@ -45,19 +45,20 @@ pub fn opened<R: Source, W: Sink>(
 }
 
 /// Returns true if decrypting has the expected result.
-pub fn comes_out(
+pub fn opens_as_expected(
     alloc: Global,
     sk_box: Result<SecretKeyBox>,
     password: Option<&str>,
     bytes: &[u8],
     way: Way,
-    wanted: Wanted,
+    expected_result: Expected,
 ) -> bool {
     let mut prompt = typed(alloc, bytes);
     let answer = opened(alloc, sk_box, password, &mut prompt, way);
-    let came = ends_in(answer, wanted.outcome);
+    let came = is_outcome(answer, expected_result.outcome);
     let left = bytes_left(&mut prompt.reader);
-    came && left == wanted.unread && prompt.writer.as_slice() == wanted.told.as_bytes()
+    came && left == expected_result.unread
+        && prompt.writer.as_slice() == expected_result.prompted.as_bytes()
 }
 
 /// Returns true if decrypting with a given password has this outcome and leaves the prompt
@@ -69,12 +70,19 @@ pub fn has_outcome(
     way: Way,
     outcome: Outcome,
 ) -> bool {
-    let wanted = Wanted {
+    let expected_result = Expected {
         outcome,
-        told: "",
+        prompted: "",
         unread: 6,
     };
-    comes_out(alloc, sk_box, Some(password), b"typed\n", way, wanted)
+    opens_as_expected(
+        alloc,
+        sk_box,
+        Some(password),
+        b"typed\n",
+        way,
+        expected_result,
+    )
 }
 
 /// Returns true if decrypting gives a decrypted key with this text. The password is given, or typed

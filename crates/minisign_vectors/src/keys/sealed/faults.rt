@@ -2,7 +2,7 @@
 //! them is reported as out of memory. `tests/rows/sealed_keys.py` has the errors of texts.
 
 use crate::keys::sealed::calls::{Way, opened};
-use crate::tables::holds_at;
+use crate::tables::assert_row;
 use minisign::SecretKeyBox;
 use minisign_base::faults::NamedFault::{
     EndOfInput, NotUtf8, PasswordTooLong, ReadingFailed, WritingFailed, WrongPassword,
@@ -11,7 +11,7 @@ use minisign_base::prompt::Prompt;
 use minisign_fixtures::devices::sinks::LimitedSink;
 use minisign_fixtures::devices::sources::FailingSource;
 use minisign_fixtures::outcomes::Outcome::{self, Refused};
-use minisign_fixtures::outcomes::ends_in;
+use minisign_fixtures::outcomes::is_outcome;
 use minisign_fixtures::texts::SEALED;
 use std::alloc::Global;
 
@@ -43,18 +43,18 @@ fn is_refused_by(alloc: Global, way: Way, row: &Row) -> bool {
     let sk_box = SecretKeyBox::from_string(alloc, SEALED);
     let reader = FailingSource::for_good(typed, reads);
     let mut prompt = Prompt::new(reader, LimitedSink::new(alloc, room));
-    ends_in(opened(alloc, sk_box, None, &mut prompt, way), expected)
+    is_outcome(opened(alloc, sk_box, None, &mut prompt, way), expected)
 }
 
 #[test]
-fn faults_of_prompts(rt: HostRuntime) {
+fn returns_errors_of_prompts(rt: HostRuntime) {
     let alloc = rt.alloc();
     for row in rows() {
         let by_any = is_refused_by(alloc, Way::AnyParts, row);
-        holds_at(&rt, by_any, &("any parts", row.3));
+        assert_row(&rt, by_any, &("any parts", row.3));
         let within = is_refused_by(alloc, Way::Within(512), row);
-        holds_at(&rt, within, &("parts within a bound", row.3));
+        assert_row(&rt, within, &("parts within a bound", row.3));
         let keeping = is_refused_by(alloc, Way::Keeping(3), row);
-        holds_at(&rt, keeping, &("every third row", row.3));
+        assert_row(&rt, keeping, &("every third row", row.3));
     }
 }

@@ -1,7 +1,7 @@
 //! Tests of keys with a high parallelization: both limits are 0, so N is 2, r is 8 and p is 512.
 
 use crate::keys::sealed::calls::{Way, gives, has_outcome};
-use crate::tables::holds_at;
+use crate::tables::assert_row;
 use minisign::SecretKeyBox;
 use minisign_base::faults::NamedFault::WorkTooHigh;
 use minisign_fixtures::outcomes::Outcome::{self, Accepted, Refused};
@@ -25,9 +25,9 @@ fn opens(alloc: Global, k: u64) -> bool {
 }
 
 #[test]
-fn a_key_in_many_parts_opens(rt: HostRuntime) {
+fn opens_key_in_many_parts(rt: HostRuntime) {
     for k in [1u64, 2, 3] {
-        holds_at(&rt, opens(rt.alloc(), k), &k);
+        assert_row(&rt, opens(rt.alloc(), k), &k);
     }
 }
 
@@ -57,8 +57,8 @@ fn is_bounded(alloc: Global, row: &Bounded) -> bool {
 }
 
 #[test]
-fn a_bound_on_parts_is_kept(rt: HostRuntime) {
+fn rejects_more_parts_than_the_bound(rt: HostRuntime) {
     for row in bounded() {
-        holds_at(&rt, is_bounded(rt.alloc(), row), row);
+        assert_row(&rt, is_bounded(rt.alloc(), row), row);
     }
 }

@@ -3,11 +3,11 @@
 use crate::kdf::passed_memory::{are_zeros, bytes, words};
 use crate::keys::refused_allocations::secret_text;
 use crate::keys::sealed::less_memory::{MADE, OPENED};
-use crate::tables::holds_at;
+use crate::tables::assert_row;
 use minisign::{Result, SecretKey, read_secret_key};
 use minisign_base::faults::NamedFault::{WorkTooHigh, WrongPassword};
 use minisign_fixtures::outcomes::Outcome::{self, Accepted, Refused};
-use minisign_fixtures::outcomes::{comes_to, gives_text};
+use minisign_fixtures::outcomes::{gives_text, matches_outcome};
 use std::alloc::Global;
 
 // Returns the encrypted key.
@@ -31,16 +31,16 @@ fn rows() -> &'static [Row] {
 
 // Returns true if decrypting with every 16th row kept has the expected outcome, and all of the
 // memory is zero afterwards.
-fn comes_out(alloc: Global, row: &Row) -> bool {
+fn opens_as_expected(alloc: Global, row: &Row) -> bool {
     let (password, max_p, outcome) = *row;
     let Ok(key) = sealed() else {
         return false;
     };
-    let (wanted_words, wanted_bytes) = key.opening_memory(16);
-    let Ok(mut words) = words(alloc, wanted_words as usize) else {
+    let (words_needed, bytes_needed) = key.opening_memory(16);
+    let Ok(mut words) = words(alloc, words_needed as usize) else {
         return false;
     };
-    let Ok(mut bytes) = bytes(alloc, wanted_bytes as usize) else {
+    let Ok(mut bytes) = bytes(alloc, bytes_needed as usize) else {
         return false;
     };
     let answer = key.open_in_place(password.as_bytes(), 16, max_p, &mut words, &mut bytes);
@@ -53,13 +53,13 @@ fn comes_out(alloc: Global, row: &Row) -> bool {
 fn is_opened(alloc: Global, answer: &Result<SecretKey>, outcome: Outcome) -> bool {
     match answer {
         Ok(key) => outcome == Accepted && gives_text(secret_text(alloc, key), OPENED),
-        Err(_) => comes_to(answer, outcome),
+        Err(_) => matches_outcome(answer, outcome),
     }
 }
 
 #[test]
-fn opens_in_passed_memory(rt: HostRuntime) {
+fn opens_key_in_passed_memory(rt: HostRuntime) {
     for row in rows() {
-        holds_at(&rt, comes_out(rt.alloc(), row), row);
+        assert_row(&rt, opens_as_expected(rt.alloc(), row), row);
     }
 }

@@ -1,7 +1,7 @@
 //! Tests of decrypting keys with every k-th row kept.
 
-use crate::keys::sealed::calls::{Wanted, Way, comes_out, gives};
-use crate::tables::holds_at;
+use crate::keys::sealed::calls::{Expected, Way, gives, opens_as_expected};
+use crate::tables::assert_row;
 use minisign::SecretKeyBox;
 use minisign_base::faults::NamedFault::WrongPassword;
 use minisign_fixtures::outcomes::Outcome::{self, Accepted, Refused};
@@ -10,7 +10,7 @@ use std::alloc::Global;
 
 const WRONG: Outcome = Refused(WrongPassword);
 
-const TOLD: &str =
+const PROMPTED: &str =
     "Password: Deriving a key from the password and decrypting the secret key... done\n";
 
 // A pair from random bytes that are all 9, encrypted under `password` with Python's hashlib. N is
@@ -32,30 +32,30 @@ fn opens(alloc: Global, k: u64) -> bool {
 }
 
 #[test]
-fn opens_to_the_same_key(rt: HostRuntime) {
+fn opens_same_key_for_every_number_of_kept_rows(rt: HostRuntime) {
     for k in [1u64, 7, 16] {
-        holds_at(&rt, opens(rt.alloc(), k), &k);
+        assert_row(&rt, opens(rt.alloc(), k), &k);
     }
 }
 
 // Returns true if another key, which other tests decrypt with `from_box`, has this outcome with the
 // typed bytes.
-fn comes_out_typed(alloc: Global, k: u64, bytes: &[u8], outcome: Outcome) -> bool {
+fn opens_typed_as_expected(alloc: Global, k: u64, bytes: &[u8], outcome: Outcome) -> bool {
     let sk_box = SecretKeyBox::from_string(alloc, SEALED);
-    let wanted = Wanted {
+    let expected_result = Expected {
         outcome,
-        told: TOLD,
+        prompted: PROMPTED,
         unread: 0,
     };
-    comes_out(alloc, sk_box, None, bytes, Way::Keeping(k), wanted)
+    opens_as_expected(alloc, sk_box, None, bytes, Way::Keeping(k), expected_result)
 }
 
 #[test]
-fn opens_with_a_typed_password(rt: HostRuntime) {
+fn opens_key_with_typed_password(rt: HostRuntime) {
     for k in [1u64, 7, 100] {
-        let opened = comes_out_typed(rt.alloc(), k, b"password\n", Accepted);
-        holds_at(&rt, opened, &k);
+        let opened = opens_typed_as_expected(rt.alloc(), k, b"password\n", Accepted);
+        assert_row(&rt, opened, &k);
     }
-    let unopened = comes_out_typed(rt.alloc(), 16, b"Password\n", WRONG);
-    holds_at(&rt, unopened, &"another password");
+    let unopened = opens_typed_as_expected(rt.alloc(), 16, b"Password\n", WRONG);
+    assert_row(&rt, unopened, &"another password");
 }

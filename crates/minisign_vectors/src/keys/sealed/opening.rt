@@ -1,8 +1,8 @@
 //! Tests of decrypting keys within a bound, in less memory, and with prompts that cannot be written
 //! to.
 
-use crate::keys::sealed::calls::{Wanted, Way, comes_out, gives, has_outcome, opened};
-use crate::tables::holds_at;
+use crate::keys::sealed::calls::{Expected, Way, gives, has_outcome, opened, opens_as_expected};
+use crate::tables::assert_row;
 use minisign::{Result, SecretKey, SecretKeyBox};
 use minisign_base::devices::sources::SliceSource;
 use minisign_base::faults::NamedFault::{
@@ -12,7 +12,7 @@ use minisign_base::prompt::Prompt;
 use minisign_fixtures::devices::sinks::LimitedSink;
 use minisign_fixtures::keys::{CHECKSUM, secret_record};
 use minisign_fixtures::outcomes::Outcome::{self, Refused};
-use minisign_fixtures::outcomes::{ends_in, front};
+use minisign_fixtures::outcomes::{front, is_outcome};
 use minisign_fixtures::texts::{SEALED_AS_MINISIGN, SEALED_AS_USUAL};
 use std::alloc::Global;
 
@@ -85,15 +85,15 @@ fn is_bounded(alloc: Global, row: &Limits) -> bool {
 }
 
 #[test]
-fn limits_and_work_are_bounded(rt: HostRuntime) {
+fn rejects_limits_above_the_bounds(rt: HostRuntime) {
     for row in limits() {
-        holds_at(&rt, is_bounded(rt.alloc(), row), row);
+        assert_row(&rt, is_bounded(rt.alloc(), row), row);
     }
 }
 
 // The default limits give p = 1.
 #[test]
-fn a_key_with_the_usual_limits_opens_within_one_part(rt: HostRuntime) {
+fn opens_key_with_default_limits_within_one_part(rt: HostRuntime) {
     let (alloc, way) = (rt.alloc(), Way::Within(1));
     let text = OPENED_AS_USUAL;
     assert!(rt; gives(alloc, SEALED_AS_USUAL, Some("password"), b"", way, text));
@@ -101,7 +101,7 @@ fn a_key_with_the_usual_limits_opens_within_one_part(rt: HostRuntime) {
 
 // The limits of the C program need 1 GiB for rows. With every 16th row kept, 64 MiB are enough.
 #[test]
-fn a_key_of_the_c_program_opens_in_less_memory(rt: HostRuntime) {
+fn opens_key_of_minisign_in_less_memory(rt: HostRuntime) {
     let (alloc, way) = (rt.alloc(), Way::Keeping(16));
     let text = OPENED_AS_MINISIGN;
     assert!(rt; gives(alloc, SEALED_AS_MINISIGN, None, b"password\n", way, text));
@@ -118,26 +118,33 @@ const LATE: [Limits; 3] = [
 fn is_bounded_late(alloc: Global, row: &Limits) -> bool {
     let (memory, operations, max_p, outcome) = *row;
     let sk_box = limited_box(alloc, memory, operations);
-    let wanted = Wanted {
+    let expected_result = Expected {
         outcome,
-        told: DERIVING,
+        prompted: DERIVING,
         unread: 0,
     };
-    comes_out(alloc, sk_box, None, b"p\n", Way::Within(max_p), wanted)
+    opens_as_expected(
+        alloc,
+        sk_box,
+        None,
+        b"p\n",
+        Way::Within(max_p),
+        expected_result,
+    )
 }
 
 // Limits are rejected only after the password was typed.
 #[test]
-fn limits_are_refused_behind_a_typed_password(rt: HostRuntime) {
+fn rejects_limits_only_after_password_was_typed(rt: HostRuntime) {
     for row in &LATE {
-        holds_at(&rt, is_bounded_late(rt.alloc(), row), row);
+        assert_row(&rt, is_bounded_late(rt.alloc(), row), row);
     }
 }
 
 // The space in the prompt's writer, the memory limit, the typed bytes, and the expected outcome. If
 // the writer fails at the line after the derivation, this error comes before that of a wrong
 // password, and after those of the limits.
-const ROOMS: [(usize, u64, &str, Outcome); 9] = [
+const CAPACITIES: [(usize, u64, &str, Outcome); 9] = [
     (4, 1048576, "p\n", UNWRITTEN),
     (10, 1048576, "p\n", UNWRITTEN),
     (75, 1048576, "p\n", UNWRITTEN),
@@ -150,8 +157,8 @@ const ROOMS: [(usize, u64, &str, Outcome); 9] = [
 ];
 
 // Hides the table from proofs, which would otherwise unfold all of it.
-fn rooms() -> &'static [(usize, u64, &'static str, Outcome)] {
-    &ROOMS
+fn capacities() -> &'static [(usize, u64, &'static str, Outcome)] {
+    &CAPACITIES
 }
 
 // Returns true if decrypting with this much space has the expected outcome and fills the space.
@@ -161,14 +168,15 @@ fn fills(alloc: Global, row: &(usize, u64, &str, Outcome)) -> bool {
     let writer = LimitedSink::new(alloc, room);
     let mut prompt = Prompt::new(SliceSource::new(line.as_bytes()), writer);
     let answer = opened(alloc, sk_box, None, &mut prompt, Way::AnyParts);
-    let came = ends_in(answer, outcome);
+    let came = is_outcome(answer, outcome);
     came && prompt.writer.as_slice() == front(DONE.as_bytes(), room)
 }
 
-// The error of a failing writer comes in its place among the other errors.
+// The error of a failing writer is returned at the point where it writes, between the errors of earlier and
+// later checks.
 #[test]
-fn failing_writers_are_told_in_their_place(rt: HostRuntime) {
-    for row in rooms() {
-        holds_at(&rt, fills(rt.alloc(), row), row);
+fn reports_failing_writer_in_order(rt: HostRuntime) {
+    for row in capacities() {
+        assert_row(&rt, fills(rt.alloc(), row), row);
     }
 }

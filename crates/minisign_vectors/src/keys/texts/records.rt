@@ -7,7 +7,7 @@ use minisign_fixtures::keys::{KEY_ID, OTHER_KEY_ID, PUBLIC_BYTES};
 use minisign_fixtures::outcomes::gives_record;
 
 #[test]
-fn signatures_of_zeros_and_their_sizes(rt: HostRuntime) {
+fn default_signature_is_74_zero_bytes(rt: HostRuntime) {
     assert!(rt; gives_record(Signature::default().to_bytes(rt.alloc()), &[0; 74]));
     assert!(rt; Signature::BYTES == 74 && SignatureBones::BYTES == 74);
 }
@@ -22,7 +22,7 @@ fn named(keynum: [u8; 8]) -> KeynumPK {
 
 // Both the 32 key bytes and the key ID are compared.
 #[test]
-fn identified_keys_are_equal_by_both(rt: HostRuntime) {
+fn compares_key_ids_and_public_keys(rt: HostRuntime) {
     let changed = KeynumPK {
         keynum: KEY_ID,
         pk: [0x5b; 32],
@@ -43,7 +43,7 @@ fn secret(keynum: [u8; 8], byte: u8, checksum: u8) -> KeynumSK {
 
 // The checksum of a secret key is not compared.
 #[test]
-fn identified_secret_keys_are_equal_by_both(rt: HostRuntime) {
+fn compares_key_ids_and_secret_keys(rt: HostRuntime) {
     let one = secret(KEY_ID, 3, 1);
     assert!(rt; one.len() == 104);
     assert!(rt; one == secret(KEY_ID, 3, 2));

@@ -1,14 +1,14 @@
-//! Tests of devices that fail at one of their calls and go on after it, which no request to
+//! Tests of devices of which one call fails and later calls succeed, which no request to
 //! `minisign_compare` can describe. Each device of each call fails at each of its calls in turn,
 //! until a run has no error. `tests/rows/failing_devices.py` has data that fails at a read, for
 //! `sign`, `verify` and `verify_texts`.
 
 use crate::keys::sealed::calls::{Way, opened};
 use crate::signatures::calls::{
-    COPYING, Sinks, Wanted, ample, box_comes_out, key_a, signed_from, signed_text, tells,
-    texts_come_out,
+    COPYING, Expected, Sinks, ample, box_gives_expected, gives_comment, key_a, signed_from,
+    signed_text, texts_give_expected,
 };
-use crate::tables::holds_at;
+use crate::tables::assert_row;
 use minisign::SecretKeyBox;
 use minisign::reading::read_to_end;
 use minisign_base::devices::random_sources::RandomSource;
@@ -21,7 +21,7 @@ use minisign_fixtures::devices::random::FailingRandom;
 use minisign_fixtures::devices::sinks::LimitedSink;
 use minisign_fixtures::devices::sources::{Changes, FailingSource};
 use minisign_fixtures::outcomes::Outcome::{self, Accepted, Refused};
-use minisign_fixtures::outcomes::{ends_in, front, gives_record};
+use minisign_fixtures::outcomes::{front, gives_record, is_outcome};
 use minisign_fixtures::prompts::bytes_left;
 use minisign_fixtures::texts::{
     KEY_TEXT, LEGACY_TEXT, SAID, SEALED, SEALED_WITH_NOTHING, SIGNATURE_TEXT,
@@ -47,23 +47,36 @@ const MARKED_AND_DONE: &[u8] =
 // The random bytes of the precomputed signatures.
 const ZEROS: [u8; 128] = [0; 128];
 
-// More calls than are made.
+// A number of calls that is never reached.
 const ALL: usize = 1000;
 
 // Returns true if verifying `abc` by both calls fails with `GoingBackFailed` when the data fails
 // after this number of calls, with this many status bytes, no copy, and these bytes unread.
 fn cannot_go_back(alloc: Global, calls: usize, said: usize, left: &[u8]) -> bool {
-    let wanted = Wanted {
+    let expected_result = Expected {
         outcome: Refused(GoingBackFailed),
         said: front(SAID, said),
         copied: b"",
     };
     let mut data = FailingSource::new(b"abc", calls);
     let texts = (KEY_TEXT, SIGNATURE_TEXT);
-    let by_texts = texts_come_out(alloc, texts, &mut data, COPYING, ample(alloc), wanted);
+    let by_texts = texts_give_expected(
+        alloc,
+        texts,
+        &mut data,
+        COPYING,
+        ample(alloc),
+        expected_result,
+    );
     let of_texts = gives_record(read_to_end(alloc, &mut data), left);
     let mut data = FailingSource::new(b"abc", calls);
-    let by_box = box_comes_out(alloc, SIGNATURE_TEXT, &mut data, ample(alloc), wanted);
+    let by_box = box_gives_expected(
+        alloc,
+        SIGNATURE_TEXT,
+        &mut data,
+        ample(alloc),
+        expected_result,
+    );
     let of_box = gives_record(read_to_end(alloc, &mut data), left);
     by_texts && of_texts && by_box && of_box
 }
@@ -71,7 +84,7 @@ fn cannot_go_back(alloc: Global, calls: usize, said: usize, left: &[u8]) -> bool
 // The calls on copied data are, in order: marking, four reads, going back, four reads. If marking
 // fails, all of the data is unread. Going back comes after all of it was read.
 #[test]
-fn a_mark_and_going_back_fail(rt: HostRuntime) {
+fn returns_error_if_going_back_fails(rt: HostRuntime) {
     assert!(rt; cannot_go_back(rt.alloc(), 0, 0, b"abc"));
     assert!(rt; cannot_go_back(rt.alloc(), 5, 60, b""));
 }
@@ -112,7 +125,7 @@ fn sinks(alloc: Global, most: usize, calls: usize) -> Sinks {
 
 // Returns the expected result if the sink fails after this number of calls. A legacy signature is
 // for the first reading, and the copy of prehashed data is the second reading.
-fn wanted(row: &Failing, calls: usize) -> Wanted<'static> {
+fn result_for(row: &Failing, calls: usize) -> Expected<'static> {
     let (text, second, most, writes, answer) = *row;
     let whole = if text == LEGACY_TEXT {
         b"abc".as_slice()
@@ -122,13 +135,13 @@ fn wanted(row: &Failing, calls: usize) -> Wanted<'static> {
     let is_made = calls >= writes;
     let outcome = if is_made { answer } else { UNWRITTEN };
     if most == 0 {
-        return Wanted {
+        return Expected {
             outcome,
             said: SAID,
             copied: front(whole, calls),
         };
     }
-    Wanted {
+    Expected {
         outcome,
         said: front(SAID, calls.saturating_mul(most)),
         copied: if is_made { whole } else { b"" },
@@ -136,34 +149,34 @@ fn wanted(row: &Failing, calls: usize) -> Wanted<'static> {
 }
 
 // Returns true if verifying `abc` by both calls has the expected result.
-fn comes_out(alloc: Global, row: &Failing, calls: usize) -> bool {
+fn gives_expected(alloc: Global, row: &Failing, calls: usize) -> bool {
     let (text, second, most, _, _) = *row;
-    let wanted = wanted(row, calls);
+    let expected_result = result_for(row, calls);
     let texts = (KEY_TEXT, text);
     let mut data = Changes::new(b"abc", second);
     let failing = sinks(alloc, most, calls);
-    let by_texts = texts_come_out(alloc, texts, &mut data, COPYING, failing, wanted);
+    let by_texts = texts_give_expected(alloc, texts, &mut data, COPYING, failing, expected_result);
     let mut data = Changes::new(b"abc", second);
     let failing = sinks(alloc, most, calls);
-    let by_box = box_comes_out(alloc, text, &mut data, failing, wanted);
+    let by_box = box_gives_expected(alloc, text, &mut data, failing, expected_result);
     by_texts && by_box
 }
 
 // The sink fails at each of its calls, at most 60, and then at none.
 #[test]
-fn the_status_and_the_output_fail(rt: HostRuntime) {
+fn returns_error_if_status_or_output_fails(rt: HostRuntime) {
     for row in failing() {
         for calls in 0..62usize {
-            holds_at(&rt, comes_out(rt.alloc(), row, calls), &(calls, row));
+            assert_row(&rt, gives_expected(rt.alloc(), row, calls), &(calls, row));
         }
     }
 }
 
 type Typed<'a> = Prompt<FailingSource<'a>, LimitedSink>;
 
-// When the devices of signing with a text fail: the number of calls of the prompt's reader, the
-// number of flushes and the number of calls of its writer, the number of reads of the data, and the
-// number of fills of the random source.
+// The calls after which the devices fail when signing with the text of a key: the number of calls
+// of the prompt's reader, the number of flushes and the number of calls of its writer, the number
+// of reads of the data, and the number of fills of the random source.
 type Fails = (usize, usize, usize, usize, usize);
 
 // The expected outcome, the number of bytes that the prompt shows, the unread bytes of the typed
@@ -227,12 +240,12 @@ fn are_left(
     random: &mut FailingRandom,
     comes: &Comes,
 ) -> bool {
-    let (_, told, typed_left, left, is_undrawn) = *comes;
-    let is_told = prompt.writer.as_slice() == front(ASKED_AND_DONE, told);
+    let (_, prompted, typed_left, left, is_undrawn) = *comes;
+    let is_prompted = prompt.writer.as_slice() == front(ASKED_AND_DONE, prompted);
     let typed = bytes_left(&mut prompt.reader) == typed_left;
     let read = bytes_left(data) == left;
     let undrawn = random.random.fill(&mut [0; 128]).is_ok();
-    is_told && typed && read && undrawn == is_undrawn
+    is_prompted && typed && read && undrawn == is_undrawn
 }
 
 // Returns true if signing has the expected result.
@@ -242,14 +255,14 @@ fn is_signed(alloc: Global, row: &(Fails, Comes)) -> bool {
     let mut data = FailingSource::new(b"abc", data_reads);
     let mut random = FailingRandom::new(&ZEROS, draws);
     let answer = signed_text(alloc, SEALED, None, &mut prompt, &mut data, &mut random);
-    let came = tells(&answer, SIGNATURE_TEXT, comes.0);
+    let came = gives_comment(&answer, SIGNATURE_TEXT, comes.0);
     came && are_left(&mut prompt, &mut data, &mut random, &comes)
 }
 
 #[test]
-fn each_device_of_signing_fails(rt: HostRuntime) {
+fn returns_error_if_device_of_signing_fails(rt: HostRuntime) {
     for row in signings() {
-        holds_at(&rt, is_signed(rt.alloc(), row), row);
+        assert_row(&rt, is_signed(rt.alloc(), row), row);
     }
 }
 
@@ -262,14 +275,14 @@ fn is_undrawn(alloc: Global, draws: usize) -> bool {
     let mut data = SliceSource::new(b"abc");
     let mut random = FailingRandom::new(&ZEROS, draws);
     let answer = signed_from(alloc, None, &secret, &mut data, &mut random, 0);
-    let came = ends_in(answer, UNDRAWN);
+    let came = is_outcome(answer, UNDRAWN);
     let undrawn = random.random.fill(&mut [0; 128]).is_ok();
     came && undrawn == (draws == 0)
 }
 
 // A fill that failed is not repeated.
 #[test]
-fn the_random_bytes_of_a_raw_key_fail(rt: HostRuntime) {
+fn returns_error_if_random_source_fails(rt: HostRuntime) {
     assert!(rt; is_undrawn(rt.alloc(), 0));
     assert!(rt; is_undrawn(rt.alloc(), 1));
 }
@@ -277,11 +290,12 @@ fn the_random_bytes_of_a_raw_key_fail(rt: HostRuntime) {
 // An encrypted key, the typed input, and all that the prompt then shows.
 const TYPED: (&str, &str, &[u8]) = (SEALED, "password\n", ASKED_AND_DONE);
 
-// The same for an empty password, which the prompt reports in a fourth text.
+// The key, the typed input and the prompt's output for an empty password, which the prompt reports
+// in a fourth text.
 const NOTHING: (&str, &str, &[u8]) = (SEALED_WITH_NOTHING, "\n", MARKED_AND_DONE);
 
-// Whether a password is typed, the numbers of calls before the prompt's reader and its writer fail,
-// the expected outcome, and the number of bytes that the writer shows.
+// A case of opening a key: true if a password is typed; the numbers of calls before the prompt's reader and
+// writer fail; the expected outcome; and the number of bytes that the writer shows.
 type Opening = (bool, usize, usize, Outcome, usize);
 
 // The reader is read up to the line feed, and the writer writes and flushes three texts, or four.
@@ -324,18 +338,18 @@ fn openings() -> &'static [Opening] {
 
 // Returns true if decrypting has the expected result.
 fn opens(alloc: Global, row: &Opening) -> bool {
-    let (is_typed, reads, writes, expected, told) = *row;
+    let (is_typed, reads, writes, expected, prompted) = *row;
     let (text, typed, whole) = if is_typed { TYPED } else { NOTHING };
     let sk_box = SecretKeyBox::from_string(alloc, text);
     let mut prompt = prompt_of(alloc, typed.as_bytes(), reads, ALL, writes);
     let answer = opened(alloc, sk_box, None, &mut prompt, Way::AnyParts);
-    let came = ends_in(answer, expected);
-    came && prompt.writer.as_slice() == front(whole, told)
+    let came = is_outcome(answer, expected);
+    came && prompt.writer.as_slice() == front(whole, prompted)
 }
 
 #[test]
-fn the_prompt_of_opening_fails(rt: HostRuntime) {
+fn returns_error_if_prompt_of_opening_fails(rt: HostRuntime) {
     for row in openings() {
-        holds_at(&rt, opens(rt.alloc(), row), row);
+        assert_row(&rt, opens(rt.alloc(), row), row);
     }
 }

@@ -16,7 +16,7 @@ use minisign_base::devices::sources::SliceSource;
 use minisign_base::prompt::Prompt;
 use minisign_fixtures::devices::sinks::Counting;
 use minisign_fixtures::keys::{KEY_ID, PUBLIC_BYTES, TIED_TO_ABC, signature_record};
-use minisign_fixtures::outcomes::{is_so_or_out_of_memory, is_so_or_unwritten};
+use minisign_fixtures::outcomes::{check_holds_or_out_of_memory, check_holds_or_unwritten};
 use minisign_fixtures::texts::{KEY_TEXT, LEGACY_TEXT, SAID, SEALED, SECRET_TEXT, SIGNATURE_TEXT};
 use std::alloc::Global;
 
@@ -78,7 +78,7 @@ fn signed_and_verified(alloc: Global) -> Result<bool> {
 }
 
 // Returns true if signing with an encrypted key and a prompt over a growing buffer gives the text.
-fn signed_and_told(alloc: Global) -> Result<bool> {
+fn signed_and_returned(alloc: Global) -> Result<bool> {
     let mut prompt = Prompt::new(SliceSource::new(b"password\n"), VecSink::new(alloc));
     let mut data = SliceSource::new(b"abc");
     let mut random = FixedRandom::new(&ZEROS);
@@ -88,7 +88,7 @@ fn signed_and_told(alloc: Global) -> Result<bool> {
 }
 
 // Returns true if growing buffers receive the status and the output.
-fn copied_and_kept(alloc: Global) -> Result<bool> {
+fn copied_into_buffer(alloc: Global) -> Result<bool> {
     let mut data = SliceSource::new(b"abc");
     let mut status = VecSink::new(alloc);
     let mut out = VecSink::new(alloc);
@@ -99,27 +99,27 @@ fn copied_and_kept(alloc: Global) -> Result<bool> {
 
 // Returns true if each call that derives no key gives the right result or out of memory.
 fn are_right(alloc: Global) -> bool {
-    let copied_so = is_so_or_out_of_memory(copied(alloc, SIGNATURE_TEXT));
-    let legacy = is_so_or_out_of_memory(copied(alloc, LEGACY_TEXT));
-    let unsealed = is_so_or_out_of_memory(signed(alloc, SECRET_TEXT));
-    let made_so = is_so_or_out_of_memory(made(alloc));
-    let verified = is_so_or_out_of_memory(signed_and_verified(alloc));
-    copied_so && legacy && unsealed && made_so && verified
+    let copied_prehashed = check_holds_or_out_of_memory(copied(alloc, SIGNATURE_TEXT));
+    let legacy = check_holds_or_out_of_memory(copied(alloc, LEGACY_TEXT));
+    let unsealed = check_holds_or_out_of_memory(signed(alloc, SECRET_TEXT));
+    let made_signature = check_holds_or_out_of_memory(made(alloc));
+    let verified = check_holds_or_out_of_memory(signed_and_verified(alloc));
+    copied_prehashed && legacy && unsealed && made_signature && verified
 }
 
 #[test]
-fn signing_and_verifying(rt: HostRuntime) {
+fn signs_and_verifies_or_reports_out_of_memory(rt: HostRuntime) {
     assert!(rt; are_right(rt.alloc()));
 }
 
 #[test]
-fn signing_with_a_sealed_key(rt: HostRuntime) {
-    assert!(rt; is_so_or_out_of_memory(signed(rt.alloc(), SEALED)));
+fn signs_with_encrypted_key_or_reports_out_of_memory(rt: HostRuntime) {
+    assert!(rt; check_holds_or_out_of_memory(signed(rt.alloc(), SEALED)));
 }
 
 // A buffer that cannot grow is a sink that fails.
 #[test]
-fn signing_and_verifying_into_buffers_that_grow(rt: HostRuntime) {
-    assert!(rt; is_so_or_unwritten(signed_and_told(rt.alloc())));
-    assert!(rt; is_so_or_unwritten(copied_and_kept(rt.alloc())));
+fn signs_into_growing_buffers_or_reports_out_of_memory(rt: HostRuntime) {
+    assert!(rt; check_holds_or_unwritten(signed_and_returned(rt.alloc())));
+    assert!(rt; check_holds_or_unwritten(copied_into_buffer(rt.alloc())));
 }
